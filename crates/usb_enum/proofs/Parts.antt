@@ -23,14 +23,23 @@ use Rattle.usb_enum.proofs.refusals.Refusals.{handed_match}
 
 pub record Keeping (Keeps : World → World → Type 0) : Type 0 where
   pub none : (w : World) → Keeps w w
-  pub joined : (n : ℕ) (old mid new : World) {r s : Option (List ℕ)} → Keeps old mid
-      → StepRun n mid r new s → Keeps mid new → Keeps old new
+  pub joined : (m n : ℕ) (old mid new : World) {q r s : Option (List ℕ)} → Keeps old mid
+      → StepRun m old q mid r → StepRun n mid r new s → Keeps mid new → Keeps old new
+
+asks_joined : (m n : ℕ) (old mid new : World) {q r s : Option (List ℕ)} → OnlyAsks old mid
+    → StepRun m old q mid r → StepRun n mid r new s → OnlyAsks mid new → OnlyAsks old new
+asks_joined m n old mid new a first went b = asks_then n old mid new a went b
 
 pub asking : Keeping OnlyAsks
-asking = record { none = asks_none; joined = asks_then }
+asking = record { none = asks_none; joined = asks_joined }
+
+tells_joined : (address m n : ℕ) (old mid new : World) {q r s : Option (List ℕ)}
+    → OnlyTells address old mid → StepRun m old q mid r → StepRun n mid r new s
+    → OnlyTells address mid new → OnlyTells address old new
+tells_joined address m n old mid new a first went b = tells_then address n old mid new a went b
 
 pub telling : (address : ℕ) → Keeping (OnlyTells address)
-telling address = record { none = tells_none address; joined = tells_then address }
+telling address = record { none = tells_none address; joined = tells_joined address }
 
 pub setting : (address : ℕ) → Keeping (OnlySets address)
 setting address = record {
@@ -38,10 +47,16 @@ setting address = record {
   joined = sets_then address;
 }
 
+at_port_joined : (port : HubPort) (address m n : ℕ) (old mid new : World)
+    {q r s : Option (List ℕ)} → AtPort port address old mid → StepRun m old q mid r
+    → StepRun n mid r new s → AtPort port address mid new → AtPort port address old new
+at_port_joined port address m n old mid new a first went b =
+    at_port_then port address n old mid new a went b
+
 pub enumerating : (port : HubPort) (address : ℕ) → Keeping (AtPort port address)
 enumerating port address = record {
   none = at_port_none port address;
-  joined = at_port_then port address;
+  joined = at_port_joined port address;
 }
 
 -- Steps
@@ -58,7 +73,7 @@ pub steps_joined : {K : World → World → Type 0} {m n : ℕ} {old mid new : W
     → KeepingSteps K n mid b new c → KeepingSteps K (m + n) old a new c
 steps_joined {K} {m} {n} {old} {mid} {new} keeping first next = record {
   went = went_then m n first.went next.went;
-  keeps = keeping.joined n old mid new first.keeps next.went next.keeps;
+  keeps = keeping.joined m n old mid new first.keeps first.went next.went next.keeps;
 }
 
 pub steps_wider : {K : World → World → Type 0} {m n : ℕ} {old new : World} {a b : Option (List ℕ)}
@@ -77,7 +92,7 @@ pub steps_again : {K : World → World → Type 0} (k n : ℕ) {old mid new : Wo
     → KeepingSteps K n mid b new c → KeepingSteps K ((k + 1) * n) old a new c
 steps_again {K} k n {old} {mid} {new} keeping first next = record {
   went = went_again k n old mid new first.went next.went;
-  keeps = keeping.joined n old mid new first.keeps next.went next.keeps;
+  keeps = keeping.joined (k * n) n old mid new first.keeps first.went next.went next.keeps;
 }
 
 pub steps_times : {K : World → World → Type 0} (k m n : ℕ) {old new : World} {a b : Option (List ℕ)}

@@ -4,7 +4,7 @@ use Rattle.usb_world.specs.{after_taking, World}
 use Rattle.usb_resources.specs.{Addresses, IsTaken}
 use Rattle.usb_address.specs.{AddressMap, Free, Unused, MapHolds, MapHoldsExcept, Enumerating}
 use Rattle.usb_address.specs.{WhileBusWorks}
-use Rattle.usb_hub.specs.{HubPort, IsAt}
+use Rattle.usb_hub.specs.{HubPort, IsAt, EachNamedElsewhere, StaysAs}
 use Rattle.usb_enum.specs.declared.fault.EnumFault.{EnumFault}
 use Rattle.usb_enum.specs.declared.fault.EnumFault.TheVariants.{ParentLost, Bus, Memory}
 use Rattle.usb_enum.specs.declared.finding.Finding.{Finding}
@@ -30,10 +30,13 @@ pub record TakesAddress (port : HubPort) (address : ℕ) (old new : World) : Typ
       → WhileBusWorks (Enumerating f p address) old
       → WhileBusWorks (MapHolds (after_taking f p address)) new
 
--- the calls were about the port alone, as long as the bus is at work
+-- the calls were about the port alone, as long as the bus is at work; also where it has given up,
+-- devices elsewhere that have an address stay as they were
 pub record OnlyCalls (port : HubPort) (address : ℕ) (old new : World) : Type 0 where
   pub at : (f : AddressMap) (p : List ℕ) → IsSpare f port p address
       → WhileBusWorks (Enumerating f p address) old → new.fault ≡ None → OnlyAt p old new
+  pub named : (f : AddressMap) (p : List ℕ) → IsSpare f port p address
+      → WhileBusWorks (Enumerating f p address) old → EachNamedElsewhere p StaysAs old new
 
 -- the device at the port is in the midst of its enumeration, and no other was changed
 pub record AtPort (port : HubPort) (address : ℕ) (old new : World) : Type 0 where
@@ -64,3 +67,6 @@ pub record KeepsEnumerated (port : HubPort) (addresses : Addresses) (old : World
   pub only : (f : AddressMap) (p : List ℕ) → IsAt f port p → Free f p
       → ((x : List ℕ) (a : ℕ) → f x ≡ Some a → IsTaken addresses a) → WhileBusWorks (MapHolds f) old
       → new.fault ≡ None → OnlyAt p old new
+  pub named : (f : AddressMap) (p : List ℕ) → IsAt f port p → Free f p
+      → ((x : List ℕ) (a : ℕ) → f x ≡ Some a → IsTaken addresses a) → WhileBusWorks (MapHolds f) old
+      → EachNamedElsewhere p StaysAs old new

@@ -1,7 +1,7 @@
 -- What calls on devices and at ports leave of all other devices and ports.
 use Rattle.usb_device.specs.{Location, State}
 use Rattle.std.specs.Prelude.{◌≡◌, ◌==◌, ℕ, List, false, None, Some}
-use Rattle.usb_world.specs.{KeepsPendingAt, EachWas, LeavesPortAlone, Course, World}
+use Rattle.usb_world.specs.{BusFault, KeepsPendingAt, EachWas, LeavesPortAlone, Course, World}
 use Rattle.usb_tree.specs.{address_of, is_way}
 use Rattle.usb_address.specs.{AddressMap, MapHolds, KeepsAddresses}
 use Rattle.usb_backlog.specs.{KeepsAll, KeepsFound}
@@ -41,10 +41,12 @@ pub record StaysBut (address : ℕ) (x : Location) (s v : State) : Type 0 where
   pub same : address_of v ≡ address_of s
   pub stays : (address_of s == address) ≡ false → StaysAs x s v
 
--- a device at an address was configured: nothing was asked of the ports that are not below it
+-- a device at an address was configured: nothing was asked of the ports that are not below it; if
+-- the bus had given up before, each device stays as it was
 pub record OnlySets (address : ℕ) (old new : World) : Type 0 where
   pub addresses : KeepsAddresses old new
   pub devices : new.shared ≡ false → EachWas (StaysBut address) old new
+  pub spent : (fault : BusFault) → old.fault ≡ Some fault → KeepsDevices old new
   pub ports : new.fault ≡ None → TouchesPortsBelow address old new
   pub backlog : new.fault ≡ None → FoundAt address old new
   pub control : new.fault ≡ None → ControlCourse old new

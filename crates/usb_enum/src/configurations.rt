@@ -30,8 +30,8 @@ const HEAD: u16 = CONFIGURATION_LENGTH as u16;
 fn total_length<B: Bus>(alloc: Global, bus: &mut B, target: Target, index: u8) -> Result<u16, Stop>
     requires target { IsTarget target }
     requires max { 8 ≤ target.max }
-    ensures spends { Spends B.spent B.ports (read_bound CONFIGURATION_LENGTH) bus.old bus.new }
-    ensures told { IfErr result (λ stop. IsReportedStop stop (B.failed bus.new)) }
+    ensures any_bus { Spends B.spent B.ports (read_bound CONFIGURATION_LENGTH) bus.old bus.new
+        × IfErr result (λ stop. IsReportedStop stop (B.failed bus.new)) }
     ensures fits { MatchResult result
         (λ total. (CONFIGURATION_LENGTH ≤ total) × (total ≤ 65535)) IsPlainStop }
     ensures read { B.modelled ≡ true → Read B.world B.trace (read_bound CONFIGURATION_LENGTH)
@@ -57,8 +57,8 @@ fn read_text<B: Bus>(
 ) -> Result<ConfigText, Stop>
     requires target { IsTarget target }
     requires max { 8 ≤ target.max }
-    ensures spends { Spends B.spent B.ports configuration_bound bus.old bus.new }
-    ensures told { IfErr result (λ stop. IsReportedStop stop (B.failed bus.new)) }
+    ensures any_bus { Spends B.spent B.ports configuration_bound bus.old bus.new
+        × IfErr result (λ stop. IsReportedStop stop (B.failed bus.new)) }
     ensures plain { IfErr result IsPlainStop }
     ensures read { B.modelled ≡ true → Read B.world B.trace configuration_bound
         (Answered target (λ old new text. TextRead target index text old new)
@@ -86,8 +86,8 @@ pub(crate) fn read_configurations<B: Bus>(
 ) -> Result<ConfigTexts, Stop>
     requires target { IsTarget target }
     requires max { 8 ≤ target.max }
-    ensures spends { Spends B.spent B.ports (255 * configuration_bound) bus.old bus.new }
-    ensures told { IfErr result (λ stop. IsReportedStop stop (B.failed bus.new)) }
+    ensures any_bus { Spends B.spent B.ports (255 * configuration_bound) bus.old bus.new
+        × IfErr result (λ stop. IsReportedStop stop (B.failed bus.new)) }
     ensures all { MatchResult result
         (λ texts. (length texts ≡ count) × ValuesDiffer texts) IsPlainStop }
     ensures read { B.modelled ≡ true → Read B.world B.trace (255 * configuration_bound)

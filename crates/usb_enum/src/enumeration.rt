@@ -1,6 +1,7 @@
 //! The whole enumeration.
 ghost use Rattle.std.specs.Prelude.{◌≡◌, IfOk, IfErr, MatchResult, true};
 ghost use Rattle.usb_bus.specs.Traces.{Spends, Steps};
+ghost use Rattle.usb_pipe.specs.Uses.{UsesBus};
 ghost use Rattle.usb_hub.specs.Port.{IsAsked, order_bound};
 ghost use Rattle.usb_hub.specs.Requests.{StillWorks};
 ghost use Rattle.usb_enum.specs.Addresses.{AtPort};
@@ -54,10 +55,9 @@ pub fn enumerate<B: Bus>(
     supply: u16,
 ) -> Result<Finding, EnumFault>
     requires port { IsAsked B.modelled (B.world bus.old) port }
-    ensures any_bus { Spends B.spent B.ports (enumeration_bound port) bus.old bus.new
-        × IfErr result (λ fault. IsReported fault (B.failed bus.new)) }
-    ensures steps { B.modelled ≡ true
-        → Steps B.world B.trace (enumeration_bound port) bus.old bus.new }
+    ensures uses { UsesBus B.modelled (Steps B.world B.trace) B.spent B.ports B.failed
+        (enumeration_bound port) (λ last. IfErr result (λ fault. IsReported fault last))
+        bus.old bus.new }
     ensures told { B.modelled ≡ true
         → IfErr result (λ fault. FaultAllowedAt port fault (B.world bus.new)) }
     ensures pool { TakesFor result pool.old pool.new }
@@ -82,8 +82,8 @@ pub fn enumerate<B: Bus>(
 /// Goes on as far as a device is given its address, where none is free.
 fn without_address<B: Bus>(alloc: Global, bus: &mut B, port: HubPort) -> Stop
     requires { IsAsked B.modelled (B.world bus.old) port }
-    ensures spends { Spends B.spent B.ports (unaddressed_bound port) bus.old bus.new }
-    ensures told { IsReportedStop result (B.failed bus.new) }
+    ensures any_bus { Spends B.spent B.ports (unaddressed_bound port) bus.old bus.new
+        × IsReportedStop result (B.failed bus.new) }
     ensures without { IsStopWithout result }
     ensures steps { B.modelled ≡ true → KeepingSteps (AtPort port 0) (unaddressed_bound port)
         (B.world bus.old) (B.trace bus.old) (B.world bus.new) (B.trace bus.new) }
@@ -101,11 +101,10 @@ fn without_address<B: Bus>(alloc: Global, bus: &mut B, port: HubPort) -> Stop
 /// Disables the port of a device that is refused.
 fn give_up<B: Bus>(bus: &mut B, port: HubPort, stop: Stop) -> Result<Finding, EnumFault>
     requires { IsAsked B.modelled (B.world bus.old) port }
-    ensures spends { Spends B.spent B.ports (order_bound port) bus.old bus.new }
-    ensures told { IsReportedStop stop (B.failed bus.old)
-        → IfErr result (λ fault. IsReported fault (B.failed bus.new)) }
+    ensures uses { UsesBus B.modelled (Steps B.world B.trace) B.spent B.ports B.failed
+        (order_bound port) (λ last. IsReportedStop stop (B.failed bus.old)
+        → IfErr result (λ fault. IsReported fault last)) bus.old bus.new }
     ensures hands { HandsOn stop result }
-    ensures steps { B.modelled ≡ true → Steps B.world B.trace (order_bound port) bus.old bus.new }
     ensures left { B.modelled ≡ true
         → GivenUp port stop (B.world bus.old) result (B.world bus.new) }
     ensures works { B.modelled ≡ true → EnumWorks result (B.world bus.old) (B.world bus.new) }
@@ -129,8 +128,8 @@ fn examine<B: Bus>(
     supply: u16,
 ) -> Result<Accepted, Stop>
     requires port { IsAsked B.modelled (B.world bus.old) port }
-    ensures spends { Spends B.spent B.ports (examination_bound port) bus.old bus.new }
-    ensures told { IfErr result (λ stop. IsReportedStop stop (B.failed bus.new)) }
+    ensures any_bus { Spends B.spent B.ports (examination_bound port) bus.old bus.new
+        × IfErr result (λ stop. IsReportedStop stop (B.failed bus.new)) }
     ensures whole { MatchResult result
         (λ device. (device.address ≡ address) × IsWhole supply device) (FitsStop tier) }
     ensures part { B.modelled ≡ true → Part B.world B.trace (AtPort port address)
@@ -153,8 +152,8 @@ fn configure<B: Bus>(
     supply: u16,
 ) -> Result<Accepted, Stop>
     requires { device.target.addr ≡ address }
-    ensures spends { Spends B.spent B.ports configured_bound bus.old bus.new }
-    ensures told { IfErr result (λ stop. IsReportedStop stop (B.failed bus.new)) }
+    ensures any_bus { Spends B.spent B.ports configured_bound bus.old bus.new
+        × IfErr result (λ stop. IsReportedStop stop (B.failed bus.new)) }
     ensures whole { MatchResult result
         (λ device. (device.address ≡ address) × IsWhole supply device) (FitsStop tier) }
     ensures part { B.modelled ≡ true → Part B.world B.trace (OnlySets address)
@@ -203,8 +202,8 @@ fn hub_facts<B: Bus>(
     device: &Addressed,
     text: &ConfigText,
 ) -> Result<Option<HubFacts>, Stop>
-    ensures spends { Spends B.spent B.ports hub_bound bus.old bus.new }
-    ensures told { IfErr result (λ stop. IsReportedStop stop (B.failed bus.new)) }
+    ensures any_bus { Spends B.spent B.ports hub_bound bus.old bus.new
+        × IfErr result (λ stop. IsReportedStop stop (B.failed bus.new)) }
     ensures hub { MatchResult result (HasFacts device.now.bytes text.now)
         (λ stop. (is_hub_device device.now.bytes ≡ true) × IsHubStop stop) }
     ensures part { B.modelled ≡ true

@@ -42,8 +42,8 @@ pub(crate) fn start_hub<B: Bus>(
 ) -> Result<HubFacts, Stop>
     requires target { IsTarget target }
     requires max { 8 ≤ target.max }
-    ensures spends { Spends B.spent B.ports hub_bound bus.old bus.new }
-    ensures told { IfErr result (λ stop. IsReportedStop stop (B.failed bus.new)) }
+    ensures any_bus { Spends B.spent B.ports hub_bound bus.old bus.new
+        × IfErr result (λ stop. IsReportedStop stop (B.failed bus.new)) }
     ensures facts { MatchResult result (CanServe text.now) IsHubStop }
     ensures part { B.modelled ≡ true → Part B.world B.trace (OnlyTells target.addr) hub_bound
         (Answered target (Started target) (λ facts. Ruled (IsGoodHub text.now facts)))
@@ -64,8 +64,8 @@ pub(crate) fn start_hub<B: Bus>(
 fn port_count<B: Bus>(alloc: Global, bus: &mut B, target: Target) -> Result<u8, Stop>
     requires target { IsTarget target }
     requires max { 8 ≤ target.max }
-    ensures spends { Spends B.spent B.ports (read_bound HUB_LENGTH) bus.old bus.new }
-    ensures told { IfErr result (λ stop. IsReportedStop stop (B.failed bus.new)) }
+    ensures any_bus { Spends B.spent B.ports (read_bound HUB_LENGTH) bus.old bus.new
+        × IfErr result (λ stop. IsReportedStop stop (B.failed bus.new)) }
     ensures count { MatchResult result IsPortNumber IsHubStop }
     ensures read { B.modelled ≡ true → Read B.world B.trace (read_bound HUB_LENGTH)
         (Answered target (CountTold target) HasPorts) (StopsHub target) bus.old result bus.new }
@@ -83,8 +83,8 @@ fn port_count<B: Bus>(alloc: Global, bus: &mut B, target: Target) -> Result<u8, 
 fn port_supply<B: Bus>(alloc: Global, bus: &mut B, target: Target) -> Result<u16, Stop>
     requires target { IsTarget target }
     requires max { 8 ≤ target.max }
-    ensures spends { Spends B.spent B.ports (read_bound 2) bus.old bus.new }
-    ensures told { IfErr result (λ stop. IsReportedStop stop (B.failed bus.new)) }
+    ensures any_bus { Spends B.spent B.ports (read_bound 2) bus.old bus.new
+        × IfErr result (λ stop. IsReportedStop stop (B.failed bus.new)) }
     ensures said { MatchResult result (λ supply. (supply ≡ 500) ⊎ (supply ≡ 100)) IsHubStop }
     ensures read { B.modelled ≡ true → Read B.world B.trace (read_bound 2)
         (Both (SupplyTold target) (λ old new supply. DeviceFact (HasSupply supply) target old new))
@@ -98,8 +98,8 @@ fn port_supply<B: Bus>(alloc: Global, bus: &mut B, target: Target) -> Result<u16
 /// Gives power to the first so many ports of a hub.
 fn power_ports<B: Bus>(bus: &mut B, target: Target, ports: u8) -> Result<(), Stop>
     requires { IsTarget target }
-    ensures spends { Spends B.spent B.ports (ports * write_bound) bus.old bus.new }
-    ensures told { IfErr result (λ stop. IsReportedStop stop (B.failed bus.new)) }
+    ensures any_bus { Spends B.spent B.ports (ports * write_bound) bus.old bus.new
+        × IfErr result (λ stop. IsReportedStop stop (B.failed bus.new)) }
     ensures stops { IfErr result IsHubStop }
     ensures part { B.modelled ≡ true → Part B.world B.trace (OnlyTells target.addr)
         (ports * write_bound) (λ old new _. Powered target ports old new)
@@ -115,8 +115,8 @@ fn power_ports<B: Bus>(bus: &mut B, target: Target, ports: u8) -> Result<(), Sto
 /// Gives power to a port of a hub.
 fn power_port<B: Bus>(bus: &mut B, target: Target, port: u8) -> Result<(), Stop>
     requires { IsTarget target }
-    ensures spends { Spends B.spent B.ports write_bound bus.old bus.new }
-    ensures told { IfErr result (λ stop. IsReportedStop stop (B.failed bus.new)) }
+    ensures any_bus { Spends B.spent B.ports write_bound bus.old bus.new
+        × IfErr result (λ stop. IsReportedStop stop (B.failed bus.new)) }
     ensures stops { IfErr result IsHubStop }
     ensures part { B.modelled ≡ true → Part B.world B.trace (OnlyTells target.addr) write_bound
         (λ old new _. IsPowered target port old new) (StopsPower target port)

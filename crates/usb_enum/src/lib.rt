@@ -35,7 +35,8 @@
 //!   (`EnumWorks`, `StopWorks`, `specs/Stops.antt`).
 //! - What it asks is asked of this port alone, and of those below it: nothing is asked of any other port, a change of
 //!   connection that is pending at the port stays so, and each device elsewhere stays as it was. As long as the bus is
-//!   at work, each of its attempts is at endpoint 0 (`OnlyAt`, `specs/Frames.antt`).
+//!   at work, each of its attempts is at endpoint 0 (`OnlyAt`, `specs/Frames.antt`). Also where the bus gave up, each
+//!   device elsewhere that has an address stays as it was (`named` of `KeepsEnumerated`, `specs/Addresses.antt`).
 //! - At an *occupied* port (a change of connection is pending there, or it is powered on its whole way and a device
 //!   stands there) of a world whose ports are consistent, what is found is there in the end, as long as the bus is at
 //!   work: an accepted device is reached, a refused one stands behind a disabled port, the ports of an accepted hub are

@@ -45,8 +45,8 @@ const WHOLE: u16 = DEVICE_LENGTH as u16;
 /// Sets PORT_RESET.
 fn begin_reset<B: Bus>(bus: &mut B, port: HubPort) -> Result<(), EnumFault>
     requires { IsAsked B.modelled (B.world bus.old) port }
-    ensures spends { Spends B.spent B.ports (order_bound port) bus.old bus.new }
-    ensures told { IfErr result (λ fault. IsReported fault (B.failed bus.new)) }
+    ensures any_bus { Spends B.spent B.ports (order_bound port) bus.old bus.new
+        × IfErr result (λ fault. IsReported fault (B.failed bus.new)) }
     ensures part { B.modelled ≡ true → (a : ℕ) → Part B.world B.trace (AtPort port a)
         (order_bound port) IsDone (FailsAt port) bus.old result bus.new }
     ensures resets { B.modelled ≡ true → Resets port (B.world bus.old) (B.world bus.new) }
@@ -60,8 +60,8 @@ fn begin_reset<B: Bus>(bus: &mut B, port: HubPort) -> Result<(), EnumFault>
 /// The status of the port.
 fn read_status<B: Bus>(alloc: Global, bus: &mut B, port: HubPort) -> Result<PortStatus, EnumFault>
     requires { IsAsked B.modelled (B.world bus.old) port }
-    ensures spends { Spends B.spent B.ports (status_bound port) bus.old bus.new }
-    ensures told { IfErr result (λ fault. IsReported fault (B.failed bus.new)) }
+    ensures any_bus { Spends B.spent B.ports (status_bound port) bus.old bus.new
+        × IfErr result (λ fault. IsReported fault (B.failed bus.new)) }
     ensures read { B.modelled ≡ true → Read B.world B.trace (status_bound port)
         (λ _ _ _. ⊤) (FailsAt port) bus.old result bus.new }
     ensures status { B.modelled ≡ true → StatusAt port (B.world bus.old) result (B.world bus.new) }
@@ -73,8 +73,8 @@ fn read_status<B: Bus>(alloc: Global, bus: &mut B, port: HubPort) -> Result<Port
 /// Resets the port (11.5.1.5), and tells whether a low-speed device is there.
 fn reset<B: Bus>(alloc: Global, bus: &mut B, port: HubPort) -> Result<bool, Stop>
     requires port { IsAsked B.modelled (B.world bus.old) port }
-    ensures spends { Spends B.spent B.ports (reset_bound port) bus.old bus.new }
-    ensures told { IfErr result (λ stop. IsReportedStop stop (B.failed bus.new)) }
+    ensures any_bus { Spends B.spent B.ports (reset_bound port) bus.old bus.new
+        × IfErr result (λ stop. IsReportedStop stop (B.failed bus.new)) }
     ensures plain { IfErr result IsPlainStop }
     ensures part { B.modelled ≡ true → (a : ℕ) → Part B.world B.trace (AtPort port a)
         (reset_bound port) (λ old new low. WasReset low port a old new)
@@ -93,8 +93,8 @@ fn reset<B: Bus>(alloc: Global, bus: &mut B, port: HubPort) -> Result<bool, Stop
 /// Clears C_PORT_RESET where it is set.
 fn settle<B: Bus>(bus: &mut B, port: HubPort, changed: bool) -> Result<(), EnumFault>
     requires { IsAsked B.modelled (B.world bus.old) port }
-    ensures spends { Spends B.spent B.ports (order_bound port) bus.old bus.new }
-    ensures told { IfErr result (λ fault. IsReported fault (B.failed bus.new)) }
+    ensures any_bus { Spends B.spent B.ports (order_bound port) bus.old bus.new
+        × IfErr result (λ fault. IsReported fault (B.failed bus.new)) }
     ensures part { B.modelled ≡ true → (a : ℕ) → Part B.world B.trace (AtPort port a)
         (order_bound port) IsDone (FailsAt port) bus.old result bus.new }
     ensures devices { B.modelled ≡ true → KeepsDevices (B.world bus.old) (B.world bus.new) }
@@ -123,8 +123,8 @@ fn needs_pre(port: HubPort) -> bool
 fn first_maximum<B: Bus>(alloc: Global, bus: &mut B, unaddressed: Target) -> Result<u8, Stop>
     requires target { IsTarget unaddressed }
     requires max { unaddressed.max ≡ 8 }
-    ensures spends { Spends B.spent B.ports (read_bound DEVICE_HEAD_LENGTH) bus.old bus.new }
-    ensures told { IfErr result (λ stop. IsReportedStop stop (B.failed bus.new)) }
+    ensures any_bus { Spends B.spent B.ports (read_bound DEVICE_HEAD_LENGTH) bus.old bus.new
+        × IfErr result (λ stop. IsReportedStop stop (B.failed bus.new)) }
     ensures fits { MatchResult result (λ max. (8 ≤ max) × (max ≤ 64)) IsPlainStop }
     ensures read { B.modelled ≡ true → Read B.world B.trace (read_bound DEVICE_HEAD_LENGTH)
         (FindsHead unaddressed) (StopsHead unaddressed) bus.old result bus.new }
@@ -143,8 +143,8 @@ fn first_maximum<B: Bus>(alloc: Global, bus: &mut B, unaddressed: Target) -> Res
 fn descriptor<B: Bus>(alloc: Global, bus: &mut B, target: Target) -> Result<Option<[u8; 18]>, Stop>
     requires target { IsTarget target }
     requires max { 8 ≤ target.max }
-    ensures spends { Spends B.spent B.ports (read_bound DEVICE_LENGTH) bus.old bus.new }
-    ensures told { IfErr result (λ stop. IsReportedStop stop (B.failed bus.new)) }
+    ensures any_bus { Spends B.spent B.ports (read_bound DEVICE_LENGTH) bus.old bus.new
+        × IfErr result (λ stop. IsReportedStop stop (B.failed bus.new)) }
     ensures device { MatchResult result
         (λ found. IfSome found (λ bytes. is_device target.low bytes ≡ true)) IsPlainStop }
     ensures read { B.modelled ≡ true → Read B.world B.trace (read_bound DEVICE_LENGTH)
@@ -177,8 +177,8 @@ fn device_bytes(bytes: &[u8; 18], low: bool) -> Result<Option<[u8; 18]>, Stop>
 /// The device at address 0, once its port is reset and its maximum packet is known.
 pub(crate) fn unaddressed<B: Bus>(alloc: Global, bus: &mut B, port: HubPort) -> Result<Target, Stop>
     requires port { IsAsked B.modelled (B.world bus.old) port }
-    ensures spends { Spends B.spent B.ports (unaddressed_bound port) bus.old bus.new }
-    ensures told { IfErr result (λ stop. IsReportedStop stop (B.failed bus.new)) }
+    ensures any_bus { Spends B.spent B.ports (unaddressed_bound port) bus.old bus.new
+        × IfErr result (λ stop. IsReportedStop stop (B.failed bus.new)) }
     ensures target { MatchResult result (IsUnaddressed port) IsPlainStop }
     ensures part { B.modelled ≡ true → (a : ℕ) → Part B.world B.trace (AtPort port a)
         (unaddressed_bound port) (λ old new target. Awaits target port a old new)
@@ -217,8 +217,8 @@ fn pass<B: Bus>(
     requires port { IsAsked B.modelled (B.world bus.old) port }
     requires least { 1 ≤ address }
     requires most { address < 128 }
-    ensures spends { Spends B.spent B.ports (pass_bound port) bus.old bus.new }
-    ensures told { IfErr result (λ stop. IsReportedStop stop (B.failed bus.new)) }
+    ensures any_bus { Spends B.spent B.ports (pass_bound port) bus.old bus.new
+        × IfErr result (λ stop. IsReportedStop stop (B.failed bus.new)) }
     ensures addressed { MatchResult result
         (λ found. IfSome found (λ device. device.target.addr ≡ address)) IsPlainStop }
     ensures part { B.modelled ≡ true → Part B.world B.trace (AtPort port address)
@@ -250,8 +250,8 @@ pub(crate) fn passes<B: Bus>(
     requires port { IsAsked B.modelled (B.world bus.old) port }
     requires least { 1 ≤ address }
     requires most { address < 128 }
-    ensures spends { Spends B.spent B.ports (PASSES * pass_bound port) bus.old bus.new }
-    ensures told { IfErr result (λ stop. IsReportedStop stop (B.failed bus.new)) }
+    ensures any_bus { Spends B.spent B.ports (PASSES * pass_bound port) bus.old bus.new
+        × IfErr result (λ stop. IsReportedStop stop (B.failed bus.new)) }
     ensures addressed { MatchResult result (λ device. device.target.addr ≡ address) IsPlainStop }
     ensures part { B.modelled ≡ true → Part B.world B.trace (AtPort port address)
         (PASSES * pass_bound port) (TakesAddressed port address)

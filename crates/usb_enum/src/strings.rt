@@ -92,8 +92,8 @@ fn string_bytes<B: Bus>(
 ) -> Result<Option<Vec<u8>>, Stop>
     requires target { IsTarget target }
     requires max { 8 ≤ target.max }
-    ensures spends { Spends B.spent B.ports (read_bound 255) bus.old bus.new }
-    ensures told { IfErr result (λ stop. IsReportedStop stop (B.failed bus.new)) }
+    ensures any_bus { Spends B.spent B.ports (read_bound 255) bus.old bus.new
+        × IfErr result (λ stop. IsReportedStop stop (B.failed bus.new)) }
     ensures plain { IfErr result IsPlainStop }
     ensures read { B.modelled ≡ true → Read B.world B.trace (read_bound 255)
         (Answered target (AsksString target index language) (HasString index))
@@ -119,8 +119,8 @@ fn read_one<B: Bus>(
 ) -> Result<Option<StringUnits>, Stop>
     requires target { IsTarget target }
     requires max { 8 ≤ target.max }
-    ensures spends { Spends B.spent B.ports (read_bound 255) bus.old bus.new }
-    ensures told { IfErr result (λ stop. IsReportedStop stop (B.failed bus.new)) }
+    ensures any_bus { Spends B.spent B.ports (read_bound 255) bus.old bus.new
+        × IfErr result (λ stop. IsReportedStop stop (B.failed bus.new)) }
     ensures plain { IfErr result IsPlainStop }
     ensures read { B.modelled ≡ true → Read B.world B.trace (read_bound 255)
         (Answered target (ReadsString target index language)
@@ -141,8 +141,8 @@ fn read_one<B: Bus>(
 fn language<B: Bus>(alloc: Global, bus: &mut B, target: Target) -> Result<Option<u16>, Stop>
     requires target { IsTarget target }
     requires max { 8 ≤ target.max }
-    ensures spends { Spends B.spent B.ports (read_bound 255) bus.old bus.new }
-    ensures told { IfErr result (λ stop. IsReportedStop stop (B.failed bus.new)) }
+    ensures any_bus { Spends B.spent B.ports (read_bound 255) bus.old bus.new
+        × IfErr result (λ stop. IsReportedStop stop (B.failed bus.new)) }
     ensures plain { IfErr result IsPlainStop }
     ensures read { B.modelled ≡ true → Read B.world B.trace (read_bound 255)
         (Answered target (AsksLanguage target) (λ language spec. language ≡ language_of spec))
@@ -164,8 +164,8 @@ pub(crate) fn read_strings<B: Bus>(
 ) -> Result<Strings, Stop>
     requires target { IsTarget target }
     requires max { 8 ≤ target.max }
-    ensures spends { Spends B.spent B.ports strings_bound bus.old bus.new }
-    ensures told { IfErr result (λ stop. IsReportedStop stop (B.failed bus.new)) }
+    ensures any_bus { Spends B.spent B.ports strings_bound bus.old bus.new
+        × IfErr result (λ stop. IsReportedStop stop (B.failed bus.new)) }
     ensures plain { IfErr result IsPlainStop }
     ensures read { B.modelled ≡ true → Read B.world B.trace strings_bound
         (Answered target (ReadsStrings target indexes)

@@ -134,7 +134,8 @@ reset_elsewhere f p w only (inr o) j s apart on there zero_is =
 hub_resets : (hub : Target) (port : ℕ) (old : World) (result : Result (Unit {0}) PipeFault)
     (new : World) → Commanded hub (set_port_feature PORT_RESET port) old result new
     → Resets (External hub port) old new
-hub_resets hub port old result new ordered = record { resets = resets; others = others; named = kept }
+hub_resets hub port old result new ordered =
+    record { resets = resets; others = others; named = kept }
   where
     resets : (f : AddressMap) (p : List ℕ) → IsBelow f hub.addr port p
         → ((x : List ℕ) → f x ≡ Some 0 → is_way p x ≡ true) → WhileBusWorks (MapHolds f) old

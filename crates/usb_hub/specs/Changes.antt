@@ -64,8 +64,8 @@ pub data ClearsEach (status : HubStatus) (hub : Target) (old : World)
       → ClearsIfReported status.over_current_changed hub C_HUB_OVER_CURRENT mid result new
       → ClearsEach status hub old result new
 
--- a hub was asked for its status, and each change that it told was cleared; where it told none, that
--- is the fault, also a STALL
+-- a hub was asked for its status, and each change that it told was cleared; a fault of the status
+-- is the call's, also a STALL
 pub data ClearsOfHub (hub : Target) (old : World) (result : Result (Unit {0}) PipeFault)
     (new : World) : Type 0 where
   not_told : (fault : PipeFault) → ReadAs hub_status hub get_hub_status old (Err fault) new

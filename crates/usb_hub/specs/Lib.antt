@@ -8,8 +8,9 @@ pub mod CallFailures
 pub mod Changes
 pub mod ControlSteps
 -- the words of this crate, wherever one stands
-pub use Addresses.{EachElsewhere, EachNamedElsewhere, GivesAddress, IsAt, IsBelow, IsClaimed, Isolates, KeepsAnswered}
-pub use Addresses.{KeepsAsked, KeepsCleared, KeepsDevices, KeepsSet, Resets, StaysAs}
+pub use Addresses.{EachElsewhere, EachNamedElsewhere, GivesAddress, IsAt, IsBelow, IsClaimed}
+pub use Addresses.{Isolates, KeepsAnswered, KeepsAsked, KeepsCleared, KeepsDevices, KeepsSet}
+pub use Addresses.{Resets, StaysAs}
 pub use GivenAnswers.{ConfigAsked, DeviceAsked, HasText, HubAsked, ReadAsked, ReadFailure}
 pub use GivenAnswers.{StatusAsked, StringAsked, TextAsked, config_given, device_given, hub_given}
 pub use GivenAnswers.{status_given, string_given, unless_refused}

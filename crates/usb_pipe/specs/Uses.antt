@@ -3,8 +3,8 @@ use Rattle.std.specs.Prelude.{◌≡◌, ℕ, Bool, true, Option}
 use Rattle.usb_world.specs.{BusFault}
 use Rattle.usb_bus.specs.{Spends}
 
--- over any bus at most n attempts were made, the root ports are as many, and this is so of the fault
--- that was reported last; of one that does what its world does at most n were made by these steps
+-- Over any bus at most n attempts were made, the root ports are as many, and this is so of the
+-- fault that was reported last. Of one that does what its world does so it went, within n attempts.
 pub record UsesBus {S : Type 0} (modelled : Bool) (Went : ℕ → S → S → Type 0)
     (spent ports : S → ℕ) (failed : S → Option BusFault) (n : ℕ) (Told : Option BusFault → Type 0)
     (old new : S) : Type 0 where

@@ -6,7 +6,7 @@ use Rattle.std.proofs.Common.{IsSome, IsSomeAnd}
 use Rattle.std.proofs.lemmas.Option.{same_Some}
 use Rattle.usb_port.specs.{parent_of, PortState, PortCall}
 use Rattle.usb_port.proofs.Interface.{parent}
-use Rattle.usb_device.specs.{State, Ports, ended, vacant, taken, state_at, port_at, Location}
+use Rattle.usb_device.specs.{State, Ports, vacant, taken, state_at, port_at, Location}
 use Rattle.usb_device.specs.{path_to, reach_on, state_on, state_there, port_there, Spec}
 use Rattle.usb_world.specs.{KeepsPendingAt, Was, spec_of, LeavesPortAlone, SameAt, Consistent}
 use Rattle.usb_world.specs.{Course, World}

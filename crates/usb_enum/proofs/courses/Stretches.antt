@@ -7,7 +7,7 @@ use Rattle.usb_request.specs.{Setup, bytes_of, clear_port_feature, get_device_de
 use Rattle.usb_request.specs.{get_port_status, set_port_feature}
 use Rattle.usb_world.specs.declared.losses.Losses.{Losses}
 use Rattle.usb_world.specs.{Attempt, one_more, counted, after_clearing, IsMade, IsOut, Step}
-use Rattle.usb_world.specs.{attempt, root_call, event, report, after, Course, World}
+use Rattle.usb_world.specs.{attempt, root_call, after, Course, World}
 use Rattle.usb_tree.specs.{IsSettled}
 use Rattle.usb_world.proofs.Interface.{attempt_cases, in_clears, kept_course, loses, losses_as}
 use Rattle.usb_world.proofs.Interface.{made_here, out_counts, set_up_counts, settled_after}

@@ -7,7 +7,7 @@ use Rattle.usb_request.specs.{PORT_POWER, PORT_ENABLE, PORT_RESET, set_port_feat
 use Rattle.usb_request.specs.{set_configuration, set_address, Setup}
 use Rattle.usb_device.specs.{State, Spec, Location, path_to, reach_on, state_on}
 use Rattle.usb_port.specs.{PortCall, SetReset, ClearEnable, set_call, clear_call, PortStatus}
-use Rattle.usb_world.specs.{after_taking, Relation, Was, EachWas, is_above, here, World}
+use Rattle.usb_world.specs.{BusFault, after_taking, Relation, Was, EachWas, is_above, here, World}
 use Rattle.usb_tree.specs.{address_of, is_way, same_path, keeps_pending}
 use Rattle.usb_world.proofs.Interface.{course_joined, course_wider, each_joined, each_none}
 use Rattle.usb_world.proofs.Interface.{each_wider}
@@ -16,14 +16,13 @@ use Rattle.usb_bus.specs.{StepRun}
 use Rattle.usb_transaction.specs.{Target}
 use Rattle.usb_address.specs.{AddressMap, Unused, MapHolds, Enumerating, WhileBusWorks}
 use Rattle.usb_address.specs.{KeepsAddresses}
-use Rattle.usb_address.proofs.Interface.{keeps_none, keeps_then, is_way-same_path}
+use Rattle.usb_address.proofs.Interface.{keeps_none, keeps_then, is_way-same_path, write_nothing}
 use Rattle.usb_pipe.specs.{PipeFault, FaultAfter, IsNoBusFault}
-use Rattle.usb_pipe.specs.declared.fault.PipeFault.TheVariants.{Stalled, Busy, NoAnswer, Broken}
-use Rattle.usb_pipe.specs.declared.fault.PipeFault.TheVariants.{Bus, Memory}
+use Rattle.usb_pipe.specs.declared.fault.PipeFault.TheVariants.{Bus}
 use Rattle.usb_hub.specs.{HubPort, Root, External, StaysAs, EachElsewhere, KeepsDevices, KeepsAsked}
 use Rattle.usb_hub.specs.{KeepsCleared, Resets, GivesAddress, ReadAsked, IsCall, CommandsPort}
 use Rattle.usb_hub.specs.{PortRead, TouchesNoPort, TouchesPortsBelow, EndsAfter, Queried, Commanded}
-use Rattle.usb_hub.specs.{AddressAsked, ConfigurationAsked, ControlCourse}
+use Rattle.usb_hub.specs.{AddressAsked, ConfigurationAsked, ControlCourse, EachNamedElsewhere}
 use Rattle.usb_hub.proofs.Interface.{power_backlog, stays_as_same, stays-registers, stays-spec}
 use Rattle.usb_hub.proofs.Interface.{stays_itself, stays_joined, keeps_devices_none}
 use Rattle.usb_hub.proofs.Interface.{commanded_control, queried_control}
@@ -31,7 +30,7 @@ use Rattle.usb_enum.specs.{IsSpare, TakesAddress, OnlyCalls, AtPort, FoundAt, On
 use Rattle.usb_enum.specs.{StaysBut, OnlySets, OnlyAt}
 use Rattle.usb_backlog.specs.{KeepsAll, gives_power}
 use Rattle.usb_backlog.proofs.Interface.{all_none, all_then, found_all, found_called, found_then}
-use Rattle.usb_enum.proofs.courses.Courses.{went_sound}
+use Rattle.usb_enum.proofs.courses.Courses.{traced_faulted, went_sound}
 use Rattle.usb_enum.proofs.devices.Enumerations.{Having, having, at_taking, within_none}
 use Rattle.usb_enum.proofs.devices.Enumerations.{within_then, within-keeps_addresses, within_kept}
 use Rattle.usb_enum.proofs.devices.Enumerations.{within_reset, within_given, zero_there}
@@ -194,6 +193,7 @@ pub sets_told : (address : ℕ) (old new : World) → OnlyTells address old new
     → OnlySets address old new
 sets_told address old new a = record {
   addresses = a.addresses;
+  spent = λ fault before. a.devices;
   devices = λ single. each_wider StaysAs (StaysBut address) (stays_but address) old new
       (a.devices.stays single);
   ports = a.ports;
@@ -216,11 +216,13 @@ but_then address j s u v x y = record {
       (y.stays (ap (λ n. n == address) x.same ∙ apart));
 }
 
-pub sets_then : (address n : ℕ) (old mid new : World) {r s : Option (List ℕ)}
-    → OnlySets address old mid → StepRun n mid r new s → OnlySets address mid new
-    → OnlySets address old new
-sets_then address n old mid new a went b = record {
+pub sets_then : (address m n : ℕ) (old mid new : World) {q r s : Option (List ℕ)}
+    → OnlySets address old mid → StepRun m old q mid r → StepRun n mid r new s
+    → OnlySets address mid new → OnlySets address old new
+sets_then address m n old mid new a first went b = record {
   addresses = keeps_then old mid new a.addresses b.addresses;
+  spent = λ fault before. devices_then n old mid new (a.spent fault before) went
+      (b.spent fault (traced_faulted first.traced fault before).1);
   devices = λ single. each_joined (StaysBut address) (StaysBut address) (StaysBut address)
       (but_then address) old mid new (a.devices (went_unshared n mid new went single))
       (b.devices single);
@@ -236,6 +238,9 @@ pub configuration_sets : (t : Target) (value : ℕ) (result : Result (Unit {0}) 
 unfolding set_configuration
 configuration_sets t value result old new ordered what keeps = record {
   addresses = keeps;
+  spent = λ fault before. subst (λ w. KeepsDevices old w) (sym (write_nothing t
+      (set_configuration value) old new fault before result ordered.stages))
+      (keeps_devices_none old);
   devices = λ single.
       each_wider (ConfigurationAsked t value result new) (StaysBut t.addr)
       (λ j s v x. record {
@@ -261,6 +266,30 @@ settings_elsewhere_then : (p : List ℕ) (old mid new : World) → EachElsewhere
 settings_elsewhere_then p old mid new a b j s apart on there =
     let later : Was StaysAs mid j s = b j s apart on there in
     let sooner : Was StaysAs old j later.before = a j later.before apart later.on later.stands in
+    record {
+      before = sooner.before;
+      on = sooner.on;
+      stands = sooner.stands;
+      so = stays_joined j sooner.before later.before s sooner.so later.so;
+    }
+
+-- the same of those that have an address
+named_of : (p : List ℕ) (old new : World) → EachElsewhere p StaysAs old new
+    → EachNamedElsewhere p StaysAs old new
+named_of p old new each j s apart on there has = each j s apart on there
+
+named_kept : (p : List ℕ) (old new : World) → KeepsDevices old new → new.shared ≡ false
+    → EachNamedElsewhere p StaysAs old new
+named_kept p old new keeps single =
+    named_of p old new (elsewhere_of p old new (keeps.stays single))
+
+named_then : (p : List ℕ) (old mid new : World) → EachNamedElsewhere p StaysAs old mid
+    → EachNamedElsewhere p StaysAs mid new → EachNamedElsewhere p StaysAs old new
+named_then p old mid new a b j s apart on there has =
+    let later : Was StaysAs mid j s = b j s apart on there has in
+    let same = stays-registers later.before s later.so in
+    let sooner : Was StaysAs old j later.before = a j later.before apart later.on later.stands
+    (λ zero. has (ap (λ r. r.address) same ∙ zero)) in
     record {
       before = sooner.before;
       on = sooner.on;
@@ -295,6 +324,7 @@ calls_none port address w = record {
   at =
       λ f p spare t none. only_at_rest p w w (λ x. here w) (all_none w)
       (elsewhere_of p w w (each_none StaysAs stays_itself w)) (here w);
+  named = λ f p spare t. named_kept p w w (keeps_devices_none w) t.single;
 }
 
 pub at_port_none : (port : HubPort) (address : ℕ) (w : World) → AtPort port address w w
@@ -310,6 +340,8 @@ calls_then port address n old mid new a went b = record {
   at = λ f p spare t none. only_at_then p old mid new
       (a.only.at f p spare t (went_sound n mid new went none))
       (b.at f p spare (a.within.stays f p spare t) none);
+  named = λ f p spare t. named_then p old mid new (a.only.named f p spare t)
+      (b.named f p spare (a.within.stays f p spare t));
 }
 
 pub at_port_then : (port : HubPort) (address n : ℕ) (old mid new : World) {r s : Option (List ℕ)}
@@ -331,6 +363,8 @@ at_asked port address old new asks = record {
         (elsewhere_of p old new (asks.devices.stays
         ((within_kept port address old new asks.addresses).stays f p spare t).single))
         (asks.control none);
+    named = λ f p spare t. named_kept p old new asks.devices
+        ((within_kept port address old new asks.addresses).stays f p spare t).single;
   };
 }
 
@@ -379,6 +413,10 @@ clear_calls port address call c is spared quiet feature old result new ends call
       called_at port address call c is spared quiet old result new ends calls f p spare t none
       (λ h. elsewhere_of p old new (keeps.devices.stays
       (keeps.keeps.kept (after_taking f p h.has) h.owned).single));
+  named = λ f p spare t.
+      let h = having f p address old t in
+      named_kept p old new keeps.devices
+      (keeps.keeps.kept (after_taking f p h.has) h.owned).single;
 }
 
 -- PORT_ENABLE
@@ -403,6 +441,10 @@ reset_calls port address old result new ends calls resets = record {
       f p spare t none
       (λ h. resets.others (after_taking f p h.has) p (at_taking f port p h.has spare.at)
       (zero_there f p h.has spare.none) h.owned none);
+  named = λ f p spare t.
+      let h = having f p address old t in
+      resets.named (after_taking f p h.has) p (at_taking f port p h.has spare.at)
+      (zero_there f p h.has spare.none) h.owned;
 }
 
 pub at_reset : (port : HubPort) (address : ℕ) (old new : World) → Resets port old new
@@ -418,6 +460,15 @@ but_taken f p a x off = elim (decided (same_path p x)) [
   | inl e ↦ false_true (sym off ∙ is_way-same_path p x e)
   | inr e ↦ rw e refl
 ]
+
+-- a bus is at work, or has given up
+by_fault : {P : Type 0} (w : World) → (w.fault ≡ None → P)
+    → ((fault : BusFault) → w.fault ≡ Some fault → P) → P
+by_fault {P = P} w works given_up = split w.fault refl
+  where
+    split : (x : Option BusFault) → w.fault ≡ x → P
+    split None e = works e
+    split (Some fault) e = given_up fault e
 
 -- no device elsewhere has an address that is not claimed
 unheld : (f : AddressMap) (p : List ℕ) (has n : ℕ) (w : World) → MapHolds (after_taking f p has) w
@@ -464,6 +515,18 @@ at_addressed port address m target result old mid new at zero_is least went orde
             ∙ apart)))
             (what (within.stays f p spare t).single))
             (commanded_control target (set_address address) result mid new ordered sound);
+        named = λ f p spare t. by_fault mid
+            (λ none.
+            let h = having f p address mid t in
+            named_of p mid new (unheld_stays f p h.has 0 mid new (h.owned.so none) spare.none
+            (AddressAsked target address result mid new)
+            (λ j s v x apart. stays_as_same j s v (x.others (ap (λ a. address_of s == a) zero_is
+            ∙ apart)))
+            (what (within.stays f p spare t).single)))
+            (λ fault before. subst (λ w. EachNamedElsewhere p StaysAs mid w)
+            (sym (write_nothing target (set_address address) mid new fault before result
+            ordered.stages))
+            (named_kept p mid mid (keeps_devices_none mid) t.single));
       };
     })
 
@@ -495,5 +558,12 @@ at_configured port address n old mid new at takes went sets = record {
           backlog = sets.backlog none (after_taking f p address) p (held_there f p address) own;
           control = sets.control none;
         });
+    named = λ f p spare t.
+        let taken = takes.took f p spare t in
+        let single = (sets.addresses.kept (after_taking f p address) taken).single in
+        named_then p old mid new (at.only.named f p spare t) (by_fault mid
+        (λ none. named_of p mid new (unheld_stays f p address address mid new (taken.so none)
+        spare.spare (StaysBut address) (λ j s v x apart. x.stays apart) (sets.devices single)))
+        (λ fault before. named_kept p mid new (sets.spent fault before) single));
   };
 }

@@ -5,7 +5,7 @@ use Rattle.std.proofs.Common.{subst, ◌∙◌}
 use Rattle.std.proofs.lemmas.Bool.{eq-eqb}
 use Rattle.std.proofs.lemmas.Option.{same_Some}
 use Rattle.usb_port.specs.{PortState, is_low, is_attached, speed_of, seen, PortStatus}
-use Rattle.usb_device.specs.{State, Spec, Ports, ended, vacant, taken, reach, reach_at, state_at}
+use Rattle.usb_device.specs.{State, Spec, Ports, vacant, taken, reach, reach_at, state_at}
 use Rattle.usb_device.specs.{port_at, Location, path_to, reach_on, state_on, state_there}
 use Rattle.usb_device.specs.{port_there}
 use Rattle.usb_world.specs.{after_taking, Relation, Was, EachWas, spec_of, IsSanePort, Consistent}

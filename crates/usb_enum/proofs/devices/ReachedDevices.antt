@@ -6,7 +6,7 @@ use Rattle.std.proofs.Common.{IsSome}
 use Rattle.usb_request.specs.{PORT_ENABLE, C_PORT_RESET, set_address}
 use Rattle.usb_port.specs.{PortState, PortStatus, ClearEnable, ClearResetChange, clear_call}
 use Rattle.usb_port.specs.{called_port, PortCall}
-use Rattle.usb_device.specs.{State, Ports, ended as no_more, vacant, taken, reach_at, state_at}
+use Rattle.usb_device.specs.{State, Ports, vacant, taken, reach_at, state_at}
 use Rattle.usb_device.specs.{state_there, port_there}
 use Rattle.usb_world.specs.{after_taking, KeepsPendingAt, spec_of, LeavesPortAlone, Course, World}
 use Rattle.usb_tree.specs.{has_power, pending, keeps_pending}

@@ -2,7 +2,7 @@
 use Rattle.std.proofs.Common.{◌≡◌, ℕ, Some, Result, Ok, Err, IsErrAnd, subst, sym}
 use Rattle.std.proofs.lemmas.Option.{same_Some}
 use Rattle.usb_world.specs.{World}
-use Rattle.usb_pipe.specs.{PipeFault, IsNoBusFault}
+use Rattle.usb_pipe.specs.{PipeFault}
 use Rattle.usb_pipe.specs.declared.fault.PipeFault.TheVariants.{Stalled, Busy, NoAnswer, Broken}
 use Rattle.usb_pipe.specs.declared.fault.PipeFault.TheVariants.{Bus, Memory}
 use Rattle.usb_hub.specs.{EndsAfter, StillWorks, WorksAfter}

@@ -1,5 +1,5 @@
 -- How many bytes the texts of a device say that the events of a plan plugged.
-use Rattle.std.proofs.Common.{◌≡◌, ◌≤◌, ℕ, zero, suc, Bool, true, false, cond, not, List, [], ◌∷◌}
+use Rattle.std.proofs.Common.{◌≡◌, ◌≤◌, ℕ, suc, Bool, true, false, cond, not, List, [], ◌∷◌}
 use Rattle.std.proofs.Common.{take, slice_get, Option, None, Some, option_map, refl, ap, sym, subst}
 use Rattle.std.proofs.Common.{◌∙◌, Ordering, Less, Equal, Greater, is_eq, IfSome, All, nat_eq}
 use Rattle.std.specs.Prelude.{⊤}

@@ -1,5 +1,5 @@
 -- That a finding is the device's own.
-use Rattle.std.proofs.Common.{◌≡◌, ◌<◌, ℕ, zero, suc, ◌==◌, ◌&&◌, not, Bool, true, false, List, []}
+use Rattle.std.proofs.Common.{◌≡◌, ◌<◌, ℕ, suc, ◌==◌, ◌&&◌, not, Bool, true, false, List, []}
 use Rattle.std.proofs.Common.{◌∷◌, slice_index, slice_index_or, take, if◌then◌else◌, Option, None}
 use Rattle.std.proofs.Common.{Some, Result, Ok, Err, refl, ap, sym, subst, ◌∙◌, arith, IfOk}
 use Rattle.std.proofs.lemmas.Bool.{eq-eqb}

@@ -19,7 +19,7 @@ use Rattle.usb_resources.specs.{Addresses, IsFull, IsTaken, HasAddresses}
 use Rattle.usb_address.specs.{AddressMap, Free, map_without, MapHolds, MapHoldsExcept, Enumerating}
 use Rattle.usb_address.specs.{WhileBusWorks}
 use Rattle.usb_address.proofs.Interface.{enumerating_begins, owned_as}
-use Rattle.usb_hub.specs.{HubPort, IsAt, Isolates, order_bound}
+use Rattle.usb_hub.specs.{EachNamedElsewhere, HubPort, IsAt, Isolates, StaysAs, order_bound}
 use Rattle.usb_enum.specs.declared.fault.EnumFault.TheVariants as fault
 use Rattle.usb_enum.specs.declared.finding.Finding.TheVariants.{Device, Refused}
 use Rattle.usb_enum.specs.declared.stop.Stop.TheVariants as stop
@@ -141,6 +141,12 @@ module _ (port : HubPort) (addresses : Addresses) (address : ℕ) (zero_is : IsT
   only_calls old new calls f p at bare claimed t =
       let is = spare f p at bare claimed in calls.at f p is (first f p old is t)
 
+  named_calls : (old new : World) → OnlyCalls port address old new → (f : AddressMap) (p : List ℕ)
+      → IsAt f port p → Free f p → ((x : List ℕ) (a : ℕ) → f x ≡ Some a → IsTaken addresses a)
+      → WhileBusWorks (MapHolds f) old → EachNamedElsewhere p StaysAs old new
+  named_calls old new calls f p at bare claimed t =
+      let is = spare f p at bare claimed in calls.named f p is (first f p old is t)
+
   pub enumerated : (old new : World) (device : Accepted) → device.address ≡ address
       → TakesAddress port address old new → OnlyCalls port address old new
       → KeepsEnumerated port addresses old (Ok (Device device)) new
@@ -149,6 +155,7 @@ module _ (port : HubPort) (addresses : Addresses) (address : ℕ) (zero_is : IsT
         let is = spare f p at bare claimed in
         rw same (takes.took f p is (first f p old is t));
     only = only_calls old new calls;
+    named = named_calls old new calls;
   }
 
   given_up : (old mid new : World) (result : Result Finding EnumFault)
@@ -159,6 +166,7 @@ module _ (port : HubPort) (addresses : Addresses) (address : ℕ) (zero_is : IsT
         let is = spare f p at bare claimed in
         ended.ends f p is (within.stays f p is (first f p old is t));
     only = only_calls old new calls;
+    named = named_calls old new calls;
   }
 
   pub found_true : (tier supply : ℕ) (old new : World) (device : Accepted)

@@ -10,7 +10,6 @@ use Rattle.usb_enum.specs.{Cause, EnumFault, Finding, Stop, LAST_TIER, device_by
 use Rattle.usb_enum.specs.{is_device, is_hub_device, HandsOn, IsFound, FitsStop, IsHubStop, IsPlain}
 use Rattle.usb_enum.specs.{IsPlainStop, IsStopWithout, answered_or, stop_of}
 use Rattle.usb_enum.specs.declared.cause.Cause.TheVariants as cause
-use Rattle.usb_enum.specs.declared.fault.EnumFault.TheVariants as fault
 use Rattle.usb_enum.specs.declared.finding.Finding.TheVariants as finding
 use Rattle.usb_enum.specs.declared.stop.Stop.TheVariants.{Refused, Fault}
 use Rattle.usb_enum.proofs.ports.Hubs.{deep_is, not_last}

@@ -11,7 +11,7 @@ use Rattle.usb_request.specs.{PORT_RESET, C_PORT_RESET, set_address}
 use Rattle.usb_port.specs.{PortState, is_attached, speed_of, reset, PortStatus, SetReset, set_call}
 use Rattle.usb_port.specs.{clear_call, called_port}
 use Rattle.usb_descriptor.specs.{device_head_of}
-use Rattle.usb_device.specs.{State, Spec, IsSpec, Ports, ended, vacant, taken, reach, state_at}
+use Rattle.usb_device.specs.{State, Spec, IsSpec, Ports, vacant, taken, reach, state_at}
 use Rattle.usb_device.specs.{port_at, Location, path_to, reach_on, state_on, state_there}
 use Rattle.usb_device.specs.{port_there}
 use Rattle.usb_world.specs.{after_taking, Relation, Was, EachWas, one_more, Consistent, World}

@@ -2,7 +2,6 @@
 use Rattle.std.proofs.Common.{◌⊎◌, inl, inr, ℕ, Result, Ok, Err, sym, subst, ◌≡◌, IfErr, IsErrAnd}
 use Rattle.usb_world.specs.{World}
 use Rattle.usb_pipe.specs.{PipeFault}
-use Rattle.usb_pipe.specs.declared.fault.PipeFault.TheVariants as pipe
 use Rattle.usb_hub.specs.{HubPort, Root, External, PortRead, PortSet, PortCleared}
 use Rattle.usb_enum.specs.{Cause, EnumFault, CanFail, FitsTier, IsPlain, FaultAllowedAt}
 use Rattle.usb_enum.specs.{FaultAllowed}

@@ -5,7 +5,7 @@ use Rattle.usb_enum.proofs.readings.Readings.{learns_on, learns_none, configurat
 use Rattle.usb_enum.proofs.readings.Readings.{configurations_learned}
 use Rattle.usb_enum.proofs.refusals.ConfigRefusals.{first_refused, repeated_refused}
 use Rattle.usb_enum.proofs.refusals.Refusals.{explains_on, fault_explains}
-use Rattle.std.proofs.Common.{◌≡◌, ◌∙◌, ◌+◌, [], false, true, ap, arith, rules, length, sym}
+use Rattle.std.proofs.Common.{◌≡◌, ◌∙◌, ◌+◌, [], ap, arith, rules, length, sym}
 use Rattle.std.proofs.lemmas.Grind.{common_steps}
 use Rattle.usb_enum.proofs.Parts.{asking, part_fails, steps_again, steps_more, steps_none}
 use Rattle.usb_enum.proofs.Parts.{steps_times}

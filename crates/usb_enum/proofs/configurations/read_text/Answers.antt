@@ -13,6 +13,7 @@ use Rattle.usb_enum.specs.declared.cause.Request.TheVariants.{Config}
 use Rattle.usb_enum.proofs.courses.LastRequests.{leads_went}
 use Rattle.usb_enum.proofs.stops.Reasons.{read_stop_told, reading_after, told_after, was_read}
 use Rattle.usb_enum.proofs.stops.ReportedFaults.{answered_reported}
+use Rattle.usb_enum.proofs.courses.Counts.{read_spends}
 use Rattle.usb_enum.proofs.configurations.read_text.Goals as goal
 
 pub returns-in_err-total-clause-read : goal.returns-in_err-total-clause-read
@@ -30,8 +31,8 @@ returns-in_err-bytes-clause-read g c known =
     let answer = c.get_config.ensures in
     let asked = answer.asked known in
     let what = answer.what known in
-    let text = steps_asked (config_given index) total c.requires.max (answer.steps known) asked what
-    (answer.keeps known) in
+    let text = steps_asked (config_given index) total c.requires.max (answer.uses.steps known) asked
+    what (answer.keeps known) in
     let old = g.B.Bus.world c.args.bus.now in
     let mid = g.B.Bus.world c.total_length.new.bus in
     let new = g.B.Bus.world c.get_config.new.bus in
@@ -58,7 +59,7 @@ returns-in-Some-clause-read g c known =
     let good = sym c.in-Some.is ∙ c.new.ensures in
     record {
       steps = steps_then asking head.steps (steps_asked (config_given _) total c.requires.max
-          (answer.steps known) asked what (answer.keeps known))
+          (answer.uses.steps known) asked what (answer.keeps known))
           (omega (arith, c.in_ok-total.ensures.fits.1));
       ends = record {
         told = rw (good_bytes bytes.items c.in-Some.text good).1 (record {
@@ -67,7 +68,7 @@ returns-in-Some-clause-read g c known =
               (was_read (Stalled Config) bytes c.in_ok-bytes.ensures asked);
         });
         so = configuration_learned _ _ _ total _ c.get_config.result bytes c.in-Some.text _ _ _
-            c.in_ok-bytes.ensures good head.ends.so (answer.steps known) what;
+            c.in_ok-bytes.ensures good head.ends.so (answer.uses.steps known) what;
       };
     }
 
@@ -82,7 +83,7 @@ returns-in-None-clause-read g c known =
     let none = sym c.new.ensures ∙ c.in-None.is in
     record {
       steps = steps_then asking head.steps (steps_asked (config_given _) total c.requires.max
-          (answer.steps known) asked what (answer.keeps known))
+          (answer.uses.steps known) asked what (answer.keeps known))
           (omega (arith, c.in_ok-total.ensures.fits.1));
       ends = record {
         told = bad_text bytes.items (record {
@@ -91,7 +92,7 @@ returns-in-None-clause-read g c known =
               (was_read (Stalled Config) bytes c.in_ok-bytes.ensures asked);
         }) none;
         so = text_refused c.args.target _ _ total _ c.get_config.result bytes _ _ _
-            c.in_ok-bytes.ensures none head.ends.so (answer.steps known) what;
+            c.in_ok-bytes.ensures none head.ends.so (answer.uses.steps known) what;
       };
     }
 
@@ -104,14 +105,14 @@ pub returns-in_err-bytes-clause-count : goal.returns-in_err-bytes-clause-count
 returns-in_err-bytes-clause-count g c known =
     let head = c.in_ok-total.ensures.read known in
     text_unread c.args.target c.args.index c.in_ok-total.total _ _ _ c.requires.max head.steps.went
-    (c.get_config.ensures.steps known) head.ends.so head.ends.told _ _
+    (c.get_config.ensures.uses.steps known) head.ends.so head.ends.told _ _
     c.from_residual-in_err-bytes.ensures.1
 
 pub returns-in-None-clause-count : goal.returns-in-None-clause-count
 returns-in-None-clause-count g c known =
     let head = c.in_ok-total.ensures.read known in
     text_unread c.args.target c.args.index c.in_ok-total.total _ _ _ c.requires.max
-    head.steps.went (c.get_config.ensures.steps known) head.ends.so head.ends.told _ _ refl
+    head.steps.went (c.get_config.ensures.uses.steps known) head.ends.so head.ends.told _ _ refl
 
 pub returns-in-Some-clause-count : goal.returns-in-Some-clause-count
 returns-in-Some-clause-count g c known =
@@ -120,8 +121,8 @@ returns-in-Some-clause-count g c known =
     let asked = answer.asked known in
     let what = answer.what known in
     text_was_read c.args.target c.args.index _ _ _ _ c.requires.max head.steps.went
-    (answer.steps known) head.ends.so head.ends.told c.in-Some.text (steps_asked
-    (config_given c.args.index) _ c.requires.max (answer.steps known) asked what
+    (answer.uses.steps known) head.ends.so head.ends.told c.in-Some.text (steps_asked
+    (config_given c.args.index) _ c.requires.max (answer.uses.steps known) asked what
     (answer.keeps known)).keeps.devices (config_there c.args.target _ c.args.index _
     c.get_config.result c.in_ok-bytes.bytes _ _ c.in_ok-bytes.ensures
     asked what)
@@ -131,7 +132,11 @@ returns-in_err-bytes-clause-plain g c =
     handed_on _ _ _ c.from_residual-in_err-bytes.ensures.1 (answered_plain (Stalled Config) _ _ tt
     c.in_err-bytes.ensures)
 
-pub returns-in_err-bytes-clause-told : goal.returns-in_err-bytes-clause-told
-returns-in_err-bytes-clause-told g c =
-    handed_on _ _ _ c.from_residual-in_err-bytes.ensures.1 (answered_reported _ (Stalled Config) _ _
-    c.get_config.ensures.any_bus.1 c.in_err-bytes.ensures)
+pub returns-in_err-bytes-clause-any_bus : goal.returns-in_err-bytes-clause-any_bus
+returns-in_err-bytes-clause-any_bus g c =
+    let head = c.total_length.ensures.any_bus.0 in
+    let text = read_spends c.args.target.max _ c.requires.max c.get_config.ensures.uses in (
+      (omega (arith, head.0, text.0), text.1 ∙ head.1),
+      handed_on _ _ _ c.from_residual-in_err-bytes.ensures.1 (answered_reported _ (Stalled Config)
+          _ _ c.get_config.ensures.uses.told c.in_err-bytes.ensures),
+    )

@@ -12,6 +12,7 @@ use Rattle.usb_enum.specs.declared.cause.Request.TheVariants.{Config}
 use Rattle.usb_enum.proofs.stops.Reasons.{read_stop_told, was_read}
 use Rattle.usb_enum.proofs.stops.ReportedFaults.{answered_reported}
 use Rattle.usb_enum.proofs.stops.ToldFailures.{handed_on}
+use Rattle.usb_enum.proofs.courses.Counts.{read_spends}
 use Rattle.usb_enum.proofs.configurations.total_length.Goals as goal
 
 pub returns-in-Ok-clause-read : goal.returns-in-Ok-clause-read
@@ -22,8 +23,8 @@ returns-in-Ok-clause-read g c known =
     let asked = answer.asked known in
     let what = answer.what known in
     record {
-      steps = steps_asked (config_given c.args.index) 9 c.requires.max (answer.steps known) asked
-          what (answer.keeps known);
+      steps = steps_asked (config_given c.args.index) 9 c.requires.max (answer.uses.steps known)
+          asked what (answer.keeps known);
       ends = record {
         told = config_there _ _ c.args.index 9 c.get_config.result _ old new c.in_ok-head.ensures
             asked what;
@@ -41,7 +42,7 @@ returns-in_err-head-clause-read g c known =
     let asked = answer.asked known in
     let what = answer.what known in
     part_fails _ _ c.from_residual.ensures.1 (steps_asked
-    (config_given c.args.index) 9 c.requires.max (answer.steps known) asked what
+    (config_given c.args.index) 9 c.requires.max (answer.uses.steps known) asked what
     (answer.keeps known)) (record {
       told = read_stop_told Config _ (c.args.index, (9, refl)) c.in_err-head.ensures asked;
       so = config_refused c.args.target c.args.index 9 c.get_config.result _ old new
@@ -59,8 +60,8 @@ returns-clause-read g c known =
     let bad = ap config_head_of (sym c.as_slice.ensures.value) ∙ sym c.config_head.ensures.answer
     ∙ c.in-Err.is in
     record {
-      steps = steps_asked (config_given c.args.index) 9 c.requires.max (answer.steps known) asked
-          what (answer.keeps known);
+      steps = steps_asked (config_given c.args.index) 9 c.requires.max (answer.uses.steps known)
+          asked what (answer.keeps known);
       ends = record {
         told = bad_total bytes.items c.in-Err.field-0 (was_read (Stalled Config) bytes
             c.in_ok-head.ensures asked) bad;
@@ -74,7 +75,9 @@ returns-in_err-head-clause-fits g c =
     handed_match _ _ _ _ c.from_residual.ensures.1 (answered_plain (Stalled Config) _ _ tt
     c.in_err-head.ensures)
 
-pub returns-in_err-head-clause-told : goal.returns-in_err-head-clause-told
-returns-in_err-head-clause-told g c =
-    handed_on _ _ _ c.from_residual.ensures.1 (answered_reported _ (Stalled Config) _ _
-    c.get_config.ensures.any_bus.1 c.in_err-head.ensures)
+pub returns-in_err-head-clause-any_bus : goal.returns-in_err-head-clause-any_bus
+returns-in_err-head-clause-any_bus g c = (
+  read_spends c.args.target.max 9 c.requires.max c.get_config.ensures.uses,
+  handed_on _ _ _ c.from_residual.ensures.1 (answered_reported _ (Stalled Config) _ _
+      c.get_config.ensures.uses.told c.in_err-head.ensures),
+)

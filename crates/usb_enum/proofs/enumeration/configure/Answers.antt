@@ -2,7 +2,7 @@ use Rattle.usb_enum.specs.{IsStarted, Stalled, Memory, configured_fault, CauseAl
 use Rattle.usb_enum.specs.{lacks_power}
 use Rattle.usb_enum.proofs.stops.PlainStops.{answered_plain, deep_stop_fits, hub_stop_fits}
 use Rattle.usb_enum.proofs.stops.PlainStops.{plain_stop_fits}
-use Rattle.std.proofs.Common.{◌∙◌, ap, arith, refl, subst, sym}
+use Rattle.std.proofs.Common.{◌∙◌, ap, arith, refl, subst, sym, rules}
 use Rattle.usb_enum.proofs.readings.SettingValues.{text_at}
 use Rattle.usb_descriptor.specs.{configuration_value}
 use Rattle.usb_enum.proofs.refusals.Refusals.{answered_ok, fault_explains, handed_match}
@@ -93,7 +93,7 @@ returns-in_err-answered_or-clause-part g c known =
     let chosen = text_at _ _ _ _ c.index-as_slice-chosen.is c.as_slice.ensures inside in
     part_fails _ _ c.from_residual-in_err-answered_or.ensures.1 (steps_as (sets_at c.requires)
     (steps_then (setting t.addr) (steps_as (sets_asked _) read.steps)
-    (steps_set (set.steps known) (set.ordered known) (set.what known) (set.keeps known))
+    (steps_set (set.uses.steps known) (set.ordered known) (set.what known) (set.keeps known))
     (omega arith))) (record {
       told = stops_by _ _ _ _ _ _ _ (told_after _ t _ _ _ (leads_went read.steps.went)
           (write_stop_told SetConfig _ (c.value-value.result, refl) c.in_err-answered_or.ensures
@@ -103,7 +103,7 @@ returns-in_err-answered_or-clause-part g c known =
           (sym c.in_ok-chosen.ensures.chosen ∙ c.in-Some.is) c.value-value.result _ _
           c.set_configuration.result _ _ _ _ (λ z. omega (arith, z, c.requires)) inside
           (c.value-value.ensures ∙ ap configuration_value chosen) (omega arith)
-          (rw c.configurations.ensures at read.ends.so) read.steps.went (set.steps known)
+          (rw c.configurations.ensures at read.ends.so) read.steps.went (set.uses.steps known)
           c.in_err-answered_or.ensures (set.what known) (set.why known);
     })
 
@@ -127,7 +127,7 @@ returns-in_err-hub-clause-part g c known =
     let before = g.B.Bus.world c.set_configuration.new.bus in
     let asked = g.B.Bus.world c.hub_facts.new.bus in
     let steps = steps_joined (setting t.addr) (steps_as (sets_asked _) read.steps)
-    (steps_set (set.steps known) (set.ordered known) (set.what known) (set.keeps known)) in
+    (steps_set (set.uses.steps known) (set.ordered known) (set.what known) (set.keeps known)) in
     part_fails _ _ c.from_residual-in_err-hub.ensures.1 (steps_as
     (sets_at c.requires) (steps_then (setting t.addr) steps (steps_as (sets_told _) hub.steps)
     (omega arith))) (record {
@@ -136,14 +136,14 @@ returns-in_err-hub-clause-part g c known =
             asked = read.ends.told;
             all = c.in_ok-configs.ensures.all.0 ∙ c.configurations.ensures;
           }) c.in-Some.chosen choice (leads_went read.steps.went)
-          (leads_went (set.steps known)) (subst
+          (leads_went (set.uses.steps known)) (subst
           (λ text. CauseAllowedAtStart t text stop before asked)
           same_text hub.ends.told);
       so = hub_refused t c.args.tier c.args.supply device.bytes fits configs c.in-Some.chosen choice
           c.value-value.result _ _ _ stop old before asked (λ z. omega (arith, z, c.requires))
           is_hub inside (c.value-value.ensures ∙ ap configuration_value chosen) (omega arith)
           (set_learned _ t c.value-value.result _ c.set_configuration.result old mid before
-          (rw c.configurations.ensures at read.ends.so) (set.steps known) (answered_ok _ _ tt
+          (rw c.configurations.ensures at read.ends.so) (set.uses.steps known) (answered_ok _ _ tt
           c.in_ok-answered_or.ensures) (set.what known)) steps.went hub.steps.went same_text
           hub.ends.so;
     })
@@ -161,11 +161,11 @@ returns-in_err-strings-clause-part g c known =
     let hub = c.in_ok-hub.ensures.part known in
     let strings = c.in_err-strings.ensures.read known in
     let steps = steps_joined (setting t.addr) (steps_joined (setting t.addr)
-    (steps_as (sets_asked _) read.steps) (steps_set (set.steps known) (set.ordered known)
+    (steps_as (sets_asked _) read.steps) (steps_set (set.uses.steps known) (set.ordered known)
     (set.what known) (set.keeps known))) (steps_as (sets_told _) hub.steps) in
     let learned = set_learned _ t c.value-value.result _ c.set_configuration.result old mid before
-    read.ends.so (set.steps known) (answered_ok _ _ tt c.in_ok-answered_or.ensures) (set.what known)
-    in
+    read.ends.so (set.uses.steps known) (answered_ok _ _ tt c.in_ok-answered_or.ensures)
+    (set.what known) in
     part_fails _ _ c.from_residual-in_err-strings.ensures.1
     (steps_as (sets_at c.requires) (steps_then (setting t.addr) steps
     (steps_as (sets_asked _) strings.steps) (omega arith))) (record {
@@ -189,7 +189,7 @@ returns-clause-part g c known =
     let chosen = text_at _ _ _ _ c.index-as_slice-chosen.is c.as_slice.ensures inside in
     let same_text = text_at _ _ _ _ c.index-as_slice-chosen-2.is c.as_slice-2.ensures inside in
     let steps = steps_joined (setting t.addr) (steps_joined (setting t.addr)
-    (steps_as (sets_asked _) read.steps) (steps_set (set.steps known) (set.ordered known)
+    (steps_as (sets_asked _) read.steps) (steps_set (set.uses.steps known) (set.ordered known)
     (set.what known) (set.keeps known))) (steps_as (sets_told _) hub.steps) in
     record {
       steps = steps_as (sets_at c.requires) (steps_then (setting t.addr) steps
@@ -201,12 +201,12 @@ returns-clause-part g c known =
         fits = sym c.in_ok-fits_tier.ensures;
         served = subst (λ a. IsStarted a c.in_ok-hub.hub) c.requires hub.ends.served;
         learned = listed_learns _ _ _ _ _ _ _ _ _ _ c.set_configuration.result
-            c.configurations.ensures read.ends.so (set.steps known)
+            c.configurations.ensures read.ends.so (set.uses.steps known)
             (c.value-value.ensures ∙ ap configuration_value chosen) done (set.what known)
             hub.steps.went same_text hub.ends.learned strings.steps.went c.string_indexes.ensures
             strings.ends.so;
         below = empties_ports _ _ _ _ _ c.set_configuration.result read.steps.went read.steps.keeps
-            (set.steps known) done (set.ordered known) (set.what known) (set.keeps known)
+            (set.uses.steps known) done (set.ordered known) (set.what known) (set.keeps known)
             hub.ends.started strings.steps.keeps;
         strings = record {
           before = g.B.Bus.world c.hub_facts.new.bus;
@@ -234,28 +234,28 @@ returns-in_default-clause-few g c known =
 pub returns-in_err-answered_or-clause-few : goal.returns-in_err-answered_or-clause-few
 returns-in_err-answered_or-clause-few g c known =
     few_then _ _ _ _ _ _ _
-    (c.read_configurations.ensures.few known) (c.set_configuration.ensures.steps known)
+    (c.read_configurations.ensures.few known) (c.set_configuration.ensures.uses.steps known)
     (λ most. omega arith)
 
 pub returns-in_err-hub-clause-few : goal.returns-in_err-hub-clause-few
 returns-in_err-hub-clause-few g c known =
     few_then _ _ _ _ _ _ _
     (c.read_configurations.ensures.few known) (went_then _ _
-    (c.set_configuration.ensures.steps known) (c.in_err-hub.ensures.part known).steps.went)
+    (c.set_configuration.ensures.uses.steps known) (c.in_err-hub.ensures.part known).steps.went)
     (λ most. omega arith)
 
 pub returns-in_err-strings-clause-few : goal.returns-in_err-strings-clause-few
 returns-in_err-strings-clause-few g c known =
     few_then _ _ _ _ _ _ _
     (c.read_configurations.ensures.few known) (went_then _ _ (went_then _ _
-    (c.set_configuration.ensures.steps known) (c.in_ok-hub.ensures.part known).steps.went)
+    (c.set_configuration.ensures.uses.steps known) (c.in_ok-hub.ensures.part known).steps.went)
     (c.in_err-strings.ensures.read known).steps.went) (λ most. omega arith)
 
 pub returns-clause-few : goal.returns-clause-few
 returns-clause-few g c known =
     few_then _ _ _ _ _ _ _
     (c.read_configurations.ensures.few known) (went_then _ _ (went_then _ _
-    (c.set_configuration.ensures.steps known) (c.in_ok-hub.ensures.part known).steps.went)
+    (c.set_configuration.ensures.uses.steps known) (c.in_ok-hub.ensures.part known).steps.went)
     (c.in_ok-strings.ensures.read known).steps.went) (λ most. omega arith)
 
 pub returns-in_err-fits_tier-clause-whole : goal.returns-in_err-fits_tier-clause-whole
@@ -284,12 +284,16 @@ returns-in_err-strings-clause-whole g c =
     handed_match _ _ _ _ c.from_residual-in_err-strings.ensures.1 (plain_stop_fits _ _
     c.in_err-strings.ensures.plain)
 
-pub returns-in_err-answered_or-clause-told : goal.returns-in_err-answered_or-clause-told
-returns-in_err-answered_or-clause-told g c =
-    handed_on _ _ _ c.from_residual-in_err-answered_or.ensures.1 (answered_reported _
-    (Stalled SetConfig) _ _ c.set_configuration.ensures.any_bus.1 c.in_err-answered_or.ensures)
+pub returns-in_err-answered_or-clause-any_bus : goal.returns-in_err-answered_or-clause-any_bus
+returns-in_err-answered_or-clause-any_bus g c = (
+  search rules,
+  handed_on _ _ _ c.from_residual-in_err-answered_or.ensures.1 (answered_reported _
+      (Stalled SetConfig) _ _ c.set_configuration.ensures.uses.told c.in_err-answered_or.ensures),
+)
 
-pub returns-in_err-fits_tier-clause-told : goal.returns-in_err-fits_tier-clause-told
-returns-in_err-fits_tier-clause-told g c =
-    handed_on _ _ _ c.from_residual.ensures.1 (deep_reported _ _ c.args.device.bytes _ (sym
-    c.in_err-fits_tier.ensures))
+pub returns-in_err-fits_tier-clause-any_bus : goal.returns-in_err-fits_tier-clause-any_bus
+returns-in_err-fits_tier-clause-any_bus g c = (
+  search rules,
+  handed_on _ _ _ c.from_residual.ensures.1 (deep_reported _ _ c.args.device.bytes _ (sym
+      c.in_err-fits_tier.ensures)),
+)

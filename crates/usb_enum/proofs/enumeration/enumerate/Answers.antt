@@ -24,7 +24,7 @@ returns-in_default-clause-ends g c known =
     (subst HasAddresses c.in_default.ensures.none.1 c.take.ensures.range) in
     let steps = c.without_address-stop.ensures.steps known in
     let stops = c.without_address-stop.ensures.stops known in
-    let closing = c.give_up.ensures.steps known in
+    let closing = c.give_up.ensures.uses.steps known in
     let left = (c.give_up.ensures.left known).left in
     stopped_ends _ pool 0 zero zero unaddressed_fault _ _ _ _ _ _ _ _ _ steps.went closing
     steps.keeps stops.so ((c.give_up.ensures.left known).closes 0) left (unaddressed_right (IsFull
@@ -72,7 +72,7 @@ returns-in-Err-clause-ends g c known =
     let examined = c.in-Err.ensures.part known in
     let steps = examined.steps in
     let stops = examined.ends in
-    let closing = c.give_up-finding.ensures.steps known in
+    let closing = c.give_up-finding.ensures.uses.steps known in
     let left = (c.give_up-finding.ensures.left known).left in
     stopped_ends _ pool _ zero free (whole_fault _ _) _ _ _ _ _ _ _ _ _ steps.went
     closing steps.keeps stops.so ((c.give_up-finding.ensures.left known).closes _) left (whole_right
@@ -95,19 +95,28 @@ give_up-finding-requires g c =
     is_asked_stays _ _ _ _ _ (λ known. (c.examine.ensures.part known).steps.went.spends)
     c.requires.port
 
-pub returns-in_default-clause-steps : goal.returns-in_default-clause-steps
-returns-in_default-clause-steps g c known =
-    went_on_more _ _ _ _ _ _ (c.without_address-stop.ensures.steps known).went
-    (c.give_up.ensures.steps known) (omega arith)
+pub returns-in_default-clause-uses : goal.returns-in_default-clause-uses
+returns-in_default-clause-uses g c = record {
+  spends = search rules;
+  told = c.give_up.ensures.uses.told c.without_address-stop.ensures.any_bus.1;
+  steps = λ known. went_on_more _ _ _ _ _ _ (c.without_address-stop.ensures.steps known).went
+      (c.give_up.ensures.uses.steps known) (omega arith);
+}
 
-pub returns-in-Ok-clause-steps : goal.returns-in-Ok-clause-steps
-returns-in-Ok-clause-steps g c known = went_wider _ _ (c.examine.ensures.part known).steps.went
-    (omega arith)
+pub returns-in-Ok-clause-uses : goal.returns-in-Ok-clause-uses
+returns-in-Ok-clause-uses g c = record {
+  spends = search rules;
+  told = tt;
+  steps = λ known. went_wider _ _ (c.examine.ensures.part known).steps.went (omega arith);
+}
 
-pub returns-in-Err-clause-steps : goal.returns-in-Err-clause-steps
-returns-in-Err-clause-steps g c known =
-    went_on_more _ _ _ _ _ _ (c.examine.ensures.part known).steps.went
-    (c.give_up-finding.ensures.steps known) (omega arith)
+pub returns-in-Err-clause-uses : goal.returns-in-Err-clause-uses
+returns-in-Err-clause-uses g c = record {
+  spends = search rules;
+  told = c.give_up-finding.ensures.uses.told c.in-Err.ensures.any_bus.1;
+  steps = λ known. went_on_more _ _ _ _ _ _ (c.examine.ensures.part known).steps.went
+      (c.give_up-finding.ensures.uses.steps known) (omega arith);
+}
 
 pub returns-in_default-clause-told : goal.returns-in_default-clause-told
 returns-in_default-clause-told g c known =
@@ -130,11 +139,3 @@ pub returns-in-Err-clause-found : goal.returns-in-Err-clause-found
 returns-in-Err-clause-found g c =
     fits_found c.args.pool.now c.args.tier c.args.supply c.in-Err.stop c.give_up-finding.result
     c.give_up-finding.ensures.hands c.in-Err.ensures.whole
-
-pub returns-in_default-clause-any_bus : goal.returns-in_default-clause-any_bus
-returns-in_default-clause-any_bus g c =
-    (search rules, c.give_up.ensures.told c.without_address-stop.ensures.told)
-
-pub returns-in-Err-clause-any_bus : goal.returns-in-Err-clause-any_bus
-returns-in-Err-clause-any_bus g c =
-    (search rules, c.give_up-finding.ensures.told c.in-Err.ensures.told)

@@ -1,12 +1,12 @@
 use Rattle.usb_enum.proofs.ports.Ports.{disabled}
 use Rattle.usb_hub.proofs.Interface.{asked_port}
 use Rattle.usb_enum.proofs.stops.PlainStops.{handed_none}
-use Rattle.std.proofs.Common.{inr, Err, arith, refl}
+use Rattle.std.proofs.Common.{inr, Err, refl}
 use Rattle.usb_port.specs.{ClearEnable}
 use Rattle.usb_request.specs.{PORT_ENABLE}
 use Rattle.usb_enum.specs.{FaultBy}
 use Rattle.usb_enum.proofs.courses.Stretches.{clear_goes}
-use Rattle.usb_bus.proofs.Interface.{went_none, went_wider}
+use Rattle.usb_pipe.proofs.Interface.{uses_as, uses_none}
 use Rattle.usb_enum.proofs.stops.Closings.{closed_fault, closed_handed, closed_lost, closed_refused}
 use Rattle.usb_enum.proofs.devices.ReachedDevices.{done_at}
 use Rattle.usb_enum.proofs.stops.Reasons.{call_ends, fault_by}
@@ -29,7 +29,7 @@ returns-in_err-at_port-in-Refused-clause-left g c known =
           c.from_residual.ensures.1 by;
       closes = λ a. closed_handed _ a _ _ c.from_residual.result why _ c.from_residual.ensures.1
           (closed_lost _ a _ _ _ _ (call.fault known) (call.ports known) (call.addresses known) _
-          why (call.steps known) c.in_err-at_port-in-Refused.ensures (fault_by port why _ _ by)
+          why (call.uses.steps known) c.in_err-at_port-in-Refused.ensures (fault_by port why _ _ by)
           (clear_goes port PORT_ENABLE ClearEnable _ _ _ refl refl refl (call.effect known)));
     })
 
@@ -51,8 +51,8 @@ pub returns-in-Fault-clause-left : goal.returns-in-Fault-clause-left
 returns-in-Fault-clause-left g c known =
     rw c.in-Fault.is (record { left = (refl, refl); closes = λ a. closed_fault _ a _ _ })
 
-pub returns-in-Fault-clause-steps : goal.returns-in-Fault-clause-steps
-returns-in-Fault-clause-steps g c known = went_wider 0 _ went_none (omega arith)
+pub returns-in-Fault-clause-uses : goal.returns-in-Fault-clause-uses
+returns-in-Fault-clause-uses g c = uses_none (λ told. rw c.in-Fault.is at told)
 
 pub returns-in_err-at_port-in-Refused-clause-hands :
     goal.returns-in_err-at_port-in-Refused-clause-hands
@@ -60,11 +60,12 @@ returns-in_err-at_port-in-Refused-clause-hands g c =
     rw c.in-Refused.is (handed_none c.from_residual.result _ c.in_err-at_port-in-Refused.field-0.0
     c.from_residual.ensures.1)
 
-pub returns-in_err-at_port-in-Refused-clause-told :
-    goal.returns-in_err-at_port-in-Refused-clause-told
-returns-in_err-at_port-in-Refused-clause-told g c told =
-    handed_on _ _ _ c.from_residual.ensures.1 (port_reported _ _ _ c.clear_port.ensures.any_bus.1
-    c.in_err-at_port-in-Refused.ensures)
+pub returns-in_err-at_port-in-Refused-clause-uses :
+    goal.returns-in_err-at_port-in-Refused-clause-uses
+returns-in_err-at_port-in-Refused-clause-uses g c =
+    uses_as c.clear_port.ensures.uses (λ fault told. handed_on _ _ _ c.from_residual.ensures.1
+    (port_reported _ _ _ fault c.in_err-at_port-in-Refused.ensures))
 
-pub returns-in-Fault-clause-told : goal.returns-in-Fault-clause-told
-returns-in-Fault-clause-told g c told = rw c.in-Fault.is at told
+pub returns-in_ok-at_port-in-Refused-clause-uses : goal.returns-in_ok-at_port-in-Refused-clause-uses
+returns-in_ok-at_port-in-Refused-clause-uses g c =
+    uses_as c.clear_port.ensures.uses (λ fault told. tt)

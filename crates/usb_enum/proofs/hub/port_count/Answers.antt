@@ -12,6 +12,7 @@ use Rattle.usb_request.specs.{get_hub_descriptor}
 use Rattle.usb_enum.proofs.stops.Reasons.{bad_hub_told, reads_failed, was_read}
 use Rattle.usb_enum.proofs.stops.ReportedFaults.{answered_reported}
 use Rattle.usb_enum.proofs.stops.ToldFailures.{handed_on}
+use Rattle.usb_enum.proofs.courses.Counts.{read_spends}
 use Rattle.usb_enum.proofs.hub.port_count.Goals as goal
 
 pub returns-in-Ok-clause-count : goal.returns-in-Ok-clause-count
@@ -30,7 +31,7 @@ returns-in-Ok-clause-read g c known =
     let asked = hub.asked known in
     let same = c.in-Ok.ensures.view ∙ c.as_slice.ensures.value in
     record {
-      steps = steps_asked hub_given 9 c.requires.max (hub.steps known) asked (hub.what known)
+      steps = steps_asked hub_given 9 c.requires.max (hub.uses.steps known) asked (hub.what known)
           (hub.keeps known);
       ends = rw c.ports.ensures.value (record {
         told = count_told c.args.target BadHub c.hub_descriptor.result c.in_ok-bytes.bytes
@@ -48,7 +49,7 @@ returns-in_err-bytes-clause-read g c known =
     let asked = hub.asked known in
     let what = hub.what known in
     part_fails _ _ c.from_residual.ensures.1
-    (steps_asked hub_given 9 c.requires.max (hub.steps known) asked what (hub.keeps known))
+    (steps_asked hub_given 9 c.requires.max (hub.uses.steps known) asked what (hub.keeps known))
     (record {
       told = bad_hub_told c.args.target get_hub_descriptor c.hub_descriptor.result _ 3 1 old new
           c.in_err-bytes.ensures (reads_failed c.args.target get_hub_descriptor
@@ -66,7 +67,7 @@ returns-clause-read g c known =
     let bad = ap hub_spelled (sym c.as_slice.ensures.value) ∙ sym c.read_hub.ensures.answer
     ∙ c.in-Err.is in
     record {
-      steps = steps_asked hub_given 9 c.requires.max (hub.steps known) asked (hub.what known)
+      steps = steps_asked hub_given 9 c.requires.max (hub.uses.steps known) asked (hub.what known)
           (hub.keeps known);
       ends = record {
         told = inl (
@@ -79,7 +80,9 @@ returns-clause-read g c known =
       };
     }
 
-pub returns-in_err-bytes-clause-told : goal.returns-in_err-bytes-clause-told
-returns-in_err-bytes-clause-told g c =
-    handed_on _ _ _ c.from_residual.ensures.1 (answered_reported _ BadHub _ _
-    c.hub_descriptor.ensures.any_bus.1 c.in_err-bytes.ensures)
+pub returns-in_err-bytes-clause-any_bus : goal.returns-in_err-bytes-clause-any_bus
+returns-in_err-bytes-clause-any_bus g c = (
+  read_spends c.args.target.max 9 c.requires.max c.hub_descriptor.ensures.uses,
+  handed_on _ _ _ c.from_residual.ensures.1 (answered_reported _ BadHub _ _
+      c.hub_descriptor.ensures.uses.told c.in_err-bytes.ensures),
+)

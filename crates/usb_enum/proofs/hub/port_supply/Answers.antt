@@ -1,12 +1,11 @@
 use Rattle.usb_enum.specs.{hub_fault, BadHub}
 use Rattle.usb_enum.proofs.refusals.HubRefusals.{bad_hub, status_ungiven, unless_refused-not}
 use Rattle.usb_enum.proofs.refusals.Refusals.{request_refused, answered_ok, handed_match}
-use Rattle.usb_request.specs.{get_status}
 use Rattle.usb_hub.specs.{status_given}
 use Rattle.usb_enum.proofs.stops.PlainStops.{answered_hub}
 use Rattle.std.proofs.Common.{◌≡◌, Some}
 use Rattle.usb_enum.proofs.devices.Frames.{answer_asks}
-use Rattle.usb_enum.proofs.courses.Counts.{read_went}
+use Rattle.usb_enum.proofs.courses.Counts.{read_spends, read_went}
 use Rattle.usb_enum.proofs.readings.HubReadings.{supply_learned}
 use Rattle.usb_enum.proofs.Parts.{part_fails}
 use Rattle.usb_enum.proofs.stops.Reasons.{status_told}
@@ -23,7 +22,7 @@ returns-clause-read g c known =
     let t = c.args.target in
     record {
       steps = record {
-        went = read_went t.max 2 _ _ c.requires.max (answer.steps known);
+        went = read_went t.max 2 _ _ c.requires.max (answer.uses.steps known);
         keeps = answer_asks status_given (λ s status. status_given s.spec ≡ Some status) t _
             c.get_status.result _ _ _ told.asked (answer.what known) (answer.keeps known);
       };
@@ -47,7 +46,7 @@ returns-in_err-status-clause-read g c known =
     let t = c.args.target in
     part_fails _ _ c.from_residual.ensures.1
     (record {
-      went = read_went t.max 2 _ _ c.requires.max (answer.steps known);
+      went = read_went t.max 2 _ _ c.requires.max (answer.uses.steps known);
       keeps = answer_asks status_given (λ s status. status_given s.spec ≡ Some status) t _
           c.get_status.result _ _ _ told.asked (answer.what known) (answer.keeps known);
     })
@@ -63,7 +62,9 @@ returns-in_err-status-clause-said g c =
     handed_match _ _ _ _ c.from_residual.ensures.1 (answered_hub _ _
     c.in_err-status.ensures)
 
-pub returns-in_err-status-clause-told : goal.returns-in_err-status-clause-told
-returns-in_err-status-clause-told g c =
-    handed_on _ _ _ c.from_residual.ensures.1 (answered_reported _ BadHub _ _
-    c.get_status.ensures.any_bus.1 c.in_err-status.ensures)
+pub returns-in_err-status-clause-any_bus : goal.returns-in_err-status-clause-any_bus
+returns-in_err-status-clause-any_bus g c = (
+  read_spends c.args.target.max 2 c.requires.max c.get_status.ensures.uses,
+  handed_on _ _ _ c.from_residual.ensures.1 (answered_reported _ BadHub _ _
+      c.get_status.ensures.uses.told c.in_err-status.ensures),
+)

@@ -2,7 +2,7 @@ use Rattle.usb_enum.proofs.ports.Hubs.{powered_by}
 use Rattle.usb_enum.specs.{BadHub, IsHubStop, StopsPower, no_power}
 use Rattle.usb_enum.proofs.stops.PlainStops.{answered_hub}
 use Rattle.usb_enum.proofs.refusals.Warrants.{matched}
-use Rattle.std.proofs.Common.{◌∙◌, sym}
+use Rattle.std.proofs.Common.{◌∙◌, sym, rules}
 use Rattle.usb_enum.proofs.devices.Frames.{power_tells}
 use Rattle.usb_enum.proofs.refusals.PortRefusals.{power_explains}
 use Rattle.usb_enum.proofs.refusals.Refusals.{by_error}
@@ -22,7 +22,7 @@ returns-clause-part g c known =
     let devices = c.set_hub_port.ensures.devices known (λ e. absurd cc) in
     record {
       steps = record {
-        went = c.set_hub_port.ensures.steps known;
+        went = c.set_hub_port.ensures.uses.steps known;
         keeps = power_tells t port _ _ _ ordered
             (c.set_hub_port.ensures.keeps known (λ e. absurd cc)) devices;
       };
@@ -40,9 +40,11 @@ returns-clause-stops g c =
     by_error c.answered_or.result IsHubStop
     (λ stop is. answered_hub _ _ (sym is ∙ c.answered_or.ensures))
 
-pub returns-clause-told : goal.returns-clause-told
-returns-clause-told g c =
-    rw c.answered_or.ensures (answers_reported _ BadHub _ c.set_hub_port.ensures.any_bus.1)
+pub returns-clause-any_bus : goal.returns-clause-any_bus
+returns-clause-any_bus g c = (
+  search rules,
+  rw c.answered_or.ensures (answers_reported _ BadHub _ c.set_hub_port.ensures.uses.told),
+)
 
 pub returns-clause-works : goal.returns-clause-works
 returns-clause-works g c known =

@@ -1,4 +1,4 @@
-use Rattle.std.proofs.Common.{inl, inr, refl}
+use Rattle.std.proofs.Common.{inl, inr, refl, rules}
 use Rattle.usb_request.specs.{PORT_RESET}
 use Rattle.usb_hub.proofs.Interface.{reset_went}
 use Rattle.usb_enum.proofs.devices.Frames.{at_reset, reset_calls}
@@ -16,7 +16,7 @@ returns-clause-part g c known a =
     let resets = (call.addresses known).resets refl in
     record {
       steps = record {
-        went = reset_went c.args.port (call.steps known);
+        went = reset_went g.B.Bus.world g.B.Bus.trace c.args.port _ _ (call.uses.steps known);
         keeps = at_reset _ a _ _ resets
             (reset_calls _ a _ _ _ (call.fault known) (call.ports known) resets);
       };
@@ -32,9 +32,11 @@ returns-clause-calls g c known = record {
   goes = set_goes c.args.port PORT_RESET SetReset _ _ _ refl refl (c.set_port.ensures.effect known);
 }
 
-pub returns-clause-told : goal.returns-clause-told
-returns-clause-told g c =
-    rw c.at_port.ensures (ports_reported _ _ c.set_port.ensures.any_bus.1)
+pub returns-clause-any_bus : goal.returns-clause-any_bus
+returns-clause-any_bus g c = (
+  search rules,
+  rw c.at_port.ensures (ports_reported _ _ c.set_port.ensures.uses.told),
+)
 
 pub returns-clause-works : goal.returns-clause-works
 returns-clause-works g c known =

@@ -1,4 +1,4 @@
-use Rattle.std.proofs.Common.{inl, arith, ◌≡◌, ◌∙◌, true, Err, ap, refl, sym, take}
+use Rattle.std.proofs.Common.{inl, arith, ◌≡◌, ◌∙◌, Err, ap, refl, sym, take}
 use Rattle.std.proofs.lemmas.List.{take-take}
 use Rattle.usb_enum.specs.{AtMaximum, HasDescriptor, device_fault, is_device, bad_front, Stalled}
 use Rattle.usb_enum.proofs.readings.Heads.{answered}
@@ -16,6 +16,7 @@ use Rattle.usb_enum.specs.declared.cause.Request.TheVariants.{Device}
 use Rattle.usb_enum.proofs.stops.Reasons.{read_stop_told, unanswered_ends_failing, was_read}
 use Rattle.usb_enum.proofs.stops.ReportedFaults.{answered_reported, device_reported}
 use Rattle.usb_enum.proofs.stops.ToldFailures.{handed_on}
+use Rattle.usb_enum.proofs.courses.Counts.{read_spends}
 use Rattle.usb_enum.proofs.passes.descriptor.Goals as goal
 
 pub returns-then-eq-clause-read : goal.returns-then-eq-clause-read
@@ -26,7 +27,7 @@ returns-then-eq-clause-read g c known =
     let silent : _ ≡ Err NoAnswer = no_answer _ _ _ (sym c.eq.ensures ∙ c.if-eq.true)
     refl refl refl (λ why. refl) refl in
     record {
-      steps = steps_asked device_given 18 c.requires.max (device.steps known) asked what
+      steps = steps_asked device_given 18 c.requires.max (device.uses.steps known) asked what
           (device.addresses known).keeps;
       ends = record {
         told = unanswered_ends_failing _ (get_device_descriptor 18) _ _ _ silent asked.stages;
@@ -40,7 +41,7 @@ returns-in_err-bytes-clause-read g c known =
     let asked = device.asked known in
     let what = device.what known in
     part_fails _ _ c.from_residual.ensures.1 (steps_asked device_given 18
-    c.requires.max (device.steps known) asked what (device.addresses known).keeps) (record {
+    c.requires.max (device.uses.steps known) asked what (device.addresses known).keeps) (record {
       told = read_stop_told Device _ (18, refl) c.in_err-bytes.ensures asked;
       so = record {
         why = request_refused _ _ _ _ _ (g.B.Bus.world c.args.bus.now)
@@ -62,7 +63,7 @@ returns-in-Some-clause-read g c known =
     let bytes = c.in_ok-bytes.bytes in
     let front = c.in-Some.ensures.cases.same ∙ ap (take 18) c.as_slice.ensures.value in
     record {
-      steps = steps_asked device_given 18 c.requires.max (device.steps known) asked what
+      steps = steps_asked device_given 18 c.requires.max (device.uses.steps known) asked what
           (device.addresses known).keeps;
       ends = rw c.device_bytes.ensures (device_read t c.in-Some.bytes.now _ _ (record {
         all = bytes.items;
@@ -90,7 +91,7 @@ returns-clause-read g c known =
     let short = rw c.as_slice.ensures.value at c.in-None.ensures.cases in
     let bad = short_device t.low bytes.items short in
     record {
-      steps = steps_asked device_given 18 c.requires.max (device.steps known) asked what
+      steps = steps_asked device_given 18 c.requires.max (device.uses.steps known) asked what
           (device.addresses known).keeps;
       ends = record {
         told = bad_front (take 18 bytes.items) (record {
@@ -116,11 +117,15 @@ returns-in_err-bytes-clause-device g c =
     handed_match _ _ _ _ c.from_residual.ensures.1 (answered_plain (Stalled Device) _ _ tt
     c.in_err-bytes.ensures)
 
-pub returns-in_err-bytes-clause-told : goal.returns-in_err-bytes-clause-told
-returns-in_err-bytes-clause-told g c =
-    handed_on _ _ _ c.from_residual.ensures.1 (answered_reported _ (Stalled Device) _ _
-    c.get_device-outcome.ensures.any_bus.1 c.in_err-bytes.ensures)
+pub returns-in_err-bytes-clause-any_bus : goal.returns-in_err-bytes-clause-any_bus
+returns-in_err-bytes-clause-any_bus g c = (
+  read_spends c.args.target.max 18 c.requires.max c.get_device-outcome.ensures.uses,
+  handed_on _ _ _ c.from_residual.ensures.1 (answered_reported _ (Stalled Device) _ _
+      c.get_device-outcome.ensures.uses.told c.in_err-bytes.ensures),
+)
 
-pub returns-in-Some-clause-told : goal.returns-in-Some-clause-told
-returns-in-Some-clause-told g c =
-    rw c.device_bytes.ensures (device_reported _ c.args.target.low c.in-Some.bytes.now)
+pub returns-in-Some-clause-any_bus : goal.returns-in-Some-clause-any_bus
+returns-in-Some-clause-any_bus g c = (
+  read_spends c.args.target.max 18 c.requires.max c.get_device-outcome.ensures.uses,
+  rw c.device_bytes.ensures (device_reported _ c.args.target.low c.in-Some.bytes.now),
+)

@@ -12,6 +12,7 @@ use Rattle.usb_enum.specs.declared.cause.Request.TheVariants.{Device}
 use Rattle.usb_enum.proofs.stops.Reasons.{read_stop_told, was_read}
 use Rattle.usb_enum.proofs.stops.ReportedFaults.{answered_reported}
 use Rattle.usb_enum.proofs.stops.ToldFailures.{handed_on}
+use Rattle.usb_enum.proofs.courses.Counts.{read_spends}
 use Rattle.usb_enum.proofs.passes.first_maximum.Goals as goal
 
 pub returns-in-Ok-clause-read : goal.returns-in-Ok-clause-read
@@ -23,8 +24,8 @@ returns-in-Ok-clause-read g c known =
     (sym (rw c.as_slice.ensures.value at c.in-Ok.ensures.answer)) asked.ends
     (device.addresses known) (device.what known) in
     record {
-      steps = steps_asked device_given 8 (omega (arith, c.requires.max)) (device.steps known) asked
-          (device.what known) (device.addresses known).keeps;
+      steps = steps_asked device_given 8 (omega (arith, c.requires.max)) (device.uses.steps known)
+          asked (device.what known) (device.addresses known).keeps;
       ends = record { answers = answers; goes = device_goes _ 8 _ _ _ asked answers.still };
     }
 
@@ -35,8 +36,8 @@ returns-in_err-bytes-clause-read g c known =
     let device = c.get_device.ensures in
     let asked = device.asked known in
     let wide : 8 ≤ c.args.unaddressed.max = omega (arith, c.requires.max) in
-    part_fails _ _ c.from_residual.ensures.1 (steps_asked device_given 8
-    wide (device.steps known) asked (device.what known) (device.addresses known).keeps) (record {
+    part_fails _ _ c.from_residual.ensures.1 (steps_asked device_given 8 wide
+    (device.uses.steps known) asked (device.what known) (device.addresses known).keeps) (record {
       told = read_stop_told Device _ (8, refl) c.in_err-bytes.ensures asked;
       so = stop_explains _ _ _ _ _ old new (device.what known) wide (device.why known)
           (IsRefusedFor (head_fault c.args.unaddressed.low)) (Stalled Device) _
@@ -53,8 +54,8 @@ returns-clause-read g c known =
     let bad = ap (device_head_of t.low) (sym c.as_slice.ensures.value) ∙ sym
     c.device_head.ensures.answer ∙ c.in-Err.is in
     record {
-      steps = steps_asked device_given 8 (omega (arith, c.requires.max)) (device.steps known) asked
-          (device.what known) (device.addresses known).keeps;
+      steps = steps_asked device_given 8 (omega (arith, c.requires.max)) (device.uses.steps known)
+          asked (device.what known) (device.addresses known).keeps;
       ends = record {
         told = bad_head bytes.items c.in-Err.field-0 (was_read (Stalled Device) bytes
             c.in_ok-bytes.ensures asked) bad;
@@ -68,7 +69,9 @@ returns-in_err-bytes-clause-fits g c =
     handed_match _ _ _ _ c.from_residual.ensures.1 (answered_plain (Stalled Device) _ _ tt
     c.in_err-bytes.ensures)
 
-pub returns-in_err-bytes-clause-told : goal.returns-in_err-bytes-clause-told
-returns-in_err-bytes-clause-told g c =
-    handed_on _ _ _ c.from_residual.ensures.1 (answered_reported _ (Stalled Device) _ _
-    c.get_device.ensures.any_bus.1 c.in_err-bytes.ensures)
+pub returns-in_err-bytes-clause-any_bus : goal.returns-in_err-bytes-clause-any_bus
+returns-in_err-bytes-clause-any_bus g c = (
+  read_spends c.args.unaddressed.max 8 (omega (arith, c.requires.max)) c.get_device.ensures.uses,
+  handed_on _ _ _ c.from_residual.ensures.1 (answered_reported _ (Stalled Device) _ _
+      c.get_device.ensures.uses.told c.in_err-bytes.ensures),
+)

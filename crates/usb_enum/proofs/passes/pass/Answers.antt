@@ -1,6 +1,6 @@
 use Rattle.usb_enum.specs.{Stalled, addressed_fault, early_fault}
 use Rattle.usb_enum.proofs.stops.PlainStops.{answered_plain}
-use Rattle.std.proofs.Common.{inl, inr, arith, refl}
+use Rattle.std.proofs.Common.{inl, inr, arith, refl, rules}
 use Rattle.usb_enum.proofs.devices.Presence.{address_finds}
 use Rattle.usb_enum.proofs.devices.ReachedDevices.{reaches_addressed, reaches_rest}
 use Rattle.usb_enum.proofs.devices.Enumerations.{takes_after, takes_answered}
@@ -36,14 +36,14 @@ returns-in_err-answered_or-clause-part g c known =
     let zero = c.in_ok-target.ensures.part known 0 in
     let set = c.set_address.ensures in
     let ordered = set.ordered known in
-    let addressed = steps_addressed early.steps is.zero c.requires.least (set.steps known) ordered
-    (set.what known) (set.gives known) in
+    let addressed = steps_addressed early.steps is.zero c.requires.least (set.uses.steps known)
+    ordered (set.what known) (set.gives known) in
     part_fails _ _ c.from_residual-in_err-answered_or.ensures.1 (steps_wider addressed (omega
     arith)) (record {
       told = at_after _ _ a _ _ _ (leads_went early.steps.went) (stop_told_at _ _ a _ _ _
           (record { at = inl is.zero; pre = is.pre })
           (write_stop_told Address _ (a, refl) c.in_err-answered_or.ensures ordered));
-      so = address_stops _ a _ _ _ c.set_address.result early.steps.went (set.steps known)
+      so = address_stops _ a _ _ _ c.set_address.result early.steps.went (set.uses.steps known)
           early.steps.keeps zero.steps.keeps addressed.keeps is zero.ends ordered (set.what known)
           (set.why known) _ c.in_err-answered_or.ensures;
     })
@@ -56,7 +56,7 @@ returns-in_err-bytes-clause-part g c known =
     let early = c.in_ok-target.ensures.part known a in
     let zero = c.in_ok-target.ensures.part known 0 in
     let set = c.set_address.ensures in
-    let addressed = steps_addressed early.steps is.zero c.requires.least (set.steps known)
+    let addressed = steps_addressed early.steps is.zero c.requires.least (set.uses.steps known)
     (set.ordered known) (set.what known) (set.gives known) in
     let bytes = c.in_err-bytes.ensures.read known in
     let done = answered_ok _ _ tt c.in_ok-answered_or.ensures in
@@ -65,7 +65,7 @@ returns-in_err-bytes-clause-part g c known =
     (omega arith)) (record {
       told = at_after _ _ a _ _ _ (leads_went addressed.went) (stop_told_at _ _ a
           (record t { addr = a }) _ _ (record { at = inr refl; pre = is.pre }) bytes.ends.told);
-      so = descriptor_stops _ a _ _ _ t early.steps.went (set.steps known) bytes.steps.went
+      so = descriptor_stops _ a _ _ _ t early.steps.went (set.uses.steps known) bytes.steps.went
           early.steps.keeps zero.steps.keeps addressed.keeps bytes.steps.keeps is zero.ends
           (rw done at (set.ordered known)) (rw done at (set.what known)) _
           (told_faults _ (record t { addr = a }) _ _ bytes.ends.told) bytes.ends.so;
@@ -76,7 +76,7 @@ returns-in-Some-clause-part g c known =
     let is = c.in_ok-target.ensures.target in
     let early = c.in_ok-target.ensures.part known _ in
     let set = c.set_address.ensures in
-    let addressed = steps_addressed early.steps is.zero c.requires.least (set.steps known)
+    let addressed = steps_addressed early.steps is.zero c.requires.least (set.uses.steps known)
     (set.ordered known) (set.what known) (set.gives known) in
     let bytes = rw c.in-Some.is at (c.in_ok-bytes.ensures.read known) in
     let keeps = bytes.steps.keeps in
@@ -96,7 +96,7 @@ returns-in-Some-clause-part g c known =
               (rw done at (set.what known)) addressed.keeps.within bytes.ends.so bytes.steps.went
               keeps.addresses;
           reaches = reaches_rest _ _ _ bytes.steps.went keeps.ports (reaches_addressed _ _ _ _ _ _ _
-              _ (set.steps known) (set.ordered known) early.ends.reaches);
+              _ (set.uses.steps known) (set.ordered known) early.ends.reaches);
         };
       };
     }
@@ -109,7 +109,7 @@ returns-in-None-clause-part g c known =
     let early = c.in_ok-target.ensures.part known a in
     let zero = c.in_ok-target.ensures.part known 0 in
     let set = c.set_address.ensures in
-    let addressed = steps_addressed early.steps is.zero c.requires.least (set.steps known)
+    let addressed = steps_addressed early.steps is.zero c.requires.least (set.uses.steps known)
     (set.ordered known) (set.what known) (set.gives known) in
     let bytes = rw c.in-None.is at (c.in_ok-bytes.ensures.read known) in
     let done = answered_ok _ _ tt c.in_ok-answered_or.ensures in
@@ -122,7 +122,7 @@ returns-in-None-clause-part g c known =
           is = record { at = inr refl; pre = is.pre };
           failed = failing_after (leads_went addressed.went) bytes.ends.told;
         };
-        so = pass_misses _ a _ _ _ t early.steps.went (set.steps known) bytes.steps.went
+        so = pass_misses _ a _ _ _ t early.steps.went (set.uses.steps known) bytes.steps.went
             early.steps.keeps zero.steps.keeps addressed.keeps bytes.steps.keeps is zero.ends
             (rw done at (set.ordered known)) (rw done at (set.what known)) bytes.ends.so;
       };
@@ -133,7 +133,9 @@ returns-in_err-answered_or-clause-addressed g c =
     handed_match _ _ _ _ c.from_residual-in_err-answered_or.ensures.1 (answered_plain (Stalled
     Address) _ _ tt c.in_err-answered_or.ensures)
 
-pub returns-in_err-answered_or-clause-told : goal.returns-in_err-answered_or-clause-told
-returns-in_err-answered_or-clause-told g c =
-    handed_on _ _ _ c.from_residual-in_err-answered_or.ensures.1 (answered_reported _
-    (Stalled Address) _ _ c.set_address.ensures.any_bus.1 c.in_err-answered_or.ensures)
+pub returns-in_err-answered_or-clause-any_bus : goal.returns-in_err-answered_or-clause-any_bus
+returns-in_err-answered_or-clause-any_bus g c = (
+  search rules,
+  handed_on _ _ _ c.from_residual-in_err-answered_or.ensures.1 (answered_reported _
+      (Stalled Address) _ _ c.set_address.ensures.uses.told c.in_err-answered_or.ensures),
+)

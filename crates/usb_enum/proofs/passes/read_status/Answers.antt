@@ -1,4 +1,4 @@
-use Rattle.std.proofs.Common.{inl}
+use Rattle.std.proofs.Common.{inl, rules}
 use Rattle.usb_enum.proofs.devices.Frames.{status_asks}
 use Rattle.usb_enum.proofs.courses.Stretches.{status_goes}
 use Rattle.usb_enum.proofs.stops.Reasons.{call_ends}
@@ -12,7 +12,7 @@ returns-clause-read g c known =
     let call = c.port_status.ensures in
     record {
       steps = record {
-        went = call.steps known;
+        went = call.uses.steps known;
         keeps = status_asks _ _ _ _ (call.status known) (call.fault known) (call.addresses known);
       };
       ends = call_ends c.args.port _ c.port_status.result _ _ c.at_port.ensures
@@ -28,9 +28,11 @@ returns-clause-status g c known = record {
   goes = status_goes _ _ _ _ (c.port_status.ensures.status known);
 }
 
-pub returns-clause-told : goal.returns-clause-told
-returns-clause-told g c =
-    rw c.at_port.ensures (ports_reported _ _ c.port_status.ensures.any_bus.1)
+pub returns-clause-any_bus : goal.returns-clause-any_bus
+returns-clause-any_bus g c = (
+  search rules,
+  rw c.at_port.ensures (ports_reported _ _ c.port_status.ensures.uses.told),
+)
 
 pub returns-clause-works : goal.returns-clause-works
 returns-clause-works g c known =

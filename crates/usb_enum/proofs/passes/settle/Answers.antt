@@ -1,6 +1,6 @@
 use Rattle.usb_enum.proofs.devices.Enumerations.{within_kept}
 use Rattle.usb_enum.proofs.devices.Frames.{clear_calls}
-use Rattle.std.proofs.Common.{inr, refl}
+use Rattle.std.proofs.Common.{inr, refl, rules}
 use Rattle.usb_request.specs.{C_PORT_RESET}
 use Rattle.usb_world.proofs.Interface.{each_none}
 use Rattle.usb_hub.specs.{StaysAs}
@@ -32,7 +32,7 @@ returns-clause-part g c known a =
     let call = c.clear_port.ensures in
     record {
       steps = record {
-        went = call.steps known;
+        went = call.uses.steps known;
         keeps = record {
           within = within_kept _ a _ _ (call.addresses known).keeps;
           only = clear_calls _ a _ ClearResetChange refl refl refl C_PORT_RESET _ _ _
@@ -55,9 +55,11 @@ returns-clause-calls g c known = record {
   };
 }
 
-pub returns-clause-told : goal.returns-clause-told
-returns-clause-told g c =
-    rw c.at_port.ensures (ports_reported _ _ c.clear_port.ensures.any_bus.1)
+pub returns-clause-any_bus : goal.returns-clause-any_bus
+returns-clause-any_bus g c = (
+  search rules,
+  rw c.at_port.ensures (ports_reported _ _ c.clear_port.ensures.uses.told),
+)
 
 pub returns-clause-works : goal.returns-clause-works
 returns-clause-works g c known =

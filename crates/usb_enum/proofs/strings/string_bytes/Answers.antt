@@ -10,6 +10,7 @@ use Rattle.usb_enum.proofs.readings.StringReadings.{stall_alone, string_read-giv
 use Rattle.usb_request.specs.{get_string_descriptor}
 use Rattle.usb_enum.proofs.stops.Reasons.{string_told}
 use Rattle.usb_enum.proofs.stops.ReportedFaults.{stop_reported}
+use Rattle.usb_enum.proofs.courses.Counts.{read_spends}
 use Rattle.usb_enum.proofs.strings.string_bytes.Goals as goal
 
 pub returns-in-Ok-clause-read : goal.returns-in-Ok-clause-read
@@ -18,8 +19,8 @@ returns-in-Ok-clause-read g c known =
     let asked = string.asked known in
     let what = string.what known in
     record {
-      steps = steps_asked (string_given c.args.index) 255 c.requires.max (string.steps known) asked
-          what (string.keeps known);
+      steps = steps_asked (string_given c.args.index) 255 c.requires.max (string.uses.steps known)
+          asked what (string.keeps known);
       ends = record {
         told = given _ (rw c.in-Ok.is at asked.stages);
         so = text_learned (string_given c.args.index) (HasString c.args.index (Some c.in-Ok.bytes))
@@ -37,8 +38,8 @@ returns-in-None-clause-read g c known =
     let stalled = c.in-Err.is
     ∙ ap Err (stall_alone c.in-Err.fault (sym c.stop_of.ensures ∙ c.in-None.is)) in
     record {
-      steps = steps_asked (string_given c.args.index) 255 c.requires.max (string.steps known) asked
-          what (string.keeps known);
+      steps = steps_asked (string_given c.args.index) 255 c.requires.max (string.uses.steps known)
+          asked what (string.keeps known);
       ends = record {
         told = refused (rw stalled at asked.stages);
         so = refusal_learned (string_given c.args.index) _ _ _ (g.B.Bus.world c.args.bus.now)
@@ -57,8 +58,8 @@ returns-in-Some-clause-read g c known =
     let what = string.what known in
     let some = sym c.stop_of.ensures ∙ c.in-Some.is in
     record {
-      steps = steps_asked (string_given c.args.index) 255 c.requires.max (string.steps known) asked
-          what (string.keeps known);
+      steps = steps_asked (string_given c.args.index) 255 c.requires.max (string.uses.steps known)
+          asked what (string.keeps known);
       ends = record {
         told = string_told c.args.target (get_string_descriptor c.args.index c.args.language)
             c.get_string.result c.in-Err.fault c.in-Some.stop old new c.in-Err.is some asked.stages
@@ -74,7 +75,9 @@ pub returns-in-Some-clause-plain : goal.returns-in-Some-clause-plain
 returns-in-Some-clause-plain g c = stop_plain c.in-Err.fault c.in-Some.stop
     (sym c.stop_of.ensures ∙ c.in-Some.is)
 
-pub returns-in-Some-clause-told : goal.returns-in-Some-clause-told
-returns-in-Some-clause-told g c =
-    stop_reported _ c.in-Err.fault c.in-Some.stop c.in-Err.ensures.any_bus.1
-    (sym c.stop_of.ensures ∙ c.in-Some.is)
+pub returns-in-Some-clause-any_bus : goal.returns-in-Some-clause-any_bus
+returns-in-Some-clause-any_bus g c = (
+  read_spends c.args.target.max 255 c.requires.max c.get_string.ensures.uses,
+  stop_reported _ c.in-Err.fault c.in-Some.stop c.in-Err.ensures.uses.told
+      (sym c.stop_of.ensures ∙ c.in-Some.is),
+)

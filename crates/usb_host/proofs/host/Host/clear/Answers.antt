@@ -8,18 +8,18 @@ use Rattle.usb_host.proofs.host.Host.clear.Goals as goal
 pub returns-clause-clears : goal.returns-clause-clears
 returns-clause-clears g c known =
     let s = c.clear_port.ensures in
-    rw (← c.self.view_is) (clears_by c.args.port c.args.feature _ _ (s.steps known) refl
+    rw (← c.self.view_is) (clears_by c.args.port c.args.feature _ _ (s.uses.steps known) refl
     (s.fault known) (s.effect known) (s.addresses known) (s.ports known) c.at_port.ensures)
 
 pub returns-clause-spends : goal.returns-clause-spends
 returns-clause-spends g c =
     rw (← c.self.view_is) (counts_spend g.B.Bus.modelled (g.B.Bus.spent c.self.inside.bus)
     (g.B.Bus.spent c.clear_port.new.bus) (g.B.Bus.failed c.self.inside.bus)
-    (g.B.Bus.failed c.clear_port.new.bus) _ c.clear_port.ensures.any_bus.0.0 (order_most
+    (g.B.Bus.failed c.clear_port.new.bus) _ c.clear_port.ensures.uses.spends.0 (order_most
     c.args.port))
 
 pub returns-clause-told : goal.returns-clause-told
 returns-clause-told g c =
     counts_told (g.B.Bus.spent c.clear_port.new.bus) (g.B.Bus.failed c.clear_port.new.bus)
     g.B.Bus.modelled c.at_port.result (rw c.at_port.ensures (ports_reported _ _
-    c.clear_port.ensures.any_bus.1))
+    c.clear_port.ensures.uses.told))

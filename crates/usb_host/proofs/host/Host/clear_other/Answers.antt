@@ -9,7 +9,7 @@ pub returns-then-asked-clause-clears : goal.returns-then-asked-clause-clears
 returns-then-asked-clause-clears g c known =
     let s = c.clear_port_change.ensures in
     rw (← c.self.view_is) (others_by c.args.port c.args.feature _ _ c.clear_port_change.result
-    c.if-asked.true (s.steps known) refl (s.fault known) (s.cleared known) (s.addresses known)
+    c.if-asked.true (s.uses.steps known) refl (s.fault known) (s.cleared known) (s.addresses known)
     (s.devices known) c.at_port.ensures)
 
 pub returns-else-asked-clause-clears : goal.returns-else-asked-clause-clears
@@ -19,7 +19,7 @@ pub returns-then-asked-clause-spends : goal.returns-then-asked-clause-spends
 returns-then-asked-clause-spends g c =
     rw (← c.self.view_is) (counts_spend g.B.Bus.modelled (g.B.Bus.spent c.self.inside.bus)
     (g.B.Bus.spent c.clear_port_change.new.bus) (g.B.Bus.failed c.self.inside.bus)
-    (g.B.Bus.failed c.clear_port_change.new.bus) _ c.clear_port_change.ensures.any_bus.0.0
+    (g.B.Bus.failed c.clear_port_change.new.bus) _ c.clear_port_change.ensures.uses.spends.0
     (order_most c.args.port))
 
 pub returns-then-asked-clause-told : goal.returns-then-asked-clause-told
@@ -27,4 +27,4 @@ returns-then-asked-clause-told g c =
     counts_told (g.B.Bus.spent c.clear_port_change.new.bus) (g.B.Bus.failed
     c.clear_port_change.new.bus)
     g.B.Bus.modelled c.at_port.result (rw c.at_port.ensures (ports_reported _ _
-    c.clear_port_change.ensures.any_bus.1))
+    c.clear_port_change.ensures.uses.told))

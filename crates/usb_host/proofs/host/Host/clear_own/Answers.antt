@@ -20,7 +20,7 @@ returns-in-External-clause-clears g c known =
     let s = c.clear_hub_changes.ensures in
     rw (c.in-External.is, ← c.self.view_is) (own_by c.in-External.hub c.in-External.port _ _
     c.clear_hub_changes.result
-    (goes_by _ _ (s.steps known) (omega (
+    (goes_by _ _ (s.uses.steps known) (omega (
       arith,
       status_most (External c.in-External.hub c.in-External.port)
           (rw c.in-External.is at c.requires.askable).wide,
@@ -31,7 +31,7 @@ pub returns-in-External-clause-spends : goal.returns-in-External-clause-spends
 returns-in-External-clause-spends g c =
     rw (← c.self.view_is) (counts_spend g.B.Bus.modelled (g.B.Bus.spent c.self.inside.bus)
     (g.B.Bus.spent c.clear_hub_changes.new.bus) (g.B.Bus.failed c.self.inside.bus)
-    (g.B.Bus.failed c.clear_hub_changes.new.bus) _ c.clear_hub_changes.ensures.any_bus.0.0 (omega (
+    (g.B.Bus.failed c.clear_hub_changes.new.bus) _ c.clear_hub_changes.ensures.uses.spends.0 (omega (
       arith,
       status_most (External c.in-External.hub c.in-External.port)
           (rw c.in-External.is at c.requires.askable).wide,
@@ -42,4 +42,4 @@ returns-in-External-clause-told g c =
     counts_told (g.B.Bus.spent c.clear_hub_changes.new.bus) (g.B.Bus.failed
     c.clear_hub_changes.new.bus)
     g.B.Bus.modelled c.at_port.result (rw c.at_port.ensures (ports_reported _ _
-    c.clear_hub_changes.ensures.any_bus.1))
+    c.clear_hub_changes.ensures.uses.told))

@@ -49,7 +49,7 @@ returns-clause-disables g c known =
       addresses = c.self.inside.pool;
       stopped = c.self.inside.stopped;
     } in
-    let went = c.clear_port.ensures.steps known in
+    let went = c.clear_port.ensures.uses.steps known in
     let keeps = (c.clear_port.ensures.addresses known).keeps in
     let devices = (c.clear_port.ensures.addresses known).devices in
     rw (← c.self.view_is) (elim c.match-clear_port.branch [
@@ -108,7 +108,7 @@ pub returns-clause-spends : goal.returns-clause-spends
 returns-clause-spends g c =
     rw (← c.self.view_is) (counts_spend g.B.Bus.modelled (g.B.Bus.spent c.self.inside.bus)
     (g.B.Bus.spent c.clear_port.new.bus) (g.B.Bus.failed c.self.inside.bus)
-    (g.B.Bus.failed c.clear_port.new.bus) _ c.clear_port.ensures.any_bus.0.0 (order_most
+    (g.B.Bus.failed c.clear_port.new.bus) _ c.clear_port.ensures.uses.spends.0 (order_most
     c.in-Some.port.port))
 
 pub returns-clause-ends : goal.returns-clause-ends
@@ -118,7 +118,7 @@ returns-clause-ends g c =
       | in-Err-Bus w ↦ rw w.result-is (
         λ known. rw w.in-Err-Bus.field-0-is at (w.in-Err-Bus.ensures.fault known),
         counts_last (g.B.Bus.spent c.clear_port.new.bus) (g.B.Bus.failed c.clear_port.new.bus)
-            g.B.Bus.modelled (rw w.in-Err-Bus.field-0-is at w.in-Err-Bus.ensures.any_bus.1),
+            g.B.Bus.modelled (rw w.in-Err-Bus.field-0-is at w.in-Err-Bus.ensures.uses.told),
       )
       | in-Err w ↦ rw w.result-is (λ done. absurd (cc done))
     ]

@@ -41,7 +41,7 @@ returns-in_err-finding-clause-finds g c known =
     let s = rw (← c.self.view_is) at (placed known c.requires.port) in
     let away = rw (← c.self.view_is) at c.requires.away in
     rw (← c.self.view_is, told.1, told.2) (discover_fails s away c.self.invariant.accounts
-    (c.enumerate.ensures.steps known) refl
+    (c.enumerate.ensures.uses.steps known) refl
     (rw c.tier.ensures at (c.in_err-finding.ensures.ends known)) refl refl
     c.in_err-finding.ensures.pool (c.in_err-finding.ensures.told known))
 
@@ -52,7 +52,7 @@ returns-in_err-enter-clause-finds g c known =
     let s = rw (← c.self.view_is) at (placed known c.requires.port) in
     let away = rw (← c.self.view_is) at c.requires.away in
     rw (← c.self.view_is, told.1, told.2) (discover_lost s away c.self.invariant.accounts
-    (c.enumerate.ensures.steps known) refl
+    (c.enumerate.ensures.uses.steps known) refl
     (rw c.tier.ensures at (c.in_ok-finding.ensures.ends known))
     (ap (λ (t : Table). t.entries) c.in_err-enter.ensures.err.0)
     (ap (λ (t : Table). t.pipes) c.in_err-enter.ensures.err.0))
@@ -62,7 +62,7 @@ returns-clause-finds g c known =
     let s = rw (← c.self.view_is) at (placed known c.requires.port) in
     let away = rw (← c.self.view_is) at c.requires.away in
     rw (← c.self.view_is) (discover_done s away c.self.invariant.accounts
-    (c.enumerate.ensures.steps known) refl
+    (c.enumerate.ensures.uses.steps known) refl
     (rw c.tier.ensures at (c.in_ok-finding.ensures.ends known))
     (rw c.tier.ensures at c.in_ok-finding.ensures.found)
     (rw c.duplicate.ensures at c.in_ok-enter.ensures.ok.0))
@@ -71,7 +71,7 @@ pub returns-in_err-finding-clause-spends : goal.returns-in_err-finding-clause-sp
 returns-in_err-finding-clause-spends g c =
     rw (← c.self.view_is) (counts_spend g.B.Bus.modelled (g.B.Bus.spent c.self.inside.bus)
     (g.B.Bus.spent c.enumerate.new.bus) (g.B.Bus.failed c.self.inside.bus)
-    (g.B.Bus.failed c.enumerate.new.bus) _ c.enumerate.ensures.any_bus.0.0 (enumeration_most
+    (g.B.Bus.failed c.enumerate.new.bus) _ c.enumerate.ensures.uses.spends.0 (enumeration_most
     c.args.port.port
     (askable_wide c.args.port.port c.requires.port.askable)))
 
@@ -79,7 +79,7 @@ pub returns-in_err-enter-clause-spends : goal.returns-in_err-enter-clause-spends
 returns-in_err-enter-clause-spends g c =
     rw (← c.self.view_is) (counts_spend g.B.Bus.modelled (g.B.Bus.spent c.self.inside.bus)
     (g.B.Bus.spent c.enumerate.new.bus) (g.B.Bus.failed c.self.inside.bus)
-    (g.B.Bus.failed c.enumerate.new.bus) _ c.enumerate.ensures.any_bus.0.0 (enumeration_most
+    (g.B.Bus.failed c.enumerate.new.bus) _ c.enumerate.ensures.uses.spends.0 (enumeration_most
     c.args.port.port
     (askable_wide c.args.port.port c.requires.port.askable)))
 
@@ -87,7 +87,7 @@ pub returns-clause-spends : goal.returns-clause-spends
 returns-clause-spends g c =
     rw (← c.self.view_is) (counts_spend g.B.Bus.modelled (g.B.Bus.spent c.self.inside.bus)
     (g.B.Bus.spent c.enumerate.new.bus) (g.B.Bus.failed c.self.inside.bus)
-    (g.B.Bus.failed c.enumerate.new.bus) _ c.enumerate.ensures.any_bus.0.0 (enumeration_most
+    (g.B.Bus.failed c.enumerate.new.bus) _ c.enumerate.ensures.uses.spends.0 (enumeration_most
     c.args.port.port
     (askable_wide c.args.port.port c.requires.port.askable)))
 
@@ -96,4 +96,4 @@ returns-in_err-finding-clause-told g c =
     let told = err_from_is_err_and c.from_residual.result c.from_residual.ensures.1 in
     rw (told.1, told.2) (counts_told (g.B.Bus.spent c.enumerate.new.bus)
     (g.B.Bus.failed c.enumerate.new.bus) {A = Unit {0}} g.B.Bus.modelled
-    (Err c.in_err-finding.field-0.0) c.in_err-finding.ensures.any_bus.1)
+    (Err c.in_err-finding.field-0.0) c.in_err-finding.ensures.uses.told)

@@ -9,14 +9,14 @@ use Rattle.usb_host.proofs.host.Host.status.Goals as goal
 pub returns-clause-shows : goal.returns-clause-shows
 returns-clause-shows g c known =
     let s = c.port_status.ensures in
-    rw (← c.self.view_is) (shows c.args.port _ _ c.requires.askable (s.steps known) refl
+    rw (← c.self.view_is) (shows c.args.port _ _ c.requires.askable (s.uses.steps known) refl
     (s.fault known) (s.status known) (s.told known) (s.addresses known) c.at_port.ensures)
 
 pub returns-clause-spends : goal.returns-clause-spends
 returns-clause-spends g c =
     rw (← c.self.view_is) (counts_spend g.B.Bus.modelled (g.B.Bus.spent c.self.inside.bus)
     (g.B.Bus.spent c.port_status.new.bus) (g.B.Bus.failed c.self.inside.bus)
-    (g.B.Bus.failed c.port_status.new.bus) _ c.port_status.ensures.any_bus.0.0 (status_most
+    (g.B.Bus.failed c.port_status.new.bus) _ c.port_status.ensures.uses.spends.0 (status_most
     c.args.port
     (askable_wide c.args.port c.requires.askable)))
 
@@ -24,4 +24,4 @@ pub returns-clause-told : goal.returns-clause-told
 returns-clause-told g c =
     counts_told (g.B.Bus.spent c.port_status.new.bus) (g.B.Bus.failed c.port_status.new.bus)
     g.B.Bus.modelled c.at_port.result (rw c.at_port.ensures (ports_reported _ _
-    c.port_status.ensures.any_bus.1))
+    c.port_status.ensures.uses.told))
