@@ -1,32 +1,32 @@
 -- What a bus counts and reports, as its host has it.
 use Rattle.std.proofs.Common.{◌≡◌, ◌+◌, ◌≤◌, ap, arith, ℕ, Bool, true, false, Option, None, Some}
-use Rattle.std.proofs.Common.{refl, List, Result, Ok, Err, IfErr}
+use Rattle.std.proofs.Common.{refl, sym, List, Result, Ok, Err, IfErr}
 use Rattle.usb_world.specs.{BusFault}
 use Rattle.usb_enum.specs.{EnumFault, IsReported}
 use Rattle.usb_table.specs.{TableFault, TransferTold}
 use Rattle.usb_table.specs.declared.fault.TableFault.TheVariants as table
-use Rattle.usb_host.specs.{BusCounts, HostFault, HostState, Forgets, IsReportedLast}
-use Rattle.usb_host.specs.{PartFaultAllowed, counts_of, host_told}
+use Rattle.usb_host.specs.{HostFault, HostState, Forgets, IsReportedLast, LeftStatuses}
+use Rattle.usb_host.specs.{PartFaultAllowed, counts_of, host_told, no_counts, none_left}
 use Rattle.usb_host.specs.declared.fault.HostFault.TheVariants as host
 
 module _ (m : Bool) (s t : ℕ) (f e : Option BusFault) where
-  pub counts_spend : {n : ℕ} (k : ℕ) → t ≤ s + n → n ≤ k
-      → (counts_of m t e).spent ≤ (counts_of m s f).spent + k
-  counts_spend {n} k most le = by m
+  pub counts_spend : {l r : LeftStatuses} {n : ℕ} (k : ℕ) → t ≤ s + n → n ≤ k
+      → (counts_of m t e r).spent ≤ (counts_of m s f l).spent + k
+  counts_spend {l} {r} {n} k most le = by m
     where
-      by : (m : Bool) → (counts_of m t e).spent ≤ (counts_of m s f).spent + k
+      by : (m : Bool) → (counts_of m t e r).spent ≤ (counts_of m s f l).spent + k
       by true = omega arith
       by false = omega (arith, most, le)
 
-module _ (s : ℕ) (f : Option BusFault) where
+module _ (s : ℕ) (f : Option BusFault) {l : LeftStatuses} where
   pub counts_told : {A : Type 0} (m : Bool) (result : Result A EnumFault)
       → IfErr result (λ fault. IsReported fault f) → m ≡ false
-      → IfErr result (λ fault. IsReported fault (counts_of m s f).failed)
+      → IfErr result (λ fault. IsReported fault (counts_of m s f l).failed)
   counts_told true result told off = absurd cc
   counts_told false result told off = told
 
   pub counts_last : (m : Bool) {fault : BusFault} → f ≡ Some fault → m ≡ false
-      → (counts_of m s f).failed ≡ Some fault
+      → (counts_of m s f l).failed ≡ Some fault
   counts_last true told off = absurd cc
   counts_last false told off = told
 
@@ -39,7 +39,7 @@ module _ (s : ℕ) (f : Option BusFault) where
 
   pub counts_transfer : {A : Type 0} (m : Bool) (outcome : Result A TableFault)
       → TransferTold outcome f → m ≡ false
-      → IfErr (host_told outcome) (λ fault. IsReportedLast fault (counts_of m s f).failed)
+      → IfErr (host_told outcome) (λ fault. IsReportedLast fault (counts_of m s f l).failed)
   counts_transfer true outcome told off = absurd cc
   counts_transfer false outcome told off = reported outcome told
 
@@ -52,10 +52,27 @@ part_reported m (Err (host.Transfer fault)) h told off = absurd told
 part_reported m (Err (host.Bus fault)) h told off = told.1 off
 part_reported m (Err host.Memory) h told off = tt
 
-pub counts_known : (m : Bool) (s : ℕ) (f : Option BusFault) → m ≡ true
-    → counts_of m s f ≡ record { spent = 0; failed = None }
-counts_known true s f known = refl
-counts_known false s f known = absurd cc
+pub counts_known : (m : Bool) (s : ℕ) (f : Option BusFault) (l : LeftStatuses) → m ≡ true
+    → counts_of m s f l ≡ no_counts
+counts_known true s f l known = refl
+counts_known false s f l known = absurd cc
+
+-- they tell of the root ports that are left alone
+pub counts_left : (m : Bool) (s : ℕ) (f : Option BusFault) (l : LeftStatuses)
+    → (m ≡ true → l ≡ none_left) → (counts_of m s f l).left ≡ l
+counts_left true s f l none = sym (none refl)
+counts_left false s f l none = refl
+
+pub counts_again : (m : Bool) (s : ℕ) (f : Option BusFault) (l : LeftStatuses)
+    → counts_of m s f l ≡ counts_of m s f ((counts_of m s f l).left)
+counts_again true s f l = refl
+counts_again false s f l = refl
+
+-- where others are left alone, what was counted and reported stays, and of a modelled bus all does
+pub counts_leave : (m : Bool) (s : ℕ) (f : Option BusFault) (l r : LeftStatuses)
+    → counts_of m s f r ≡ record (counts_of m s f l) { left = (counts_of m s f r).left }
+counts_leave true s f l r = refl
+counts_leave false s f l r = refl
 
 pub forgot_spent : {path : List ℕ} {a b : HostState} → Forgets path a b
     → b.counts.spent ≡ a.counts.spent

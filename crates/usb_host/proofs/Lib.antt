@@ -8,6 +8,7 @@ pub mod services
 pub mod ParentPaths
 pub mod Interface
 pub mod BusCounts
+pub mod ClearedRoots
 pub mod HostProgress
 pub mod UnchangedHubs
 pub mod RoundParts

@@ -8,4 +8,4 @@ pub mod Ranks
 pub mod RisingEntries
 pub mod Roots
 pub mod WaitingDevices
-pub mod WholeFindings
+pub mod FoundEntries

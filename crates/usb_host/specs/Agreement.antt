@@ -4,9 +4,8 @@ use Rattle.std.specs.Map.{lookup}
 use Rattle.std.specs.BTreeMap.{is_at}
 use Rattle.usb_port.specs.{path_cmp, IsPath}
 use Rattle.usb_resources.specs.{Addresses, HasAddresses}
-use Rattle.usb_enum.specs.{Accepted, Finding, IsWhole}
-use Rattle.usb_enum.specs.declared.finding.Finding.TheVariants.{Device}
-use Rattle.usb_table.specs.{Entries, KnownPort, Rises, known_port}
+use Rattle.usb_enum.specs.{Finding, IsFound}
+use Rattle.usb_table.specs.{Entries, KnownPort, Rises, known_port, tier_of}
 use Rattle.usb_host.specs.Accounts.{Accounts}
 
 -- each entry stands at a port of the root, or of a hub that is known
@@ -16,17 +15,24 @@ pub record Nested (entries : Entries) : Type 0 where
   pub each : (path : List ℕ) (finding : Finding) → lookup (is_at (path_cmp path)) entries
       ≡ Some finding → IsSome (known_port path entries)
 
--- an accepted device has good texts, and its configuration is the first within its port's power
-pub record AreWhole (entries : Entries) : Type 0 where
-  pub each : (path : List ℕ) (device : Accepted) (port : KnownPort)
-      → lookup (is_at (path_cmp path)) entries ≡ Some (Device device)
-      → known_port path entries ≡ Some port → IsWhole port.supply device
+-- an enumeration at the port of a path gives this finding, with some addresses taken
+abbrev pub IsFoundAt : List ℕ → KnownPort → Finding → Type 0
+IsFoundAt path port finding = (addresses : Addresses)
+    × IsFound addresses (tier_of path) port.supply finding
 
--- entries rise, each taken address is one entry's, each entry stands at a port, and each accepted
--- device is one that an enumeration there gave
+-- each entry is what an enumeration at its port gives: an accepted device has good texts, and its
+-- configuration is the first within the port's power; a refused one has a cause that fits its tier,
+-- or no address was free. A hub that was lost is so too
+pub record AreFound (entries : Entries) : Type 0 where
+  pub each : (path : List ℕ) (finding : Finding) (port : KnownPort)
+      → lookup (is_at (path_cmp path)) entries ≡ Some finding
+      → known_port path entries ≡ Some port → IsFoundAt path port finding
+
+-- entries rise, each taken address is one entry's, each entry stands at a port, and is what an
+-- enumeration there gives
 pub record Agrees (entries : Entries) (addresses : Addresses) : Type 0 where
   pub rises : Rises entries
   pub range : HasAddresses addresses
   pub accounts : Accounts entries addresses
   pub nested : Nested entries
-  pub whole : AreWhole entries
+  pub found : AreFound entries

@@ -1,5 +1,5 @@
 -- Changes of a hub and of its ports that ask for nothing but their clearing.
-use Rattle.std.specs.Prelude.{◌≡◌, ◌&&◌, Bool, false, not, Option, is_some}
+use Rattle.std.specs.Prelude.{◌≡◌, ◌&&◌, ⊤, Bool, false, not, Option, is_some}
 use Rattle.usb_port.specs.{PortStatus}
 use Rattle.usb_world.specs.{World}
 use Rattle.usb_address.specs.{KeepsAddresses}
@@ -28,3 +28,9 @@ is_stuck (External hub port) status = status.enabled && status.connection_change
 pub record KeepsEach (old new : World) : Type 0 where
   pub addresses : KeepsAddresses old new
   pub devices : KeepsDevices old new
+
+-- a root port whose change of connection was cleared tells of none, as one of a world; of a port of
+-- a hub nothing is said
+abbrev pub IsCleared : HubPort → PortStatus → Type 0
+IsCleared (Root number) status = status.connection_changed ≡ false
+IsCleared (External hub port) status = ⊤

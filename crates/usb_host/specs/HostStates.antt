@@ -8,20 +8,26 @@ use Rattle.usb_resources.specs.{Addresses, Releases}
 use Rattle.usb_enum.specs.{Finding}
 use Rattle.usb_enum.specs.declared.finding.Finding.TheVariants.{Device, Refused}
 use Rattle.usb_table.specs.{Pipes, Entries}
+use Rattle.usb_host.specs.LeftPorts.{LeftStatuses, none_left}
 
--- what a bus counted and reported, where it is not modelled: of a modelled one its world says so
+-- what a bus counted and reported, and what its root ports showed that are left alone, where it is
+-- not modelled: of a modelled one its world says so, and no port of it is left alone
 pub record BusCounts : Type 0 where
   pub spent : ℕ  -- attempts
   pub failed : Option BusFault  -- the fault that was reported last
+  pub left : LeftStatuses  -- the root ports that are left alone
 
-abbrev pub counts_of : Bool → ℕ → Option BusFault → BusCounts
-counts_of true spent failed = record { spent = 0; failed = None }
-counts_of false spent failed = record { spent = spent; failed = failed }
+abbrev pub no_counts : BusCounts
+no_counts = record { spent = 0; failed = None; left = none_left }
+
+abbrev pub counts_of : Bool → ℕ → Option BusFault → LeftStatuses → BusCounts
+counts_of true spent failed left = no_counts
+counts_of false spent failed left = record { spent = spent; failed = failed; left = left }
 
 -- the same of a bus that a caller leaves in the host: nothing changes of a modelled one
 abbrev pub counts_after : Bool → BusCounts → ℕ → Option BusFault → BusCounts
 counts_after true old spent failed = old
-counts_after false old spent failed = record { spent = spent; failed = failed }
+counts_after false old spent failed = record old { spent = spent; failed = failed }
 
 pub record HostState : Type 0 where
   pub world : World  -- the bus's
@@ -43,7 +49,7 @@ abbrev pub opening_host : World → Option (List ℕ) → HostState
 opening_host w t = record {
   world = record w { roots = repowered w.roots };
   trace = t;
-  counts = record { spent = 0; failed = None };
+  counts = no_counts;
   entries =
       [];
   pipes = [];

@@ -9,6 +9,7 @@ pub mod Discoveries
 pub mod PortHandling
 pub mod HostCalls
 pub mod HostStates
+pub mod LeftPorts
 pub mod Ownership
 pub mod Plugs
 pub mod Ports
@@ -20,7 +21,7 @@ pub mod Transfers
 pub mod Changes
 pub mod Requests
 -- the words of this crate, wherever one stands
-pub use Agreement.{Agrees, AreWhole, Nested}
+pub use Agreement.{Agrees, AreFound, IsFoundAt, Nested}
 pub use Backlog.{ChangeCleared, ClearsConnection, ClearsReset, FindsNone, LookPaid, LookPays}
 pub use Backlog.{PaysAtLook, PaysAtServe, ResetCleared, RestsCalm, ServePaid, ServePays, bare, calm}
 pub use Backlog.{found, hubs, seen, tidied, unseen}
@@ -40,7 +41,8 @@ pub use PortHandling.{HasWay, HoldsAt, InvariantAfterPort, IsDroppedAt, IsLost, 
 pub use PortHandling.{PortCaused, RestElsewhere, ServesSound, Tidies, Watches}
 pub use HostCalls.{ClearTells, NewTells, ReceiveTells, RoundTells, SendTells, StopsIn}
 pub use HostCalls.{TransferTells}
-pub use HostStates.{BusCounts, Frees, HostState, counts_after, counts_of, opening_host, work}
+pub use HostStates.{BusCounts, Frees, HostState, counts_after, counts_of, no_counts}
+pub use HostStates.{opening_host, work}
 unfoldable pub use HostStates.{repowered}
 pub use Ownership.{BaresAbove, BaresPort, BaresUpward, DropsHub, FinishesPort, HasLost}
 pub use Ownership.{HostMapHolds, IsIsolated, IsOwned, IsOwnedBut, IsRooted, KeepsDisabled}
@@ -50,7 +52,8 @@ pub use Plugs.{HasPlugs, KeepsPlugs, PlugsAt, WasPlugged, is_plug, plug_events}
 pub use Ports.{Broke, EndsAs, Entered, EntersOne, Forgets, Gained, IsDue, IsPortAt, Looked}
 pub use Ports.{ProgressOnOk, ProgressOrLost, Requested, Shown, StandsAt, StandsNowhere, Waits}
 pub use Progress.{AddsNoWork, Did, DidRound, HostProgress, HostRuns, HostSpends, HostSteps}
-pub use Progress.{OnlyBusSteps, QuietKeeps}
+pub use LeftPorts.{LeftStatuses, none_left}
+pub use Progress.{OnlyBusSteps, OnlyLeaves, QuietKeeps}
 pub use Progress.{Remains, either, idle_work, waiting}
 pub use Service.{DidParts, Discovers, DropsOne}
 pub use Service.{EachLookedAgain, EachPolled, EndsAt, FinishesAt, HandlesAt, HandlesBelow}
@@ -83,7 +86,7 @@ pub use ToldFaults.{HostReported, IsReportedLast, PartFaultAllowed, RoundFaultAl
 pub use ToldFaults.{StopsAsTransfer, TransferFaultAllowed, host_fault, host_told, is_final}
 pub use ToldFaults.{is_last_fault, HostNotOfBus, HostWorks}
 pub use Transfers.{ClearedAt, MovesThrough, ReceivedAt, SentAt, table_in}
-pub use Changes.{HasOnlyWorldChanges, KeepsEach, is_stuck, was_disabled}
+pub use Changes.{HasOnlyWorldChanges, IsCleared, KeepsEach, is_stuck, was_disabled}
 pub use Requests.{AsksAndClears, ClearsAndAsks, ClearsAndReads, ClearsAndShows, ClearsBoth}
 pub use Requests.{ClearsChangeOf, DisablesAfter}
 pub use Requests.{ClearsError, ClearsFeature, ClearsHubOf, ClearsInTurn, ClearsOthers, ClearsOwn}

@@ -1,5 +1,5 @@
 -- That a round gets on.
-use Rattle.std.specs.Prelude.{◌≡◌, ℕ, ◌+◌, ◌*◌, ◌<◌, ◌≤◌, Result, IfOk}
+use Rattle.std.specs.Prelude.{◌≡◌, ℕ, ◌+◌, ◌*◌, ◌<◌, ◌≤◌, Bool, true, Result, IfOk}
 use Rattle.std.specs.List.{count_by}
 use Rattle.usb_world.specs.{root_row, changes}
 use Rattle.usb_bus.specs.{StepRun}
@@ -32,6 +32,11 @@ HostProgress old new = idle_work new + 2 * old.world.attempts < idle_work old + 
 abbrev pub OnlyBusSteps : HostState → HostState → Type 0
 OnlyBusSteps old new =
     new ≡ record old { world = new.world; trace = new.trace; counts = new.counts }
+
+-- nothing has changed but which root ports are left alone, and of a modelled bus none is
+pub record OnlyLeaves (modelled : Bool) (old new : HostState) : Type 0 where
+  pub only : new ≡ record old { counts = record old.counts { left = new.counts.left } }
+  pub none : modelled ≡ true → new ≡ old
 
 -- nothing that is known of the ports has changed; hubs may have been polled
 abbrev pub Remains : HostState → HostState → Type 0

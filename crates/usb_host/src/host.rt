@@ -6,9 +6,11 @@ ghost use Rattle.usb_host.specs.HostCalls.{ClearTells, NewTells, ReceiveTells, R
 ghost use Rattle.usb_transaction.specs.Transactions.{transaction_bound};
 ghost use Rattle.usb_host.specs.Bounds.{clear_bound, round_bound};
 ghost use Rattle.usb_host.specs.HostStates.{counts_after, counts_of};
+ghost use Rattle.usb_host.specs.LeftPorts.{none_left};
 ghost use Rattle.usb_host.specs.Progress.{HostSpends, QuietKeeps};
 ghost use Rattle.usb_host.specs.ToldFaults.{IsReportedLast, StopsAsRound, StopsAsTransfer, host_told, is_final};
 
+use crate::left::LeftPorts;
 use crate::{HostFault, Tree};
 use std::alloc::Global;
 use std::marker::Model;
@@ -34,6 +36,7 @@ pub struct Host<B: Bus> {
     pub(crate) bus: B,
     pub(crate) pool: AddressPool,
     pub(crate) table: DeviceTable,
+    pub(crate) left: LeftPorts<B>,
     stopped: bool,
 }
 
@@ -52,7 +55,7 @@ impl<B: Bus> Model for Host<B> {
     ghost view = { λ h. record {
       world = B.world h.bus;
       trace = B.trace h.bus;
-      counts = counts_of B.modelled (B.spent h.bus) (B.failed h.bus);
+      counts = counts_of B.modelled (B.spent h.bus) (B.failed h.bus) h.left;
       entries = h.table.entries;
       pipes = h.table.pipes;
       addresses = h.pool;
@@ -69,7 +72,8 @@ impl<B: Bus> Host<B> {
     /// it again (11.24.2.2, 11.24.2.13): a device there is disabled, and told as plugged (11.5.1). So
     /// the bus may be one that another host had, also one that has stopped (`into_bus`).
     pub fn new(alloc: Global, bus: B) -> Host<B>
-        ensures any_bus { (result.entries ≡ []) × (result.stopped ≡ false) }
+        ensures any_bus { (result.entries ≡ []) × ((result.stopped ≡ false)
+            × (result.counts.left ≡ none_left)) }
         ensures tells { B.modelled ≡ true → NewTells (B.world bus) (B.trace bus) result }
     {
         let mut bus = bus;
@@ -83,6 +87,7 @@ impl<B: Bus> Host<B> {
             bus,
             pool: AddressPool::new(),
             table: DeviceTable::new(alloc),
+            left: LeftPorts::new(),
             stopped: false,
         }
     }
@@ -92,7 +97,8 @@ impl<B: Bus> Host<B> {
         ensures world { B.world result.now ≡ self.now.world }
         ensures trace { B.trace result.now ≡ self.now.trace }
         ensures counts { self.now.counts
-            ≡ counts_of B.modelled (B.spent result.now) (B.failed result.now) }
+            ≡ counts_of B.modelled (B.spent result.now) (B.failed result.now)
+            self.now.counts.left }
     {
         &self.bus
     }
@@ -118,13 +124,15 @@ impl<B: Bus> Host<B> {
     pub fn into_bus(self) -> B
         ensures world { B.world result ≡ self.world }
         ensures trace { B.trace result ≡ self.trace }
-        ensures counts { self.counts ≡ counts_of B.modelled (B.spent result) (B.failed result) }
+        ensures counts { self.counts
+            ≡ counts_of B.modelled (B.spent result) (B.failed result) self.counts.left }
     {
         let Host {
             alloc: _,
             bus,
             pool: _,
             table: _,
+            left: _,
             stopped: _,
         } = self;
         bus

@@ -5,9 +5,9 @@
 //!
 //! What names a world or a trace is said of a bus that does what its world does (`modelled` of `usb_bus::Bus`): all
 //! that one call tells stands in `usb_host/specs/HostCalls.antt`. What names none is said over any bus: when a host
-//! stops, that a stopped one changes nothing, that its entries rise and agree with its addresses; each accepted device
-//! has good texts, and its configuration is the first within its port's power (`AreWhole`); a quiet round changes no
-//! entry; a new host knows nothing. Of a bus that is not modelled: at most so many attempts for each call, and a fault
+//! stops, that a stopped one changes nothing, that its entries rise and agree with its addresses; each entry is
+//! what an enumeration at its port gives: good texts and the first configuration within the port's power, or a cause
+//! that fits the tier (`AreFound`); a quiet round changes no entry; a new host knows nothing. Of a bus that is not modelled: at most so many attempts for each call, and a fault
 //! of the bus is the one that it reported last (`BusCounts`).
 //!
 //! Each round that worked made an attempt or left less to do, a quiet one changed nothing that is known and found no
@@ -71,6 +71,7 @@
 
 mod fault;
 mod host;
+mod left;
 mod listing_laws;
 mod pool;
 mod ports;

@@ -11,12 +11,12 @@ ghost use Rattle.usb_table.specs.KnownPorts.{IsAskable, known_port};
 ghost use Rattle.usb_table.specs.Listing.{tier_of};
 ghost use Rattle.usb_pipe.specs.Control.{write_bound};
 ghost use Rattle.usb_host.specs.Backlog.{hubs};
-ghost use Rattle.usb_host.specs.Changes.{HasOnlyWorldChanges, is_stuck, was_disabled};
+ghost use Rattle.usb_host.specs.Changes.{HasOnlyWorldChanges, IsCleared, is_stuck, was_disabled};
 ghost use Rattle.usb_host.specs.PortHandling.{DisablesOnWay, Climbs};
 ghost use Rattle.usb_host.specs.Ports.{IsPortAt, StandsNowhere, IsDue, Waits, Broke, EndsAs, Entered, Forgets};
 ghost use Rattle.usb_enum.specs.Bounds.{read_bound, widest_enumeration};
 ghost use Rattle.usb_host.specs.Bounds.{clearing_bound, drop_bound, handling_bound, look_bound, serving_bound};
-ghost use Rattle.usb_host.specs.Progress.{HostSpends, OnlyBusSteps, QuietKeeps};
+ghost use Rattle.usb_host.specs.Progress.{HostSpends, OnlyBusSteps, OnlyLeaves, QuietKeeps};
 ghost use Rattle.usb_host.specs.Requests.{ClearsBoth, ClearsError, ClearsFeature, ClearsOthers, ClearsOwn, ClearsPort, ClearsReported, ClearsWhere, SettlesPort, ShowsPort, TidiesPort};
 ghost use Rattle.usb_host.specs.Service.{Discovers, DropsOne, FinishesAt, HandlesNumber, HandlesPort, LooksAfterError, LooksAt, LooksOnceMore, OwnHandled, OwnServed, RenewsPort, ServesOwn, ServesPort};
 ghost use Rattle.usb_host.specs.ToldFaults.{HostReported, PartFaultAllowed, HostWorks};
@@ -37,16 +37,69 @@ use usb_resources::supply;
 use usb_table::{KnownPort, address_of};
 
 impl<B: Bus> Host<B> {
-    /// Whether the connection of a root port has changed; no if the bus has no such port.
-    pub(crate) fn has_changed(&self, number: u8) -> bool
-        requires { B.modelled ≡ true → IsRootPort self.now.world number }
-        ensures { B.modelled ≡ true
-            → result ≡ (root_port_at self.now.world number).connection_changed }
+    /// Whether the connection of a root port has changed; no if the bus has no such port, nor while the port is left
+    /// alone. It is so no longer where it shows another status.
+    pub(crate) fn has_changed(&mut self, number: u8) -> bool
+        requires { B.modelled ≡ true → IsRootPort self.old.world number }
+        ensures rests { OnlyLeaves B.modelled self.old self.new }
+        ensures changed { B.modelled ≡ true
+            → result ≡ (root_port_at self.old.world number).connection_changed }
     {
         if !has_root(&self.bus, number) {
             return false;
         }
-        PortStatus::from_bytes(self.bus.root_status(number)).connection_changed
+        let status = self.bus.root_status(number);
+        if self.left.has_at(number, status) {
+            return false;
+        }
+        self.left.forget(number);
+        PortStatus::from_bytes(status).connection_changed
+    }
+
+    /// Leaves a root port alone where a clearing has not taken its change of connection away, as this status tells
+    /// that was read behind it. A hub does not keep a change so.
+    fn leave(&mut self, path: &PortPath, port: HubPort, cleared: PortStatus)
+        requires { B.modelled ≡ true → IsCleared port cleared }
+        ensures { OnlyLeaves B.modelled self.old self.new }
+    {
+        if let HubPort::Root(number) = port {
+            if cleared.connection_changed {
+                let has_device = self.has_device(path);
+                self.leave_root(number, cleared.connected, has_device);
+            } else {
+                self.left.forget(number);
+            }
+        }
+    }
+
+    /// Leaves a root port alone at the status that it shows, where that fits what was found: something is connected
+    /// or nothing, as it was, and the port of an accepted device is enabled. Else the next round looks at it.
+    fn leave_root(&mut self, number: u8, connected: bool, has_device: bool)
+        requires { B.modelled ≡ false }
+        ensures { OnlyLeaves B.modelled self.old self.new }
+    {
+        if !has_root(&self.bus, number) {
+            return;
+        }
+        let status = self.bus.root_status(number);
+        let shown = PortStatus::from_bytes(status);
+        if shown.connected == connected && (shown.enabled || !has_device) {
+            self.left.leave(number, status);
+        } else {
+            self.left.forget(number);
+        }
+    }
+
+    /// Leaves a root port that the host has disabled alone at the status that it shows now, if it was left alone.
+    fn stay_left(&mut self, path: &PortPath)
+        ensures { OnlyLeaves B.modelled self.old self.new }
+    {
+        if let [number] = path.numbers() {
+            let number = *number;
+            if self.left.has(number) {
+                self.leave_root(number, true, false);
+            }
+        }
     }
 
     /// Handles a root port.
@@ -358,7 +411,9 @@ impl<B: Bus> Host<B> {
         ensures looks { B.modelled ≡ true → LooksAt path.now port self.old result self.new }
     {
         let status = self.clear_change(port.port)?;
-        self.renew(path, port, status)
+        self.renew(path, port, status)?;
+        self.leave(path, port.port, status);
+        Ok(())
     }
 
     /// Forgets a device that is dead since its hub has disabled its port on an error, and finds it
@@ -466,8 +521,24 @@ impl<B: Bus> Host<B> {
         Ok(self.table.insert(lost, Finding::Refused(Cause::Lost))?)
     }
 
-    /// Disables the port at a path, or the nearest one above it that can be disabled.
+    /// Disables the port at a path, or the nearest one above it that can be disabled. A root port that was left alone
+    /// stays so at its new status.
     fn disable_upward(&mut self, first: PortPath) -> Result<PortPath, HostFault>
+        ensures spends { HostSpends drop_bound self.old self.new }
+        ensures ends { MatchResult result
+            (λ path. IsSome (known_port path self.old.entries))
+            (λ fault. PartFaultAllowed B.modelled fault self.new) }
+        ensures rests { OnlyBusSteps self.old self.new }
+        ensures climbs { B.modelled ≡ true → Climbs first self.old result self.new }
+        ensures works { B.modelled ≡ true → HostWorks self.old result self.new }
+    {
+        let lost = self.climb(first)?;
+        self.stay_left(&lost);
+        Ok(lost)
+    }
+
+    /// Disables the port at a path, or the nearest one above it that can be disabled.
+    fn climb(&mut self, first: PortPath) -> Result<PortPath, HostFault>
         ensures spends { HostSpends drop_bound self.old self.new }
         ensures ends { MatchResult result
             (λ path. IsSome (known_port path self.old.entries))

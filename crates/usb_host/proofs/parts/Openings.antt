@@ -16,7 +16,7 @@ use Rattle.usb_world.specs.{Consistent, World}
 use Rattle.usb_tree.proofs.Interface.{false_true}
 use Rattle.usb_resources.specs.{Addresses}
 use Rattle.usb_table.specs.{Table, empty}
-use Rattle.usb_host.specs.{BusCounts, HostState, opening_host, repowered, HostMapHolds}
+use Rattle.usb_host.specs.{BusCounts, HostState, no_counts, opening_host, repowered, HostMapHolds}
 use Rattle.usb_host.specs.{HostInvariant, PortsListed}
 use Rattle.usb_host.proofs.entries.Roots.{rooted_opening}
 
@@ -31,23 +31,20 @@ going w t counts table addresses = record {
   stopped = false;
 }
 
-abbrev uncounted : BusCounts
-uncounted = record { spent = 0; failed = None }
-
 abbrev world_powered : World → World
 world_powered w = record w { roots = repowered w.roots }
 
 -- power is taken and given in silence
 pub powered_is_opening : (w0 w : World) (t0 t : Option (List ℕ)) (counts : BusCounts)
-    (table : Table) (addresses : Addresses) → w ≡ world_powered w0 → t ≡ t0 → counts ≡ uncounted
+    (table : Table) (addresses : Addresses) → w ≡ world_powered w0 → t ≡ t0 → counts ≡ no_counts
     → table ≡ empty → addresses ≡ set.empty
     → going w t counts table addresses ≡ opening_host w0 t0
 powered_is_opening w0 w t0 t counts table addresses e silent none f h =
     ap (λ v. going v t counts table addresses) e
     ∙ ap (λ s. going (world_powered w0) s counts table addresses) silent
     ∙ ap (λ s. going (world_powered w0) t0 s table addresses) none
-    ∙ ap (λ x. going (world_powered w0) t0 uncounted x addresses) f
-    ∙ ap (λ s. going (world_powered w0) t0 uncounted empty s) h
+    ∙ ap (λ x. going (world_powered w0) t0 no_counts x addresses) f
+    ∙ ap (λ s. going (world_powered w0) t0 no_counts empty s) h
 
 -- A port that lost power is disabled, so no device is reached
 

@@ -1,4 +1,5 @@
-//! A bus around another one, with a hub at address 1 that tells a change until that is cleared, or for good.
+//! A bus around another one, with a hub at address 1 that tells a change until that is cleared, or for good, and a root
+//! port whose change of connection no clearing takes away.
 ghost use Rattle.std.specs.Prelude.{◌≡◌, false, Some, IfErr};
 ghost use Rattle.usb_bus.specs.Traces.{Spends};
 ghost use Rattle.usb_world.specs.PlainAttempts.{attempt_data};
@@ -7,6 +8,7 @@ ghost use Rattle.usb_world.specs.Worlds.{FitsMaximum, IsAttempt};
 use arrayvec::ArrayVec;
 use usb_bus::{Attempt, Bus, BusFault, Outcome};
 use usb_packet::Toggle;
+use usb_request::feature::C_PORT_CONNECTION;
 
 /// The hub's address: it is found first.
 const HUB: u8 = 1;
@@ -90,6 +92,10 @@ pub(super) struct QuirkBus<B: Bus> {
     /// The toggle of the next packet of the hub's status pipe.
     next: Toggle,
     cleared: u8,
+    /// The root port whose change of connection no clearing takes away; 0 where there is none.
+    stuck: u8,
+    /// How often that change was to be cleared.
+    tries: u8,
 }
 
 /// A packet of data.
@@ -126,7 +132,24 @@ impl<B: Bus> QuirkBus<B> {
             answers: Answers::Below,
             next: Toggle::Zero,
             cleared: 0,
+            stuck: 0,
+            tries: 0,
         }
+    }
+
+    /// The change of connection of this root port stays set from now on.
+    pub(super) fn hold(&mut self, port: u8) {
+        self.stuck = port;
+    }
+
+    /// How often the change that stays was to be cleared.
+    pub(super) fn tries(&self) -> u8 {
+        self.tries
+    }
+
+    /// The bus below.
+    pub(super) fn below(&mut self) -> &mut B {
+        &mut self.bus
     }
 
     /// The hub tells this from now on.
@@ -299,7 +322,11 @@ impl<B: Bus> Bus for QuirkBus<B> {
         if port == 0 || port > self.bus.root_ports() {
             return [0; 4];
         }
-        self.bus.root_status(port)
+        let status = self.bus.root_status(port);
+        if port == self.stuck {
+            return [status[0], status[1], status[2] | 1, status[3]];
+        }
+        status
     }
 
     fn root_set(&mut self, port: u8, feature: u16) {
@@ -310,6 +337,9 @@ impl<B: Bus> Bus for QuirkBus<B> {
 
     fn root_clear(&mut self, port: u8, feature: u16) {
         if port > 0 && port <= self.bus.root_ports() {
+            if port == self.stuck && feature == C_PORT_CONNECTION {
+                self.tries = self.tries.saturating_add(1);
+            }
             self.bus.root_clear(port, feature);
         }
     }

@@ -40,7 +40,7 @@ returns-clause-disables g c known =
       world = new;
       trace = g.B.Bus.trace c.clear_port.new.bus;
       counts = counts_of g.B.Bus.modelled (g.B.Bus.spent c.clear_port.new.bus)
-          (g.B.Bus.failed c.clear_port.new.bus);
+          (g.B.Bus.failed c.clear_port.new.bus) c.self.inside.left;
       entries = c.self.inside.table.entries;
       pipes = c.self.inside.table.pipes;
       addresses = c.self.inside.pool;

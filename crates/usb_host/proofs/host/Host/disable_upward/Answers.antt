@@ -1,74 +1,17 @@
-use Rattle.std.proofs.Common.{arith, refl, sym}
-use Rattle.usb_world.proofs.Interface.{way_itself, way_parent, way_trans}
-use Rattle.usb_host.proofs.ParentPaths.{parent_length}
-use Rattle.usb_host.proofs.knowledge.DroppedHubs.{failed_by}
+use Rattle.std.proofs.Common.{arith}
+use Rattle.std.proofs.lemmas.Result.{err_from_is_err_and}
+use Rattle.usb_host.proofs.ClearedRoots.{leaves_rests, leaves_spent}
 use Rattle.usb_host.proofs.StepSums.{host_rests_then}
-use Rattle.usb_host.proofs.PortDrops.{climb_done, climb_fails, climb_top, climbed_none, climbed_on}
 use Rattle.usb_host.proofs.host.Host.disable_upward.Goals as goal
 
-pub up-init : goal.up-init
-up-init g c = record {
-  spends = omega arith;
-  so = λ known. climbed_none c.args.first c.args.self.now;
-  rests = refl;
-  on = way_itself c.args.first;
-  least = omega arith;
-  most = omega arith;
-  works = λ known none. none;
-}
+pub returns-clause-rests : goal.returns-clause-rests
+returns-clause-rests g c =
+    host_rests_then c.args.self.now _ c.in_ok-lost.ensures.rests (leaves_rests c.stay_left.ensures)
 
-pub up-smaller : goal.up-smaller
-up-smaller g c =
-    let one = parent_length c.up.path (sym c.in-Some.ensures) in
-    omega arith
+pub returns-clause-spends : goal.returns-clause-spends
+returns-clause-spends g c =
+    omega (arith, c.climb.ensures.spends, leaves_spent c.stay_left.ensures)
 
-pub up-preserved : goal.up-preserved
-up-preserved g c =
-    let i = c.up.invariant in
-    let parent = sym c.in-Some.ensures in
-    let one = parent_length c.up.path parent in
-    record {
-      spends = omega (arith, i.spends, c.disable.ensures.spends, one);
-      so = λ known.
-          climbed_on (i.so known) i.most (c.disable.ensures.disables known)
-          (failed_by c.in_ok-disable.was c.if-branch.false) parent;
-      rests = host_rests_then c.args.self.now _ i.rests c.disable.ensures.rests;
-      on = way_trans c.in-Some.above c.up.path c.args.first
-          (way_parent c.up.path c.in-Some.above parent) i.on;
-      least = omega arith;
-      most = omega (arith, i.most);
-      works = λ known none. c.in_ok-disable.ensures.works known (i.works known none);
-    }
-
-pub returns-in_err-disable-clause-climbs : goal.returns-in_err-disable-clause-climbs
-returns-in_err-disable-clause-climbs g c known =
-    let i = c.up.invariant in
-    climb_fails (i.so known)
-    i.most (c.disable.ensures.disables known) i.least
-    c.from_residual.ensures.0
-
-pub returns-then-branch-clause-climbs : goal.returns-then-branch-clause-climbs
-returns-then-branch-clause-climbs g c known =
-    let i = c.up.invariant in
-    climb_done (i.so known)
-    i.most (c.disable.ensures.disables known) i.least i.on i.rests
-    (failed_by c.in_ok-disable.was c.if-branch.true)
-
-pub returns-in-None-clause-climbs : goal.returns-in-None-clause-climbs
-returns-in-None-clause-climbs g c known =
-    let i = c.up.invariant in
-    climb_top (i.so known)
-    i.most (c.disable.ensures.disables known) i.least i.on i.rests
-    (failed_by c.in_ok-disable.was c.if-branch.false) (sym c.in-None.ensures)
-
-pub returns-in_err-disable-clause-spends : goal.returns-in_err-disable-clause-spends
-returns-in_err-disable-clause-spends g c =
-    let i = c.up.invariant in omega (arith, i.spends, i.least, c.disable.ensures.spends)
-
-pub returns-then-branch-clause-spends : goal.returns-then-branch-clause-spends
-returns-then-branch-clause-spends g c =
-    let i = c.up.invariant in omega (arith, i.spends, i.least, c.disable.ensures.spends)
-
-pub returns-in-None-clause-spends : goal.returns-in-None-clause-spends
-returns-in-None-clause-spends g c =
-    let i = c.up.invariant in omega (arith, i.spends, i.least, c.disable.ensures.spends)
+pub returns-clause-climbs : goal.returns-clause-climbs
+returns-clause-climbs g c known =
+    rw (c.stay_left.ensures.none known) (c.in_ok-lost.ensures.climbs known)

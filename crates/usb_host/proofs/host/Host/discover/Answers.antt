@@ -1,7 +1,8 @@
-use Rattle.std.proofs.Common.{◌≡◌, Err, ap, refl, subst}
+use Rattle.std.proofs.Common.{◌≡◌, ◌∙◌, Err, ap, refl, subst, sym}
+use Rattle.std.proofs.lemmas.Option.{same_Some}
 use Rattle.std.proofs.lemmas.Result.{err_from_is_err_and}
-use Rattle.usb_enum.specs.{IsWhole}
 use Rattle.usb_table.specs.{KnownPort, Table}
+use Rattle.usb_host.specs.{IsFoundAt}
 use Rattle.usb_host.proofs.entries.Agreements.{nested_entered}
 use Rattle.usb_host.proofs.entries.Balances.{accounts_entered, range_claimed}
 use Rattle.usb_host.proofs.PortLooks.{discover_done, discover_fails, discover_lost}
@@ -10,7 +11,7 @@ use Rattle.usb_host.proofs.PortLocations.{placed}
 use Rattle.usb_host.proofs.BusCounts.{counts_spend, counts_told}
 use Rattle.usb_enum.proofs.Interface.{enumeration_most}
 use Rattle.usb_host.proofs.devices.Enumerations.{askable_wide}
-use Rattle.usb_host.proofs.entries.WholeFindings.{whole_entered}
+use Rattle.usb_host.proofs.entries.FoundEntries.{found_entered}
 use Rattle.usb_host.proofs.host.Host.discover.Goals as goal
 
 pub invariant_of-self-2 : goal.invariant_of-self-2
@@ -27,10 +28,11 @@ invariant_of-self-2 g c =
       accounts = accounts_entered path finding c.self.invariant.accounts away claims;
       nested = nested_entered path finding c.requires.port.is away (rw known refl)
           c.self.invariant.nested;
-      whole = whole_entered path finding away (λ device port is at.
-          let same : c.args.port ≡ port = cc (known, at) in
-          subst (λ (p : KnownPort). IsWhole p.supply device) same
-          (rw is at c.in_ok-finding.ensures.found)) c.self.invariant.whole;
+      found = found_entered path finding away (λ port at.
+          let same : c.args.port ≡ port = same_Some c.args.port port (sym known ∙ at) in
+          subst (λ (p : KnownPort). IsFoundAt path p finding) same
+          (c.self.inside.pool, rw c.tier.ensures at c.in_ok-finding.ensures.found))
+          c.self.invariant.found;
     })
 
 pub returns-in_err-finding-clause-finds : goal.returns-in_err-finding-clause-finds

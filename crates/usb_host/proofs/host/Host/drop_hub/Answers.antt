@@ -1,4 +1,4 @@
-use Rattle.std.proofs.Common.{◌≡◌, ◌∙◌, ap, arith, refl, sym, subst, IsSome}
+use Rattle.std.proofs.Common.{◌≡◌, ◌∙◌, inr, ap, arith, refl, sym, subst, IsSome}
 use Rattle.std.proofs.lemmas.Result.{err_from_is_err_and}
 use Rattle.usb_enum.specs.{Lost}
 use Rattle.usb_enum.specs.declared.finding.Finding.TheVariants.{Refused}
@@ -10,7 +10,7 @@ use Rattle.usb_host.proofs.entries.Balances.{accounts_entered}
 use Rattle.usb_host.proofs.PortDrops.{drop_done, drop_unlisted, drop_untold}
 use Rattle.usb_host.proofs.entries.RisingEntries.{rises_entered}
 use Rattle.usb_host.proofs.BusCounts.{forgot_spent}
-use Rattle.usb_host.proofs.entries.WholeFindings.{whole_entered}
+use Rattle.usb_host.proofs.entries.FoundEntries.{found_entered}
 use Rattle.usb_host.proofs.host.Host.drop_hub.Goals as goal
 
 pub invariant_of-self-2 : goal.invariant_of-self-2
@@ -30,8 +30,8 @@ invariant_of-self-2 g c =
       accounts = accounts_entered path (Refused Lost) c.self.invariant.accounts away refl;
       nested = nested_entered path (Refused Lost) c.numbers-numbers.ensures.path away known
           c.self.invariant.nested;
-      whole = whole_entered path (Refused Lost) away (λ device port is at. absurd (cc is))
-          c.self.invariant.whole;
+      found = found_entered path (Refused Lost) away (λ port at. (c.self.inside.pool, inr tt))
+          c.self.invariant.found;
     })
 
 pub returns-in_err-lost-clause-drops : goal.returns-in_err-lost-clause-drops

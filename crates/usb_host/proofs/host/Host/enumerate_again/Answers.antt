@@ -1,5 +1,7 @@
+use Rattle.std.proofs.Common.{Ok, arith}
 use Rattle.std.proofs.lemmas.Result.{err_from_is_err_and}
 use Rattle.usb_host.specs.{clearing_bound}
+use Rattle.usb_host.proofs.ClearedRoots.{leaves_spent, root_cleared}
 use Rattle.usb_host.proofs.PortLooks.{look_done, look_fails}
 use Rattle.usb_host.proofs.PortLocations.{placed, placed_on}
 use Rattle.usb_host.proofs.host.Host.enumerate_again.Goals as goal
@@ -11,14 +13,35 @@ renew-requires g c =
     (c.clear_change.ensures.clears known).requested.goes.went)
     c.requires
 
+pub leave-requires : goal.leave-requires
+leave-requires g c known =
+    root_cleared c.args.port.port (placed known c.requires).there
+    (c.in_ok-status.ensures.clears known)
+
 pub returns-in_err-status-clause-looks : goal.returns-in_err-status-clause-looks
 returns-in_err-status-clause-looks g c known =
     let told = err_from_is_err_and c.from_residual.result c.from_residual.ensures.1 in
     rw (told.1, told.2) (look_fails c.args.port (placed known c.requires)
     c.in_err-status.ensures.rests (c.in_err-status.ensures.clears known))
 
+pub returns-in_err-renew-clause-looks : goal.returns-in_err-renew-clause-looks
+returns-in_err-renew-clause-looks g c known =
+    let told = err_from_is_err_and c.from_residual-in_err-renew.result
+    c.from_residual-in_err-renew.ensures.1 in
+    rw (told.1, told.2) (look_done _ (placed known c.requires) c.in_ok-status.ensures.rests
+    (c.in_ok-status.ensures.clears known) (c.in_err-renew.ensures.renews known))
+
 pub returns-clause-looks : goal.returns-clause-looks
 returns-clause-looks g c known =
-    look_done
-    c.renew.result (placed known c.requires) c.in_ok-status.ensures.rests
-    (c.in_ok-status.ensures.clears known) (c.renew.ensures.renews known)
+    rw (c.leave.ensures.none known) (look_done (Ok tt) (placed known c.requires)
+    c.in_ok-status.ensures.rests (c.in_ok-status.ensures.clears known)
+    (c.in_ok-renew.ensures.renews known))
+
+pub returns-clause-spends : goal.returns-clause-spends
+returns-clause-spends g c =
+    omega (
+      arith,
+      c.clear_change.ensures.spends,
+      c.renew.ensures.spends,
+      leaves_spent c.leave.ensures,
+    )

@@ -8,7 +8,7 @@ use Rattle.usb_host.specs.Accounts.{Accounts}
 use Rattle.usb_host.specs.{Agrees, HostState, table_in}
 use Rattle.usb_host.proofs.entries.Agreements.{nested_without}
 use Rattle.usb_host.proofs.entries.RisingEntries.{rises_without}
-use Rattle.usb_host.proofs.entries.WholeFindings.{whole_without}
+use Rattle.usb_host.proofs.entries.FoundEntries.{found_without}
 use Rattle.usb_host.proofs.host.Host.forget.Goals as goal
 
 -- what is left agrees with the addresses that are left
@@ -20,7 +20,7 @@ agrees_left path {old = old} agrees left accounts range = record {
   range = range;
   accounts = accounts;
   nested = rw left (nested_without path old agrees.nested);
-  whole = rw left (whole_without path old agrees.whole);
+  found = rw left (found_without path old agrees.found);
 }
 
 pub invariant_of-self : goal.invariant_of-self

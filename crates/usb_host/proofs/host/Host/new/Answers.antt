@@ -7,7 +7,7 @@ use Rattle.usb_host.proofs.parts.Powers.{powered_none, powers_one, powered_all}
 use Rattle.usb_host.proofs.parts.Powers.{powered_world}
 use Rattle.usb_host.proofs.entries.Agreements.{nested_none}
 use Rattle.usb_host.proofs.entries.RisingEntries.{rises_none}
-use Rattle.usb_host.proofs.entries.WholeFindings.{whole_none}
+use Rattle.usb_host.proofs.entries.FoundEntries.{found_none}
 use Rattle.usb_host.proofs.entries.Balances.{accounts_none, range_none}
 use Rattle.usb_host.proofs.BusCounts.{counts_known}
 use Rattle.usb_host.proofs.parts.Openings.{powered_is_opening, owning_opening, sound_opening}
@@ -62,7 +62,7 @@ invariant_of-result g c = rw (c.new-2.ensures, c.new.ensures.empty)
       range = range_none;
       accounts = accounts_none;
       nested = nested_none;
-      whole = whole_none;
+      found = found_none;
     })
 
 pub returns-clause-tells : goal.returns-clause-tells
@@ -79,7 +79,7 @@ returns-clause-tells g c known =
     ) in
     let opens = powered_is_opening w0 _ _ _ _ _ _
     (powered_all w0 _ all (c.ports.invariant.powered known)) (c.ports.invariant.silent known)
-    (counts_known g.B.Bus.modelled (g.B.Bus.spent c.ports.bus) (g.B.Bus.failed c.ports.bus)
+    (counts_known g.B.Bus.modelled (g.B.Bus.spent c.ports.bus) (g.B.Bus.failed c.ports.bus) _
     known)
     c.new-2.ensures c.new.ensures.empty in
     record {

@@ -1,6 +1,7 @@
 use Rattle.std.proofs.Common.{◌∙◌, ap, arith, refl, sym}
 use Rattle.usb_world.specs.{roots_of}
 use Rattle.usb_host.specs.{HostState}
+use Rattle.usb_host.proofs.ClearedRoots.{leaves_entries, leaves_spent}
 use Rattle.usb_host.proofs.RoundLoops.{roots_begin, roots_cut, roots_end, roots_handled}
 use Rattle.usb_host.proofs.RoundLoops.{roots_steady}
 use Rattle.usb_host.proofs.host.Host.serve_roots.Goals as goal
@@ -18,13 +19,16 @@ ports-init g c = record {
 pub ports-preserved : goal.ports-preserved
 ports-preserved g c =
     let i = c.ports.invariant in
+    let rests = c.has_changed.ensures.rests in
+    let spent = leaves_spent rests in
     elim c.if-has_changed.branch [
       | then-has_changed+in_ok-handle_root w ↦ rw (w.self-is, w.round-is) (record {
         quiet = λ is. absurd (cc is);
-        spends = omega (arith, i.spends, w.handle_root.ensures.spends, c.ports.auto.number);
+        spends = omega (arith, i.spends, spent, w.handle_root.ensures.spends, c.ports.auto.number);
         so = λ known.
-            roots_handled (i.so known) (omega (arith, c.ports.auto.number))
-            (sym (c.has_changed.ensures known) ∙ w.if-has_changed.true)
+            roots_handled (rw (rests.none known) (i.so known)) (omega (arith, c.ports.auto.number))
+            (rw (rests.none known) (sym (c.has_changed.ensures.changed known)
+            ∙ w.if-has_changed.true))
             (omega (
               arith,
               c.ports-test.true,
@@ -32,24 +36,26 @@ ports-preserved g c =
               (i.so known).part.goes.went.spends.roots,
               ap (λ (h : HostState). roots_of h.world) c.self.view_is,
             )) (w.in_ok-handle_root.ensures.handles known);
-        works = λ known none. w.in_ok-handle_root.ensures.works known (i.works known none);
+        works = λ known none. w.in_ok-handle_root.ensures.works known
+            (rw (rests.none known) (i.works known none));
       })
       | else-has_changed w ↦ rw (w.self-is, w.round-is) (record {
-        quiet = i.quiet;
-        spends = omega (arith, i.spends, c.ports.auto.number);
+        quiet = λ is. leaves_entries rests ∙ i.quiet is;
+        spends = omega (arith, i.spends, spent, c.ports.auto.number);
         so = λ known.
-            roots_steady (i.so known) (omega (arith, c.ports.auto.number))
-            (sym (c.has_changed.ensures known) ∙ w.if-has_changed.false);
-        works = i.works;
+            rw (rests.none known) (roots_steady (i.so known) (omega (arith, c.ports.auto.number))
+            (sym (c.has_changed.ensures.changed known) ∙ w.if-has_changed.false));
+        works = λ known. rw (rests.none known) (i.works known);
       })
     ]
 
 pub returns-in_err-handle_root-clause-roots : goal.returns-in_err-handle_root-clause-roots
 returns-in_err-handle_root-clause-roots g c known =
-    roots_cut (c.ports.invariant.so known) (omega (arith, c.ports.auto.number))
-    (sym (c.has_changed.ensures known) ∙ c.if-has_changed.true)
+    let same = c.has_changed.ensures.rests.none known in
+    roots_cut (rw same (c.ports.invariant.so known)) (omega (arith, c.ports.auto.number))
+    (rw same (sym (c.has_changed.ensures.changed known) ∙ c.if-has_changed.true))
     (omega (arith, c.ports-test.true, c.root_ports-roots.ensures.most))
-    (c.ports.invariant.works known) c.from_residual.ensures.0
+    (rw same (c.ports.invariant.works known)) c.from_residual.ensures.0
     (c.in_err-handle_root.ensures.handles known)
 
 pub returns-clause-roots : goal.returns-clause-roots
@@ -70,6 +76,7 @@ returns-in_err-handle_root-clause-spends g c =
     omega (
       arith,
       c.ports.invariant.spends,
+      leaves_spent c.has_changed.ensures.rests,
       c.handle_root.ensures.spends,
       c.ports-test.true,
       c.ports.auto.number,

@@ -4,7 +4,7 @@ use Rattle.usb_tree.specs.{is_way}
 use Rattle.usb_host.specs.{OnlyBusSteps, drop_bound}
 use Rattle.usb_hub.specs.{StillWorks}
 use Rattle.usb_host.proofs.PortDrops.{ClimbedTo}
-use Rattle.usb_host.proofs.host.Host.disable_upward.Given as goal
+use Rattle.usb_host.proofs.host.Host.climb.Given as goal
 
 abbrev pub invariant-up : goal.invariant-up
 invariant-up g l = record {

@@ -1,0 +1,59 @@
+-- A root port tells of no change right behind its clearing, and which root ports are left alone is no
+-- step of the bus.
+use Rattle.std.proofs.Common.{◌≡◌, ◌∙◌, ◌-◌, ◌≤◌, ap, arith, length, false, true, refl, subst, sym}
+use Rattle.std.proofs.Common.{Bool, Ok, ℕ}
+use Rattle.std.proofs.lemmas.List.{get_or-set_same}
+use Rattle.usb_request.specs.{C_PORT_CONNECTION, PORT_ENABLE}
+use Rattle.usb_port.specs.{PortState, PortStatus, clear_call, off, port_by}
+use Rattle.usb_world.specs.{ClearsRoot, IsRootPort, World, root_port_at, root_row}
+use Rattle.usb_hub.specs.{HubPort, IsPort, Root, External}
+use Rattle.usb_enum.specs.{EnumFault}
+use Rattle.usb_host.specs.{ClearsAndAsks, ClearsPort, ClearsWhere, HostState, InOrder, IsCleared}
+use Rattle.usb_host.specs.{OnlyBusSteps, OnlyLeaves, first_failed, next_done}
+use Rattle.usb_host.proofs.PortRequests.{shows_shown}
+
+-- Which root ports are left alone
+
+pub leaves_rests : {m : Bool} {a b : HostState} → OnlyLeaves m a b → OnlyBusSteps a b
+leaves_rests {a = a} x = subst (OnlyBusSteps a) (sym x.only) refl
+
+pub leaves_spent : {m : Bool} {a b : HostState} → OnlyLeaves m a b
+    → b.counts.spent ≡ a.counts.spent
+leaves_spent x = ap (λ (h : HostState). h.counts.spent) x.only
+
+pub leaves_entries : {m : Bool} {a b : HostState} → OnlyLeaves m a b → b.entries ≡ a.entries
+leaves_entries x = ap (λ (h : HostState). h.entries) x.only
+
+-- The status behind a clearing
+
+cleared_row : (w v : World) (n : ℕ) → 1 ≤ n → n ≤ length (root_row w)
+    → ClearsRoot n C_PORT_CONNECTION w v → (root_port_at v n).connection_changed ≡ false
+unfolding root_port_at
+cleared_row w v n least most c =
+    let p : PortState = port_by (clear_call C_PORT_CONNECTION) (root_port_at w n) in
+    rw (c.row, get_or-set_same (root_row w) (n - 1) p off (omega (arith, least, most))) refl
+
+told_status : {a b : PortStatus} → Ok {B = EnumFault} a ≡ Ok b → a ≡ b
+told_status e = cc e
+
+module _ {a d : HostState} (number : ℕ) {status : PortStatus} where
+  disabled_after : {c : HostState} {s : PortStatus}
+      → InOrder (ClearsWhere s.enabled (Root number) PORT_ENABLE)
+      (λ done h answer k. (answer ≡ Ok s) × (k ≡ h)) c (Ok status) d → status ≡ s
+  disabled_after (first_failed fault y e) = absurd (cc e)
+  disabled_after (next_done done h y w) = told_status w.0
+
+  read_clear : IsRootPort a.world number → ClearsAndAsks (Root number) a (Ok status) d
+      → status.connection_changed ≡ false
+  read_clear is (first_failed fault y e) = absurd (cc e)
+  read_clear is (next_done done b y (first_failed fault z e)) = absurd (cc e)
+  read_clear is (next_done done b y (next_done s c z w)) =
+      ap (λ (q : PortStatus). q.connection_changed)
+      (disabled_after (w.steady refl) ∙ told_status ((shows_shown z).0))
+      ∙ cleared_row a.world b.world number is.0 is.1 y.effect.row
+
+-- of a bus that does what its world does each change is taken away
+pub root_cleared : {a d : HostState} (port : HubPort) {status : PortStatus} → IsPort a.world port
+    → ClearsPort port a (Ok status) d → IsCleared port status
+root_cleared (External hub number) is x = tt
+root_cleared (Root number) is x = read_clear number is x.order

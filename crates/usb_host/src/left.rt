@@ -1,0 +1,70 @@
+//! The root ports that are left alone, since no clearing takes their change of connection away.
+ghost use Rattle.std.specs.Prelude.{◌≡◌, false, true};
+ghost use Rattle.usb_host.specs.LeftPorts.{none_left};
+
+use std::marker::{Model, PhantomData};
+use usb_bus::Bus;
+
+/// The status (11.24.2.7) at which each root port is left alone, where it is. Of a bus that does what its world does
+/// none ever is: a clearing there takes the change away.
+#[derive(Debug, Drop)]
+pub(crate) struct LeftPorts<B: Bus> {
+    // by the port's number, 1 to 7
+    at: [Option<[u8; 4]>; 8],
+    bus: PhantomData<B>,
+}
+
+impl<B: Bus> Model for LeftPorts<B> {
+    ghost use Rattle.std.specs.Prelude.{◌≡◌, true};
+    ghost use Rattle.usb_host.specs.LeftPorts.{LeftStatuses, none_left};
+
+    ghost Value = { LeftStatuses };
+
+    ghost view = { λ ports. ports.at };
+
+    ghost invariant = { λ ports. B.modelled ≡ true → ports.at ≡ none_left };
+}
+
+impl<B: Bus> LeftPorts<B> {
+    /// None is left alone.
+    pub(crate) fn new() -> Self
+        ensures { result ≡ none_left }
+    {
+        LeftPorts {
+            at: [None; 8],
+            bus: PhantomData,
+        }
+    }
+
+    /// Whether a port is left alone.
+    pub(crate) fn has(&self, number: u8) -> bool
+        ensures { B.modelled ≡ true → result ≡ false }
+    {
+        number < 8 && self.at[usize::from(number)].is_some()
+    }
+
+    /// Whether a port is left alone at exactly this status.
+    pub(crate) fn has_at(&self, number: u8, status: [u8; 4]) -> bool
+        ensures { B.modelled ≡ true → result ≡ false }
+    {
+        number < 8 && self.at[usize::from(number)] == Some(status)
+    }
+
+    /// Leaves a port alone, as long as it shows this status.
+    pub(crate) fn leave(&mut self, number: u8, status: [u8; 4])
+        requires { B.modelled ≡ false }
+    {
+        if number < 8 {
+            self.at[usize::from(number)] = Some(status);
+        }
+    }
+
+    /// Leaves a port alone no longer.
+    pub(crate) fn forget(&mut self, number: u8)
+        ensures { B.modelled ≡ true → self.new ≡ self.old }
+    {
+        if self.has(number) {
+            self.at[usize::from(number)] = None;
+        }
+    }
+}
