@@ -6,11 +6,11 @@ use Rattle.std.proofs.Common.{IsSomeAnd}
 use Rattle.std.specs.BTreeMap.{insert_entry}
 use Rattle.usb_port.specs.{parent_of, path_cmp, IsPath}
 use Rattle.usb_tree.specs.{is_way, pending}
-use Rattle.usb_world.specs.{World}
+use Rattle.usb_world.specs.{World, here}
 use Rattle.usb_address.specs.{KeepsAddresses}
 use Rattle.usb_address.proofs.Interface.{keeps_none, keeps_then}
 use Rattle.usb_pipe.specs.{write_bound}
-use Rattle.usb_hub.specs.{KeepsDevices}
+use Rattle.usb_hub.specs.{ControlCourse, KeepsDevices}
 use Rattle.usb_hub.proofs.Interface.{keeps_devices_none}
 use Rattle.usb_backlog.specs.{KeepsAll}
 use Rattle.usb_backlog.proofs.Interface.{all_none, all_then}
@@ -36,7 +36,7 @@ use Rattle.usb_host.proofs.devices.Plugs.{plugs_none}
 use Rattle.usb_host.proofs.services.ServedWork.{rests_holds}
 use Rattle.usb_host.proofs.services.CutPorts.{forgets_there}
 use Rattle.usb_host.proofs.services.Services.{loses_parent}
-use Rattle.usb_world.proofs.Interface.{way_parent}
+use Rattle.usb_world.proofs.Interface.{course_joined, way_parent}
 use Rattle.usb_host.proofs.devices.Owners.{but_above}
 use Rattle.usb_host.proofs.entries.Roots.{root_parent}
 use Rattle.usb_host.proofs.entries.KindCounts.{of_kind-without}
@@ -49,6 +49,7 @@ pub record ClimbedTo (first path : List ℕ) (a b : HostState) : Type 0 where
   pub goes : HostRuns ((7 - length path) * write_bound) a b
   pub keeps : KeepsAddresses a.world b.world
   pub devices : KeepsDevices a.world b.world
+  pub control : b.world.fault ≡ None → ControlCourse a.world b.world
   pub sound : IsDroppable first a → IsDroppable path b
   pub backlog : IsDroppable first a → b.world.fault ≡ None → KeepsAll a.world b.world
   pub caused : IsDroppable first a → IsFairTo a.world b.world → pending a.world.roots first ≡ true
@@ -60,6 +61,7 @@ climbed_none first h = record {
   goes = host_goes_none;
   keeps = keeps_none h.world;
   devices = keeps_devices_none h.world;
+  control = λ still. here h.world;
   sound = λ d. d;
   backlog = λ d still. all_none h.world;
   caused = λ d fair pends caused. (pends, caused);
@@ -73,6 +75,11 @@ module _ {first path : List ℕ} {a b c : HostState} (x : ClimbedTo first path a
 
   climb_devices : KeepsDevices a.world c.world
   climb_devices = devices_then write_bound a.world b.world c.world x.devices y.goes.went y.devices
+
+  climb_control : c.world.fault ≡ None → ControlCourse a.world c.world
+  climb_control still =
+      course_joined (x.control (went_sound write_bound b.world c.world y.goes.went still))
+      (y.control still)
 
   climb_keeps : KeepsAddresses a.world c.world
   climb_keeps = keeps_then a.world b.world c.world x.keeps y.owned.keeps
@@ -89,6 +96,7 @@ module _ {first path : List ℕ} {a b c : HostState} (x : ClimbedTo first path a
         goes = host_goes_then x.goes y.goes (omega (arith, parent_length path parent));
         keeps = climb_keeps;
         devices = climb_devices;
+        control = climb_control;
         sound = λ d. climb_sound b c parent y is (x.sound d);
         backlog = climb_backlog;
         caused = λ d fair pends caused.
@@ -102,6 +110,7 @@ module _ {first path : List ℕ} {a b c : HostState} (x : ClimbedTo first path a
       goes = climb_goes least;
       bares = match_err other _ _ e climb_keeps;
       devices = climb_devices;
+      control = climb_control;
       sound = λ d. if_err other _ e;
       backlog = climb_backlog;
       caused = λ d fair pends caused. if_err other _ e;
@@ -114,6 +123,7 @@ module _ {first path : List ℕ} {a b c : HostState} (x : ClimbedTo first path a
         goes = climb_goes least;
         bares = bares_above first path a b on r x.keeps (y.owned.done is);
         devices = climb_devices;
+        control = climb_control;
         sound = λ d. y.done (x.sound d) is;
         backlog = climb_backlog;
         caused = λ d fair pends caused.
@@ -127,6 +137,7 @@ module _ {first path : List ℕ} {a b c : HostState} (x : ClimbedTo first path a
         goes = climb_goes least;
         bares = bares_above first path a b on r x.keeps (y.owned.none is root);
         devices = climb_devices;
+        control = climb_control;
         sound = λ d. absurd (top_absurd root y is (x.sound d));
         backlog = climb_backlog;
         caused = λ d fair pends caused. absurd (top_absurd root y is (x.sound d));

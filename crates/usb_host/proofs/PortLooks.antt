@@ -1,5 +1,5 @@
 -- What a look at a port leaves.
-use Rattle.std.proofs.Common.{◌≡◌, ◌∙◌, ◌⊎◌, ◌+◌, ◌≤◌, arith, inl, inr, ap, refl, subst, true}
+use Rattle.std.proofs.Common.{◌≡◌, ◌∙◌, ◌⊎◌, ◌+◌, ◌≤◌, arith, inl, inr, ap, refl, subst, sym, true}
 use Rattle.std.proofs.Common.{false, Bool, ℕ, List, None, Result, Ok, Err, OnOk, OnErr}
 use Rattle.usb_port.specs.{PortStatus, path_cmp}
 use Rattle.usb_tree.proofs.Interface.{decided}
@@ -14,7 +14,7 @@ use Rattle.usb_table.proofs.Interface.{known_port-without}
 use Rattle.usb_host.specs.Accounts.{Accounts}
 use Rattle.usb_host.specs.{PaysAtLook, hubs, clearing_bound, HostState, IsOwned, KeepsPort}
 use Rattle.usb_host.specs.{StaysOwned, StaysWhere, claims, FindsSound, IsOpen, ServesSound}
-use Rattle.usb_host.specs.{KeepsPlugs, Entered, Forgets}
+use Rattle.usb_host.specs.{KeepsPlugs, MovesNoBulk, Entered, Forgets}
 use Rattle.usb_host.specs.{Gained, IsPortAt, Requested, ProgressOrLost, StandsAt, Waits, HostRuns}
 use Rattle.usb_host.specs.{HostSteps, OnlyBusSteps, waiting, ClearsError, ClearsPort, Discovers}
 use Rattle.usb_host.specs.{LookedOrLost, LooksAfterError, LooksAt, RenewsPort, HostInvariant}
@@ -34,7 +34,9 @@ use Rattle.usb_host.proofs.HostProgress.{enters_few, enters_other, without_rests
 use Rattle.usb_host.proofs.HostProgress.{served_any}
 use Rattle.usb_host.proofs.devices.Plugs.{plugs_forgot, plugs_found, plugs_kept, plugs_rests}
 use Rattle.usb_host.proofs.devices.Plugs.{plugs_then}
-use Rattle.usb_host.proofs.PortRequests.{requested-fails, requested-then, requested-wider}
+use Rattle.usb_host.proofs.devices.UnmovedBulk.{cleared_unmoved}
+use Rattle.usb_host.proofs.PortRequests.{goes_as, requested-fails, requested-then}
+use Rattle.usb_host.proofs.PortRequests.{requested-wider}
 use Rattle.usb_host.proofs.knowledge.ServedPorts.{cleared_lost, cleared_stay, forgot_open}
 use Rattle.usb_host.proofs.knowledge.ServedPorts.{forgot_sound, forgot_stay}
 use Rattle.usb_host.proofs.services.ServedWork.{failed_on_way, lost_on}
@@ -198,7 +200,8 @@ look_fails {path = path} port {a = a} {b = b} {fault = fault} s r x =
       owned = rests_keeps_port path a b r went.spends.roots x.keeps.bares;
       sound = record {
         sound = cleared_lost s r went fault x.keeps told;
-        bulk = λ i on still. bulk_stays a b (cleared_stay s r went x.keeps i);
+        bulk = λ i on still. bulk_stays a b (cleared_stay s r went x.keeps i)
+            (cleared_unmoved x i.owned (goes_as (Unit {0}) PortStatus fault on));
         cut = λ i. stays_where a b (cleared_stay s r went x.keeps i);
         plugs = λ i still. plugs_rests a b went r;
         caused = cleared_caused s r went fault x.keeps told;
@@ -224,6 +227,10 @@ module _ {path : List ℕ} {port : KnownPort} {a b c : HostState} (s : StandsAt 
   look_goes : HostRuns clearing_bound a c
   look_goes = goes_forgotten a x.requested.goes f.others
 
+  look_unmoved : HostInvariant a → MovesNoBulk a.world c.world
+  look_unmoved i = subst (MovesNoBulk a.world) (ap (λ (h : HostState). h.world) (sym f.others))
+      (cleared_unmoved x i.owned tt)
+
   look_left : c.entries ≡ without path a.entries
   look_left = without_rests path a c r f.rest
 
@@ -231,7 +238,7 @@ module _ {path : List ℕ} {port : KnownPort} {a b c : HostState} (s : StandsAt 
   bare_sound : status.connected ≡ false → ServesSound path a (Ok tt) c
   bare_sound off = record {
     sound = λ i. forgot_sound s r look_went x.keeps f i off;
-    bulk = λ i on still. bulk_stays a c (forgot_stay s r look_went x.keeps f i);
+    bulk = λ i on still. bulk_stays a c (forgot_stay s r look_went x.keeps f i) (look_unmoved i);
     cut = λ i. tt;
     plugs = λ i still. plugs_forgot path a c look_goes.went r f.rest;
     caused = λ i fair caused.
@@ -326,7 +333,8 @@ module _ {path : List ℕ} {port : KnownPort} {a b c : HostState} (s : StandsAt 
         sound = λ i. z.sound.sound (look_opens i);
         bulk = λ i goes still.
             bulk_then clearing_bound widest_enumeration a c d look_goes.went
-            z.requested.goes.went still (bulk_stays a c (forgot_stay s r look_went x.keeps f i))
+            z.requested.goes.went still
+            (bulk_stays a c (forgot_stay s r look_went x.keeps f i) (look_unmoved i))
             (z.sound.bulk (look_opens i) goes still);
         cut = λ i. found_cut result d z.sound i;
         plugs = λ i still. found_plugs result d z.requested.goes.went e i still;

@@ -242,7 +242,7 @@ gains_by (Err (Bus fault)) old new g = tt
 gains_by (Err Memory) old new g = tt
 gains_by _ old new g = g tt
 
-goes_as : (A B : Type 0) (fault : EnumFault) → LetsGoOn {A = A} (Err fault)
+pub goes_as : (A B : Type 0) (fault : EnumFault) → LetsGoOn {A = A} (Err fault)
     → LetsGoOn {A = B} (Err fault)
 goes_as A B ParentLost goes = tt
 goes_as A B _ goes = absurd goes

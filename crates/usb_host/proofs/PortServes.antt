@@ -14,7 +14,7 @@ use Rattle.usb_host.specs.{ShowsPort, TidiesPort, EndsAt, FinishesAt, HandlesPor
 use Rattle.usb_host.specs.{LooksAt, LooksOnceMore, ServesOwn, ServesPort, HostInvariant, Part}
 use Rattle.usb_host.specs.{HostFault, DoneAt, OwnHandled, OwnServed, Round, Quiet, Worked, all_done}
 use Rattle.usb_host.specs.{at_connection, at_error, at_others, first_failed, hub_failed, next_done}
-use Rattle.usb_host.specs.{own_known}
+use Rattle.usb_host.specs.{by_both, own_known}
 use Rattle.usb_host.proofs.devices.BulkPipes.{bulk_stays, bulk_then, stay_joined, stay_none}
 use Rattle.usb_host.proofs.devices.BulkPipes.{stays_where}
 use Rattle.usb_host.proofs.devices.Causes.{causes_rests, tidied_caused, watched_caused}
@@ -32,8 +32,9 @@ use Rattle.usb_host.proofs.devices.Plugs.{plugs_rests, plugs_then}
 use Rattle.usb_host.proofs.RoundParts.{part-fails, part-none, part-wider}
 use Rattle.usb_host.proofs.payments.Payments.{is_err-if_ok}
 use Rattle.usb_host.proofs.entries.Roots.{waits_somewhere}
-use Rattle.usb_host.proofs.PortRequests.{requested-fails, requested-then, shows_shown}
+use Rattle.usb_host.proofs.PortRequests.{goes_as, requested-fails, requested-then, shows_shown}
 use Rattle.usb_host.proofs.PortRequests.{shows_watches}
+use Rattle.usb_host.proofs.devices.UnmovedBulk.{shown_unmoved, tidied_unmoved}
 use Rattle.usb_host.proofs.knowledge.ServedPorts.{rests_stands, tidied_port, tidied_stay}
 use Rattle.usb_host.proofs.knowledge.ServedPorts.{watched_lost, watched_sound, watched_stay}
 use Rattle.usb_host.proofs.services.ServedWork.{looked_on, rests_holds, status_lost_on, tidied_on}
@@ -59,7 +60,9 @@ serve_fails {path = path} port {a = a} {b = b} {fault = fault} s r x =
       owned = rests_keeps_port path a b r went.spends.roots watches.addresses;
       sound = record {
         sound = watched_lost s r went fault watches told;
-        bulk = λ i on still. bulk_stays a b (watched_stay s r went watches i);
+        bulk = λ i on still.
+            bulk_stays a b (watched_stay s r went watches i)
+            (shown_unmoved x i.owned (goes_as (Unit {0}) PortStatus fault on));
         cut = λ i. stays_where a b (watched_stay s r went watches i);
         plugs = λ i still. plugs_rests a b went r;
         caused = watched_caused s r went fault watches told;
@@ -99,7 +102,7 @@ module _ {path : List ℕ} {port : KnownPort} {a b : HostState} (s : StandsAt pa
           sound = λ i. y.sound.sound (shown_sound i);
           bulk = λ i on still.
               bulk_then (read_bound 4) look_bound a b d shown_went then still (bulk_stays a b
-              (watched_stay s r shown_went shown_watches i))
+              (watched_stay s r shown_went shown_watches i) (shown_unmoved x i.owned tt))
               (y.sound.bulk (shown_sound i) on still);
           cut = λ i. cut_after _ d result (watched_stay s r shown_went shown_watches i)
               (y.sound.cut (shown_sound i));
@@ -150,7 +153,8 @@ module _ {path : List ℕ} {port : KnownPort} {a b : HostState} (s : StandsAt pa
           y.requested.told (shown_sound i);
       bulk = λ i on still.
           bulk_stays a d (stay_joined a b d (watched_stay s r shown_went shown_watches i)
-          (tidied_stay settled_stands q settled_went (settled_tidies i).tidies (shown_sound i)));
+          (tidied_stay settled_stands q settled_went (settled_tidies i).tidies (shown_sound i)))
+          (by_both (shown_unmoved x i.owned tt) (tidied_unmoved (settled_tidies i) on));
       cut = λ i. on_errors result _ (stays_where {So = d.world.fault ≡ None} a d (stay_joined a b d
           (watched_stay s r shown_went shown_watches i)
           (tidied_stay settled_stands q settled_went (settled_tidies i).tidies (shown_sound i))));

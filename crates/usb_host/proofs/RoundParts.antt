@@ -20,7 +20,7 @@ use Rattle.usb_host.specs.{Agrees, drop_bound, hub_poll_bound, hubs_bound, looks
 use Rattle.usb_host.specs.{roots_bound, told_bound, KeepsBulk, HostState, StaysOwned, DropsHub}
 use Rattle.usb_host.specs.{table_in, HostSteps, HostRuns, either, HostInvariant, KeepsInvariant}
 use Rattle.usb_host.specs.{IsDroppable, PartStays, StaysWhere, DropsSound, Part, PartsKeep}
-use Rattle.usb_host.specs.{RootsRest, HubKeeps, HubsKeep}
+use Rattle.usb_host.specs.{RootsRest, HubKeeps, HubsKeep, by_rest}
 use Rattle.usb_host.specs.{LooksKeep, NoneWait, HostFault, Round, Worked, Quiet}
 use Rattle.usb_host.proofs.devices.BulkPipes.{bulk_stays, where_polled, where_stays}
 use Rattle.usb_host.proofs.devices.Plugs.{plugs_kept}
@@ -149,8 +149,10 @@ module _ {hub : List ℕ} {answer : Result (Option (ArrayVec ℕ)) PipeFault} (a
       (λ so. keeps.spares (s.owned.so before) (s.level before hub))
 
   pub hub_bulk : HostInvariant a → b.world.fault ≡ None → KeepsBulk a b
-  hub_bulk s still = bulk_stays a b (where_stays a b tt
-      (hub_stays s (went_sound 768 a.world b.world went still)))
+  hub_bulk s still =
+      let before = went_sound 768 a.world b.world went still in
+      bulk_stays a b (where_stays a b tt (hub_stays s before)) (by_rest
+      (keeps.levels.worlds.rests still) (keeps.spares (s.owned.so before) (s.level before hub)))
 
   part : IsOk answer → PartStays a b
   part ok = record {

@@ -7,3 +7,4 @@ pub mod LevelPipes
 pub mod Owners
 pub mod Plugs
 pub mod Requests
+pub mod UnmovedBulk

@@ -1,8 +1,8 @@
 -- What the parts of a round leave of bulk pipes, and of the bulk endpoints at their other ends.
 use Rattle.std.specs.Prelude.{◌≡◌, ◌⊎◌, ℕ, List, true, false, Some}
 use Rattle.usb_device.specs.{rested, State, Location, path_to, reach, reach_on, state_on}
-use Rattle.usb_world.specs.{Was, AnyStep, Course, World}
-use Rattle.usb_hub.specs.{ControlCourse}
+use Rattle.usb_world.specs.{EachWas, Was, AnyStep, Course, World}
+use Rattle.usb_hub.specs.{ControlCourse, TouchesNoPort}
 use Rattle.usb_enum.specs.{Accepted}
 use Rattle.usb_table.specs.{Pipes, pipe_out, pipe_in, accepted_device_at, is_below_hub, SparesBulk}
 use Rattle.usb_table.specs.{new_pipes_to, pipes_at}
@@ -27,6 +27,15 @@ abbrev pub EndpointsBegan : List ℕ → World → Type 0
 EndpointsBegan path w = (x : Location) (s : State) → path ≡ path_to x → reach_on w.roots x ≡ true
     → state_on w.roots x ≡ Some s → (s.bulk_out ≡ rested) × (s.bulk_in ≡ rested)
 
+-- Steps that move nothing through a bulk endpoint
+
+-- nothing was attempted but at endpoint 0; or nothing was asked of any port, and each device that
+-- is reached has its bulk endpoints as they were; or so it was in one stretch behind another
+pub data MovesNoBulk : World → World → Type 0 where
+  by_control : {w v : World} → ControlCourse w v → MovesNoBulk w v
+  by_rest : {w v : World} → TouchesNoPort w v → EachWas SparesBulk w v → MovesNoBulk w v
+  by_both : {w u v : World} → MovesNoBulk w u → MovesNoBulk u v → MovesNoBulk w v
+
 -- An accepted device that is listed at a path
 
 -- it was listed there before; its bulk pipes and their endpoints are as they were
@@ -35,12 +44,14 @@ pub record StayedAt (path : List ℕ) (device : Accepted) (old new : HostState) 
   pub pipes : SameBulk (pipes_at path (table_in old)) (pipes_at path (table_in new))
   pub endpoints : EndpointsStayed path old.world new.world
 
--- it was found anew: at a moment of the call none was reached there; until it was found nothing was
--- attempted but at endpoint 0, and since then its bulk endpoints are as they were; its bulk pipes
--- are new, and their endpoints have begun again
+-- it was found anew: at a moment of the call none was reached there, and up to then nothing was
+-- moved through a bulk endpoint; until it was found nothing was attempted but at endpoint 0, and
+-- since then its bulk endpoints are as they were; its bulk pipes are new, and their endpoints have
+-- begun again
 pub record RenewedAt (path : List ℕ) (device : Accepted) (old new : HostState) : Type 0 where
   pub moment : World
   pub before : Course AnyStep old.world moment
+  pub unmoved : MovesNoBulk old.world moment
   pub none : reach moment.roots path ≡ false
   pub found : World
   pub control : ControlCourse moment found
@@ -49,10 +60,12 @@ pub record RenewedAt (path : List ℕ) (device : Accepted) (old new : HostState)
   pub pipes : SameBulk (new_pipes_to device (is_below_hub path)) (pipes_at path (table_in new))
   pub endpoints : EndpointsBegan path new.world
 
--- each accepted device has the bulk pipes and the endpoints that it had, or was found anew
+-- each accepted device has the bulk pipes and the endpoints that it had, or was found anew; and all
+-- the while nothing was moved through a bulk endpoint, also of a device that is listed no longer
 pub record KeepsBulk (old new : HostState) : Type 0 where
   pub each : (path : List ℕ) (device : Accepted) → accepted_device_at path new.entries ≡ Some device
       → StayedAt path device old new ⊎ RenewedAt path device old new
+  pub unmoved : MovesNoBulk old.world new.world
 
 -- When the host stopped
 

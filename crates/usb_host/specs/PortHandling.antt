@@ -8,7 +8,7 @@ use Rattle.usb_world.specs.{LeavesPortAlone, SameDeviceOrPending, Course, World}
 use Rattle.usb_address.specs.{AddressMap, MapHolds, WhileBusWorks, KeepsAddresses}
 use Rattle.usb_transaction.specs.{Target, NoThreeDamaged}
 use Rattle.usb_hub.specs.{HubPort, External, HubServes, IsAt, KeepsDevices, PortStatusAt}
-use Rattle.usb_hub.specs.{TouchesNoPort}
+use Rattle.usb_hub.specs.{ControlCourse, TouchesNoPort}
 use Rattle.usb_backlog.specs.{KeepsAll, KeepsFound}
 use Rattle.usb_enum.specs.{Lost, EnumFault, ParentLost, Bus, Memory, Finding, IsKnownAs, IsOccupied}
 use Rattle.usb_enum.specs.{IsInOrder, CanFail, HasPlanWithin}
@@ -197,6 +197,7 @@ pub record DisablesOnWay (path : List ℕ) (old : HostState) (result : Result Bo
   pub goes : HostRuns write_bound old new
   pub owned : KeepsDisabled path old result new
   pub devices : KeepsDevices old.world new.world
+  pub control : new.world.fault ≡ None → ControlCourse old.world new.world
   pub done : IsDroppable path old → result ≡ Ok true → IsDroppedAt path new
   pub failed : IsDroppable path old → result ≡ Ok false
       → IsSomeAnd (parent_of path) (λ hub. IsDroppable hub new)
@@ -212,6 +213,7 @@ pub record Climbs (first : List ℕ) (old : HostState) (result : Result (List �
   pub goes : HostRuns drop_bound old new
   pub bares : BaresUpward first old result new
   pub devices : KeepsDevices old.world new.world
+  pub control : new.world.fault ≡ None → ControlCourse old.world new.world
   pub sound : IsDroppable first old → IfOk result (λ path. IsDroppedAt path new)
   -- no more is left to do, but by events
   pub backlog : IsDroppable first old → new.world.fault ≡ None → KeepsAll old.world new.world

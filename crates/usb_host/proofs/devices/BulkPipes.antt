@@ -12,7 +12,7 @@ use Rattle.usb_world.proofs.Interface.{course_joined, each_wider, way_itself}
 use Rattle.usb_tree.proofs.Interface.{decided}
 use Rattle.usb_address.specs.{MapHolds}
 use Rattle.usb_pipe.specs.{PipeFault}
-use Rattle.usb_hub.specs.{ControlCourse, StaysAs, EachElsewhere, KeepsDevices}
+use Rattle.usb_hub.specs.{ControlCourse, StaysAs, EachElsewhere, KeepsDevices, TouchesNoPort}
 use Rattle.usb_enum.specs.{Cause, Accepted, Finding}
 use Rattle.usb_enum.specs.declared.finding.Finding.TheVariants.{Device, Refused}
 use Rattle.usb_enum.proofs.Interface.{went_course, went_sound}
@@ -23,7 +23,7 @@ use Rattle.usb_table.specs.{entered, pipes_at, PipesPolled}
 use Rattle.usb_table.proofs.Interface.{path_tied, pipes_at-entered, pipes_at-entered_elsewhere}
 use Rattle.usb_table.proofs.Interface.{spares-same, spares-stage, spares-then}
 use Rattle.usb_host.specs.{SameBulk, EndpointsStayed, EndpointsBegan, StayedAt, RenewedAt}
-use Rattle.usb_host.specs.{StaysWhere}
+use Rattle.usb_host.specs.{MovesNoBulk, StaysWhere, by_both, by_control, by_rest}
 use Rattle.usb_host.specs.{KeepsBulk, HostState, claims, HostSteps, OnlyBusSteps, table_in}
 use Rattle.usb_host.proofs.entries.Agreements.{lookup-insert_entry_elsewhere}
 use Rattle.usb_host.proofs.entries.EntryClaims.{lookup-insert_entry_here}
@@ -90,6 +90,18 @@ stayed_elsewhere first path w v each away x s is on stands =
       so = spares-stage x was.before s was.so;
     }
 
+-- Steps that move nothing
+
+pub unmoved_none : (w : World) {v : World} → v ≡ w → MovesNoBulk w v
+unmoved_none w same = subst (MovesNoBulk w) (sym same) (by_control (here w))
+
+-- devices stay as they were, and nothing is asked of any port
+pub unmoved_rests : (w v : World) → KeepsDevices w v → v.shared ≡ false → TouchesNoPort w v
+    → MovesNoBulk w v
+unmoved_rests w v devices single rests =
+    by_rest rests (each_wider StaysAs SparesBulk (λ j s v x. spares-stage j s v x) w v
+    (devices.stays single))
+
 -- Where nothing is found anew
 
 -- each accepted device has what it had
@@ -118,8 +130,11 @@ stay_joined a b c x y = record {
       };
 }
 
-pub bulk_stays : (a b : HostState) → AllStay a b → KeepsBulk a b
-bulk_stays a b x = record { each = λ path device at. inl (x.each path device at) }
+pub bulk_stays : (a b : HostState) → AllStay a b → MovesNoBulk a.world b.world → KeepsBulk a b
+bulk_stays a b x unmoved = record {
+  each = λ path device at. inl (x.each path device at);
+  unmoved = unmoved;
+}
 
 pub where_stays : {So : Type 0} (a b : HostState) → So → StaysWhere So a b → AllStay a b
 where_stays a b so x = record {
@@ -320,12 +335,14 @@ module _ (first : List ℕ) (f : Finding) (a b : HostState)
       → ((device : Accepted) → f ≡ Device device → EndpointsBegan first b.world) → KeepsBulk a b
   bulk_entered control held began = record {
     each = λ path device at. pick path device at (is_at (path_cmp path) first) refl;
+    unmoved = by_control control;
   }
     where
       found : (device : Accepted) → f ≡ Device device → RenewedAt first device a b
       found device is = record {
         moment = a.world;
         before = here a.world;
+        unmoved = unmoved_none a.world {v = a.world} refl;
         none = unreached a.world first a.entries held
             (finding-none first first a.entries gone (way_itself first));
         found = b.world;
@@ -351,7 +368,7 @@ module _ (first : List ℕ) (f : Finding) (a b : HostState)
 -- One part after another
 
 pub bulk_none : (h : HostState) → KeepsBulk h h
-bulk_none h = bulk_stays h h (stay_none h)
+bulk_none h = bulk_stays h h (stay_none h) (unmoved_none h.world {v = h.world} refl)
 
 module _ (a b c : HostState) (first : Course AnyStep a.world b.world)
     (second : Course AnyStep b.world c.world) where
@@ -366,6 +383,7 @@ module _ (a b c : HostState) (first : Course AnyStep a.world b.world)
   stayed_then path (inr x) y = inr (record {
     moment = x.moment;
     before = x.before;
+    unmoved = x.unmoved;
     none = x.none;
     found = x.found;
     control = x.control;
@@ -382,6 +400,7 @@ module _ (a b c : HostState) (first : Course AnyStep a.world b.world)
       inr (record {
         moment = y.moment;
         before = course_joined first y.before;
+        unmoved = by_both x.unmoved y.unmoved;
         none = y.none;
         found = y.found;
         control = y.control;
@@ -394,6 +413,7 @@ module _ (a b c : HostState) (first : Course AnyStep a.world b.world)
   bulk_joins : KeepsBulk a b → KeepsBulk b c → KeepsBulk a c
   bulk_joins x y = record {
     each = λ path device at. part_then x path device (y.each path device at);
+    unmoved = by_both x.unmoved y.unmoved;
   }
 
 -- as long as the bus is at work
@@ -408,6 +428,7 @@ pub bulk_stopped : (a b : HostState) (stopped : Bool) → KeepsBulk a b
     → KeepsBulk a (record b { stopped = stopped })
 bulk_stopped a b stopped x = record {
   each = λ path device at. pick path device (x.each path device at);
+  unmoved = x.unmoved;
 }
   where
     pick : (path : List ℕ) (device : Accepted) → StayedAt path device a b
@@ -421,6 +442,7 @@ bulk_stopped a b stopped x = record {
     pick path device (inr y) = inr (record {
       moment = y.moment;
       before = y.before;
+      unmoved = y.unmoved;
       none = y.none;
       found = y.found;
       control = y.control;

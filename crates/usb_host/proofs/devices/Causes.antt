@@ -27,6 +27,7 @@ use Rattle.usb_table.specs.{KnownPort, Entries, has_at, without, Table, entered,
 use Rattle.usb_table.specs.{IsAskable, finding_at, tier_of}
 use Rattle.usb_host.specs.Accounts.{Accounts}
 use Rattle.usb_host.specs.{Agrees, RestElsewhere, IsLost, HoldsAt, Watches, Tidies, ClearsChange}
+use Rattle.usb_host.specs.{MovesNoBulk, by_control}
 use Rattle.usb_host.specs.{IsOpen, PortCaused, FindsSound, Disabled, Climbs, HostState, claims}
 use Rattle.usb_host.specs.{KeepsPort, DropsHub, StandsAt, HostSteps, OnlyBusSteps, table_in}
 use Rattle.usb_host.specs.{known_supply, RefusalsJustified, CausesBut, IsJustifiedAt, IsFairTo}
@@ -464,7 +465,10 @@ module _ (lost : List ℕ) (b c d : HostState) (least : 1 ≤ length lost)
   lost_drops hub a r onward climbs drops = record {
     sound = λ p. lost_sound_there hub lost a b c d least (climbs.sound p) others rest pipes gone
         same table p drops;
-    bulk = λ p still. bulk_stays a d (lost_stay a r climbs.devices (drops.ends p.but.owned).single);
+    bulk = λ p still.
+        bulk_stays a d (lost_stay a r climbs.devices (drops.ends p.but.owned).single)
+        (subst (MovesNoBulk a.world) (sym world_same)
+        (by_control (climbs.control (ap (λ (w : World). w.fault) (sym world_same) ∙ still))));
     plugs = plugs_lost a d (rw world_same onward) drops.lost;
     backlog = λ p still. subst (KeepsAll a.world) (sym world_same)
         (climbs.backlog p (ap (λ (w : World). w.fault) (sym world_same) ∙ still));

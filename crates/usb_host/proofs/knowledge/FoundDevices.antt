@@ -18,7 +18,7 @@ use Rattle.usb_table.specs.{hub_facts_in, tier_of, AllInSync, Table, entered}
 use Rattle.usb_host.specs.Accounts.{Accounts}
 use Rattle.usb_host.specs.{IsOpen, InvariantAfterPort, HostState, claims, KeepsPort, StandsAt}
 use Rattle.usb_host.specs.{HostSteps, PortsListed, KnownBut, DevicesAccurate, TruthfulBut}
-use Rattle.usb_host.specs.{IsAccurateAt, known_supply, KeepsBulk, StaysWhere, table_in}
+use Rattle.usb_host.specs.{IsAccurateAt, known_supply, KeepsBulk, StaysWhere, by_control, table_in}
 use Rattle.usb_host.proofs.devices.BulkPipes.{bulk_entered, bulk_stays, accepted_device_of-some}
 use Rattle.usb_host.proofs.devices.BulkPipes.{where_stays, where_unfound}
 use Rattle.usb_host.proofs.entries.Agreements.{known_entered, shorter_apart}
@@ -172,6 +172,7 @@ module _ (n : ℕ) (path : List ℕ) (port : KnownPort) (pool : Addresses) (a b 
       → KeepsBulk a b
   unfound_bulk e same pipes_same still =
       bulk_stays a b (where_stays a b still (unfound_where e same pipes_same))
+      (by_control (found_only e still).control)
 
   -- nothing is entered: the hub is lost
   pub unfound_sound : (fault : EnumFault)

@@ -31,7 +31,7 @@ const ROWS: &[Row] = &[
     },
     Row {
         about: "a device is plugged there, and listed",
-        events: "[[event]]\ndo = \"plug\"\npath = \"2\"\ndevice = \"fn\"\n",
+        events: "[[event]]\ndo = \"plug\"\nafter = 10000\npath = \"2\"\ndevice = \"fn\"\n",
         count: 1,
         stuck: 2,
         tells: None,
@@ -41,9 +41,9 @@ const ROWS: &[Row] = &[
     },
     Row {
         about: "it is plugged, unplugged and plugged",
-        events: "[[event]]\ndo = \"plug\"\npath = \"2\"\ndevice = \"fn\"\n\
-                 [[event]]\ndo = \"unplug\"\npath = \"2\"\n\
-                 [[event]]\ndo = \"plug\"\npath = \"2\"\ndevice = \"fn\"\n",
+        events: "[[event]]\ndo = \"plug\"\nafter = 10000\npath = \"2\"\ndevice = \"fn\"\n\
+                 [[event]]\ndo = \"unplug\"\nafter = 10000\npath = \"2\"\n\
+                 [[event]]\ndo = \"plug\"\nafter = 10000\npath = \"2\"\ndevice = \"fn\"\n",
         count: 3,
         stuck: 2,
         tells: None,
@@ -55,8 +55,8 @@ const ROWS: &[Row] = &[
     },
     Row {
         about: "a device comes and goes elsewhere",
-        events: "[[event]]\ndo = \"plug\"\npath = \"1.2\"\ndevice = \"fn\"\n\
-                 [[event]]\ndo = \"unplug\"\npath = \"1.1\"\n",
+        events: "[[event]]\ndo = \"plug\"\nafter = 10000\npath = \"1.2\"\ndevice = \"fn\"\n\
+                 [[event]]\ndo = \"unplug\"\nafter = 10000\npath = \"1.1\"\n",
         count: 2,
         stuck: 1,
         tells: None,

@@ -14,6 +14,8 @@ use Rattle.usb_hub.proofs.Interface.{clear_works}
 use Rattle.usb_host.proofs.WorkingBuses.{other_works}
 use Rattle.std.proofs.lemmas.Grind.{common_steps}
 use Rattle.usb_request.specs.{PORT_ENABLE}
+use Rattle.usb_port.specs.{ClearEnable}
+use Rattle.usb_world.specs.{here}
 use Rattle.usb_host.proofs.host.Host.disable.Goals as goal
 use Rattle.usb_host.proofs.host.Host.disable.Goals.{in-Ok, in-Err-Bus, in-Err}
 
@@ -24,6 +26,7 @@ returns-in_default-clause-disables g c known =
       goes = host_goes_none;
       owned = none_disabled (c.in_default.ensures.none known);
       devices = keeps_devices_none c.args.self.now.world;
+      control = λ still. here c.args.self.now.world;
       done = λ d e. absurd (cc e);
       failed = λ d e. absurd (none d);
       backlog = λ d still. absurd (none d);
@@ -55,6 +58,8 @@ returns-clause-disables g c known =
         owned = cleared_enable_disabled _ _ s refl
             (rw w.in-Ok.is at (c.clear_port.ensures.addresses known));
         devices = devices;
+        control = λ still. (rw w.in-Ok.is at (c.clear_port.ensures.ports known)).control ClearEnable
+            refl tt;
         done = λ d e. told_dropped s refl went keeps devices d
             (rw w.in-Ok.is at (c.clear_port.ensures.ports known));
         failed = λ d e. absurd (cc e);
@@ -67,6 +72,9 @@ returns-clause-disables g c known =
         goes = goes_by _ _ went (order_most port) refl;
         owned = record { keeps = keeps; done = λ e. absurd (cc e); none = λ e root. absurd (cc e) };
         devices = devices;
+        control = λ still. (rw w.in-Err-Bus.is at (c.clear_port.ensures.ports known)).control
+            ClearEnable refl (fault_after-no_bus (Unit {0}) w.in-Err-Bus.field-0 old new
+            (w.in-Err-Bus.ensures.fault known) still);
         done = λ d e. absurd (cc e);
         failed = λ d e. absurd (cc e);
         backlog = λ d still. told_backlog {b = after} s refl went keeps devices d
@@ -79,6 +87,9 @@ returns-clause-disables g c known =
         goes = goes_by _ _ went (order_most port) refl;
         owned = port_failed _ _ 1 w.in-Err.field-0 s (w.in-Err.ensures.effect known) keeps;
         devices = devices;
+        control = λ still. (rw w.in-Err.is at (c.clear_port.ensures.ports known)).control
+            ClearEnable refl (fault_after-no_bus (Unit {0}) w.in-Err.field-0 old new
+            (w.in-Err.ensures.fault known) still);
         done = λ d e. absurd (cc e);
         failed = λ d e. untold_droppable s refl went keeps devices d
             (rw w.in-Err.is at (c.clear_port.ensures.ports known)) (w.in-Err.ensures.fault known)

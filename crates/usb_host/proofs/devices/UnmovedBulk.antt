@@ -1,0 +1,91 @@
+-- Requests to a port move nothing through a bulk endpoint.
+use Rattle.std.proofs.Common.{◌≡◌, ap, inl, inr, refl, subst, Bool, ℕ, Some, Result, Err, Ok}
+use Rattle.usb_request.specs.{PORT_ENABLE}
+use Rattle.usb_port.specs.{ClearConnectionChange, ClearEnable, ClearEnableChange, ClearResetChange}
+use Rattle.usb_port.specs.{PortCall, PortStatus, clear_call}
+use Rattle.usb_tree.proofs.Interface.{decided}
+use Rattle.usb_address.specs.{AddressMap, MapHolds, WhileBusWorks}
+use Rattle.usb_hub.specs.{HubPort}
+use Rattle.usb_enum.specs.{EnumFault}
+use Rattle.usb_host.specs.{ClearsAndAsks, ClearsFeature, ClearsInTurn, ClearsPort, ClearsWhere}
+use Rattle.usb_host.specs.{DisablesAfter, HostState, InOrder, LetsGoOn, MovesNoBulk, ShowsPort}
+use Rattle.usb_host.specs.{TidiesPort, by_both, by_control, first_failed, is_stuck, next_done}
+use Rattle.usb_host.proofs.PortRequests.{goes_as, shows_watches}
+use Rattle.usb_host.proofs.devices.BulkPipes.{unmoved_none, unmoved_rests}
+use Rattle.usb_host.proofs.devices.Requests.{clears_enable_change, clears_reset_change, sound_by}
+
+module _ {port : HubPort} {feature : ℕ} {call : PortCall} (is : clear_call feature ≡ Some call)
+    {a b : HostState} {result : Result (Unit {0}) EnumFault} where
+  feature_unmoved : ClearsFeature port feature a result b → LetsGoOn result
+      → MovesNoBulk a.world b.world
+  feature_unmoved x goes =
+      by_control (x.calls.control call is (sound_by x.answer (subst LetsGoOn x.is goes)))
+
+  where_unmoved : {asked : Bool} → ClearsWhere asked port feature a result b → LetsGoOn result
+      → MovesNoBulk a.world b.world
+  where_unmoved {asked = asked} x goes = elim (decided asked) [
+    | inl e ↦ feature_unmoved (x.so e) goes
+    | inr e ↦ unmoved_none a.world (ap (λ (h : HostState). h.world) (x.not e).1)
+  ]
+
+-- changes of enable and of reset are cleared
+module _ {port : HubPort} {status : PortStatus} {a b : HostState}
+    {result : Result (Unit {0}) EnumFault} where
+  in_turn : ClearsInTurn port status a result b → LetsGoOn result → MovesNoBulk a.world b.world
+  in_turn (first_failed fault y e) goes =
+      where_unmoved clears_enable_change y (subst LetsGoOn e goes)
+  in_turn (next_done done mid y z) goes =
+      by_both (where_unmoved clears_enable_change y tt) (where_unmoved clears_reset_change z goes)
+
+  pub tidied_unmoved : TidiesPort port status a result b → LetsGoOn result
+      → MovesNoBulk a.world b.world
+  tidied_unmoved x goes = in_turn x.order goes
+
+-- a status is asked for
+pub shown_unmoved : {port : HubPort} {f : AddressMap} {a b : HostState}
+    {result : Result PortStatus EnumFault} → ShowsPort port a result b
+    → WhileBusWorks (MapHolds f) a.world → LetsGoOn result → MovesNoBulk a.world b.world
+shown_unmoved {f = f} {a = a} {b = b} x owned goes =
+    let w = shows_watches x in
+    unmoved_rests a.world b.world w.devices (w.addresses.kept f owned).single (w.rests goes)
+
+module _ {port : HubPort} {b : HostState} {result : Result PortStatus EnumFault}
+    (goes : LetsGoOn result) where
+  -- the port is disabled where it is enabled
+  disabled_after : {status : PortStatus} {a : HostState}
+      → InOrder (ClearsWhere status.enabled port PORT_ENABLE)
+      (λ done h answer k. (answer ≡ Ok status) × (k ≡ h)) a result b → MovesNoBulk a.world b.world
+  disabled_after (first_failed fault y e) =
+      where_unmoved {call = ClearEnable} refl y
+      (goes_as PortStatus (Unit {0}) fault (subst LetsGoOn e goes))
+  disabled_after (next_done done h y w) =
+      by_both (where_unmoved {call = ClearEnable} refl y tt)
+      (unmoved_none h.world (ap (λ (k : HostState). k.world) w.1))
+
+  behind_status : {status : PortStatus} {a : HostState} → DisablesAfter port status a result b
+      → MovesNoBulk a.world b.world
+  behind_status {status = status} {a = a} z = elim (decided (is_stuck port status)) [
+    | inl stuck ↦ unmoved_none a.world (ap (λ (k : HostState). k.world) (z.stuck stuck).1)
+    | inr calm ↦ disabled_after (z.steady calm)
+  ]
+
+  asked_behind : {f : AddressMap} {a : HostState} → WhileBusWorks (MapHolds f) a.world
+      → InOrder (ShowsPort port) (DisablesAfter port) a result b → MovesNoBulk a.world b.world
+  asked_behind owned (first_failed fault z e) = shown_unmoved z owned (subst LetsGoOn e goes)
+  asked_behind owned (next_done status c z w) =
+      by_both (shown_unmoved z owned tt) (behind_status w)
+
+  in_order : {f : AddressMap} {a : HostState} → WhileBusWorks (MapHolds f) a.world
+      → ClearsAndAsks port a result b → MovesNoBulk a.world b.world
+  in_order owned (first_failed fault y e) =
+      feature_unmoved {call = ClearConnectionChange} refl y
+      (goes_as PortStatus (Unit {0}) fault (subst LetsGoOn e goes))
+  in_order {f = f} owned (next_done done mid y rest) =
+      by_both (feature_unmoved {call = ClearConnectionChange} refl y tt)
+      (asked_behind {f = f} (y.keeps.keeps.kept f owned) rest)
+
+-- a change of connection is cleared
+pub cleared_unmoved : {port : HubPort} {f : AddressMap} {a b : HostState}
+    {result : Result PortStatus EnumFault} → ClearsPort port a result b
+    → WhileBusWorks (MapHolds f) a.world → LetsGoOn result → MovesNoBulk a.world b.world
+cleared_unmoved {f = f} x owned goes = in_order goes {f = f} owned x.order
