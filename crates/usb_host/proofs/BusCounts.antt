@@ -1,12 +1,12 @@
 -- What a bus counts and reports, as its host has it.
 use Rattle.std.proofs.Common.{◌≡◌, ◌+◌, ◌≤◌, ap, arith, ℕ, Bool, true, false, Option, None, Some}
-use Rattle.std.proofs.Common.{refl, sym, List, Result, Ok, Err, IfErr}
+use Rattle.std.proofs.Common.{refl, List, Result, Ok, Err, IfErr}
 use Rattle.usb_world.specs.{BusFault}
 use Rattle.usb_enum.specs.{EnumFault, IsReported}
 use Rattle.usb_table.specs.{TableFault, TransferTold}
 use Rattle.usb_table.specs.declared.fault.TableFault.TheVariants as table
 use Rattle.usb_host.specs.{HostFault, HostState, Forgets, IsReportedLast, LeftStatuses}
-use Rattle.usb_host.specs.{PartFaultAllowed, counts_of, host_told, no_counts, none_left}
+use Rattle.usb_host.specs.{PartFaultAllowed, counts_of, host_told, no_counts}
 use Rattle.usb_host.specs.declared.fault.HostFault.TheVariants as host
 
 module _ (m : Bool) (s t : ℕ) (f e : Option BusFault) where
@@ -57,22 +57,16 @@ pub counts_known : (m : Bool) (s : ℕ) (f : Option BusFault) (l : LeftStatuses)
 counts_known true s f l known = refl
 counts_known false s f l known = absurd cc
 
--- they tell of the root ports that are left alone
-pub counts_left : (m : Bool) (s : ℕ) (f : Option BusFault) (l : LeftStatuses)
-    → (m ≡ true → l ≡ none_left) → (counts_of m s f l).left ≡ l
-counts_left true s f l none = sym (none refl)
-counts_left false s f l none = refl
+-- whatever was counted and reported, they tell of the same root ports
+pub left_same : (m : Bool) {s t : ℕ} {f e : Option BusFault} {l : LeftStatuses}
+    → (counts_of m t e l).left ≡ (counts_of m s f l).left
+left_same true = refl
+left_same false = refl
 
-pub counts_again : (m : Bool) (s : ℕ) (f : Option BusFault) (l : LeftStatuses)
+pub counts_again : (m : Bool) {s : ℕ} {f : Option BusFault} {l : LeftStatuses}
     → counts_of m s f l ≡ counts_of m s f ((counts_of m s f l).left)
-counts_again true s f l = refl
-counts_again false s f l = refl
-
--- where others are left alone, what was counted and reported stays, and of a modelled bus all does
-pub counts_leave : (m : Bool) (s : ℕ) (f : Option BusFault) (l r : LeftStatuses)
-    → counts_of m s f r ≡ record (counts_of m s f l) { left = (counts_of m s f r).left }
-counts_leave true s f l r = refl
-counts_leave false s f l r = refl
+counts_again true = refl
+counts_again false = refl
 
 pub forgot_spent : {path : List ℕ} {a b : HostState} → Forgets path a b
     → b.counts.spent ≡ a.counts.spent

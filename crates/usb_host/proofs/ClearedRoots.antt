@@ -1,5 +1,4 @@
--- A root port tells of no change right behind its clearing, and which root ports are left alone is no
--- step of the bus.
+-- A root port of a world tells of no change right behind its clearing.
 use Rattle.std.proofs.Common.{◌≡◌, ◌∙◌, ◌-◌, ◌≤◌, ap, arith, length, false, true, refl, subst, sym}
 use Rattle.std.proofs.Common.{Bool, Ok, ℕ}
 use Rattle.std.proofs.lemmas.List.{get_or-set_same}
@@ -9,22 +8,8 @@ use Rattle.usb_world.specs.{ClearsRoot, IsRootPort, World, root_port_at, root_ro
 use Rattle.usb_hub.specs.{HubPort, IsPort, Root, External}
 use Rattle.usb_enum.specs.{EnumFault}
 use Rattle.usb_host.specs.{ClearsAndAsks, ClearsPort, ClearsWhere, HostState, InOrder, IsCleared}
-use Rattle.usb_host.specs.{OnlyBusSteps, OnlyLeaves, first_failed, next_done}
+use Rattle.usb_host.specs.{first_failed, next_done}
 use Rattle.usb_host.proofs.PortRequests.{shows_shown}
-
--- Which root ports are left alone
-
-pub leaves_rests : {m : Bool} {a b : HostState} → OnlyLeaves m a b → OnlyBusSteps a b
-leaves_rests {a = a} x = subst (OnlyBusSteps a) (sym x.only) refl
-
-pub leaves_spent : {m : Bool} {a b : HostState} → OnlyLeaves m a b
-    → b.counts.spent ≡ a.counts.spent
-leaves_spent x = ap (λ (h : HostState). h.counts.spent) x.only
-
-pub leaves_entries : {m : Bool} {a b : HostState} → OnlyLeaves m a b → b.entries ≡ a.entries
-leaves_entries x = ap (λ (h : HostState). h.entries) x.only
-
--- The status behind a clearing
 
 cleared_row : (w v : World) (n : ℕ) → 1 ≤ n → n ≤ length (root_row w)
     → ClearsRoot n C_PORT_CONNECTION w v → (root_port_at v n).connection_changed ≡ false

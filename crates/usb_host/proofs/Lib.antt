@@ -9,6 +9,7 @@ pub mod ParentPaths
 pub mod Interface
 pub mod BusCounts
 pub mod ClearedRoots
+pub mod LeftRoots
 pub mod HostProgress
 pub mod UnchangedHubs
 pub mod RoundParts

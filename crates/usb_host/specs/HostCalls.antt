@@ -1,6 +1,6 @@
--- All that one call of a host tells, over a bus that does what its world does.
-use Rattle.std.specs.Prelude.{◌≡◌, ℕ, ◌*◌, List, length, true, false, Option, None, Result, IfErr}
-use Rattle.std.specs.Prelude.{IfOk, OnErr}
+-- All that one call of a host tells: over any bus, and over one that does what its world does.
+use Rattle.std.specs.Prelude.{◌≡◌, ℕ, ◌*◌, List, length, Bool, true, false, Option, None, Result}
+use Rattle.std.specs.Prelude.{IfErr, IfOk, OnErr}
 use Rattle.std.specs.Global.{Vec}
 use Rattle.usb_world.specs.{World}
 use Rattle.usb_bus.specs.{Traced}
@@ -9,14 +9,34 @@ use Rattle.usb_host.specs.Bounds.{clear_bound, round_bound}
 use Rattle.usb_host.specs.Budget.{RoundKeeps}
 use Rattle.usb_host.specs.HostStates.{HostState, opening_host}
 use Rattle.usb_host.specs.Ownership.{HostMapHolds}
-use Rattle.usb_host.specs.Progress.{HostSteps}
+use Rattle.usb_host.specs.Progress.{HostSpends, HostSteps, QuietKeeps}
 use Rattle.usb_host.specs.Service.{DidParts, PartsFail}
 use Rattle.usb_host.specs.Soundness.{HostInvariant, TransferKeeps}
-use Rattle.usb_host.specs.ToldFaults.{RoundFaultAllowed, StopsAsRound, StopsAsTransfer, HostWorks}
+use Rattle.usb_host.specs.ToldFaults.{IsReportedLast, RoundFaultAllowed, StopsAsRound}
+use Rattle.usb_host.specs.ToldFaults.{StopsAsTransfer, HostWorks}
 use Rattle.usb_host.specs.ToldFaults.{TransferFaultAllowed}
 use Rattle.usb_host.specs.Transfers.{ClearedAt, ReceivedAt, SentAt}
 use Rattle.usb_host.specs.declared.fault.HostFault.{HostFault}
 use Rattle.usb_host.specs.declared.host.Round.{Round}
+
+-- over any bus: at most so many attempts were made, and a fault of the bus is the one that it
+-- reported last. Of a modelled bus its world says both
+pub record CallsAnyBus {A : Type 0} (modelled : Bool) (most : ℕ) (old : HostState)
+    (result : Result A HostFault) (new : HostState) : Type 0 where
+  pub spends : HostSpends most old new
+  pub told : modelled ≡ false → IfErr result (λ fault. IsReportedLast fault new.counts.failed)
+
+-- so it is of a round; a quiet one changed no entry, and left no more root ports alone
+pub record RoundsAnyBus (modelled : Bool) (old : HostState) (result : Result Round HostFault)
+    (new : HostState) : Type 0 where
+  pub calls : CallsAnyBus modelled round_bound old result new
+  pub quiet : QuietKeeps result old new
+
+-- and of a transfer, which leaves the same root ports alone
+pub record TransfersAnyBus {A : Type 0} (modelled : Bool) (most : ℕ) (old : HostState)
+    (result : Result A HostFault) (new : HostState) : Type 0 where
+  pub calls : CallsAnyBus modelled most old result new
+  pub left : new.counts.left ≡ old.counts.left
 
 -- `new`, whatever was done before over a bus in this world, with this trace: its root ports lost
 -- power and have it again, and no device is known. At no attempt so far two reachable devices may

@@ -1,5 +1,5 @@
 -- Root ports that are left alone.
-use Rattle.std.specs.Prelude.{ℕ, List, Option, None, replicate}
+use Rattle.std.specs.Prelude.{◌≡◌, ◌⊎◌, ℕ, List, Option, None, replicate, slice_index_or}
 
 -- the status (11.24.2.7) at which each root port is left alone, where it is, by the port's number
 abbrev pub LeftStatuses : Type 0
@@ -8,3 +8,8 @@ LeftStatuses = List (Option (List ℕ))
 -- none is
 abbrev pub none_left : LeftStatuses
 none_left = replicate 8 None
+
+-- no port is left alone that was not so before, at the same status
+abbrev pub LeavesNoMore : LeftStatuses → LeftStatuses → Type 0
+LeavesNoMore old new = (n : ℕ) → (slice_index_or new n None ≡ None)
+    ⊎ (slice_index_or new n None ≡ slice_index_or old n None)

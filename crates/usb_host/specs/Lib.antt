@@ -39,6 +39,7 @@ pub use Cuts.{CutAt, ForgetsOnWay, StaysOrForgets}
 pub use PortHandling.{ClearsChange, Climbs, Decides, Disabled, DisablesOnWay, DropsLost, FindsSound}
 pub use PortHandling.{HasWay, HoldsAt, InvariantAfterPort, IsDroppedAt, IsLost, IsOpen, LetsGoOn}
 pub use PortHandling.{PortCaused, RestElsewhere, ServesSound, Tidies, Watches}
+pub use HostCalls.{CallsAnyBus, RoundsAnyBus, TransfersAnyBus}
 pub use HostCalls.{ClearTells, NewTells, ReceiveTells, RoundTells, SendTells, StopsIn}
 pub use HostCalls.{TransferTells}
 pub use HostStates.{BusCounts, Frees, HostState, counts_after, counts_of, no_counts}
@@ -52,8 +53,8 @@ pub use Plugs.{HasPlugs, KeepsPlugs, PlugsAt, WasPlugged, is_plug, plug_events}
 pub use Ports.{Broke, EndsAs, Entered, EntersOne, Forgets, Gained, IsDue, IsPortAt, Looked}
 pub use Ports.{ProgressOnOk, ProgressOrLost, Requested, Shown, StandsAt, StandsNowhere, Waits}
 pub use Progress.{AddsNoWork, Did, DidRound, HostProgress, HostRuns, HostSpends, HostSteps}
-pub use LeftPorts.{LeftStatuses, none_left}
-pub use Progress.{OnlyBusSteps, OnlyLeaves, QuietKeeps}
+pub use LeftPorts.{LeavesNoMore, LeftStatuses, none_left}
+pub use Progress.{OnlyBusSteps, OnlyLeaves, QuietKeeps, StaysQuiet}
 pub use Progress.{Remains, either, idle_work, waiting}
 pub use Service.{DidParts, Discovers, DropsOne}
 pub use Service.{EachLookedAgain, EachPolled, EndsAt, FinishesAt, HandlesAt, HandlesBelow}

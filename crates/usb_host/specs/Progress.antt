@@ -5,6 +5,7 @@ use Rattle.usb_world.specs.{root_row, changes}
 use Rattle.usb_bus.specs.{StepRun}
 use Rattle.usb_table.specs.{Entries, is_waiting}
 use Rattle.usb_host.specs.HostStates.{HostState, work}
+use Rattle.usb_host.specs.LeftPorts.{LeavesNoMore}
 use Rattle.usb_host.specs.Ownership.{IsRooted}
 use Rattle.usb_host.specs.declared.fault.HostFault.{HostFault}
 use Rattle.usb_host.specs.declared.host.Round.{Round}
@@ -60,9 +61,14 @@ pub record HostRuns (most : ℕ) (old new : HostState) : Type 0 where
   pub went : HostSteps most old new
   pub going : new.stopped ≡ old.stopped
 
--- over any bus: a part of a round that is quiet changed no entry
+-- no entry has changed, and no more root ports are left alone
+pub record StaysQuiet (old new : HostState) : Type 0 where
+  pub entries : new.entries ≡ old.entries
+  pub left : LeavesNoMore old.counts.left new.counts.left
+
+-- over any bus: so it is behind a part of a round that is quiet
 abbrev pub QuietKeeps : Result Round HostFault → HostState → HostState → Type 0
-QuietKeeps result old new = IfOk result (λ round. round ≡ Quiet → new.entries ≡ old.entries)
+QuietKeeps result old new = IfOk result (λ round. round ≡ Quiet → StaysQuiet old new)
 
 -- what a part of a round did
 abbrev pub Did : Round → HostState → HostState → Type 0

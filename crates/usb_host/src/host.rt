@@ -2,13 +2,12 @@
 ghost use Rattle.std.specs.Prelude.{◌≡◌, ◌*◌, [], length, true, false, IfOk, IfErr};
 ghost use Rattle.std.specs.Borrow.{Lends, sem};
 ghost use Rattle.usb_host.specs.Agreement.{Agrees};
-ghost use Rattle.usb_host.specs.HostCalls.{ClearTells, NewTells, ReceiveTells, RoundTells, SendTells};
+ghost use Rattle.usb_host.specs.HostCalls.{ClearTells, NewTells, ReceiveTells, RoundTells, RoundsAnyBus, SendTells, TransfersAnyBus};
 ghost use Rattle.usb_transaction.specs.Transactions.{transaction_bound};
-ghost use Rattle.usb_host.specs.Bounds.{clear_bound, round_bound};
+ghost use Rattle.usb_host.specs.Bounds.{clear_bound};
 ghost use Rattle.usb_host.specs.HostStates.{counts_after, counts_of};
 ghost use Rattle.usb_host.specs.LeftPorts.{none_left};
-ghost use Rattle.usb_host.specs.Progress.{HostSpends, QuietKeeps};
-ghost use Rattle.usb_host.specs.ToldFaults.{IsReportedLast, StopsAsRound, StopsAsTransfer, host_told, is_final};
+ghost use Rattle.usb_host.specs.ToldFaults.{StopsAsRound, StopsAsTransfer, host_told, is_final};
 
 use crate::left::LeftPorts;
 use crate::{HostFault, Tree};
@@ -25,7 +24,8 @@ use usb_table::{DeviceTable, TableFault};
 pub enum Round {
     /// A port was handled, a hub told of a change, or one was dropped.
     Worked,
-    /// No root port had changed, and every hub answered that none of its ports had.
+    /// No root port had changed, but those that are left alone (`Host::round`), and every hub answered
+    /// that none of its ports had.
     Quiet,
 }
 
@@ -160,6 +160,10 @@ impl<B: Bus> Host<B> {
     /// forgotten. So is one whose port is enabled and still tells the change of connection that was
     /// just cleared.
     ///
+    /// A root port that does so is handled once: what is there is found and stays listed. Then it is
+    /// left alone as long as it shows the status (11.24.2.7) that it shows behind that, each bit of
+    /// it, and counts as one without a change.
+    ///
     /// # Errors
     ///
     /// `Stopped` where an earlier call failed, and nothing happens. `Bus` where the bus makes no
@@ -167,9 +171,7 @@ impl<B: Bus> Host<B> {
     /// up to one port or hub were done. Nothing is entered there, and at most what was known there, or
     /// at a hub on its way, and below it is forgotten.
     pub fn round(&mut self) -> Result<Round, HostFault>
-        ensures any_bus { HostSpends round_bound self.old self.new × (B.modelled ≡ false
-            → IfErr result (λ fault. IsReportedLast fault self.new.counts.failed))
-            × QuietKeeps result self.old self.new }
+        ensures any_bus { RoundsAnyBus B.modelled self.old result self.new }
         ensures stopped { StopsAsRound self.old result self.new }
         ensures tells { B.modelled ≡ true → RoundTells self.old result self.new }
     {
@@ -190,9 +192,8 @@ impl<B: Bus> Host<B> {
     /// accepted is at the path, with `NoEndpoint` where it has no such endpoint or is a hub, else as
     /// `BulkPipe::send` tells it. `Bus` where the bus makes no more steps; the host then stops.
     pub fn send(&mut self, path: &PortPath, bytes: &[u8]) -> Result<(), HostFault>
-        ensures any_bus { HostSpends (transaction_bound * length bytes.now) self.old self.new
-            × (B.modelled ≡ false
-            → IfErr result (λ fault. IsReportedLast fault self.new.counts.failed)) }
+        ensures any_bus { TransfersAnyBus B.modelled (transaction_bound * length bytes.now)
+            self.old result self.new }
         ensures stopped { StopsAsTransfer self.old result self.new }
         ensures tells { B.modelled ≡ true → SendTells path.now bytes.now self.old result self.new }
     {
@@ -211,9 +212,8 @@ impl<B: Bus> Host<B> {
     ///
     /// As those of `send`, and `Memory` where the bytes find no room; the host then stops.
     pub fn receive(&mut self, path: &PortPath, packets: u16) -> Result<Vec<u8>, HostFault>
-        ensures any_bus { HostSpends (transaction_bound * packets) self.old self.new
-            × (B.modelled ≡ false
-            → IfErr result (λ fault. IsReportedLast fault self.new.counts.failed)) }
+        ensures any_bus { TransfersAnyBus B.modelled (transaction_bound * packets)
+            self.old result self.new }
         ensures stopped { StopsAsTransfer self.old result self.new }
         ensures tells { B.modelled ≡ true → ReceiveTells path.now packets self.old result self.new }
     {
@@ -232,9 +232,7 @@ impl<B: Bus> Host<B> {
     ///
     /// As those of `send`; `NoEndpoint` where the device has neither endpoint.
     pub fn clear_halt(&mut self, path: &PortPath) -> Result<(), HostFault>
-        ensures any_bus { HostSpends clear_bound self.old self.new
-            × (B.modelled ≡ false
-            → IfErr result (λ fault. IsReportedLast fault self.new.counts.failed)) }
+        ensures any_bus { TransfersAnyBus B.modelled clear_bound self.old result self.new }
         ensures stopped { StopsAsTransfer self.old result self.new }
         ensures tells { B.modelled ≡ true → ClearTells path.now self.old result self.new }
     {

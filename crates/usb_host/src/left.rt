@@ -1,5 +1,5 @@
 //! The root ports that are left alone, since no clearing takes their change of connection away.
-ghost use Rattle.std.specs.Prelude.{◌≡◌, false, true};
+ghost use Rattle.std.specs.Prelude.{◌≡◌, ◌↔◌, IsTrue, None, Some, false, is_some, slice_index_or, slice_set, true};
 ghost use Rattle.usb_host.specs.LeftPorts.{none_left};
 
 use std::marker::{Model, PhantomData};
@@ -38,14 +38,16 @@ impl<B: Bus> LeftPorts<B> {
 
     /// Whether a port is left alone.
     pub(crate) fn has(&self, number: u8) -> bool
-        ensures { B.modelled ≡ true → result ≡ false }
+        ensures value { result ≡ is_some (slice_index_or self.now number None) }
+        ensures none { B.modelled ≡ true → result ≡ false }
     {
         number < 8 && self.at[usize::from(number)].is_some()
     }
 
     /// Whether a port is left alone at exactly this status.
     pub(crate) fn has_at(&self, number: u8, status: [u8; 4]) -> bool
-        ensures { B.modelled ≡ true → result ≡ false }
+        ensures value { IsTrue result ↔ (slice_index_or self.now number None ≡ Some status) }
+        ensures none { B.modelled ≡ true → result ≡ false }
     {
         number < 8 && self.at[usize::from(number)] == Some(status)
     }
@@ -53,6 +55,7 @@ impl<B: Bus> LeftPorts<B> {
     /// Leaves a port alone, as long as it shows this status.
     pub(crate) fn leave(&mut self, number: u8, status: [u8; 4])
         requires { B.modelled ≡ false }
+        ensures { self.new ≡ slice_set self.old number (Some status) }
     {
         if number < 8 {
             self.at[usize::from(number)] = Some(status);
@@ -61,7 +64,8 @@ impl<B: Bus> LeftPorts<B> {
 
     /// Leaves a port alone no longer.
     pub(crate) fn forget(&mut self, number: u8)
-        ensures { B.modelled ≡ true → self.new ≡ self.old }
+        ensures value { self.new ≡ slice_set self.old number None }
+        ensures none { B.modelled ≡ true → self.new ≡ self.old }
     {
         if self.has(number) {
             self.at[usize::from(number)] = None;

@@ -5,10 +5,12 @@
 //!
 //! What names a world or a trace is said of a bus that does what its world does (`modelled` of `usb_bus::Bus`): all
 //! that one call tells stands in `usb_host/specs/HostCalls.antt`. What names none is said over any bus: when a host
-//! stops, that a stopped one changes nothing, that its entries rise and agree with its addresses; each entry is
-//! what an enumeration at its port gives: good texts and the first configuration within the port's power, or a cause
-//! that fits the tier (`AreFound`); a quiet round changes no entry; a new host knows nothing. Of a bus that is not modelled: at most so many attempts for each call, and a fault
-//! of the bus is the one that it reported last (`BusCounts`).
+//! stops, that a stopped one changes nothing, that its entries rise and agree with its addresses; each entry is what an
+//! enumeration at its port gives: good texts and the first configuration within the port's power, or a cause that fits
+//! the tier (`AreFound`); a quiet round changes no entry and leaves no more root ports alone (`StaysQuiet`), nor does a
+//! transfer; a new host knows nothing and leaves none alone. Of a modelled bus none ever is. Of one that is not
+//! modelled: at most so many attempts for each call, and a fault of the bus is the one that it reported last
+//! (`CallsAnyBus`).
 //!
 //! Each round that worked made an attempt or left less to do, a quiet one changed nothing that is known and found no
 //! change at a root port; at most so many attempts; a hub that is dropped is listed as lost with nothing below it;
@@ -24,9 +26,10 @@
 //! reachable device holds the address of the entry at its path. `Host::new` gives it over every bus of which the first
 //! is so until then, whatever another host did there, since it takes the power of each root port first; so a host may
 //! follow one that has stopped (`into_bus`). Each of `round`, `send`, `receive` and `clear_halt` keeps it, whatever it
-//! answers, and so do events that come through `bus_mut`. `usb_run::Runner`, by which `run` and `serve` make a plan's run item by item, keeps *HostMapHolds* of its
-//! host in its type: it stands behind each item, and behind a fault too; `run` and `serve` say it of the run that they
-//! made. With `one_device_at_most_answers` of usb_world no attempt of such a run is answered by two devices.
+//! answers, and so do events that come through `bus_mut`. `usb_run::Runner`, by which `run` and `serve` make a plan's
+//! run item by item, keeps *HostMapHolds* of its host in its type: it stands behind each item, and behind a fault too;
+//! `run` and `serve` say it of the run that they made. With `one_device_at_most_answers` of usb_world no attempt of
+//! such a run is answered by two devices.
 //!
 //! **No call keeps the bus's fault to itself.** Unless `round`, `send`, `receive` or `clear_halt` reports `Bus`, the bus
 //! still works after the call, if it did before (`works` of *RoundTells* and *TransferTells*, `specs/HostCalls.antt`).
@@ -54,13 +57,16 @@
 //!   `specs/BulkPipes.antt`). From that moment until it was found nothing was attempted but at endpoint 0, so no bulk
 //!   endpoint took or gave a byte and no hub was polled; from then to the end of the round its bulk endpoints stay as
 //!   they were (`RenewedAt`). Each request to a port in a round attempts nothing but at endpoint 0, too (`PortStatusAt`,
-//!   `PortCallDone` of usb_hub).
+//!   `PortCallDone` of usb_hub). So a round moves nothing through a bulk endpoint, also none of a device that is listed
+//!   no longer (`MovesNoBulk`).
 //! - What is entered at a port that was looked at is what one enumeration there gave, with all that usb_enum says of
 //!   it: a refusal names the request that ended so at a moment of the round, what was read, or that no address was
 //!   free, whatever is damaged (`LookedAt`, `FindsAnew`, `specs/Discoveries.antt`; `Enumerates.ended` of usb_enum).
 //! - What hubs report and those of a world do not (`specs/Changes.antt`): a change of a port's suspend or over-current,
 //!   or of the hub itself, is cleared, each by the request for its own feature, and an accepted device whose port its
-//!   hub has disabled on an error is found anew. Over a world a host that knows what is so does none of it.
+//!   hub has disabled on an error is found anew. Over a world a host that knows what is so does none of it. Nor is a root
+//!   port of a world left alone, as one is whose change of connection no clearing takes away: no attempt lies between the
+//!   clearing and the status behind it (`IsCleared`). That such a host comes to rest is tested (`usb_host_tests`).
 //! - So a done round says, whatever its hubs report and whatever the host knows, what was asked at which port, in order:
 //!   the status of each root port that had changed, and of each known port that a polled hub reported. For what that
 //!   shows there was a look, a look after an error, or the clearing of each change. Where a hub reported itself alone,

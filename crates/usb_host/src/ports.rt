@@ -12,6 +12,7 @@ ghost use Rattle.usb_table.specs.Listing.{tier_of};
 ghost use Rattle.usb_pipe.specs.Control.{write_bound};
 ghost use Rattle.usb_host.specs.Backlog.{hubs};
 ghost use Rattle.usb_host.specs.Changes.{HasOnlyWorldChanges, IsCleared, is_stuck, was_disabled};
+ghost use Rattle.usb_host.specs.LeftPorts.{LeavesNoMore};
 ghost use Rattle.usb_host.specs.PortHandling.{DisablesOnWay, Climbs};
 ghost use Rattle.usb_host.specs.Ports.{IsPortAt, StandsNowhere, IsDue, Waits, Broke, EndsAs, Entered, Forgets};
 ghost use Rattle.usb_enum.specs.Bounds.{read_bound, widest_enumeration};
@@ -42,6 +43,7 @@ impl<B: Bus> Host<B> {
     pub(crate) fn has_changed(&mut self, number: u8) -> bool
         requires { B.modelled ≡ true → IsRootPort self.old.world number }
         ensures rests { OnlyLeaves B.modelled self.old self.new }
+        ensures fewer { LeavesNoMore self.old.counts.left self.new.counts.left }
         ensures changed { B.modelled ≡ true
             → result ≡ (root_port_at self.old.world number).connection_changed }
     {

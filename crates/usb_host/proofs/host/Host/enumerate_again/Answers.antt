@@ -1,7 +1,8 @@
 use Rattle.std.proofs.Common.{Ok, arith}
 use Rattle.std.proofs.lemmas.Result.{err_from_is_err_and}
 use Rattle.usb_host.specs.{clearing_bound}
-use Rattle.usb_host.proofs.ClearedRoots.{leaves_spent, root_cleared}
+use Rattle.usb_host.proofs.ClearedRoots.{root_cleared}
+use Rattle.usb_host.proofs.LeftRoots.{leaves_spent}
 use Rattle.usb_host.proofs.PortLooks.{look_done, look_fails}
 use Rattle.usb_host.proofs.PortLocations.{placed, placed_on}
 use Rattle.usb_host.proofs.host.Host.enumerate_again.Goals as goal

@@ -1,7 +1,7 @@
 use Rattle.std.proofs.Common.{Ok, Err}
 use Rattle.usb_host.proofs.PortServes.{look_once, look_once_fails, look_nowhere}
 use Rattle.usb_host.proofs.PortLocations.{breaks, placed}
-use Rattle.std.proofs.Common.{refl}
+use Rattle.usb_host.proofs.LeftRoots.{quiet_none}
 use Rattle.usb_host.proofs.WorkingBuses.{finished_works, host_works_handed}
 use Rattle.usb_host.proofs.host.Host.retry_one.Goals as goal
 
@@ -29,7 +29,7 @@ returns-clause-looks g c known =
 
 pub returns-in_default-clause-quiet : goal.returns-in_default-clause-quiet
 returns-in_default-clause-quiet g c is =
-    refl
+    quiet_none _
 
 pub returns-clause-quiet : goal.returns-clause-quiet
 returns-clause-quiet g c is =

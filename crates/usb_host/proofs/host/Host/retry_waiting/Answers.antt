@@ -4,11 +4,12 @@ use Rattle.usb_host.proofs.RoundLoops.{waiting_begin, waiting_cut, waiting_end, 
 use Rattle.usb_host.proofs.payments.RoundPayments.{one_waits}
 use Rattle.usb_host.proofs.StepSums.{either_quiet}
 use Rattle.std.proofs.Common.{◌∙◌, sym}
+use Rattle.usb_host.proofs.LeftRoots.{quiet_none, quiet_then}
 use Rattle.usb_host.proofs.host.Host.retry_waiting.Goals as goal
 
 pub waiting-init : goal.waiting-init
 waiting-init g c = record {
-  quiet = λ is. refl;
+  quiet = λ is. quiet_none _;
   spends = omega arith;
   so = λ known. waiting_begin _;
   idle = λ none. (refl, refl);
@@ -31,7 +32,7 @@ waiting-preserved g c =
     record {
       quiet = λ is.
           let both = either_quiet _ _ (sym c.and-round.ensures ∙ is) in
-          c.in_ok-retry_one.ensures.quiet both.1 ∙ i.quiet both.0;
+          quiet_then (i.quiet both.0) (c.in_ok-retry_one.ensures.quiet both.1);
       spends = omega (
         arith,
         i.spends,

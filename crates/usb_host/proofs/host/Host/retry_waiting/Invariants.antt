@@ -1,6 +1,6 @@
 use Rattle.std.proofs.Common.{◌≡◌, ◌+◌, ◌-◌, ◌*◌, ◌≤◌, true, IfSome}
 use Rattle.usb_port.specs.{IsPath}
-use Rattle.usb_host.specs.{handling_bound, looks_bound, NoneWait, Quiet}
+use Rattle.usb_host.specs.{handling_bound, looks_bound, NoneWait, Quiet, StaysQuiet}
 use Rattle.usb_hub.specs.{StillWorks}
 use Rattle.usb_host.proofs.entries.Ranks.{rank_after}
 use Rattle.usb_host.proofs.RoundLoops.{WaitingHandled}
@@ -8,7 +8,7 @@ use Rattle.usb_host.proofs.host.Host.retry_waiting.Given as goal
 
 abbrev pub invariant-waiting : goal.invariant-waiting
 invariant-waiting g l = record {
-  quiet : l.round ≡ Quiet → l.self.entries ≡ l.initial.self.entries;
+  quiet : l.round ≡ Quiet → StaysQuiet l.initial.self l.self;
   spends : l.self.counts.spent + handling_bound * (2097152 - rank_after l.last)
       ≤ l.initial.self.counts.spent + looks_bound;
   so : g.B.Bus.modelled ≡ true → WaitingHandled l.last l.round l.initial.self l.self;

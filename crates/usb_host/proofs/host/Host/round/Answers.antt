@@ -2,7 +2,7 @@ use Rattle.std.proofs.Common.{arith, rules, ◌≡◌, ap, refl, sym, subst, ◌
 use Rattle.std.proofs.Common.{None, true, false}
 use Rattle.std.proofs.lemmas.Grind.{common_steps}
 use Rattle.usb_host.specs.{round_bound, HostInvariant, HostState, RoundsSound, PaysRound, HostSteps}
-use Rattle.usb_host.specs.{DidParts, HostWorks, Quiet, StopsIn}
+use Rattle.usb_host.specs.{DidParts, HostWorks, Quiet, StaysQuiet, StopsIn}
 use Rattle.usb_host.proofs.payments.RoundPayments.{pays_stopped, stopped_pays}
 use Rattle.usb_host.proofs.rests.IdleRounds.{round_rests}
 use Rattle.usb_host.proofs.StepSums.{host_goes_none}
@@ -83,11 +83,15 @@ returns-clause-tells g c known =
 
 pub returns-clause-any_bus : goal.returns-clause-any_bus
 returns-clause-any_bus g c =
-    let same = ap (λ (h : HostState). h.counts) c.self-2.view_is in (
-      rw same c.run_round-round.ensures.spends,
-      λ off. rw same (part_reported g.B.Bus.modelled c.run_round-round.result
-          c.run_round-round.new.self c.run_round-round.ensures.told off),
-      subst (λ (h : HostState). IfOk c.run_round-round.result
-          (λ r. r ≡ Quiet → h.entries ≡ c.args.self.now.entries)) (sym c.self-2.view_is)
-          c.run_round-round.ensures.quiet,
-    )
+    let same = ap (λ (h : HostState). h.counts) c.self-2.view_is in
+    let stopped = c.is_err-self-inside.result in
+    record {
+      calls = record {
+        spends = rw same c.run_round-round.ensures.spends;
+        told = λ off. rw same (part_reported g.B.Bus.modelled c.run_round-round.result
+            c.run_round-round.new.self c.run_round-round.ensures.told off);
+      };
+      quiet = subst (λ (h : HostState). IfOk c.run_round-round.result
+          (λ r. r ≡ Quiet → StaysQuiet c.args.self.now (record h { stopped = stopped })))
+          (sym c.self-2.view_is) c.run_round-round.ensures.quiet;
+    }

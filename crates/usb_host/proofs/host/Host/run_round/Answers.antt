@@ -2,6 +2,7 @@ use Rattle.usb_host.proofs.services.RoundServices.{parts_hubless, parts_lookless
 use Rattle.usb_host.proofs.services.RoundServices.{parts_rootless}
 use Rattle.usb_host.proofs.StepSums.{either_quiet}
 use Rattle.std.proofs.Common.{◌∙◌, sym}
+use Rattle.usb_host.proofs.LeftRoots.{quiet_then}
 use Rattle.usb_host.proofs.host.Host.run_round.Goals as goal
 
 pub returns-in_err-roots-clause-parts : goal.returns-in_err-roots-clause-parts
@@ -30,5 +31,5 @@ pub returns-clause-quiet : goal.returns-clause-quiet
 returns-clause-quiet g c is =
     let outer = either_quiet _ _ (sym c.and-2.ensures ∙ is) in
     let inner = either_quiet _ _ (sym c.and.ensures ∙ outer.0) in
-    c.in_ok-looks.ensures.quiet outer.1 ∙ c.in_ok-hubs.ensures.quiet inner.1
-    ∙ c.in_ok-roots.ensures.quiet inner.0
+    quiet_then (quiet_then (c.in_ok-roots.ensures.quiet inner.0)
+    (c.in_ok-hubs.ensures.quiet inner.1)) (c.in_ok-looks.ensures.quiet outer.1)

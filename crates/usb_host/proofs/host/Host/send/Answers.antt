@@ -4,7 +4,7 @@ use Rattle.std.proofs.lemmas.Grind.{common_steps}
 use Rattle.usb_host.specs.{HostState}
 use Rattle.usb_host.proofs.StepSums.{host_goes_none}
 use Rattle.usb_host.proofs.knowledge.Soundness.{transfer_kept, transfer_none}
-use Rattle.usb_host.proofs.BusCounts.{counts_spend, counts_transfer}
+use Rattle.usb_host.proofs.BusCounts.{counts_spend, counts_transfer, left_same}
 use Rattle.usb_host.proofs.WorkingBuses.{sent_works}
 use Rattle.usb_host.proofs.host.Host.send.Goals as goal
 
@@ -34,10 +34,14 @@ returns-clause-tells g c known = record {
 }
 
 pub returns-clause-any_bus : goal.returns-clause-any_bus
-returns-clause-any_bus g c = (
-  rw (← c.self.view_is) (counts_spend g.B.Bus.modelled (g.B.Bus.spent c.self.inside.bus)
-      (g.B.Bus.spent c.send.new.bus) (g.B.Bus.failed c.self.inside.bus)
-      (g.B.Bus.failed c.send.new.bus) _ c.send.ensures.any_bus.0.0 (omega arith)),
-  λ off. rw c.as_host_fault-sent.ensures (counts_transfer (g.B.Bus.spent c.send.new.bus)
-      (g.B.Bus.failed c.send.new.bus) g.B.Bus.modelled c.send.result c.send.ensures.any_bus.1 off),
-)
+returns-clause-any_bus g c = record {
+  calls = record {
+    spends = rw (← c.self.view_is) (counts_spend g.B.Bus.modelled (g.B.Bus.spent c.self.inside.bus)
+        (g.B.Bus.spent c.send.new.bus) (g.B.Bus.failed c.self.inside.bus)
+        (g.B.Bus.failed c.send.new.bus) _ c.send.ensures.any_bus.0.0 (omega arith));
+    told = λ off. rw c.as_host_fault-sent.ensures (counts_transfer
+        (g.B.Bus.spent c.send.new.bus) (g.B.Bus.failed c.send.new.bus) g.B.Bus.modelled
+        c.send.result c.send.ensures.any_bus.1 off);
+  };
+  left = rw (← c.self.view_is) (left_same g.B.Bus.modelled);
+}

@@ -5,6 +5,7 @@ use Rattle.usb_host.proofs.HubPolls.{poll_cut, poll_lost, poll_quiet, poll_serve
 use Rattle.usb_host.proofs.HubPolls.{poll_unserved}
 use Rattle.usb_host.proofs.services.HubServices.{failed_more}
 use Rattle.usb_host.proofs.BusCounts.{counts_last, counts_spend}
+use Rattle.usb_host.proofs.LeftRoots.{counts_keep}
 use Rattle.usb_host.proofs.WorkingBuses.{host_works_handed, other_works, polled_works}
 use Rattle.std.proofs.Common.{Ok}
 use Rattle.usb_host.proofs.host.Host.serve_hub.Goals as goal
@@ -136,7 +137,10 @@ returns-in-Err-Bus-clause-told g c = (
 
 pub returns-in-Ok-None-clause-quiet : goal.returns-in-Ok-None-clause-quiet
 returns-in-Ok-None-clause-quiet g c is =
-    rw (← c.self.view_is) c.poll.ensures.through.entries
+    rw (← c.self.view_is) (record {
+      entries = c.poll.ensures.through.entries;
+      left = counts_keep g.B.Bus.modelled;
+    })
 
 pub returns-in_ok-service_reported-in-Ok-Some-clause-quiet :
     goal.returns-in_ok-service_reported-in-Ok-Some-clause-quiet

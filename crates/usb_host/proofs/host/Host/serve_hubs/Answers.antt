@@ -5,11 +5,12 @@ use Rattle.usb_host.proofs.rests.RestingRounds.{next_listed}
 use Rattle.usb_host.proofs.RoundLoops.{hubs_begin, hubs_cut, hubs_all_handled, hubs_handled}
 use Rattle.usb_host.proofs.StepSums.{either_quiet}
 use Rattle.std.proofs.Common.{◌∙◌, sym}
+use Rattle.usb_host.proofs.LeftRoots.{quiet_none, quiet_then}
 use Rattle.usb_host.proofs.host.Host.serve_hubs.Goals as goal
 
 pub hubs-init : goal.hubs-init
 hubs-init g c = record {
-  quiet = λ is. refl;
+  quiet = λ is. quiet_none _;
   spends = omega arith;
   so = λ known. hubs_begin _;
   idle = λ none. (refl, refl);
@@ -35,7 +36,7 @@ hubs-preserved g c =
     record {
       quiet = λ is.
           let both = either_quiet _ _ (sym c.and-round.ensures ∙ is) in
-          c.in_ok-serve_hub.ensures.quiet both.1 ∙ i.quiet both.0;
+          quiet_then (i.quiet both.0) (c.in_ok-serve_hub.ensures.quiet both.1);
       spends = omega (
         arith,
         i.spends,

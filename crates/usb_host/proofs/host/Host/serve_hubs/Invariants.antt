@@ -1,6 +1,6 @@
 use Rattle.std.proofs.Common.{◌≡◌, ◌+◌, ◌-◌, ◌*◌, ◌≤◌, true, [], IfSome}
 use Rattle.usb_port.specs.{IsPath}
-use Rattle.usb_host.specs.{hub_poll_bound, hubs_bound, Quiet}
+use Rattle.usb_host.specs.{hub_poll_bound, hubs_bound, Quiet, StaysQuiet}
 use Rattle.usb_hub.specs.{StillWorks}
 use Rattle.usb_host.proofs.entries.Ranks.{rank_after}
 use Rattle.usb_host.proofs.RoundLoops.{HubsHandled}
@@ -8,7 +8,7 @@ use Rattle.usb_host.proofs.host.Host.serve_hubs.Given as goal
 
 abbrev pub invariant-hubs : goal.invariant-hubs
 invariant-hubs g l = record {
-  quiet : l.round ≡ Quiet → l.self.entries ≡ l.initial.self.entries;
+  quiet : l.round ≡ Quiet → StaysQuiet l.initial.self l.self;
   spends : l.self.counts.spent + hub_poll_bound * (2097152 - rank_after l.last)
       ≤ l.initial.self.counts.spent + hubs_bound;
   so : g.B.Bus.modelled ≡ true → HubsHandled l.last l.round l.initial.self l.self;

@@ -1,7 +1,7 @@
 use Rattle.std.proofs.Common.{◌∙◌, ap, arith, refl, sym}
 use Rattle.usb_world.specs.{roots_of}
 use Rattle.usb_host.specs.{HostState}
-use Rattle.usb_host.proofs.ClearedRoots.{leaves_entries, leaves_spent}
+use Rattle.usb_host.proofs.LeftRoots.{leaves_spent, quiet_leaves, quiet_none, quiet_then}
 use Rattle.usb_host.proofs.RoundLoops.{roots_begin, roots_cut, roots_end, roots_handled}
 use Rattle.usb_host.proofs.RoundLoops.{roots_steady}
 use Rattle.usb_host.proofs.host.Host.serve_roots.Goals as goal
@@ -10,7 +10,7 @@ use Rattle.usb_host.proofs.host.Host.serve_roots.Goals.{else-has_changed}
 
 pub ports-init : goal.ports-init
 ports-init g c = record {
-  quiet = λ is. refl;
+  quiet = λ is. quiet_none _;
   spends = omega arith;
   so = λ known. roots_begin _;
   works = λ known none. none;
@@ -40,7 +40,7 @@ ports-preserved g c =
             (rw (rests.none known) (i.works known none));
       })
       | else-has_changed w ↦ rw (w.self-is, w.round-is) (record {
-        quiet = λ is. leaves_entries rests ∙ i.quiet is;
+        quiet = λ is. quiet_then (i.quiet is) (quiet_leaves rests c.has_changed.ensures.fewer);
         spends = omega (arith, i.spends, spent, c.ports.auto.number);
         so = λ known.
             rw (rests.none known) (roots_steady (i.so known) (omega (arith, c.ports.auto.number))
