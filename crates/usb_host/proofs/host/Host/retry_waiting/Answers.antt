@@ -20,14 +20,14 @@ waiting-init g c = record {
 pub waiting-smaller : goal.waiting-smaller
 waiting-smaller g c =
     let rises = rank_rises c.waiting.last c.in-Some.path c.waiting.invariant.path
-    c.retry_one.ensures.path c.in-Some.ensures.some.1 in
-    omega (arith, rank_most c.in-Some.path c.retry_one.ensures.path)
+    c.numbers-numbers.ensures.path c.in-Some.ensures.some.1 in
+    omega (arith, rank_most c.in-Some.path c.numbers-numbers.ensures.path)
 
 pub waiting-preserved : goal.waiting-preserved
 waiting-preserved g c =
     let i = c.waiting.invariant in
     let some = c.in-Some.ensures.some in
-    let rises = rank_rises c.waiting.last c.in-Some.path i.path c.retry_one.ensures.path
+    let rises = rank_rises c.waiting.last c.in-Some.path i.path c.numbers-numbers.ensures.path
     c.in-Some.ensures.some.1 in
     record {
       quiet = λ is.
@@ -37,13 +37,13 @@ waiting-preserved g c =
         arith,
         i.spends,
         rises,
-        rank_most c.in-Some.path c.retry_one.ensures.path,
+        rank_most c.in-Some.path c.numbers-numbers.ensures.path,
         c.retry_one.ensures.spends,
       );
       so = λ known. rw c.and-round.ensures (waiting_handled (i.so known) i.path
-          c.retry_one.ensures.path some.0 some.1 (c.in_ok-retry_one.ensures.looks known));
+          c.numbers-numbers.ensures.path some.0 some.1 (c.in_ok-retry_one.ensures.looks known));
       idle = λ none. absurd (one_waits (i.idle none).1 some.0 none);
-      path = c.retry_one.ensures.path;
+      path = c.numbers-numbers.ensures.path;
       works = λ known none. c.in_ok-retry_one.ensures.works known (i.works known none);
     }
 
@@ -51,7 +51,7 @@ pub returns-in_err-retry_one-clause-looks : goal.returns-in_err-retry_one-clause
 returns-in_err-retry_one-clause-looks g c known =
     let i = c.waiting.invariant in
     let some = c.in-Some.ensures.some in
-    waiting_cut (i.so known) i.path c.retry_one.ensures.path some.0 some.1 (i.works known)
+    waiting_cut (i.so known) i.path c.numbers-numbers.ensures.path some.0 some.1 (i.works known)
     c.from_residual.ensures.0 (c.in_err-retry_one.ensures.looks known) (λ none. (i.idle none).1)
 
 pub returns-clause-looks : goal.returns-clause-looks
@@ -63,13 +63,13 @@ returns-clause-looks g c known =
 pub returns-in_err-retry_one-clause-spends : goal.returns-in_err-retry_one-clause-spends
 returns-in_err-retry_one-clause-spends g c =
     let rises = rank_rises c.waiting.last c.in-Some.path c.waiting.invariant.path
-    c.retry_one.ensures.path
+    c.numbers-numbers.ensures.path
     c.in-Some.ensures.some.1 in
     omega (
       arith,
       c.waiting.invariant.spends,
       rises,
-      rank_most c.in-Some.path c.retry_one.ensures.path,
+      rank_most c.in-Some.path c.numbers-numbers.ensures.path,
       c.retry_one.ensures.spends,
     )
 

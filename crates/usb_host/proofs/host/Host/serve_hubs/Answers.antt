@@ -23,15 +23,15 @@ serve_hub-requires g c = next_listed c.in-Some.ensures.some
 
 pub hubs-smaller : goal.hubs-smaller
 hubs-smaller g c =
-    let rises = rank_rises c.hubs.last c.in-Some.hub c.hubs.invariant.path c.serve_hub.ensures.path
+    let rises = rank_rises c.hubs.last c.in-Some.hub c.hubs.invariant.path c.numbers-numbers.ensures.path
     c.in-Some.ensures.some.stands.after in
-    omega (arith, rank_most c.in-Some.hub c.serve_hub.ensures.path)
+    omega (arith, rank_most c.in-Some.hub c.numbers-numbers.ensures.path)
 
 pub hubs-preserved : goal.hubs-preserved
 hubs-preserved g c =
     let i = c.hubs.invariant in
     let next = c.in-Some.ensures.some in
-    let rises = rank_rises c.hubs.last c.in-Some.hub i.path c.serve_hub.ensures.path
+    let rises = rank_rises c.hubs.last c.in-Some.hub i.path c.numbers-numbers.ensures.path
     c.in-Some.ensures.some.stands.after in
     record {
       quiet = λ is.
@@ -41,20 +41,20 @@ hubs-preserved g c =
         arith,
         i.spends,
         rises,
-        rank_most c.in-Some.hub c.serve_hub.ensures.path,
+        rank_most c.in-Some.hub c.numbers-numbers.ensures.path,
         c.serve_hub.ensures.spends,
       );
       so = λ known. rw c.and-round.ensures (hubs_handled (i.so known) i.path
-          c.serve_hub.ensures.path next (c.in_ok-serve_hub.ensures.polls known));
+          c.numbers-numbers.ensures.path next (c.in_ok-serve_hub.ensures.polls known));
       idle = λ none. absurd (none_next (i.idle none).1 none next);
-      path = c.serve_hub.ensures.path;
+      path = c.numbers-numbers.ensures.path;
       works = λ known none. c.in_ok-serve_hub.ensures.works known (i.works known none);
     }
 
 pub returns-in_err-serve_hub-clause-hubs : goal.returns-in_err-serve_hub-clause-hubs
 returns-in_err-serve_hub-clause-hubs g c known =
     let i = c.hubs.invariant in
-    hubs_cut (i.so known) i.path c.serve_hub.ensures.path c.in-Some.ensures.some (i.works known)
+    hubs_cut (i.so known) i.path c.numbers-numbers.ensures.path c.in-Some.ensures.some (i.works known)
     c.from_residual.ensures.0 (c.in_err-serve_hub.ensures.polls known) (λ none. (i.idle none).1)
 
 pub returns-clause-hubs : goal.returns-clause-hubs
@@ -65,13 +65,13 @@ returns-clause-hubs g c known =
 
 pub returns-in_err-serve_hub-clause-spends : goal.returns-in_err-serve_hub-clause-spends
 returns-in_err-serve_hub-clause-spends g c =
-    let rises = rank_rises c.hubs.last c.in-Some.hub c.hubs.invariant.path c.serve_hub.ensures.path
+    let rises = rank_rises c.hubs.last c.in-Some.hub c.hubs.invariant.path c.numbers-numbers.ensures.path
     c.in-Some.ensures.some.stands.after in
     omega (
       arith,
       c.hubs.invariant.spends,
       rises,
-      rank_most c.in-Some.hub c.serve_hub.ensures.path,
+      rank_most c.in-Some.hub c.numbers-numbers.ensures.path,
       c.serve_hub.ensures.spends,
     )
 
