@@ -34,8 +34,10 @@ no_more_then {k} {l} {r} x y = record { each = λ n. by n (x.each n) (y.each n) 
 -- of the same root ports they tell, whatever was counted and reported
 pub counts_keep : (m : Bool) (s t : ℕ) (f e : Option BusFault) (l : LeftStatuses)
     → LeavesNoMore (counts_of m s f l).left (counts_of m t e l).left
-counts_keep m s t f e l = record { each = λ n. inr (ap (λ k. slice_index_or k n None)
-    (left_same m s t f e l)) }
+counts_keep m s t f e l = record {
+  each = λ n. inr (ap (λ k. slice_index_or k n None)
+      (left_same m s t f e l));
+}
 
 -- Quiet
 
