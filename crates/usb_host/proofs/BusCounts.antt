@@ -9,16 +9,23 @@ use Rattle.usb_host.specs.{HostFault, HostState, Forgets, IsReportedLast, LeftSt
 use Rattle.usb_host.specs.{PartFaultAllowed, counts_of, host_told, no_counts}
 use Rattle.usb_host.specs.declared.fault.HostFault.TheVariants as host
 
-module _ (m : Bool) (s t : ℕ) (f e : Option BusFault) where
-  pub counts_spend : {l r : LeftStatuses} {n : ℕ} (k : ℕ) → t ≤ s + n → n ≤ k
-      → (counts_of m t e r).spent ≤ (counts_of m s f l).spent + k
-  counts_spend {l} {r} {n} k most le = by m
+module _ (m : Bool) (s t : ℕ) (f e : Option BusFault) (l : LeftStatuses) where
+  pub counts_spend : {n : ℕ} (k : ℕ) → t ≤ s + n → n ≤ k
+      → (counts_of m t e l).spent ≤ (counts_of m s f l).spent + k
+  counts_spend {n} k most le = by m
     where
-      by : (m : Bool) → (counts_of m t e r).spent ≤ (counts_of m s f l).spent + k
+      by : (m : Bool) → (counts_of m t e l).spent ≤ (counts_of m s f l).spent + k
       by true = omega arith
       by false = omega (arith, most, le)
 
-module _ (s : ℕ) (f : Option BusFault) {l : LeftStatuses} where
+reported : {A : Type 0} (f : Option BusFault) (outcome : Result A TableFault)
+    → TransferTold outcome f → IfErr (host_told outcome) (λ fault. IsReportedLast fault f)
+reported f (Ok done) told = tt
+reported f (Err (table.Transfer fault)) told = tt
+reported f (Err (table.Bus fault)) told = told
+reported f (Err table.Memory) told = tt
+
+module _ (s : ℕ) (f : Option BusFault) (l : LeftStatuses) where
   pub counts_told : {A : Type 0} (m : Bool) (result : Result A EnumFault)
       → IfErr result (λ fault. IsReported fault f) → m ≡ false
       → IfErr result (λ fault. IsReported fault (counts_of m s f l).failed)
@@ -30,18 +37,11 @@ module _ (s : ℕ) (f : Option BusFault) {l : LeftStatuses} where
   counts_last true told off = absurd cc
   counts_last false told off = told
 
-  reported : {A : Type 0} (outcome : Result A TableFault) → TransferTold outcome f
-      → IfErr (host_told outcome) (λ fault. IsReportedLast fault f)
-  reported (Ok done) told = tt
-  reported (Err (table.Transfer fault)) told = tt
-  reported (Err (table.Bus fault)) told = told
-  reported (Err table.Memory) told = tt
-
   pub counts_transfer : {A : Type 0} (m : Bool) (outcome : Result A TableFault)
       → TransferTold outcome f → m ≡ false
       → IfErr (host_told outcome) (λ fault. IsReportedLast fault (counts_of m s f l).failed)
   counts_transfer true outcome told off = absurd cc
-  counts_transfer false outcome told off = reported outcome told
+  counts_transfer false outcome told off = reported f outcome told
 
 pub part_reported : {A : Type 0} (m : Bool) (result : Result A HostFault) (h : HostState)
     → IfErr result (λ fault. PartFaultAllowed m fault h) → m ≡ false
@@ -58,15 +58,10 @@ counts_known true s f l known = refl
 counts_known false s f l known = absurd cc
 
 -- whatever was counted and reported, they tell of the same root ports
-pub left_same : (m : Bool) {s t : ℕ} {f e : Option BusFault} {l : LeftStatuses}
+pub left_same : (m : Bool) (s t : ℕ) (f e : Option BusFault) (l : LeftStatuses)
     → (counts_of m t e l).left ≡ (counts_of m s f l).left
-left_same true = refl
-left_same false = refl
-
-pub counts_again : (m : Bool) {s : ℕ} {f : Option BusFault} {l : LeftStatuses}
-    → counts_of m s f l ≡ counts_of m s f ((counts_of m s f l).left)
-counts_again true = refl
-counts_again false = refl
+left_same true s t f e l = refl
+left_same false s t f e l = refl
 
 pub forgot_spent : {path : List ℕ} {a b : HostState} → Forgets path a b
     → b.counts.spent ≡ a.counts.spent

@@ -1,6 +1,6 @@
 -- A root port of a world tells of no change right behind its clearing.
 use Rattle.std.proofs.Common.{◌≡◌, ◌∙◌, ◌-◌, ◌≤◌, ap, arith, length, false, true, refl, subst, sym}
-use Rattle.std.proofs.Common.{Bool, Ok, ℕ}
+use Rattle.std.proofs.Common.{Ok, Result, ℕ}
 use Rattle.std.proofs.lemmas.List.{get_or-set_same}
 use Rattle.usb_request.specs.{C_PORT_CONNECTION, PORT_ENABLE}
 use Rattle.usb_port.specs.{PortState, PortStatus, clear_call, off, port_by}
@@ -18,23 +18,24 @@ cleared_row w v n least most c =
     let p : PortState = port_by (clear_call C_PORT_CONNECTION) (root_port_at w n) in
     rw (c.row, get_or-set_same (root_row w) (n - 1) p off (omega (arith, least, most))) refl
 
-told_status : {a b : PortStatus} → Ok {B = EnumFault} a ≡ Ok b → a ≡ b
-told_status e = cc e
+told_status : {a b : PortStatus} (result : Result PortStatus EnumFault) → result ≡ Ok a
+    → result ≡ Ok b → a ≡ b
+told_status result e f = cc (e, f)
 
-module _ {a d : HostState} (number : ℕ) {status : PortStatus} where
+module _ {d : HostState} (number : ℕ) {status : PortStatus} where
   disabled_after : {c : HostState} {s : PortStatus}
       → InOrder (ClearsWhere s.enabled (Root number) PORT_ENABLE)
       (λ done h answer k. (answer ≡ Ok s) × (k ≡ h)) c (Ok status) d → status ≡ s
   disabled_after (first_failed fault y e) = absurd (cc e)
-  disabled_after (next_done done h y w) = told_status w.0
+  disabled_after (next_done done h y w) = told_status (Ok status) refl w.0
 
-  read_clear : IsRootPort a.world number → ClearsAndAsks (Root number) a (Ok status) d
+  read_clear : {a : HostState} → IsRootPort a.world number → ClearsAndAsks (Root number) a (Ok status) d
       → status.connection_changed ≡ false
   read_clear is (first_failed fault y e) = absurd (cc e)
   read_clear is (next_done done b y (first_failed fault z e)) = absurd (cc e)
-  read_clear is (next_done done b y (next_done s c z w)) =
+  read_clear {a = a} is (next_done done b y (next_done s c z w)) =
       ap (λ (q : PortStatus). q.connection_changed)
-      (disabled_after (w.steady refl) ∙ told_status ((shows_shown z).0))
+      (disabled_after (w.steady refl) ∙ told_status (Ok s) refl ((shows_shown z).0))
       ∙ cleared_row a.world b.world number is.0 is.1 y.effect.row
 
 -- of a bus that does what its world does each change is taken away

@@ -1,9 +1,10 @@
 -- Which root ports are left alone is no step of the bus.
-use Rattle.std.proofs.Common.{◌≡◌, ◌∙◌, ◌⊎◌, ap, inl, inr, refl, subst, sym, zero, suc, ℕ, Bool, []}
-use Rattle.std.proofs.Common.{◌∷◌, None, Option, slice_index_or, slice_set, true, false}
+use Rattle.std.proofs.Common.{◌≡◌, ◌∙◌, ◌⊎◌, ap, inl, inr, refl, subst, sym, ℕ, Bool, None, Option}
+use Rattle.std.proofs.Common.{slice_index_or, Result, Ok, Err}
 use Rattle.usb_world.specs.{BusFault}
 use Rattle.usb_host.specs.{HostState, LeavesNoMore, LeftStatuses, OnlyBusSteps, OnlyLeaves}
-use Rattle.usb_host.specs.{StaysQuiet, counts_of}
+use Rattle.usb_host.specs.{HostFault, QuietKeeps, Round, StaysQuiet, counts_of}
+use Rattle.usb_host.proofs.BusCounts.{left_same}
 
 -- no step
 
@@ -17,39 +18,26 @@ leaves_spent x = ap (λ (h : HostState). h.counts.spent) x.only
 -- no more
 
 pub no_more : (l : LeftStatuses) → LeavesNoMore l l
-no_more l n = inr refl
+no_more l = record { each = λ n. inr refl }
 
-no_more_then : {k l r : LeftStatuses} → LeavesNoMore k l → LeavesNoMore l r → LeavesNoMore k r
-no_more_then {k} {l} {r} x y n = elim (y n) [
-  | inl none ↦ inl none
-  | inr same ↦ elim (x n) [
-    | inl none ↦ inl (same ∙ none)
-    | inr before ↦ inr (same ∙ before)
-  ]
-]
+pub no_more_then : {k l r : LeftStatuses} → LeavesNoMore k l → LeavesNoMore l r → LeavesNoMore k r
+no_more_then {k} {l} {r} x y = record { each = λ n. by n (x.each n) (y.each n) }
+  where
+    by : (n : ℕ) → (slice_index_or l n None ≡ None)
+        ⊎ (slice_index_or l n None ≡ slice_index_or k n None) → (slice_index_or r n None ≡ None)
+        ⊎ (slice_index_or r n None ≡ slice_index_or l n None) → (slice_index_or r n None ≡ None)
+        ⊎ (slice_index_or r n None ≡ slice_index_or k n None)
+    by n before (inl none) = inl none
+    by n (inl none) (inr same) = inl (same ∙ none)
+    by n (inr before) (inr same) = inr (same ∙ before)
 
-pub forgotten : (l : LeftStatuses) (k : ℕ) → LeavesNoMore l (slice_set l k None)
-forgotten [] k n = inr refl
-forgotten (s ∷ l) zero zero = inl refl
-forgotten (s ∷ l) zero (suc n) = inr refl
-forgotten (s ∷ l) (suc k) zero = inr refl
-forgotten (s ∷ l) (suc k) (suc n) = forgotten l k n
-
-pub counts_keep : (m : Bool) {s t : ℕ} {f e : Option BusFault} {l : LeftStatuses}
+-- of the same root ports they tell, whatever was counted and reported
+pub counts_keep : (m : Bool) (s t : ℕ) (f e : Option BusFault) (l : LeftStatuses)
     → LeavesNoMore (counts_of m s f l).left (counts_of m t e l).left
-counts_keep true n = inr refl
-counts_keep false n = inr refl
-
--- where others are left alone, what was counted and reported stays
-pub counts_leave : (m : Bool) {s : ℕ} {f : Option BusFault} {l r : LeftStatuses}
-    → counts_of m s f r ≡ record (counts_of m s f l) { left = (counts_of m s f r).left }
-counts_leave true = refl
-counts_leave false = refl
-
-pub counts_forget : (m : Bool) {s : ℕ} {f : Option BusFault} {l : LeftStatuses} (k : ℕ)
-    → LeavesNoMore (counts_of m s f l).left (counts_of m s f (slice_set l k None)).left
-counts_forget true k n = inr refl
-counts_forget false {l = l} k n = forgotten l k n
+counts_keep m s t f e l = record {
+  each = λ n. inr (ap (λ k. slice_index_or k n None)
+      (left_same m s t f e l));
+}
 
 -- Quiet
 
@@ -65,3 +53,10 @@ quiet_then x y = record {
 pub quiet_leaves : {m : Bool} {a b : HostState} → OnlyLeaves m a b
     → LeavesNoMore a.counts.left b.counts.left → StaysQuiet a b
 quiet_leaves x less = record { entries = ap (λ (h : HostState). h.entries) x.only; left = less }
+
+-- only the host's own stop is new
+pub quiet_stopped : (result : Result Round HostFault) (a b : HostState) (stopped : Bool)
+    → QuietKeeps result a b → QuietKeeps result a (record b { stopped = stopped })
+quiet_stopped (Ok round) a b stopped q =
+    λ is. let x = q is in record { entries = x.entries; left = x.left }
+quiet_stopped (Err fault) a b stopped q = tt

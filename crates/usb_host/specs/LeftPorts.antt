@@ -10,6 +10,6 @@ abbrev pub none_left : LeftStatuses
 none_left = replicate 8 None
 
 -- no port is left alone that was not so before, at the same status
-abbrev pub LeavesNoMore : LeftStatuses → LeftStatuses → Type 0
-LeavesNoMore old new = (n : ℕ) → (slice_index_or new n None ≡ None)
-    ⊎ (slice_index_or new n None ≡ slice_index_or old n None)
+pub record LeavesNoMore (old new : LeftStatuses) : Type 0 where
+  pub each : (n : ℕ) → (slice_index_or new n None ≡ None)
+      ⊎ (slice_index_or new n None ≡ slice_index_or old n None)

@@ -41,7 +41,10 @@ impl<B: Bus> LeftPorts<B> {
         ensures value { result ≡ is_some (slice_index_or self.now number None) }
         ensures none { B.modelled ≡ true → result ≡ false }
     {
-        number < 8 && self.at[usize::from(number)].is_some()
+        match self.at.get(usize::from(number)) {
+            Some(left) => left.is_some(),
+            None => false,
+        }
     }
 
     /// Whether a port is left alone at exactly this status.
@@ -49,7 +52,10 @@ impl<B: Bus> LeftPorts<B> {
         ensures value { IsTrue result ↔ (slice_index_or self.now number None ≡ Some status) }
         ensures none { B.modelled ≡ true → result ≡ false }
     {
-        number < 8 && self.at[usize::from(number)] == Some(status)
+        match self.at.get(usize::from(number)) {
+            Some(left) => *left == Some(status),
+            None => false,
+        }
     }
 
     /// Leaves a port alone, as long as it shows this status.

@@ -74,8 +74,9 @@ impl<B: Bus> Host<B> {
         }
     }
 
-    /// Leaves a root port alone at the status that it shows, where that fits what was found: something is connected
-    /// or nothing, as it was, and the port of an accepted device is enabled. Else the next round looks at it.
+    /// Leaves a root port alone at the status that it shows, where that tells the change and fits what was found:
+    /// something is connected or nothing, as it was, and the port of an accepted device is enabled. Else a change that
+    /// it tells is looked at in the next round.
     fn leave_root(&mut self, number: u8, connected: bool, has_device: bool)
         requires { B.modelled ≡ false }
         ensures { OnlyLeaves B.modelled self.old self.new }
@@ -85,7 +86,8 @@ impl<B: Bus> Host<B> {
         }
         let status = self.bus.root_status(number);
         let shown = PortStatus::from_bytes(status);
-        if shown.connected == connected && (shown.enabled || !has_device) {
+        let fits = shown.connected == connected && (shown.enabled || !has_device);
+        if shown.connection_changed && fits {
             self.left.leave(number, status);
         } else {
             self.left.forget(number);

@@ -29,17 +29,17 @@ module _ {port : HubPort} {feature : ℕ} {call : PortCall} (is : clear_call fea
   ]
 
 -- changes of enable and of reset are cleared
-module _ {port : HubPort} {status : PortStatus} {a b : HostState}
-    {result : Result (Unit {0}) EnumFault} where
-  in_turn : ClearsInTurn port status a result b → LetsGoOn result → MovesNoBulk a.world b.world
-  in_turn (first_failed fault y e) goes =
+module _ {port : HubPort} {a b : HostState} {result : Result (Unit {0}) EnumFault} where
+  in_turn : (status : PortStatus) → ClearsInTurn port status a result b → LetsGoOn result
+      → MovesNoBulk a.world b.world
+  in_turn status (first_failed fault y e) goes =
       where_unmoved clears_enable_change y (subst LetsGoOn e goes)
-  in_turn (next_done done mid y z) goes =
+  in_turn status (next_done done mid y z) goes =
       by_both (where_unmoved clears_enable_change y tt) (where_unmoved clears_reset_change z goes)
 
-  pub tidied_unmoved : TidiesPort port status a result b → LetsGoOn result
+  pub tidied_unmoved : {status : PortStatus} → TidiesPort port status a result b → LetsGoOn result
       → MovesNoBulk a.world b.world
-  tidied_unmoved x goes = in_turn x.order goes
+  tidied_unmoved {status = status} x goes = in_turn status x.order goes
 
 -- a status is asked for
 pub shown_unmoved : {port : HubPort} {f : AddressMap} {a b : HostState}

@@ -1,6 +1,6 @@
 //! A hub with one device, which is listed, tells a change; the host clears it, or drops a hub that does not or refuses
-//! its status, and comes to rest. A device at another port stays listed. So it is where a root port tells a change for
-//! good.
+//! its status, and comes to rest. A device at another port stays listed. So it is too where a root port tells a change
+//! for good.
 mod held;
 mod quirk;
 

@@ -71,7 +71,7 @@ pub returns-in_err-finding-clause-spends : goal.returns-in_err-finding-clause-sp
 returns-in_err-finding-clause-spends g c =
     rw (← c.self.view_is) (counts_spend g.B.Bus.modelled (g.B.Bus.spent c.self.inside.bus)
     (g.B.Bus.spent c.enumerate.new.bus) (g.B.Bus.failed c.self.inside.bus)
-    (g.B.Bus.failed c.enumerate.new.bus) _ c.enumerate.ensures.uses.spends.0 (enumeration_most
+    (g.B.Bus.failed c.enumerate.new.bus) c.self.inside.left _ c.enumerate.ensures.uses.spends.0 (enumeration_most
     c.args.port.port
     (askable_wide c.args.port.port c.requires.port.askable)))
 
@@ -79,7 +79,7 @@ pub returns-in_err-enter-clause-spends : goal.returns-in_err-enter-clause-spends
 returns-in_err-enter-clause-spends g c =
     rw (← c.self.view_is) (counts_spend g.B.Bus.modelled (g.B.Bus.spent c.self.inside.bus)
     (g.B.Bus.spent c.enumerate.new.bus) (g.B.Bus.failed c.self.inside.bus)
-    (g.B.Bus.failed c.enumerate.new.bus) _ c.enumerate.ensures.uses.spends.0 (enumeration_most
+    (g.B.Bus.failed c.enumerate.new.bus) c.self.inside.left _ c.enumerate.ensures.uses.spends.0 (enumeration_most
     c.args.port.port
     (askable_wide c.args.port.port c.requires.port.askable)))
 
@@ -87,7 +87,7 @@ pub returns-clause-spends : goal.returns-clause-spends
 returns-clause-spends g c =
     rw (← c.self.view_is) (counts_spend g.B.Bus.modelled (g.B.Bus.spent c.self.inside.bus)
     (g.B.Bus.spent c.enumerate.new.bus) (g.B.Bus.failed c.self.inside.bus)
-    (g.B.Bus.failed c.enumerate.new.bus) _ c.enumerate.ensures.uses.spends.0 (enumeration_most
+    (g.B.Bus.failed c.enumerate.new.bus) c.self.inside.left _ c.enumerate.ensures.uses.spends.0 (enumeration_most
     c.args.port.port
     (askable_wide c.args.port.port c.requires.port.askable)))
 
@@ -95,5 +95,5 @@ pub returns-in_err-finding-clause-told : goal.returns-in_err-finding-clause-told
 returns-in_err-finding-clause-told g c =
     let told = err_from_is_err_and c.from_residual.result c.from_residual.ensures.1 in
     rw (told.1, told.2) (counts_told (g.B.Bus.spent c.enumerate.new.bus)
-    (g.B.Bus.failed c.enumerate.new.bus) {A = Unit {0}} g.B.Bus.modelled
+    (g.B.Bus.failed c.enumerate.new.bus) c.self.inside.left {A = Unit {0}} g.B.Bus.modelled
     (Err c.in_err-finding.field-0.0) c.in_err-finding.ensures.uses.told)

@@ -2,7 +2,8 @@ use Rattle.std.proofs.Common.{arith, rules, ◌≡◌, ap, refl, sym, subst, ◌
 use Rattle.std.proofs.Common.{None, true, false}
 use Rattle.std.proofs.lemmas.Grind.{common_steps}
 use Rattle.usb_host.specs.{round_bound, HostInvariant, HostState, RoundsSound, PaysRound, HostSteps}
-use Rattle.usb_host.specs.{DidParts, HostWorks, Quiet, StaysQuiet, StopsIn}
+use Rattle.usb_host.specs.{DidParts, HostWorks, QuietKeeps, StopsIn}
+use Rattle.usb_host.proofs.LeftRoots.{quiet_stopped}
 use Rattle.usb_host.proofs.payments.RoundPayments.{pays_stopped, stopped_pays}
 use Rattle.usb_host.proofs.rests.IdleRounds.{round_rests}
 use Rattle.usb_host.proofs.StepSums.{host_goes_none}
@@ -91,7 +92,8 @@ returns-clause-any_bus g c =
         told = λ off. rw same (part_reported g.B.Bus.modelled c.run_round-round.result
             c.run_round-round.new.self c.run_round-round.ensures.told off);
       };
-      quiet = subst (λ (h : HostState). IfOk c.run_round-round.result
-          (λ r. r ≡ Quiet → StaysQuiet c.args.self.now (record h { stopped = stopped })))
-          (sym c.self-2.view_is) c.run_round-round.ensures.quiet;
+      quiet = subst (λ (h : HostState). QuietKeeps c.run_round-round.result c.args.self.now
+          (record h { stopped = stopped })) (sym c.self-2.view_is)
+          (quiet_stopped c.run_round-round.result c.args.self.now c.run_round-round.new.self stopped
+          c.run_round-round.ensures.quiet);
     }

@@ -81,7 +81,7 @@ pub returns-in-Ok-None-clause-spends : goal.returns-in-Ok-None-clause-spends
 returns-in-Ok-None-clause-spends g c =
     let polled = counts_spend g.B.Bus.modelled (g.B.Bus.spent c.self.inside.bus) (g.B.Bus.spent
     c.poll.new.bus)
-    (g.B.Bus.failed c.self.inside.bus) (g.B.Bus.failed c.poll.new.bus) 768
+    (g.B.Bus.failed c.self.inside.bus) (g.B.Bus.failed c.poll.new.bus) c.self.inside.left 768
     c.poll.ensures.any_bus.0.0 (omega arith) in
     rw (← c.self.view_is) (omega (arith, polled))
 
@@ -90,7 +90,7 @@ pub returns-in_ok-service_reported-in-Ok-Some-clause-spends :
 returns-in_ok-service_reported-in-Ok-Some-clause-spends g c =
     let polled = counts_spend g.B.Bus.modelled (g.B.Bus.spent c.self.inside.bus) (g.B.Bus.spent
     c.poll.new.bus)
-    (g.B.Bus.failed c.self.inside.bus) (g.B.Bus.failed c.poll.new.bus) 768
+    (g.B.Bus.failed c.self.inside.bus) (g.B.Bus.failed c.poll.new.bus) c.self.inside.left 768
     c.poll.ensures.any_bus.0.0 (omega arith) in
     rw (← c.self.view_is) (omega (arith, polled, c.service_reported.ensures.spends))
 
@@ -99,7 +99,7 @@ pub returns-in_err-service_reported-in-Ok-Some-clause-spends :
 returns-in_err-service_reported-in-Ok-Some-clause-spends g c =
     let polled = counts_spend g.B.Bus.modelled (g.B.Bus.spent c.self.inside.bus) (g.B.Bus.spent
     c.poll.new.bus)
-    (g.B.Bus.failed c.self.inside.bus) (g.B.Bus.failed c.poll.new.bus) 768
+    (g.B.Bus.failed c.self.inside.bus) (g.B.Bus.failed c.poll.new.bus) c.self.inside.left 768
     c.poll.ensures.any_bus.0.0 (omega arith) in
     rw (← c.self.view_is) (omega (arith, polled, c.service_reported.ensures.spends))
 
@@ -107,7 +107,7 @@ pub returns-in-Err-Bus-clause-spends : goal.returns-in-Err-Bus-clause-spends
 returns-in-Err-Bus-clause-spends g c =
     let polled = counts_spend g.B.Bus.modelled (g.B.Bus.spent c.self.inside.bus) (g.B.Bus.spent
     c.poll.new.bus)
-    (g.B.Bus.failed c.self.inside.bus) (g.B.Bus.failed c.poll.new.bus) 768
+    (g.B.Bus.failed c.self.inside.bus) (g.B.Bus.failed c.poll.new.bus) c.self.inside.left 768
     c.poll.ensures.any_bus.0.0 (omega arith) in
     rw (← c.self.view_is) (omega (arith, polled))
 
@@ -115,7 +115,7 @@ pub returns-in_err-drop_hub-in-Err-clause-spends : goal.returns-in_err-drop_hub-
 returns-in_err-drop_hub-in-Err-clause-spends g c =
     let polled = counts_spend g.B.Bus.modelled (g.B.Bus.spent c.self.inside.bus) (g.B.Bus.spent
     c.poll.new.bus)
-    (g.B.Bus.failed c.self.inside.bus) (g.B.Bus.failed c.poll.new.bus) 768
+    (g.B.Bus.failed c.self.inside.bus) (g.B.Bus.failed c.poll.new.bus) c.self.inside.left 768
     c.poll.ensures.any_bus.0.0 (omega arith) in
     rw (← c.self.view_is) (omega (arith, polled, c.drop_hub.ensures.spends))
 
@@ -123,7 +123,7 @@ pub returns-in_ok-drop_hub-in-Err-clause-spends : goal.returns-in_ok-drop_hub-in
 returns-in_ok-drop_hub-in-Err-clause-spends g c =
     let polled = counts_spend g.B.Bus.modelled (g.B.Bus.spent c.self.inside.bus) (g.B.Bus.spent
     c.poll.new.bus)
-    (g.B.Bus.failed c.self.inside.bus) (g.B.Bus.failed c.poll.new.bus) 768
+    (g.B.Bus.failed c.self.inside.bus) (g.B.Bus.failed c.poll.new.bus) c.self.inside.left 768
     c.poll.ensures.any_bus.0.0 (omega arith) in
     rw (← c.self.view_is) (omega (arith, polled, c.drop_hub.ensures.spends))
 
@@ -131,7 +131,7 @@ pub returns-in-Err-Bus-clause-told : goal.returns-in-Err-Bus-clause-told
 returns-in-Err-Bus-clause-told g c = (
   first_of (search rules, grind (arith, common_steps)),
   counts_last
-      (g.B.Bus.spent c.poll.new.bus) (g.B.Bus.failed c.poll.new.bus) g.B.Bus.modelled
+      (g.B.Bus.spent c.poll.new.bus) (g.B.Bus.failed c.poll.new.bus) c.self.inside.left g.B.Bus.modelled
       (rw c.in-Err-Bus.field-0-is at c.in-Err-Bus.ensures.any_bus.1),
 )
 
@@ -139,7 +139,9 @@ pub returns-in-Ok-None-clause-quiet : goal.returns-in-Ok-None-clause-quiet
 returns-in-Ok-None-clause-quiet g c is =
     rw (← c.self.view_is) (record {
       entries = c.poll.ensures.through.entries;
-      left = counts_keep g.B.Bus.modelled;
+      left = counts_keep g.B.Bus.modelled (g.B.Bus.spent c.self.inside.bus)
+          (g.B.Bus.spent c.poll.new.bus) (g.B.Bus.failed c.self.inside.bus)
+          (g.B.Bus.failed c.poll.new.bus) c.self.inside.left;
     })
 
 pub returns-in_ok-service_reported-in-Ok-Some-clause-quiet :

@@ -26,7 +26,8 @@ ports-preserved g c =
         quiet = λ is. absurd (cc is);
         spends = omega (arith, i.spends, spent, w.handle_root.ensures.spends, c.ports.auto.number);
         so = λ known.
-            roots_handled (rw (rests.none known) (i.so known)) (omega (arith, c.ports.auto.number))
+            roots_handled {round = c.ports.round} (rw (rests.none known) (i.so known))
+            (omega (arith, c.ports.auto.number))
             (rw (rests.none known) (sym (c.has_changed.ensures.changed known)
             ∙ w.if-has_changed.true))
             (omega (
@@ -34,6 +35,7 @@ ports-preserved g c =
               c.ports-test.true,
               c.root_ports-roots.ensures.count known,
               (i.so known).part.goes.went.spends.roots,
+              ap (λ (h : HostState). roots_of h.world) (rests.none known),
               ap (λ (h : HostState). roots_of h.world) c.self.view_is,
             )) (w.in_ok-handle_root.ensures.handles known);
         works = λ known none. w.in_ok-handle_root.ensures.works known
@@ -52,7 +54,7 @@ ports-preserved g c =
 pub returns-in_err-handle_root-clause-roots : goal.returns-in_err-handle_root-clause-roots
 returns-in_err-handle_root-clause-roots g c known =
     let same = c.has_changed.ensures.rests.none known in
-    roots_cut (rw same (c.ports.invariant.so known)) (omega (arith, c.ports.auto.number))
+    roots_cut {round = c.ports.round} (rw same (c.ports.invariant.so known)) (omega (arith, c.ports.auto.number))
     (rw same (sym (c.has_changed.ensures.changed known) ∙ c.if-has_changed.true))
     (omega (arith, c.ports-test.true, c.root_ports-roots.ensures.most))
     (rw same (c.ports.invariant.works known)) c.from_residual.ensures.0
