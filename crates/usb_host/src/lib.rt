@@ -24,9 +24,10 @@
 //! reachable device holds the address of the entry at its path. `Host::new` gives it over every bus of which the first
 //! is so until then, whatever another host did there, since it takes the power of each root port first; so a host may
 //! follow one that has stopped (`into_bus`). Each of `round`, `send`, `receive` and `clear_halt` keeps it, whatever it
-//! answers, and so do events that come through `bus_mut`. `usb_run::Runner`, by which `run` and `serve` make a plan's run item by item, keeps *HostMapHolds* of its
-//! host in its type: it stands behind each item, and behind a fault too; `run` and `serve` say it of the run that they
-//! made. With `one_device_at_most_answers` of usb_world no attempt of such a run is answered by two devices.
+//! answers, and so do events that come through `bus_mut`. `usb_run::Runner`, by which `run` and `serve` make a plan's
+//! run item by item, keeps *HostMapHolds* of its host in its type: it stands behind each item, and behind a fault too;
+//! `run` and `serve` say it of the run that they made. With `one_device_at_most_answers` of usb_world no attempt of such
+//! a run is answered by two devices.
 //!
 //! **No call keeps the bus's fault to itself.** Unless `round`, `send`, `receive` or `clear_halt` reports `Bus`, the bus
 //! still works after the call, if it did before (`works` of *RoundTells* and *TransferTells*, `specs/HostCalls.antt`).
