@@ -1,14 +1,14 @@
 -- What a host and a far end say to each other, from the hello on.
-use Rattle.std.specs.Prelude.{◌≡◌, ⊤, ℕ, ◌+◌, ◌≤◌, ◌==◌, ◌&&◌, Bool, true, false, List, length}
+use Rattle.std.specs.Prelude.{◌≡◌, ⊤, ℕ, ◌+◌, ◌≤◌, ◌==◌, ◌&&◌, nat_lt, Bool, true, false, List}
+use Rattle.std.specs.Prelude.{length}
 use Rattle.std.specs.Prelude.{Option, Some, None, Result, Ok, Err, is_err}
 use Rattle.std.specs.Str.{bytes_eq}
-use Rattle.usb_table.specs.{Entries}
+use Rattle.usb_table.specs.{Entries, TransferFault}
 use Rattle.usb_text.specs.{lines_text, listing_lines}
 use Rattle.usb_wire.specs.{Answer, Question}
 use Rattle.usb_wire.specs.declared.answer.Answer.TheVariants as answer
 use Rattle.usb_wire.specs.declared.question.Question.TheVariants.{Hello, Wait}
-use Rattle.usb_table.specs.{TransferFault}
-use Rattle.usb_host.specs.{Agrees, HostFault}
+use Rattle.usb_host.specs.{Agrees, HostFault, Round, Quiet, Worked}
 use Rattle.usb_lines.specs.{OutPipe, Pipe}
 use Rattle.usb_resources.specs.{Addresses}
 use Rattle.usb_run.specs.{Item, Listing, Sent, Received, Cleared, item_lines, number_of}
@@ -185,6 +185,11 @@ EndsBy fault lines left stage (Err (Line number f)) = (fault ≡ Some f) × (num
 EndsBy fault lines left stage (Err (Rounds number)) =
     (fault ≡ None) × (number ≡ lines) × (left ≡ 0)
 EndsBy fault lines left stage (Err Memory) = fault ≡ None
+
+-- of a private function: another round is made before it is asked what is wanted
+abbrev pub goes_on : Round → ℕ → Bool
+goes_on Worked busy = nat_lt busy 256
+goes_on Quiet busy = false
 
 -- of a private function: what a transfer came to, or that the host has stopped
 abbrev pub TellsTransfer : {A : Type 0} → Result A HostFault

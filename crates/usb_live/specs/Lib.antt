@@ -1,8 +1,8 @@
 pub mod Course
 -- the words of this crate, wherever one stands
 pub use Course.{CourseTo, EndsBy, EndsLiveAs, IsOver, IsShown, ListsEntries, LiveCourse, Lives}
-pub use Course.{StandsAtStage, TellsTransfer, WantsEnd, is_count, is_nothing, is_wait, listed}
-pub use Course.{owed_by, owed_left, owes, questions_in, settles, stage_behind}
+pub use Course.{StandsAtStage, TellsTransfer, WantsEnd, goes_on, is_count, is_nothing, is_wait}
+pub use Course.{listed, owed_by, owed_left, owes, questions_in, settles, stage_behind}
 pub use Course.{stage_behind_answer, told_text}
 pub use declared.end.LiveEnd.{LiveEnd}
 pub use declared.end.LiveEnd.TheVariants.{Line, Memory, Rounds}

@@ -65,7 +65,7 @@ impl<R: Read, W: Write, B: Begun> Bus for CourseBus<R, W, B> {
 
     ghost trace = { λ bus. None };
 
-    ghost spent = { λ bus. 0 };
+    ghost spent = { λ bus. (kept_of bus.bus).attempts };
 
     ghost failed = { λ bus. option_map bus_fault (kept_of bus.bus).fault };
 
@@ -80,7 +80,8 @@ impl<R: Read, W: Write, B: Begun> Bus for CourseBus<R, W, B> {
             (written_of W.contents self.old.bus) (written_of W.contents self.new.bus))
             (kept_of self.old.bus) result (kept_of self.new.bus) }
         ensures fits { IfOk result (FitsMaximum (attempt_data attempt.now).max) }
-        ensures spends { Spends (λ bus. 0) (λ bus. (kept_of bus.bus).roots) 1 self.old self.new }
+        ensures spends { Spends (λ bus. (kept_of bus.bus).attempts)
+            (λ bus. (kept_of bus.bus).roots) 1 self.old self.new }
         ensures told { IfErr result (λ fault.
             option_map bus_fault (kept_of self.new.bus).fault ≡ Some fault) }
     {
@@ -111,7 +112,8 @@ impl<R: Read, W: Write, B: Begun> Bus for CourseBus<R, W, B> {
             (streams (unread_of R.remaining self.old.bus) (unread_of R.remaining self.new.bus)
             (written_of W.contents self.old.bus) (written_of W.contents self.new.bus))
             (kept_of self.old.bus) (kept_of self.new.bus) }
-        ensures unspent { Spends (λ bus. 0) (λ bus. (kept_of bus.bus).roots) 0 self.old self.new }
+        ensures unspent { Spends (λ bus. (kept_of bus.bus).attempts)
+            (λ bus. (kept_of bus.bus).roots) 0 self.old self.new }
     {
         self.stage = Stage::Asks;
         self.bus.root_set(port, feature);
@@ -124,7 +126,8 @@ impl<R: Read, W: Write, B: Begun> Bus for CourseBus<R, W, B> {
             (streams (unread_of R.remaining self.old.bus) (unread_of R.remaining self.new.bus)
             (written_of W.contents self.old.bus) (written_of W.contents self.new.bus))
             (kept_of self.old.bus) (kept_of self.new.bus) }
-        ensures unspent { Spends (λ bus. 0) (λ bus. (kept_of bus.bus).roots) 0 self.old self.new }
+        ensures unspent { Spends (λ bus. (kept_of bus.bus).attempts)
+            (λ bus. (kept_of bus.bus).roots) 0 self.old self.new }
     {
         self.stage = Stage::Asks;
         self.bus.root_clear(port, feature);

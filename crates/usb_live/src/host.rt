@@ -2,7 +2,7 @@
 ghost use Rattle.std.specs.Prelude.{◌≡◌, IfOk, IfSome, OnOk, false};
 ghost use Rattle.usb_text.specs.ListingLines.{written_lines};
 ghost use Rattle.usb_lines.specs.Pipes.{out_pipe_of, pipe_of};
-ghost use Rattle.usb_live.specs.Course.{IsShown, ListsEntries, Lives, TellsTransfer, told_text};
+ghost use Rattle.usb_live.specs.Course.{IsShown, ListsEntries, Lives, TellsTransfer, goes_on, told_text};
 
 use crate::bus::{Begun, CourseBus};
 use crate::end::LiveEnd;
@@ -15,7 +15,7 @@ use usb_run::{Item, TransferFault, counted};
 use usb_serve::item_lines;
 use usb_wire::Answer;
 
-/// How many rounds in a row may have worked before it is asked what is wanted all the same.
+/// How many rounds in a row may have worked before one behind which it is asked what is wanted all the same.
 const BUSY_ROUNDS: u16 = 256;
 
 /// A host over a far end.
@@ -58,7 +58,8 @@ fn course<R: Read + Drop, W: Write + Drop, B: Begun>(
     host.into_bus().finish(ran)
 }
 
-/// Rounds, and after each quiet one, or after so many in a row that worked, what is wanted, until that is the end.
+/// Rounds, and behind each quiet one, or one that 256 in a row that worked stand before, what is wanted, until that is
+/// the end.
 fn run<R: Read + Drop, W: Write + Drop, B: Begun>(
     alloc: Global,
     host: &mut LiveHost<R, W, B>,
@@ -67,7 +68,8 @@ fn run<R: Read + Drop, W: Write + Drop, B: Begun>(
     let mut busy = 0u16;
     // a round that worked has asked something, and so has each other turn
     'turns: for _ in 0..limit {
-        if round_of(host)? == Round::Worked && busy < BUSY_ROUNDS {
+        let round = round_of(host)?;
+        if goes_on(round, busy) {
             busy += 1;
             continue 'turns;
         }
@@ -82,6 +84,17 @@ fn run<R: Read + Drop, W: Write + Drop, B: Begun>(
         }
     }
     Err(LiveEnd::Rounds(lines_of(host)))
+}
+
+/// Whether another round is made before it is asked what is wanted: this one worked, and fewer than 256 in a row did
+/// before it.
+fn goes_on(round: Round, busy: u16) -> bool
+    ensures { result ≡ goes_on round busy }
+{
+    match round {
+        Round::Worked => busy < BUSY_ROUNDS,
+        Round::Quiet => false,
+    }
 }
 
 /// One round, behind which neither the host has stopped nor the bus has a fault.

@@ -3,12 +3,11 @@ use Rattle.std.proofs.Common.{◌≡◌, ◌≢◌, ◌==◌, inl, inr, ℕ, ◌
 use Rattle.std.proofs.Common.{Bool, true, false, List, [], ◌∷◌, ◌++◌, length, take, drop, Option}
 use Rattle.std.proofs.Common.{Some, None, IfSome, Result, Ok, Err, get_or, is_err, OnOk, refl, sym}
 use Rattle.std.proofs.Common.{ap, subst, ◌∙◌, arith, append_assoc, append-nil, length-append}
-use Rattle.std.proofs.Common.{IsErrOf, ◌&&◌, not}
+use Rattle.std.proofs.Common.{IsErrOf, ◌&&◌, Decides}
 use Rattle.arrayvec.specs.ArrayVec.{ArrayVec}
 use Rattle.std.proofs.lemmas.List.{take_more, take-append-drop, length-take, take-append-le}
 use Rattle.std.proofs.lemmas.List.{take_all}
 use Rattle.std.proofs.lemmas.List.Elements.{All-nil, All-push}
-use Rattle.std.proofs.lemmas.List.Folds.{list_all-append}
 use Rattle.std.proofs.lemmas.Bool.{eqb-true, lt-ltb, ltb-true}
 use Rattle.std.proofs.lemmas.Bool.Decides.{nat_tests}
 use Rattle.std.proofs.KnownBytes.{Appends-trans, Consumes-trans}
@@ -19,8 +18,9 @@ use Rattle.usb_pcap.specs.{OpenLine, PcapFault, Read, Line as BadLine, TooLong, 
 use Rattle.usb_pcap.specs.{TracedAttempt, IsAttemptLine, fits_form, IsReport, has_form, plug_form}
 use Rattle.usb_pcap.specs.{report_forms, AreRecords, attempt_packets, header, Captures, ComesOf}
 use Rattle.usb_pcap.specs.{IsCapture, IsRunLine, IsTold, LineRecords, RecordsOf, RefusedLine}
-use Rattle.usb_pcap.specs.{IsPlug, StandsBehind, WroteFront, WroteLines, is_control_byte, is_shown}
-use Rattle.usb_pcap.specs.{longest, next_number}
+use Rattle.usb_pcap.specs.{IsPlug, StandsBehind, WroteFront, WroteLines, longest, next_number}
+use Rattle.usb_pcap.specs.{Begins, IsShownText}
+use Rattle.usb_pcap.proofs.ShownNames.{begins_none}
 use Rattle.usb_pcap.proofs.Forms.{is_report-complete, is_report-sound, no_plug, plug_taken}
 
 few_taken : (k : ℕ) (l : List ℕ) → length (take k l) < k → length l < k
@@ -58,7 +58,7 @@ taken_long k line front b e full =
     )
 
 pub stands_first : (w now : Option (List ℕ)) (s : OpenLine) → Appends w now header → s.number ≡ 1
-    → s.front.items ≡ [] → s.is_long ≡ false → s.is_shown ≡ true → StandsBehind w now [] s
+    → s.front.items ≡ [] → s.is_long ≡ false → s.begun.items ≡ [] → StandsBehind w now [] s
 stands_first w now s h number front long shown = record {
   n = 0;
   front = [];
@@ -70,26 +70,21 @@ stands_first w now s h number front long shown = record {
   one = All-nil _;
   begins = front;
   long = long;
-  shown = shown;
+  shown = subst (Begins []) (sym shown) begins_none;
   number = number;
 }
 
 -- one byte more
-shown_more : (line : List ℕ) (b : ℕ) (was : Bool) → was ≡ is_shown line
-    → (was && not (is_control_byte b)) ≡ is_shown (line ++ b ∷ [])
-shown_more line b was is = ap (λ s. s && not (is_control_byte b)) is
-    ∙ sym (list_all-append (λ c. not (is_control_byte c)) line (b ∷ [])
-    ∙ ap (λ x. is_shown line && x) (and_true (not (is_control_byte b))))
-  where
-    and_true : (x : Bool) → (x && true) ≡ x
-    and_true true = refl
-    and_true false = refl
+abbrev TakesShown : OpenLine → ℕ → OpenLine → Type 0
+TakesShown s b t = (line : List ℕ) → Begins line s.begun.items
+    → Begins (line ++ b ∷ []) t.begun.items
 
 stands_on : (w now : Option (List ℕ)) (text : List ℕ) (b : ℕ) (s t : OpenLine) → b ≢ 10
     → (h : StandsBehind w now text s) → t.number ≡ s.number
     → t.front.items ≡ take longest (h.line ++ b ∷ [])
     → t.is_long ≡ nat_lt longest (length (h.line ++ b ∷ []))
-    → t.is_shown ≡ (s.is_shown && not (is_control_byte b)) → StandsBehind w now (text ++ b ∷ []) t
+    → TakesShown s b t
+    → StandsBehind w now (text ++ b ∷ []) t
 stands_on w now text b s t other h number begins long shown = record {
   n = h.n;
   front = h.front;
@@ -101,14 +96,14 @@ stands_on w now text b s t other h number begins long shown = record {
   one = All-push (λ x. x ≢ 10) h.line b h.one other;
   begins = begins;
   long = long;
-  shown = shown ∙ shown_more h.line b s.is_shown h.shown;
+  shown = shown h.line h.shown;
   number = number ∙ h.number;
 }
 
 pub stands_more : (w now : Option (List ℕ)) (text : List ℕ) (b : ℕ) (s t : OpenLine) → b ≢ 10
     → StandsBehind w now text s → t.number ≡ s.number
     → length s.front.items < longest → t.front.items ≡ s.front.items ++ b ∷ []
-    → t.is_long ≡ s.is_long → t.is_shown ≡ (s.is_shown && not (is_control_byte b))
+    → t.is_long ≡ s.is_long → TakesShown s b t
     → StandsBehind w now (text ++ b ∷ []) t
 stands_more w now text b s t other h number room front long shown =
     let more = taken_more longest h.line s.front.items b h.begins room in
@@ -117,7 +112,8 @@ stands_more w now text b s t other h number room front long shown =
 pub stands_long : (w now : Option (List ℕ)) (text : List ℕ) (b : ℕ) (s t : OpenLine) → b ≢ 10
     → StandsBehind w now text s → t.number ≡ s.number
     → length s.front.items ≡ longest → t.front.items ≡ s.front.items → t.is_long ≡ true
-    → t.is_shown ≡ (s.is_shown && not (is_control_byte b)) → StandsBehind w now (text ++ b ∷ []) t
+    → TakesShown s b t
+    → StandsBehind w now (text ++ b ∷ []) t
 stands_long w now text b s t other h number full front long shown =
     let more = taken_long longest h.line s.front.items b h.begins full in
     stands_on w now text b s t other h number (front ∙ more.0) (long ∙ sym more.1) shown
@@ -125,13 +121,14 @@ stands_long w now text b s t other h number full front long shown =
 -- the records of a line, by its first bytes
 abbrev TellsRecords : OpenLine → List ℕ → Type 0
 TellsRecords s records = (line : List ℕ) → s.front.items ≡ take longest line
-    → s.is_long ≡ nat_lt longest (length line) → s.is_shown ≡ is_shown line
+    → s.is_long ≡ nat_lt longest (length line) → Begins line s.begun.items
     → LineRecords line records
 
 -- the line is none of a run, by its first bytes
 abbrev Refuses : OpenLine → Type 0
 Refuses s = (line : List ℕ) → s.front.items ≡ take longest line
-    → s.is_long ≡ nat_lt longest (length line) → s.is_shown ≡ is_shown line → IsRunLine line → ⊥
+    → s.is_long ≡ nat_lt longest (length line) → Begins line s.begun.items
+    → IsRunLine line → ⊥
 
 capture_closed : (w now : Option (List ℕ)) (text records : List ℕ) (s : OpenLine)
     (h : StandsBehind w now text s) → TellsRecords s records
@@ -147,7 +144,7 @@ next_number-next n k m e f = omega arith
 pub stands_closed : (w mid now : Option (List ℕ)) (text records : List ℕ) (s t : OpenLine)
     → StandsBehind w mid text s → TellsRecords s records
     → Appends mid now records → t.number ≡ min (s.number + 1) (2 ^ 64 - 1) → t.front.items ≡ []
-    → t.is_long ≡ false → t.is_shown ≡ true → StandsBehind w now (text ++ 10 ∷ []) t
+    → t.is_long ≡ false → t.begun.items ≡ [] → StandsBehind w now (text ++ 10 ∷ []) t
 stands_closed w mid now text records s t h tells gone number front long shown = record {
   n = h.n + 1;
   front = text ++ 10 ∷ [];
@@ -159,7 +156,7 @@ stands_closed w mid now text records s t h tells gone number front long shown = 
   one = All-nil _;
   begins = front;
   long = long;
-  shown = shown;
+  shown = subst (Begins []) (sym shown) begins_none;
   number = next_number-next h.n s.number t.number h.number number;
 }
 
@@ -335,12 +332,12 @@ pub told_records : (front line : List ℕ) (records : ArrayVec ℕ) → records.
 told_records front line records none told =
     subst (λ l. LineRecords line l) (sym none) (LineRecords.told told)
 
-pub plug_records : (front line : List ℕ) (records : ArrayVec ℕ) → front ≡ take longest line
-    → (is_shown line && fits_form plug_form front) ≡ true → records.items ≡ []
-    → RecordsOf line (Some records)
-plug_records front line records e fits none =
-    let both = both_true (is_shown line) (fits_form plug_form front) fits in
-    told_records front line records none (inl (plug_taken front line e both.1, both.0))
+pub plug_records : (front line : List ℕ) (shown : Bool) (records : ArrayVec ℕ) → front ≡ take longest line
+    → Decides shown (IsShownText line) → (shown && fits_form plug_form front) ≡ true
+    → records.items ≡ [] → RecordsOf line (Some records)
+plug_records front line shown records e decides fits none =
+    let both = both_true shown (fits_form plug_form front) fits in
+    told_records front line records none (inl (plug_taken front line e both.1, decides.0 both.0))
   where
     both_true : (x y : Bool) → (x && y) ≡ true → (x ≡ true) × (y ≡ true)
     both_true true y is = (refl, is)
@@ -354,20 +351,21 @@ report_records front line is_long records e long short fit none =
     told_records front line records none
     (inr (few, subst IsReport (short_whole front line e few) (is_report-sound front fit)))
 
--- no line of a plug, by its first bytes, or one with a control character
-no_shown_plug : (front line : List ℕ) → front ≡ take longest line
-    → (is_shown line && fits_form plug_form front) ≡ false → IsPlug line → is_shown line ≡ true → ⊥
-no_shown_plug front line e none plug shown =
-    no_plug front line e (ap (λ s. s && fits_form plug_form front) (sym shown) ∙ none) plug
+-- no line of a plug, by its first bytes, or one that a run does not show
+no_shown_plug : (front line : List ℕ) (shown : Bool) → front ≡ take longest line
+    → Decides shown (IsShownText line) → (shown && fits_form plug_form front) ≡ false
+    → IsPlug line → IsShownText line → ⊥
+no_shown_plug front line shown e decides none plug is =
+    no_plug front line e (ap (λ s. s && fits_form plug_form front) (sym (decides.1 is)) ∙ none) plug
 
-pub long_refused : (front line : List ℕ) (is_long : Bool) → front ≡ take longest line
+pub long_refused : (front line : List ℕ) (shown is_long : Bool) → front ≡ take longest line
     → is_long ≡ nat_lt longest (length line) → is_long ≡ true
-    → (is_shown line && fits_form plug_form front) ≡ false → IsRunLine line → ⊥
-long_refused front line is_long e long fit none (inl (inl (plug, shown))) =
-    no_shown_plug front line e none plug shown
-long_refused front line is_long e long fit none (inl (inr (few, report))) = let over =
+    → Decides shown (IsShownText line) → (shown && fits_form plug_form front) ≡ false → IsRunLine line → ⊥
+long_refused front line shown is_long e long fit decides none (inl (inl (plug, is))) =
+    no_shown_plug front line shown e decides none plug is
+long_refused front line shown is_long e long fit decides none (inl (inr (few, report))) = let over =
     ltb-true longest (length line) (sym long ∙ fit) in absurd (omega arith)
-long_refused front line is_long e long fit none (inr (a, (few, of))) = let over =
+long_refused front line shown is_long e long fit decides none (inr (a, (few, of))) = let over =
     ltb-true longest (length line) (sym long ∙ fit) in absurd (omega arith)
 
 pub attempt_records : (front line : List ℕ) (is_long : Bool) (a : TracedAttempt)
@@ -382,16 +380,16 @@ attempt_records front line is_long a records e long short of made =
       subst (λ l. IsAttemptLine l a) (short_whole front line e few) of,
     ) made
 
-pub none_refused : (front line : List ℕ) (is_long : Bool) → front ≡ take longest line
+pub none_refused : (front line : List ℕ) (shown is_long : Bool) → front ≡ take longest line
     → is_long ≡ nat_lt longest (length line) → is_long ≡ false
-    → (is_shown line && fits_form plug_form front) ≡ false → has_form report_forms front ≡ false
+    → Decides shown (IsShownText line) → (shown && fits_form plug_form front) ≡ false → has_form report_forms front ≡ false
     → ((a : TracedAttempt) → IsAttemptLine front a → None ≡ Some a) → IsRunLine line → ⊥
-none_refused front line is_long e long short no_p no_r no_a (inl (inl (plug, shown))) =
-    no_shown_plug front line e no_p plug shown
-none_refused front line is_long e long short no_p no_r no_a (inl (inr (few, report))) =
+none_refused front line shown is_long e long short decides no_p no_r no_a (inl (inl (plug, is))) =
+    no_shown_plug front line shown e decides no_p plug is
+none_refused front line shown is_long e long short decides no_p no_r no_a (inl (inr (few, report))) =
     let fit = is_report-complete front (subst IsReport (sym (short_whole front line e few)) report)
     in absurd (cc)
-none_refused front line is_long e long short no_p no_r no_a (inr (a, (few, of))) =
+none_refused front line shown is_long e long short decides no_p no_r no_a (inr (a, (few, of))) =
     let found = no_a a (subst (λ l. IsAttemptLine l a) (sym (short_whole front line e few)) of) in
     absurd (cc)
 

@@ -6,4 +6,5 @@ mod Attempts
 mod Printed
 mod Items
 mod Forms
+mod ShownNames
 mod Captures

@@ -44,7 +44,7 @@ all_spelled-at (suc n) v h lt =
           rw e parts.0
     ]
 
-digit_spelled : (v : ℕ) → v < 16 → (is_digit (slice_index upper_digits v) ≡ true)
+pub digit_spelled : (v : ℕ) → v < 16 → (is_digit (slice_index upper_digits v) ≡ true)
     × (value_of (slice_index upper_digits v) ≡ v)
 digit_spelled v few =
     let both = and_parts (is_digit (slice_index upper_digits v))
@@ -68,7 +68,7 @@ bytes_pair : (h l : ℕ) (done text : List ℕ) → is_digit h ≡ true → is_d
 unfolding bytes_on
 bytes_pair h l done text high low room = rw (high, low, lt-ltb (length done) 64 room) refl
 
-encode_step : (b : ℕ) (bytes : List ℕ) → encode_upper (b ∷ bytes) ≡ slice_index upper_digits
+pub encode_step : (b : ℕ) (bytes : List ℕ) → encode_upper (b ∷ bytes) ≡ slice_index upper_digits
     (b / 16) ∷ slice_index upper_digits (b % 16) ∷ encode_upper bytes
 unfolding encode_with
 encode_step b bytes = refl

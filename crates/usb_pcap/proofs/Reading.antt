@@ -89,7 +89,7 @@ all_stand-at (suc n) c h lt =
 is_digit-few : (c : ℕ) → is_digit c ≡ true → c < 71
 is_digit-few c h = grind (arith, nat_tests)
 
-digit_there : (c : ℕ) → is_digit c ≡ true → (slice_index upper_digits (value_of c) ≡ c)
+pub digit_there : (c : ℕ) → is_digit c ≡ true → (slice_index upper_digits (value_of c) ≡ c)
     × (value_of c < 16)
 digit_there c h =
     let all = all_stand-at 71 c refl (is_digit-few c h) in
@@ -97,7 +97,7 @@ digit_there c h =
     (rw h at all) in
     (eqb-true _ c parts.0, ltb-true (value_of c) 16 parts.1)
 
-encode_upper-pair : (h l : ℕ) → is_digit h ≡ true → is_digit l ≡ true
+pub encode_upper-pair : (h l : ℕ) → is_digit h ≡ true → is_digit l ≡ true
     → encode_upper ((value_of h * 16 + value_of l) ∷ []) ≡ h ∷ l ∷ []
 unfolding encode_with
 encode_upper-pair h l hd ld =

@@ -1,8 +1,6 @@
 -- What a text's pcap file is: its header, and the records of each line in their order.
 use Rattle.std.specs.Prelude.{◌⊎◌, ◌≡◌, ◌≢◌, ℕ, ◌+◌, ◌-◌, ◌^◌, ◌≤◌, nat_lt, min, List, [], ◌∷◌}
-use Rattle.std.specs.Prelude.{◌++◌, length, take, All, Option, Some, None, Result, Ok, Err, Bool}
-use Rattle.std.specs.Prelude.{◌||◌, ◌==◌, not, true}
-use Rattle.std.specs.List.{list_all}
+use Rattle.std.specs.Prelude.{◌++◌, length, take, All, Option, Some, None, Result, Ok, Err}
 use Rattle.arrayvec.specs.ArrayVec.{ArrayVec}
 use Rattle.std.specs.Io.KnownBytes.{Appends}
 use Rattle.usb_bus.specs.{AppendsFront}
@@ -13,6 +11,7 @@ use Rattle.usb_pcap.specs.declared.capturing.PcapFault.TheVariants.{Read, Line a
 use Rattle.usb_pcap.specs.declared.capturing.PcapFault.TheVariants.{Write}
 use Rattle.usb_pcap.specs.Attempt.{IsAttemptLine}
 use Rattle.usb_pcap.specs.Report.{IsPlug, IsReport}
+use Rattle.usb_pcap.specs.Shown.{Begins, IsShownText}
 use Rattle.usb_pcap.specs.Record.{AreRecords, attempt_packets, header}
 
 -- no line of a run is longer, but that of a plug: a configuration of 65535 bytes, and what stands
@@ -20,16 +19,9 @@ use Rattle.usb_pcap.specs.Record.{AreRecords, attempt_packets, header}
 abbrev pub longest : ℕ
 longest = 131200
 
--- a control character of ASCII; `run` writes none but at the end of a line
-abbrev pub is_control_byte : ℕ → Bool
-is_control_byte c = nat_lt c 32 || c == 127
-
-abbrev pub is_shown : List ℕ → Bool
-is_shown line = list_all (λ c. not (is_control_byte c)) line
-
 -- a line of an event, a listing, a transfer or a bound
 abbrev pub IsTold : List ℕ → Type 0
-IsTold line = (IsPlug line × (is_shown line ≡ true)) ⊎ ((length line ≤ longest) × IsReport line)
+IsTold line = (IsPlug line × IsShownText line) ⊎ ((length line ≤ longest) × IsReport line)
 
 abbrev pub IsTraceLine : List ℕ → TracedAttempt → Type 0
 IsTraceLine line a = (length line ≤ longest) × IsAttemptLine line a
@@ -123,7 +115,7 @@ pub record StandsBehind (old new : Option (List ℕ)) (text : List ℕ) (state :
     pub one : All (λ c. c ≢ 10) line
     pub begins : state.front.items ≡ take longest line
     pub long : state.is_long ≡ nat_lt longest (length line)
-    pub shown : state.is_shown ≡ is_shown line
+    pub shown : Begins line state.begun.items
     pub number : state.number ≡ next_number n
 
 -- the records of a line, None where it is none of a run

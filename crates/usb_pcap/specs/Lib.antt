@@ -4,6 +4,7 @@ pub mod Attempt
 pub mod Record
 pub mod Grammar
 pub mod Report
+pub mod Shown
 pub mod Capture
 -- the words of this crate, wherever one stands
 pub use Text.{if_found, is_digit, value_of, with_digit}
@@ -24,9 +25,10 @@ pub use Grammar.{behind_escape, behind_letter, behind_name, behind_path, behind_
 pub use Grammar.{is_plain, piece_of}
 unfoldable pub use Grammar.{behind_item, behind_items, behind_piece, fits_form}
 pub use Report.{HasForm, IsPlug, IsReport, causes, failures, has_form, plug_form, report_forms}
+pub use Shown.{Begins, IsPlainChar, IsShownChar, IsShownText, is_escaped_pair, pair_value}
+unfoldable pub use Shown.{is_escape_of}
 pub use Capture.{Captures, ComesOf, IsCapture, IsRunLine, IsTold, IsTraceLine, LineRecords, OpenEnd}
-pub use Capture.{RecordsOf, RefusedLine, StandsBehind, WroteFront, WroteLines, is_control_byte}
-pub use Capture.{is_shown, longest, next_number}
+pub use Capture.{RecordsOf, RefusedLine, StandsBehind, WroteFront, WroteLines, longest, next_number}
 pub use declared.attempt.TracedAttempt.{TracedAttempt}
 pub use declared.capturing.OpenLine.{OpenLine}
 pub use declared.capturing.PcapFault.{PcapFault}

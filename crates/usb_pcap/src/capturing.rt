@@ -1,13 +1,15 @@
 //! A run's text in, a pcap file out.
-ghost use Rattle.std.specs.Prelude.{◌≡◌, ◌≢◌, ℕ, List, Option, [], ◌∷◌, ◌++◌, length, nat_lt, take, true, false, ◌&&◌, not, Err, IfSome, IsErrOf};
+ghost use Rattle.std.specs.Prelude.{◌≡◌, ◌≢◌, ℕ, List, Option, [], ◌∷◌, ◌++◌, length, nat_lt, take, true, false, ◌&&◌, Decides, Err, IfSome, IsErrOf};
 ghost use Rattle.usb_bus.specs.Watch.{inner_of, has_failed};
-ghost use Rattle.usb_pcap.specs.Capture.{Captures, ComesOf, RecordsOf, StandsBehind, is_control_byte, is_shown, longest};
+ghost use Rattle.usb_pcap.specs.Capture.{Captures, ComesOf, RecordsOf, StandsBehind, longest};
 ghost use Rattle.usb_pcap.specs.Grammar.{fits_form};
 ghost use Rattle.usb_pcap.specs.Report.{plug_form};
+ghost use Rattle.usb_pcap.specs.Shown.{IsShownText};
 
 use crate::attempt::read_attempt;
 use crate::record::{HEADER, Records, records_of};
 use crate::report::{is_plug, is_report};
+use crate::shown::{Begun, take_shown};
 use arrayvec::ArrayVec;
 use std::io::{Read, Write};
 use thiserror::Error;
@@ -42,8 +44,8 @@ pub(crate) struct OpenLine {
     front: ArrayVec<u8, LONGEST>,
     /// Whether it has more.
     is_long: bool,
-    /// Whether none of its bytes is a control character.
-    is_shown: bool,
+    /// The bytes of a character of it that has begun, as a run shows them in a name.
+    begun: Begun,
 }
 
 /// Reads the text of a run, and writes the header of a pcap file and a record for each packet of its attempts.
@@ -85,13 +87,13 @@ impl OpenLine {
         ensures number { result.number ≡ 1 }
         ensures front { result.front.items ≡ [] }
         ensures long { result.is_long ≡ false }
-        ensures shown { result.is_shown ≡ true }
+        ensures begun { result.begun.items ≡ [] }
     {
         OpenLine {
             number: 1,
             front: ArrayVec::new(),
             is_long: false,
-            is_shown: true,
+            begun: Begun::new(),
         }
     }
 
@@ -137,7 +139,7 @@ impl OpenLine {
         if byte == b'\n' {
             return self.close(writer);
         }
-        self.is_shown = shown_after(self.is_shown, byte);
+        take_shown(&mut self.begun, byte);
         if self.front.len() < LONGEST {
             self.front.push(byte);
         } else {
@@ -153,7 +155,8 @@ impl OpenLine {
             → ComesOf w (W.contents (inner_of writer.new)) (text ++ 10 ∷ []) result self.new }
         ensures write { IsErrOf result PcapFault.Write → has_failed writer.new ≡ true }
     {
-        let Some(records) = line_records(self.front.as_slice(), self.is_long, self.is_shown) else {
+        let shown = self.begun.is_empty();
+        let Some(records) = line_records(self.front.as_slice(), self.is_long, shown) else {
             return Err(PcapFault::Line(self.number));
         };
         match put_piece(writer, records.as_slice()) {
@@ -161,7 +164,7 @@ impl OpenLine {
                 self.number = self.number.saturating_add(1);
                 self.front.clear();
                 self.is_long = false;
-                self.is_shown = true;
+                self.begun.clear();
                 Ok(())
             }
             Err(_) => Err(PcapFault::Write),
@@ -169,21 +172,7 @@ impl OpenLine {
     }
 }
 
-/// Whether a byte is a control character of ASCII.
-fn is_control_byte(byte: u8) -> bool
-    ensures { result ≡ is_control_byte byte }
-{
-    byte < 32 || byte == 127
-}
-
-/// Whether none of a line's bytes is a control character, once this one came.
-fn shown_after(shown: bool, byte: u8) -> bool
-    ensures { result ≡ (shown && not (is_control_byte byte)) }
-{
-    shown && !is_control_byte(byte)
-}
-
-/// Whether a line is that of a plug, by its first bytes, and by whether none of its bytes is a control character.
+/// Whether a line is that of a plug, by its first bytes, and by whether it is characters as a run shows them.
 fn is_shown_plug(front: &[u8], shown: bool) -> bool
     ensures { result ≡ (shown && fits_form plug_form front.now) }
 {
@@ -193,7 +182,7 @@ fn is_shown_plug(front: &[u8], shown: bool) -> bool
 /// The records of a line, by its first bytes; None for a line that no run writes.
 fn line_records(front: &[u8], is_long: bool, shown: bool) -> Option<Records>
     ensures { (line : List ℕ) → front.now ≡ take longest line
-        → is_long ≡ nat_lt longest (length line) → shown ≡ is_shown line
+        → is_long ≡ nat_lt longest (length line) → Decides shown (IsShownText line)
         → RecordsOf line result }
 {
     if is_shown_plug(front, shown) {

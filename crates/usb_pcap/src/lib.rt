@@ -11,10 +11,11 @@
 //!   `specs/Attempt.antt`); and the line of each such attempt is read as that attempt (`each`).
 //! - *Lines of no attempt*: a line is taken as one of an event, a listing, a transfer or a bound just where it is, from
 //!   its begin to its end, of one of sixteen forms (`specs/Report.antt`; what their pieces are is
-//!   `specs/Grammar.antt`). All but the line of a plug have at most 131,200 bytes (`longest`); that of a plug has no
-//!   control character of ASCII (`is_shown`), which a run writes as `\u` and its digits. That the lines which
-//!   usb_bus, usb_text and usb_serve print are of these forms is tested on the worked rows (`tools/pcap_rows`), not
-//!   proved.
+//!   `specs/Grammar.antt`). All but the line of a plug have at most 131,200 bytes (`longest`). That of a plug is
+//!   characters as a run shows those of a name, `shown_char` of usb_bus: in UTF-8, but one that may end a line, and the
+//!   backslash, as `\u` and four digits (`IsShownText`, `specs/Shown.antt`); each text of such characters that is not
+//!   empty is a name. That the lines which usb_bus, usb_text and usb_serve print are of these forms is tested on the
+//!   worked rows (`tools/pcap_rows`), not proved.
 //! - *The file* (`capture`, `Captures` of `specs/Capture.antt`), of readers and writers whose bytes are known: where
 //!   all of the text was read, what has gone out is the header and, for each line in its order, the records of its
 //!   attempt's packets, in order and none left out (`attempt_packets`), or none where it is of no attempt. A record is
@@ -33,6 +34,7 @@ mod packet;
 mod part;
 mod record;
 mod report;
+mod shown;
 mod text;
 
 pub use attempt::{TracedAttempt, read_attempt};

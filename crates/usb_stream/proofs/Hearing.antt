@@ -9,9 +9,11 @@ use Rattle.usb_wire.specs.{LineTooLong, WireFault}
 use Rattle.usb_stream.specs.{AnswerLinesRead, AskedWell, AsksNoMore, BadLine, CauseOfHearing}
 use Rattle.usb_stream.specs.{CauseOfLine, FailsOnce, HeardTooMany, HeardUpTo, IsUnheard, Kept}
 use Rattle.usb_stream.specs.{LimitReached, LiveFault}
-use Rattle.usb_stream.specs.{PushesRead, SaidLine, Says, StatusesRead, Write, asking, counted_on}
+use Rattle.usb_stream.specs.{PushesRead, SaidLine, Says, StatusesRead, Write, asking, attempts_in}
+use Rattle.usb_stream.specs.{counted_on}
 use Rattle.usb_stream.specs.{streams}
 use Rattle.usb_stream.specs.declared.fault.LiveFault.TheVariants as fault
+use Rattle.usb_wire.specs.declared.question.Asked.TheVariants as asked
 
 -- a status is a line: the end is none
 said_changed : (a : Asked) (roots : ℕ) (unread left : Pipe) (number : ℕ) (status : List ℕ)
@@ -191,11 +193,18 @@ too_many a pushed fn l r0 r1 all so =
 
 -- ---- a question
 
--- what is heard says nothing of the questions that are left, and of a fault
-up_to_kept : (a : Asked) (r0 r1 : Pipe) (k n : Kept) (f : LiveFault)
-    → HeardUpTo a r0 r1 (record k { left = k.left - 1 }) n f
-    → HeardUpTo a r0 r1 k (record n { fault = Some f }) f
-up_to_kept a r0 r1 k n f h = record {
+-- one question went out
+abbrev pub asked_one : Question → Kept → Kept
+asked_one q k = record k {
+  left = k.left - 1;
+  attempts = k.attempts + attempts_in (kind_asked q) 1;
+}
+
+-- what is heard says nothing of the questions that are left, of attempts, and of a fault
+up_to_kept : (q : Question) (r0 r1 : Pipe) (k n : Kept) (f : LiveFault)
+    → HeardUpTo (kind_asked q) r0 r1 (asked_one q k) n f
+    → HeardUpTo (kind_asked q) r0 r1 k (record n { fault = Some f }) f
+up_to_kept q r0 r1 k n f h = record {
   pushed = h.pushed;
   few = h.few;
   mid = h.mid;
@@ -204,18 +213,24 @@ up_to_kept a r0 r1 k n f h = record {
   lines = h.lines;
 }
 
-hearing_kept : (a : Asked) (r0 r1 : Pipe) (k n : Kept) (f : LiveFault)
-    → CauseOfHearing a r0 r1 (record k { left = k.left - 1 }) n f
-    → CauseOfHearing a r0 r1 k (record n { fault = Some f }) f
-hearing_kept a r0 r1 k n fault.Read h = up_to_kept a r0 r1 k n fault.Read h
-hearing_kept a r0 r1 k n (fault.Line f) h = up_to_kept a r0 r1 k n (fault.Line f) h
-hearing_kept a r0 r1 k n fault.Gone h = up_to_kept a r0 r1 k n fault.Gone h
-hearing_kept a r0 r1 k n fault.TooManyPushes h = record {
+hearing_kept : (q : Question) (r0 r1 : Pipe) (k n : Kept) (f : LiveFault)
+    → CauseOfHearing (kind_asked q) r0 r1 (asked_one q k) n f
+    → CauseOfHearing (kind_asked q) r0 r1 k (record n { fault = Some f }) f
+hearing_kept q r0 r1 k n fault.Read h = up_to_kept q r0 r1 k n fault.Read h
+hearing_kept q r0 r1 k n (fault.Line f) h = up_to_kept q r0 r1 k n (fault.Line f) h
+hearing_kept q r0 r1 k n fault.Gone h = up_to_kept q r0 r1 k n fault.Gone h
+hearing_kept q r0 r1 k n fault.TooManyPushes h = record {
   told = record { text = h.told.text; told = h.told.told; read = h.told.read };
   lines = h.lines;
 }
-hearing_kept a r0 r1 k n Write h = absurd h
-hearing_kept a r0 r1 k n LimitReached h = absurd h
+hearing_kept q r0 r1 k n Write h = absurd h
+hearing_kept q r0 r1 k n LimitReached h = absurd h
+
+none_more : (a : Asked) (n : ℕ) → n ≡ n + attempts_in a 0
+none_more asked.Attempt n = omega arith
+none_more asked.Hello n = omega arith
+none_more asked.Port n = omega arith
+none_more asked.Wait n = omega arith
 
 pub asks_no_more_at_limit : (q : Question) (r : Pipe) (w : OutPipe) (k : Kept) → k.left ≡ 0
     → AsksNoMore q (streams r r w w) k LimitReached (record k { fault = Some LimitReached })
@@ -223,23 +238,25 @@ asks_no_more_at_limit q r w k none = record {
   kept = refl;
   cause = record { none = none; unread = refl; unwritten = refl; statuses = refl; lines = refl };
   spent = omega arith;
+  attempts = none_more (kind_asked q) k.attempts;
   roots = refl;
 }
 
 pub not_written : (q : Question) (r : Pipe) (w0 w1 : OutPipe) (k : Kept)
     → FailsToFlush w0 (asking q) w1 → k.left ≢ 0
-    → AsksNoMore q (streams r r w0 w1) k Write (record k { left = k.left - 1; fault = Some Write })
+    → AsksNoMore q (streams r r w0 w1) k Write (record (asked_one q k) { fault = Some Write })
 not_written q r w0 w1 k torn some = record {
   kept = refl;
   cause = record { torn = torn; unread = refl; statuses = refl; lines = refl };
   spent = omega (arith, some);
+  attempts = refl;
   roots = refl;
 }
 
 asked_well : (q : Question) (r0 r1 : Pipe) (w0 w1 : OutPipe) (k n : Kept) (got : Answer)
     → Flushes w0 (asking q) w1 → k.left ≢ 0 → k.fault ≡ None
-    → AnswerLinesRead (kind_asked q) r0 r1 (record k { left = k.left - 1 }) got n
-    → n ≡ record k { left = k.left - 1; statuses = n.statuses; lines = n.lines }
+    → AnswerLinesRead (kind_asked q) r0 r1 (asked_one q k) got n
+    → n ≡ record (asked_one q k) { statuses = n.statuses; lines = n.lines }
     → AskedWell q (streams r0 r1 w0 w1) k got n
 asked_well q r0 r1 w0 w1 k n got gone some sound h same =
     let fewer : n.left ≡ k.left - 1 = ap (λ (x : Kept). x.left) same in
@@ -254,47 +271,52 @@ asked_well q r0 r1 w0 w1 k n got gone some sound h same =
         lines = h.lines;
       };
       one = omega (arith, some, fewer);
+      attempts = ap (λ (x : Kept). x.attempts) same;
       roots = ap (λ (x : Kept). x.roots) same;
       sound = ap (λ (x : Kept). x.fault) same ∙ sound;
     }
 
 unheard : (q : Question) (r0 r1 : Pipe) (w0 w1 : OutPipe) (k n : Kept) (f : LiveFault)
     → Flushes w0 (asking q) w1
-    → CauseOfHearing (kind_asked q) r0 r1 (record k { left = k.left - 1 }) n f
+    → CauseOfHearing (kind_asked q) r0 r1 (asked_one q k) n f
     → IsUnheard q (streams r0 r1 w0 w1) k f (record n { fault = Some f })
 unheard q r0 r1 w0 w1 k n f gone h =
-    record { written = gone; heard = hearing_kept (kind_asked q) r0 r1 k n f h }
+    record { written = gone; heard = hearing_kept q r0 r1 k n f h }
 
 one_less : (k n : Kept) → k.left ≢ 0 → n.left ≡ k.left - 1 → n.left + 1 ≡ k.left
 one_less k n some fewer = omega (arith, some, fewer)
 
 not_heard : (q : Question) (r0 r1 : Pipe) (w0 w1 : OutPipe) (k n : Kept) (f : LiveFault)
     → Flushes w0 (asking q) w1 → k.left ≢ 0
-    → CauseOfHearing (kind_asked q) r0 r1 (record k { left = k.left - 1 }) n f
-    → n ≡ record k { left = k.left - 1; statuses = n.statuses; lines = n.lines }
+    → CauseOfHearing (kind_asked q) r0 r1 (asked_one q k) n f
+    → n ≡ record (asked_one q k) { statuses = n.statuses; lines = n.lines }
     → AsksNoMore q (streams r0 r1 w0 w1) k f (record n { fault = Some f })
 not_heard q r0 r1 w0 w1 k n fault.Read gone some h same = record {
   kept = refl;
   cause = unheard q r0 r1 w0 w1 k n fault.Read gone h;
   spent = one_less k n some (ap (λ (x : Kept). x.left) same);
+  attempts = ap (λ (x : Kept). x.attempts) same;
   roots = ap (λ (x : Kept). x.roots) same;
 }
 not_heard q r0 r1 w0 w1 k n (fault.Line f) gone some h same = record {
   kept = refl;
   cause = unheard q r0 r1 w0 w1 k n (fault.Line f) gone h;
   spent = one_less k n some (ap (λ (x : Kept). x.left) same);
+  attempts = ap (λ (x : Kept). x.attempts) same;
   roots = ap (λ (x : Kept). x.roots) same;
 }
 not_heard q r0 r1 w0 w1 k n fault.TooManyPushes gone some h same = record {
   kept = refl;
   cause = unheard q r0 r1 w0 w1 k n fault.TooManyPushes gone h;
   spent = one_less k n some (ap (λ (x : Kept). x.left) same);
+  attempts = ap (λ (x : Kept). x.attempts) same;
   roots = ap (λ (x : Kept). x.roots) same;
 }
 not_heard q r0 r1 w0 w1 k n fault.Gone gone some h same = record {
   kept = refl;
   cause = unheard q r0 r1 w0 w1 k n fault.Gone gone h;
   spent = one_less k n some (ap (λ (x : Kept). x.left) same);
+  attempts = ap (λ (x : Kept). x.attempts) same;
   roots = ap (λ (x : Kept). x.roots) same;
 }
 not_heard q r0 r1 w0 w1 k n Write gone some h same = absurd h
@@ -302,10 +324,9 @@ not_heard q r0 r1 w0 w1 k n LimitReached gone some h same = absurd h
 
 pub asks_by : (q : Question) (r0 r1 : Pipe) (w0 w1 : OutPipe) (k n : Kept)
     (result : Result Answer LiveFault) → Flushes w0 (asking q) w1 → k.left ≢ 0 → k.fault ≡ None
-    → IfOk result (λ got. AnswerLinesRead (kind_asked q) r0 r1 (record k { left = k.left - 1 })
-    got n)
-    → IfErr result (CauseOfHearing (kind_asked q) r0 r1 (record k { left = k.left - 1 }) n)
-    → n ≡ record k { left = k.left - 1; statuses = n.statuses; lines = n.lines }
+    → IfOk result (λ got. AnswerLinesRead (kind_asked q) r0 r1 (asked_one q k) got n)
+    → IfErr result (CauseOfHearing (kind_asked q) r0 r1 (asked_one q k) n)
+    → n ≡ record (asked_one q k) { statuses = n.statuses; lines = n.lines }
     → FailsOnce q (streams r0 r1 w0 w1) k result n
 asks_by q r0 r1 w0 w1 k n (Ok got) gone some sound ok err same =
     asked_well q r0 r1 w0 w1 k n got gone some sound ok same

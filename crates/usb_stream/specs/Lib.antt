@@ -4,10 +4,10 @@ pub use Stream.{AnswerLinesRead, AskedWell, AsksCall, AsksNoMore, AsksNoQuestion
 pub use Stream.{AttemptsBy, AttemptsByLine, BadLine, Calls, CauseOf, CauseOfHearing, CauseOfLine}
 pub use Stream.{EndsEarly, FailsByLine, FailsOnce, FailsToRead, GivesAs, HeardTooMany, HeardUpTo}
 pub use Stream.{IsAtLimit, IsUnheard, IsUnwritten, Kept, PushesRead, SaidEnd, SaidLine, Says}
-pub use Stream.{SaysHello, StatusesRead, StreamPipes, WritesLines, asking, bus_fault, counted_on}
-pub use Stream.{data_for, endpoint_of, greeted, greeted_by, kept_of, kept_status, no_world}
-pub use Stream.{outcome_for, question_for, questions, roots_if, streams, unasked, unread_of}
-pub use Stream.{written_of}
+pub use Stream.{SaysHello, StatusesRead, StreamPipes, WritesLines, asking, attempts_in, bus_fault}
+pub use Stream.{counted_on, data_for, endpoint_of, greeted, greeted_by, kept_of, kept_status}
+pub use Stream.{no_world, outcome_for, question_for, questions, roots_if, streams, unasked}
+pub use Stream.{unread_of, written_of}
 pub use declared.bus.StreamBus.{StreamBus}
 pub use declared.fault.LiveFault.{LiveFault}
 pub use declared.fault.LiveFault.TheVariants.{LimitReached, Write}

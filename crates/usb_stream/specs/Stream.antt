@@ -1,6 +1,6 @@
 -- A bus behind a stream of lines: what a question reads and writes, and what is kept of that.
 use Rattle.std.specs.Prelude.{◌≡◌, ◌≢◌, ◌⊎◌, ℕ, zero, suc, ◌+◌, ◌-◌, ◌^◌, min, ◌<◌, ◌≤◌}
-use Rattle.std.specs.Prelude.{nat_lt, Bool, true, false, if◌then◌else◌, List, [], ◌∷◌, ◌++◌, length}
+use Rattle.std.specs.Prelude.{nat_lt, true, false, if◌then◌else◌, List, [], ◌∷◌, ◌++◌, length}
 use Rattle.std.specs.Prelude.{replicate, slice_index_or, slice_set, Option, Some, None, Result, Ok}
 use Rattle.std.specs.Prelude.{Err}
 use Rattle.std.specs.Io.KnownBytes.{IsAtEnd}
@@ -59,12 +59,13 @@ outcome_for most (answer.Clear path) = Nothing
 -- ---- what is kept
 
 -- how many root ports there are, their statuses as they were told last, how many more questions may
--- be asked, how many
--- lines were read, and why nothing is asked any more
+-- be asked, for how many attempts one went out, how many lines were read, and why nothing is asked
+-- any more
 pub record Kept : Type 0 where
   pub roots : ℕ
   pub statuses : List (List ℕ)
   pub left : ℕ
+  pub attempts : ℕ
   pub lines : ℕ
   pub fault : Option LiveFault
 
@@ -73,9 +74,9 @@ kept_of b = record {
   roots = b.roots;
   statuses = b.statuses;
   left = b.left;
+  attempts = b.attempts;
   lines = b.lines;
-  fault =
-      b.fault;
+  fault = b.fault;
 }
 
 -- the reader and the writer of a bus
@@ -209,13 +210,21 @@ CauseOfHearing a unread left old new LimitReached = ⊥
 abbrev pub asking : Question → List ℕ
 asking q = question_line q ++ 10 ∷ []
 
--- a question went out as one line and was flushed, one question less is left, and its answer was
--- heard
+-- how many attempts so many questions of a kind are
+abbrev pub attempts_in : Asked → ℕ → ℕ
+attempts_in asked.Attempt n = n
+attempts_in asked.Hello n = 0
+attempts_in asked.Port n = 0
+attempts_in asked.Wait n = 0
+
+-- a question went out as one line and was flushed, one question less is left, an attempt is counted
+-- where it asks for one, and its answer was heard
 pub record AskedWell (q : Question) (s : StreamPipes) (old : Kept) (got : Answer) (new : Kept) :
     Type 0 where
   pub written : Flushes s.before (asking q) s.now
   pub heard : AnswerLinesRead (kind_asked q) s.unread s.left old got new
   pub one : new.left + 1 ≡ old.left
+  pub attempts : new.attempts ≡ old.attempts + attempts_in (kind_asked q) 1
   pub roots : new.roots ≡ old.roots
   pub sound : new.fault ≡ None
 
@@ -258,12 +267,14 @@ CauseOf q s old new fault.Gone = IsUnheard q s old fault.Gone new
 CauseOf q s old new Write = IsUnwritten q s old new
 CauseOf q s old new LimitReached = IsAtLimit s old new
 
--- a fault is kept, for its cause; one question less is left, but at the limit
+-- a fault is kept, for its cause; one question less is left, and an attempt is counted where it asks
+-- for one, but at the limit
 pub record AsksNoMore (q : Question) (s : StreamPipes) (old : Kept) (f : LiveFault) (new : Kept) :
     Type 0 where
   pub kept : new.fault ≡ Some f
   pub cause : CauseOf q s old new f
   pub spent : new.left + questions f ≡ old.left
+  pub attempts : new.attempts ≡ old.attempts + attempts_in (kind_asked q) (questions f)
   pub roots : new.roots ≡ old.roots
 
 abbrev pub AsksOnce : Question → StreamPipes → Kept → Result Answer LiveFault → Kept → Type 0
@@ -340,6 +351,7 @@ unasked limit = record {
   roots = 1;
   statuses = replicate 7 (replicate 4 0);
   left = limit;
+  attempts = 0;
   lines = 0;
   fault = None;
 }

@@ -5,12 +5,12 @@ ghost use Rattle.usb_wire.specs.Questions.{IsQuestion, kind_asked};
 ghost use Rattle.usb_wire.specs.declared.question.Asked.TheVariants as asked;
 ghost use Rattle.usb_world.specs.PlainAttempts.{attempt_data};
 ghost use Rattle.usb_world.specs.Worlds.{FitsMaximum, IsAttempt};
-ghost use Rattle.usb_stream.specs.Stream.{endpoint_of, outcome_for, question_for};
+ghost use Rattle.usb_stream.specs.Stream.{attempts_in, endpoint_of, outcome_for, question_for};
 
 use arrayvec::ArrayVec;
 use usb_bus::{Attempt, Destination, Outcome};
 use usb_request::Setup;
-use usb_wire::{Answer, DataPacket, Endpoint, Question};
+use usb_wire::{Answer, Asked, DataPacket, Endpoint, Question};
 
 /// The question for an attempt.
 pub(crate) fn question_for(attempt: &Attempt) -> Question
@@ -39,6 +39,16 @@ pub(crate) fn question_for(attempt: &Attempt) -> Question
             endpoint,
             most: to.max,
         },
+    }
+}
+
+/// How many attempts a question of this kind asks for.
+pub(crate) fn attempts_in(asked: Asked) -> u64
+    ensures { result ≡ attempts_in asked 1 }
+{
+    match asked {
+        Asked::Attempt => 1,
+        Asked::Hello | Asked::Port | Asked::Wait => 0,
     }
 }
 

@@ -1,5 +1,5 @@
 //! The bus behind a stream of lines.
-ghost use Rattle.std.specs.Prelude.{◌≡◌, ◌≢◌, ◌-◌, ◌≤◌, ◌∷◌, ◌++◌, [], slice_set, IfErr, IfOk, None, Some, Ok, Err, option_map};
+ghost use Rattle.std.specs.Prelude.{◌≡◌, ◌≢◌, ◌+◌, ◌-◌, ◌^◌, ◌<◌, ◌≤◌, ◌∷◌, ◌++◌, [], slice_set, IfErr, IfOk, None, Some, Ok, Err, option_map};
 ghost use Rattle.usb_bus.specs.Traces.{Spends};
 ghost use Rattle.usb_lines.specs.Pipes.{out_pipe_of, pipe_of};
 ghost use Rattle.usb_port.specs.Calls.{IsClearFeature, IsSetFeature, clear_call, set_call};
@@ -8,7 +8,7 @@ ghost use Rattle.usb_world.specs.Worlds.{FitsMaximum, IsAttempt};
 ghost use Rattle.usb_wire.specs.Questions.{IsQuestion, kind_asked, question_line};
 ghost use Rattle.usb_wire.specs.declared.question.Question.TheVariants as question;
 
-use crate::asked::{outcome_for, question_for};
+use crate::asked::{attempts_in, outcome_for, question_for};
 use crate::fault::{LiveFault, bus_fault};
 use arrayvec::ArrayVec;
 use std::io::{Read, Write};
@@ -33,11 +33,14 @@ pub struct StreamBus<R, W> {
     statuses: [[u8; 4]; 7],
     /// How many more questions may be asked.
     left: u64,
+    /// For how many attempts a question went out, or a front of one.
+    attempts: u64,
     /// How many lines were read, up to the greatest `u64`.
     lines: u64,
     fault: Option<LiveFault>,
     ghost some_root: { 1 ≤ roots },
     ghost few_roots: { roots ≤ 7 },
+    ghost few_attempts: { attempts + left < 2 ^ 64 },
 }
 
 impl<R, W> StreamBus<R, W> {
@@ -64,7 +67,7 @@ impl<R: Read, W: Write> Bus for StreamBus<R, W> {
 
     ghost trace = { λ bus. None };
 
-    ghost spent = { λ bus. 0 };
+    ghost spent = { λ bus. (kept_of bus).attempts };
 
     ghost failed = { λ bus. option_map bus_fault (kept_of bus).fault };
 
@@ -83,7 +86,8 @@ impl<R: Read, W: Write> Bus for StreamBus<R, W> {
             (written_of W.contents self.old) (written_of W.contents self.new))
             (kept_of self.old) result (kept_of self.new) }
         ensures fits { IfOk result (FitsMaximum (attempt_data attempt.now).max) }
-        ensures spends { Spends (λ bus. 0) (λ bus. (kept_of bus).roots) 1 self.old self.new }
+        ensures spends { Spends (λ bus. (kept_of bus).attempts) (λ bus. (kept_of bus).roots) 1
+            self.old self.new }
         ensures told { IfErr result (λ fault.
             option_map bus_fault (kept_of self.new).fault ≡ Some fault) }
     {
@@ -117,7 +121,8 @@ impl<R: Read, W: Write> Bus for StreamBus<R, W> {
             (streams (unread_of R.remaining self.old) (unread_of R.remaining self.new)
             (written_of W.contents self.old) (written_of W.contents self.new))
             (kept_of self.old) (kept_of self.new) }
-        ensures unspent { Spends (λ bus. 0) (λ bus. (kept_of bus).roots) 0 self.old self.new }
+        ensures unspent { Spends (λ bus. (kept_of bus).attempts) (λ bus. (kept_of bus).roots) 0
+            self.old self.new }
     {
         if let Some(call) = PortCall::of_set(feature) {
             self.call(port, call);
@@ -131,7 +136,8 @@ impl<R: Read, W: Write> Bus for StreamBus<R, W> {
             (streams (unread_of R.remaining self.old) (unread_of R.remaining self.new)
             (written_of W.contents self.old) (written_of W.contents self.new))
             (kept_of self.old) (kept_of self.new) }
-        ensures unspent { Spends (λ bus. 0) (λ bus. (kept_of bus).roots) 0 self.old self.new }
+        ensures unspent { Spends (λ bus. (kept_of bus).attempts) (λ bus. (kept_of bus).roots) 0
+            self.old self.new }
     {
         if let Some(call) = PortCall::of_clear(feature) {
             self.call(port, call);
@@ -146,7 +152,7 @@ impl<R: Read, W: Write> Bus for StreamBus<R, W> {
 }
 
 impl<R: Read, W: Write> StreamBus<R, W> {
-    ghost use Rattle.usb_stream.specs.Stream.{AsksOnce, Calls, CauseOfHearing, CauseOfLine, FailsOnce, AnswerLinesRead, SaysHello, Says, WritesLines, bus_fault, counted_on, greeted, kept_of, streams, unread_of, written_of};
+    ghost use Rattle.usb_stream.specs.Stream.{AsksOnce, Calls, CauseOfHearing, CauseOfLine, FailsOnce, AnswerLinesRead, SaysHello, Says, WritesLines, attempts_in, bus_fault, counted_on, greeted, kept_of, streams, unread_of, written_of};
     ghost use Rattle.usb_stream.specs.declared.fault.LiveFault.{LiveFault as AFault};
 
     /// Says the hello to a far end, which tells how many root ports there are; at most so many questions are asked in
@@ -164,6 +170,7 @@ impl<R: Read, W: Write> StreamBus<R, W> {
             roots: 1,
             statuses: [[0; 4]; 7],
             left: limit,
+            attempts: 0,
             lines: 0,
             fault: None,
         };
@@ -209,6 +216,13 @@ impl<R: Read, W: Write> StreamBus<R, W> {
         ensures { result ≡ (kept_of self.now).left }
     {
         self.left
+    }
+
+    /// How many attempts were asked for: each whose question went out, or a front of it, answered or not.
+    pub fn attempts(&self) -> u64
+        ensures { result ≡ (kept_of self.now).attempts }
+    {
+        self.attempts
     }
 
     /// Asks what is wanted.
@@ -258,6 +272,7 @@ impl<R: Read, W: Write> StreamBus<R, W> {
             (written_of W.contents self.old) (written_of W.contents self.new))
             (kept_of self.old) (kept_of self.new) }
         ensures roots { self.new.roots ≡ self.old.roots }
+        ensures attempts { self.new.attempts ≤ self.old.attempts }
     {
         if port < 1 || port > self.roots {
             return;
@@ -275,6 +290,8 @@ impl<R: Read, W: Write> StreamBus<R, W> {
             (written_of W.contents self.old) (written_of W.contents self.new))
             (kept_of self.old) result (kept_of self.new) }
         ensures roots { self.new.roots ≡ self.old.roots }
+        ensures attempts { self.new.attempts
+            ≤ self.old.attempts + attempts_in (kind_asked question.now) 1 }
     {
         if let Some(fault) = self.fault {
             return Err(fault);
@@ -292,18 +309,22 @@ impl<R: Read, W: Write> StreamBus<R, W> {
     fn exchange(&mut self, question: &Question) -> Result<Answer, LiveFault>
         requires asks { IsQuestion question.now }
         requires sound { (kept_of self.old).fault ≡ None }
-        ensures { FailsOnce question.now
+        ensures asked { FailsOnce question.now
             (streams (unread_of R.remaining self.old) (unread_of R.remaining self.new)
             (written_of W.contents self.old) (written_of W.contents self.new))
             (kept_of self.old) result (kept_of self.new) }
+        ensures attempts { self.new.attempts
+            ≤ self.old.attempts + attempts_in (kind_asked question.now) 1 }
     {
         if self.left == 0 {
             return Err(LiveFault::LimitReached);
         }
+        let asked = question.asked();
         self.left -= 1;
+        self.attempts += attempts_in(asked);
         let line = line_for(question);
         match put_lines(&mut self.writer, line.as_slice()) {
-            Ok(()) => self.hear(question.asked()),
+            Ok(()) => self.hear(asked),
             Err(_) => Err(LiveFault::Write),
         }
     }

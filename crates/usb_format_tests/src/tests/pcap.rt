@@ -128,6 +128,9 @@ const REPORTS: &[&str] = &[
     "plug 1.2.3.4.5.6.7 two words ",
     "plug 1 a\\u0009b",
     "plug 1 ma\u{f6}se",
+    "plug 1 \\u0000\\u001F\\u005C\\u007F\\u0080\\u009F\\u2028\\u2029",
+    "plug 1 \\u005Cu0041",
+    "plug 1 ~\u{a0}\u{7ff}\u{800}\u{2027}\u{202a}\u{ffff}\u{10000}\u{10ffff}",
     "unplug 7",
     "listing 0",
     "end",
@@ -159,6 +162,19 @@ const OTHERS: &[&str] = &[
     "plug 1 a\tb",
     "plug 1 \u{7f}",
     "plug 1 a\r",
+    "plug 1 \u{80}",
+    "plug 1 a\u{85}b",
+    "plug 1 \u{9f}",
+    "plug 1 \u{2028}",
+    "plug 1 a\u{2029}",
+    "plug 1 \\",
+    "plug 1 a\\b",
+    "plug 1 \\u0041",
+    "plug 1 \\u005c",
+    "plug 1 \\u00A0",
+    "plug 1 \\u202A",
+    "plug 1 \\u200",
+    "plug 1 \\u200\u{e9}",
     "plug 1.1.1.1.1.1.1.1 a",
     "unplug 1 ",
     "unplug",
@@ -205,12 +221,45 @@ fn reports(rt: HostRuntime) -> Result<(), Fail> {
     Ok(())
 }
 
+/// Names that are no text, since their bytes are no UTF-8.
+const NO_TEXTS: &[&[u8]] = &[
+    b"\x80",
+    b"a\xbf",
+    b"\xc0\x8a",
+    b"\xc3",
+    b"\xc3\xc3\xb6",
+    b"\xe2\x82",
+    b"\xe2\x82a",
+    b"\xed\xa0\x80",
+    b"\xf0\x9f\x94",
+    b"\xf4\x90\x80\x80",
+    b"\xff",
+];
+
+#[test]
+fn no_texts(rt: HostRuntime) -> Result<(), Fail> {
+    for name in NO_TEXTS {
+        let mut line = Vec::new(rt.alloc());
+        line.extend_from_slice(b"plug 1 ")?;
+        line.extend_from_slice(name)?;
+        line.push(b'\n')?;
+        let mut reader = Watched::new(line.as_slice());
+        let mut writer = Watched::new(Vec::new(rt.alloc()));
+        let fault = capture(&mut reader, &mut writer).err();
+        assert_eq!(rt; fault, Some(PcapFault::Line(1)), "{name:?}");
+    }
+    Ok(())
+}
+
 /// The name of a device may have any length, a configuration 65,535 bytes; a line of an attempt is short.
 #[test]
 fn long_lines(rt: HostRuntime) -> Result<(), Fail> {
     for (begin, piece, times, fault) in [
         ("plug 1 ", "n", 200_000u32, None),
+        ("plug 1 n", "\u{10ffff}", 100_000, None),
+        ("plug 1 n", "\\u2028", 50_000, None),
         ("plug 1 n", "\u{b}", 200_000, Some(PcapFault::Line(1))),
+        ("plug 1 n", "\\", 200_000, Some(PcapFault::Line(1))),
         ("1.2.3.4.5.6.7 config 7 ", "0A", 65_535, None),
         ("1 config 0 ", "0A", 66_000, Some(PcapFault::Line(1))),
         ("1 IN 0.0 / NAK", " ", 200_000, Some(PcapFault::Line(1))),

@@ -1,23 +1,15 @@
-use Rattle.std.proofs.Common.{◌≡◌, ◌∙◌, ◌&&◌, Bool, List, ℕ, ap, sym}
-use Rattle.usb_pcap.specs.{fits_form, is_shown, plug_form}
+use Rattle.std.proofs.Common.{◌∙◌, sym}
 use Rattle.usb_pcap.proofs.Captures.{attempt_records, long_refused, none_refused, plug_records}
 use Rattle.usb_pcap.proofs.Captures.{report_records}
 use Rattle.usb_pcap.proofs.capturing.line_records.Goals as goal
 
--- whether the whole line shows no control character is known by the mark
-marked : (line front : List ℕ) (shown result is : Bool) → shown ≡ is_shown line
-    → result ≡ (shown && fits_form plug_form front) → result ≡ is
-    → (is_shown line && fits_form plug_form front) ≡ is
-marked line front shown result is same made at =
-    ap (λ s. s && fits_form plug_form front) (sym same) ∙ sym made ∙ at
-
 pub returns-then-is_shown_plug : goal.returns-then-is_shown_plug
-returns-then-is_shown_plug c = λ line e long shown. plug_records _ line _ e
-    (marked line _ _ _ _ shown c.is_shown_plug.ensures c.if-is_shown_plug.true) c.new.ensures
+returns-then-is_shown_plug c = λ line e long shown. plug_records _ line _ _ e
+    shown (sym c.is_shown_plug.ensures ∙ c.if-is_shown_plug.true) c.new.ensures
 
 pub returns-then-is_long : goal.returns-then-is_long
-returns-then-is_long c = λ line e long shown. long_refused _ line _ e long c.if-is_long.true
-    (marked line _ _ _ _ shown c.is_shown_plug.ensures c.if-is_shown_plug.false)
+returns-then-is_long c = λ line e long shown. long_refused _ line _ _ e long c.if-is_long.true
+    shown (sym c.is_shown_plug.ensures ∙ c.if-is_shown_plug.false)
 
 pub returns-then-is_report : goal.returns-then-is_report
 returns-then-is_report c = λ line e long shown. report_records _ line _ _ e long c.if-is_long.false
@@ -29,6 +21,6 @@ returns-in-Some c = λ line e long shown. attempt_records _ line _ _ _ e long c.
 
 pub returns-in-None : goal.returns-in-None
 returns-in-None c = λ line e long shown.
-    none_refused _ line _ e long c.if-is_long.false
-    (marked line _ _ _ _ shown c.is_shown_plug.ensures c.if-is_shown_plug.false)
+    none_refused _ line _ _ e long c.if-is_long.false
+    shown (sym c.is_shown_plug.ensures ∙ c.if-is_shown_plug.false)
     (sym c.is_report.ensures ∙ c.if-is_report.false) c.in-None.ensures.each
