@@ -124,11 +124,12 @@ const FAULTS: &[Row] = &[
     },
 ];
 
-/// What was asked of a far end, what it gave, and why no more was asked.
+/// What was asked of a far end, what it gave, how many attempts were counted, and why no more was asked.
 #[derive(Drop)]
 struct Played {
     host: Vec<u8>,
     given: String,
+    attempts: u64,
     fault: Option<LiveFault>,
 }
 
@@ -245,11 +246,13 @@ fn play<R: Read + Drop>(
     if bus.tell(b"listing 1\nend\n").is_ok() {
         given.push_str("told; ")?;
     }
+    let attempts = bus.attempts();
     let fault = bus.fault();
     let (_reader, writer) = bus.into_ends();
     Ok(Played {
         host: writer.into_inner().taken,
         given,
+        attempts,
         fault,
     })
 }
@@ -293,6 +296,11 @@ fn newlines(text: &[u8]) -> usize {
     text.iter().filter(|byte| **byte == b'\n').count()
 }
 
+/// How many of the first lines of `HOST` ask for attempts: its second to its fifth do.
+fn attempts_of(lines: usize) -> u64 {
+    lines.clamp(1, 5) as u64 - 1
+}
+
 #[test]
 fn courses(rt: HostRuntime) -> Result<(), Fail> {
     let whole = play(rt.alloc(), FAR.as_bytes(), u64::MAX, 9)?;
@@ -302,6 +310,7 @@ fn courses(rt: HostRuntime) -> Result<(), Fail> {
         let played = play(rt.alloc(), row.far.as_bytes(), u64::MAX, row.limit)?;
         assert_eq!(rt; played.fault, row.fault, "{}", row.far);
         assert_eq!(rt; newlines(played.host.as_slice()), row.lines, "{}", row.far);
+        assert_eq!(rt; played.attempts, attempts_of(row.lines), "{}", row.far);
     }
     Ok(())
 }
@@ -330,13 +339,14 @@ fn cut(rt: HostRuntime) -> Result<(), Fail> {
     Ok(())
 }
 
-/// Each write fails in turn: no more than the questions before it has gone out.
+/// Each write fails in turn: no more than the questions before it has gone out. The one that it cuts counts.
 #[test]
 fn writes(rt: HostRuntime) -> Result<(), Fail> {
     for writes in 0..9usize {
         let played = play(rt.alloc(), FAR.as_bytes(), writes as u64, 9)?;
         assert_eq!(rt; played.fault, Some(LiveFault::Write), "{writes} writes");
         assert_eq!(rt; newlines(played.host.as_slice()), writes, "{writes} writes");
+        assert_eq!(rt; played.attempts, attempts_of(writes + 1), "{writes} writes");
         assert!(rt;
             HOST.as_bytes().starts_with(played.host.as_slice()),
             "{writes} writes"
