@@ -29,8 +29,8 @@ module _ {d : HostState} (number : ℕ) {status : PortStatus} where
   disabled_after (first_failed fault y e) = absurd (cc e)
   disabled_after (next_done done h y w) = told_status (Ok status) refl w.0
 
-  read_clear : {a : HostState} → IsRootPort a.world number → ClearsAndAsks (Root number) a (Ok status) d
-      → status.connection_changed ≡ false
+  read_clear : {a : HostState} → IsRootPort a.world number
+      → ClearsAndAsks (Root number) a (Ok status) d → status.connection_changed ≡ false
   read_clear is (first_failed fault y e) = absurd (cc e)
   read_clear is (next_done done b y (first_failed fault z e)) = absurd (cc e)
   read_clear {a = a} is (next_done done b y (next_done s c z w)) =

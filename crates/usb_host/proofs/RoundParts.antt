@@ -146,7 +146,7 @@ module _ {hub : List ℕ} {answer : Result (Option (ArrayVec ℕ)) PipeFault} (a
 
   pub hub_stays : HostInvariant a → a.world.fault ≡ None → StaysWhere (Unit {0}) a b
   hub_stays s before = where_polled hub a b answer through asks
-      (λ so. keeps.spares (s.owned.so before) (s.level before hub))
+      (keeps.spares (s.owned.so before) (s.level before hub))
 
   pub hub_bulk : HostInvariant a → b.world.fault ≡ None → KeepsBulk a b
   hub_bulk s still =

@@ -1,6 +1,7 @@
 -- What the parts of a round leave of bulk pipes, and of the bulk endpoints at their other ends.
-use Rattle.std.specs.Prelude.{◌≡◌, ◌⊎◌, ℕ, List, true, false, Some}
+use Rattle.std.specs.Prelude.{◌≡◌, ◌≢◌, ◌⊎◌, ℕ, List, true, false, Some}
 use Rattle.usb_device.specs.{rested, State, Location, path_to, reach, reach_on, state_on}
+use Rattle.usb_tree.specs.{address_of}
 use Rattle.usb_world.specs.{EachWas, Was, AnyStep, Course, World}
 use Rattle.usb_hub.specs.{ControlCourse, TouchesNoPort}
 use Rattle.usb_enum.specs.{Accepted}
@@ -21,6 +22,12 @@ pub record SameBulk (pipes others : Pipes) : Type 0 where
 abbrev pub EndpointsStayed : List ℕ → World → World → Type 0
 EndpointsStayed path old new = (x : Location) (s : State) → path ≡ path_to x
     → reach_on new.roots x ≡ true → state_on new.roots x ≡ Some s → Was SparesBulk old x s
+
+-- the same where it has an address
+abbrev pub NamedEndpointsStayed : List ℕ → World → World → Type 0
+NamedEndpointsStayed path old new = (x : Location) (s : State) → path ≡ path_to x
+    → reach_on new.roots x ≡ true → state_on new.roots x ≡ Some s → address_of s ≢ 0
+    → Was SparesBulk old x s
 
 -- its bulk endpoints have begun again
 abbrev pub EndpointsBegan : List ℕ → World → Type 0
@@ -69,13 +76,14 @@ pub record KeepsBulk (old new : HostState) : Type 0 where
 
 -- When the host stopped
 
--- an accepted device that is still listed was listed before, with the same bulk pipes; under this
--- premise their endpoints are as they were
+-- an accepted device that is still listed was listed before, with the same bulk pipes; where it has
+-- an address, and under this premise at all, their endpoints are as they were
 pub record StayedWhere (So : Type 0) (path : List ℕ) (device : Accepted) (old new : HostState)
     : Type 0 where
   pub listed : accepted_device_at path old.entries ≡ Some device
   pub pipes : SameBulk (pipes_at path (table_in old)) (pipes_at path (table_in new))
   pub endpoints : So → EndpointsStayed path old.world new.world
+  pub named : NamedEndpointsStayed path old.world new.world
 
 -- so it is of each
 pub record StaysWhere (So : Type 0) (old new : HostState) : Type 0 where

@@ -34,6 +34,7 @@ pub use Budget.{ToldPaid, Weights, WorksOn, debt, event_weight, handling_most, h
 pub use Budget.{hubs_most, idle, look_weight, paid, poll_most, stray_weight, told_most}
 pub use Discoveries.{EntersFound, FindsAnew}
 pub use BulkPipes.{EndpointsBegan, EndpointsStayed, KeepsBulk, RenewedAt, SameBulk, StayedAt}
+pub use BulkPipes.{NamedEndpointsStayed}
 pub use BulkPipes.{MovesNoBulk, StayedWhere, StaysWhere, by_both, by_control, by_rest}
 pub use Cuts.{CutAt, ForgetsOnWay, StaysOrForgets}
 pub use PortHandling.{ClearsChange, Climbs, Decides, Disabled, DisablesOnWay, DropsLost, FindsSound}

@@ -11,6 +11,8 @@ use usb_bus::Bus;
 pub(crate) struct LeftPorts<B: Bus> {
     // by the port's number, 1 to 7
     at: [Option<[u8; 4]>; 8],
+    // the status of a port, not left alone, that did not fit what was found there
+    tried: [Option<[u8; 4]>; 8],
     bus: PhantomData<B>,
 }
 
@@ -32,6 +34,7 @@ impl<B: Bus> LeftPorts<B> {
     {
         LeftPorts {
             at: [None; 8],
+            tried: [None; 8],
             bus: PhantomData,
         }
     }
@@ -65,6 +68,34 @@ impl<B: Bus> LeftPorts<B> {
     {
         if number < 8 {
             self.at[usize::from(number)] = Some(status);
+        }
+    }
+
+    /// Whether a port showed this status before, and it did not fit what was found there.
+    pub(crate) fn was_tried(&self, number: u8, status: [u8; 4]) -> bool {
+        match self.tried.get(usize::from(number)) {
+            Some(tried) => *tried == Some(status),
+            None => false,
+        }
+    }
+
+    /// Notes that a port shows this status, which does not fit what was found there.
+    pub(crate) fn note(&mut self, number: u8, status: [u8; 4])
+        ensures { self.new ≡ self.old }
+    {
+        if number < 8 {
+            self.tried[usize::from(number)] = Some(status);
+        }
+    }
+
+    /// Leaves a port alone no longer, which shows this status.
+    pub(crate) fn shows(&mut self, number: u8, status: [u8; 4])
+        ensures value { self.new ≡ slice_set self.old number None }
+        ensures none { B.modelled ≡ true → self.new ≡ self.old }
+    {
+        self.forget(number);
+        if number < 8 && !self.was_tried(number, status) {
+            self.tried[usize::from(number)] = None;
         }
     }
 

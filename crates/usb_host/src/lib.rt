@@ -50,7 +50,8 @@
 //!   done does it, and stopped there (`PartsFail`, `specs/Service.antt`; `StopsIn`, `specs/HostCalls.antt`). It enters
 //!   nothing there. It forgets at most what the host knew at that port, or at a hub on its way, and below it (`CutAt`,
 //!   `specs/Cuts.antt`); a poll that fails changes no entry. Each device that is still listed keeps its bulk pipes. Its
-//!   bulk endpoints are as they were if the bus still works; if the bus failed at a port, nothing is said of them.
+//!   bulk endpoints are as they were if the bus still works; if the bus failed at a port, those of each that has an
+//!   address are.
 //! - A round leaves bulk pipes, and the bulk endpoints at their other ends with all that they took and gave, as they
 //!   were, for each accepted device that stays listed. Else the device was found anew: at a moment of the round none
 //!   was reached there, its pipes are new, and its bulk endpoints have begun again (`KeepsBulk`,

@@ -54,7 +54,7 @@ impl<B: Bus> Host<B> {
         if self.left.has_at(number, status) {
             return false;
         }
-        self.left.forget(number);
+        self.left.shows(number, status);
         PortStatus::from_bytes(status).connection_changed
     }
 
@@ -75,8 +75,8 @@ impl<B: Bus> Host<B> {
     }
 
     /// Leaves a root port alone at the status that it shows, where that tells the change and fits what was found:
-    /// something is connected or nothing, as it was, and the port of an accepted device is enabled. Else a change that
-    /// it tells is looked at in the next round.
+    /// something is connected or nothing, as it was, and the port of an accepted device is enabled. Else the next
+    /// round looks once more; a status that does not fit then either is the port's for good.
     fn leave_root(&mut self, number: u8, connected: bool, has_device: bool)
         requires { B.modelled ≡ false }
         ensures { OnlyLeaves B.modelled self.old self.new }
@@ -87,10 +87,13 @@ impl<B: Bus> Host<B> {
         let status = self.bus.root_status(number);
         let shown = PortStatus::from_bytes(status);
         let fits = shown.connected == connected && (shown.enabled || !has_device);
-        if shown.connection_changed && fits {
+        if !shown.connection_changed {
+            self.left.forget(number);
+        } else if fits || self.left.was_tried(number, status) {
             self.left.leave(number, status);
         } else {
             self.left.forget(number);
+            self.left.note(number, status);
         }
     }
 

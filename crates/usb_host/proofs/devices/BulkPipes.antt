@@ -12,7 +12,8 @@ use Rattle.usb_world.proofs.Interface.{course_joined, each_wider, way_itself}
 use Rattle.usb_tree.proofs.Interface.{decided}
 use Rattle.usb_address.specs.{MapHolds}
 use Rattle.usb_pipe.specs.{PipeFault}
-use Rattle.usb_hub.specs.{ControlCourse, StaysAs, EachElsewhere, KeepsDevices, TouchesNoPort}
+use Rattle.usb_hub.specs.{ControlCourse, StaysAs, EachElsewhere, EachNamedElsewhere, KeepsDevices}
+use Rattle.usb_hub.specs.{TouchesNoPort}
 use Rattle.usb_enum.specs.{Cause, Accepted, Finding}
 use Rattle.usb_enum.specs.declared.finding.Finding.TheVariants.{Device, Refused}
 use Rattle.usb_enum.proofs.Interface.{went_course, went_sound}
@@ -23,7 +24,8 @@ use Rattle.usb_table.specs.{entered, pipes_at, PipesPolled}
 use Rattle.usb_table.proofs.Interface.{path_tied, pipes_at-entered, pipes_at-entered_elsewhere}
 use Rattle.usb_table.proofs.Interface.{spares-same, spares-stage, spares-then}
 use Rattle.usb_host.specs.{SameBulk, EndpointsStayed, EndpointsBegan, StayedAt, RenewedAt}
-use Rattle.usb_host.specs.{MovesNoBulk, StaysWhere, by_both, by_control, by_rest}
+use Rattle.usb_host.specs.{MovesNoBulk, NamedEndpointsStayed, StaysWhere, by_both, by_control}
+use Rattle.usb_host.specs.{by_rest}
 use Rattle.usb_host.specs.{KeepsBulk, HostState, claims, HostSteps, OnlyBusSteps, table_in}
 use Rattle.usb_host.proofs.entries.Agreements.{lookup-insert_entry_elsewhere}
 use Rattle.usb_host.proofs.entries.EntryClaims.{lookup-insert_entry_here}
@@ -77,6 +79,31 @@ stayed_joined path w u v first second x s is on stands =
       on = early.on;
       stands = early.stands;
       so = spares-then x early.before late.before s early.so late.so;
+    }
+
+named_joined : (path : List ℕ) (w u v : World) → NamedEndpointsStayed path w u
+    → NamedEndpointsStayed path u v → NamedEndpointsStayed path w v
+named_joined path w u v first second x s is on stands has =
+    let late : Was SparesBulk u x s = second x s is on stands has in
+    let same : address_of s ≡ address_of late.before = ap address_of late.so in
+    let early : Was SparesBulk w x late.before =
+    first x late.before is late.on late.stands (λ none. has (same ∙ none)) in
+    record {
+      before = early.before;
+      on = early.on;
+      stands = early.stands;
+      so = spares-then x early.before late.before s early.so late.so;
+    }
+
+named_elsewhere : (first path : List ℕ) (w v : World) → EachNamedElsewhere first StaysAs w v
+    → is_way first path ≡ false → NamedEndpointsStayed path w v
+named_elsewhere first path w v each away x s is on stands has =
+    let was : Was StaysAs w x s = each x s (ap (is_way first) (sym is) ∙ away) on stands has in
+    record {
+      before = was.before;
+      on = was.on;
+      stands = was.stands;
+      so = spares-stage x was.before s was.so;
     }
 
 stayed_elsewhere : (first path : List ℕ) (w v : World) → EachElsewhere first StaysAs w v
@@ -148,12 +175,13 @@ where_stays a b so x = record {
 -- entries and bulk pipes are as they were
 where_same : {So : Type 0} {a b : HostState} → b.entries ≡ a.entries
     → ((path : List ℕ) → SameBulk (pipes_at path (table_in a)) (pipes_at path (table_in b)))
-    → (So → EachWas SparesBulk a.world b.world) → StaysWhere So a b
+    → EachWas SparesBulk a.world b.world → StaysWhere So a b
 where_same same pipes each = record {
   each = λ path device at. record {
     listed = ap (λ (es : Entries). accepted_device_at path es) (sym same) ∙ at;
     pipes = pipes path;
-    endpoints = λ so x s is on stands. each so x s on stands;
+    endpoints = λ so x s is on stands. each x s on stands;
+    named = λ x s is on stands has. each x s on stands;
   };
 }
 
@@ -161,7 +189,7 @@ stay_same : {a b : HostState} → b.entries ≡ a.entries
     → ((path : List ℕ) → SameBulk (pipes_at path (table_in a)) (pipes_at path (table_in b)))
     → EachWas SparesBulk a.world b.world → AllStay a b
 stay_same {a} {b} same pipes each =
-    where_stays a b tt (where_same {So = Unit {0}} same pipes (λ so. each))
+    where_stays a b tt (where_same {So = Unit {0}} same pipes each)
 
 -- only the world goes on, and devices stay as they were
 pub stay_rests : (a b : HostState) → OnlyBusSteps a b → KeepsDevices a.world b.world
@@ -176,7 +204,7 @@ stay_rests a b r devices single =
 pub where_polled : {So : Type 0} (hub : List ℕ) (a b : HostState)
     (result : Result (Option (ArrayVec ℕ)) PipeFault) → GoesThrough hub (table_in a) (table_in b)
     → PipesPolled (pipes_at hub (table_in a)) a.world result (pipes_at hub (table_in b)) b.world
-    → (So → EachWas SparesBulk a.world b.world) → StaysWhere So a b
+    → EachWas SparesBulk a.world b.world → StaysWhere So a b
 where_polled hub a b result goes polled each =
     where_same goes.entries (λ path. pick path (is_at (path_cmp hub) path) refl) each
   where
@@ -229,6 +257,7 @@ stays_where a b x = record {
     listed = y.listed;
     pipes = y.pipes;
     endpoints = λ so. y.endpoints;
+    named = λ x s is on stands has. y.endpoints x s is on stands;
   };
 }
 
@@ -244,14 +273,16 @@ where_joined a b c back x y = record {
         endpoints = λ so.
             stayed_joined path a.world b.world c.world (early.endpoints (back so))
             (late.endpoints so);
+        named = named_joined path a.world b.world c.world early.named late.named;
       };
 }
 
 -- nothing is entered at a path of which nothing was listed
 pub where_unfound : {So : Type 0} (first : List ℕ) (a b : HostState) → b.entries ≡ a.entries
     → b.pipes ≡ a.pipes → has_at first a.entries ≡ false
-    → (So → EachElsewhere first StaysAs a.world b.world) → StaysWhere So a b
-where_unfound first a b same pipes_same gone each = record {
+    → (So → EachElsewhere first StaysAs a.world b.world)
+    → EachNamedElsewhere first StaysAs a.world b.world → StaysWhere So a b
+where_unfound first a b same pipes_same gone each named = record {
   each = λ path device at.
       let listed : accepted_device_at path a.entries ≡ Some device =
       ap (λ (es : Entries). accepted_device_at path es) (sym same) ∙ at in
@@ -261,6 +292,8 @@ where_unfound first a b same pipes_same gone each = record {
         listed = listed;
         pipes = same_bulk (ap (pipes_at path) table);
         endpoints = λ so. stayed_elsewhere first path a.world b.world (each so)
+            (listed_away first path a.entries gone listed);
+        named = named_elsewhere first path a.world b.world named
             (listed_away first path a.entries gone listed);
       };
 }

@@ -165,7 +165,8 @@ module _ (n : ℕ) (path : List ℕ) (port : KnownPort) (pool : Addresses) (a b 
       → Enumerates port.port pool (tier_of path) port.supply a.world result b.world
       → b.entries ≡ a.entries → b.pipes ≡ a.pipes → StaysWhere (b.world.fault ≡ None) a b
   unfound_where e same pipes_same = where_unfound path a b same pipes_same gone
-      (λ still. (found_only e still).devices)
+      (λ still. (found_only e still).devices) (e.addresses.named (claims a.entries) path begins.at
+      begins.free begins.taken begins.owned)
 
   pub unfound_bulk : {fault : EnumFault} → Enumerates port.port pool (tier_of path) port.supply
       a.world (Err fault) b.world → b.entries ≡ a.entries → b.pipes ≡ a.pipes → b.world.fault ≡ None

@@ -1,5 +1,5 @@
-//! A root port tells a change of connection for good: the host finds what is there once, leaves the port alone as long
-//! as its status stays the same, and comes to rest; the other ports go on.
+//! A root port tells a change of connection for good: the host finds what is there, leaves the port alone as long as
+//! its status stays the same, and comes to rest; the other ports go on.
 use super::quirk::{QuirkBus, Told};
 use super::{PLAN, TestHost, put_settled};
 use std::alloc::Global;
@@ -13,8 +13,9 @@ struct Row {
     /// The events behind the two plugs at port 1, each with a way to rest behind it.
     events: &'static str,
     count: u8,
-    /// The root port whose change stays.
+    /// The root port whose change stays, and whether it never shows that it is enabled.
     stuck: u8,
+    dark: bool,
     /// What the hub tells before the last event comes.
     tells: Option<Told>,
     told: &'static str,
@@ -26,6 +27,7 @@ const ROWS: &[Row] = &[
         events: "",
         count: 0,
         stuck: 2,
+        dark: false,
         tells: None,
         told: "quiet, 1 device, 1.1 device; quiet, 1 device, 1.1 device; tries 1",
     },
@@ -34,6 +36,7 @@ const ROWS: &[Row] = &[
         events: "[[event]]\ndo = \"plug\"\nafter = 10000\npath = \"2\"\ndevice = \"fn\"\n",
         count: 1,
         stuck: 2,
+        dark: false,
         tells: None,
         told: "quiet, 1 device, 1.1 device; \
                quiet, 1 device, 1.1 device, 2 device; \
@@ -46,6 +49,7 @@ const ROWS: &[Row] = &[
                  [[event]]\ndo = \"plug\"\nafter = 10000\npath = \"2\"\ndevice = \"fn\"\n",
         count: 3,
         stuck: 2,
+        dark: false,
         tells: None,
         told: "quiet, 1 device, 1.1 device; \
                quiet, 1 device, 1.1 device, 2 device; \
@@ -59,6 +63,7 @@ const ROWS: &[Row] = &[
                  [[event]]\ndo = \"unplug\"\nafter = 10000\npath = \"1.1\"\n",
         count: 2,
         stuck: 1,
+        dark: false,
         tells: None,
         told: "quiet, 1 device, 1.1 device; \
                quiet, 1 device, 1.1 device, 1.2 device; \
@@ -66,10 +71,20 @@ const ROWS: &[Row] = &[
                quiet, 1 device, 1.2 device; tries 1",
     },
     Row {
+        about: "the port never shows that it is enabled: it is looked at once more",
+        events: "",
+        count: 0,
+        stuck: 1,
+        dark: true,
+        tells: None,
+        told: "quiet, 1 device, 1.1 device; quiet, 1 device, 1.1 device; tries 2",
+    },
+    Row {
         about: "the hub there is dropped, and stays so",
         events: "",
         count: 0,
         stuck: 1,
+        dark: false,
         tells: Some(Told::Stuck),
         told: "quiet, 1 device, 1.1 device; quiet, 1 lost; tries 1",
     },
@@ -83,7 +98,7 @@ fn told(alloc: Global, row: &Row) -> Result<String, Fail> {
     bus.apply_next_event()?;
     bus.apply_next_event()?;
     let mut quirk = QuirkBus::new(bus);
-    quirk.hold(row.stuck);
+    quirk.hold(row.stuck, row.dark);
     let mut host: TestHost = Host::new(alloc, quirk);
     let mut text = String::new(alloc);
     put_settled(&mut text, &mut host)?;

@@ -94,6 +94,8 @@ pub(super) struct QuirkBus<B: Bus> {
     cleared: u8,
     /// The root port whose change of connection no clearing takes away; 0 where there is none.
     stuck: u8,
+    /// Whether that port never shows that it is enabled.
+    dark: bool,
     /// How often that change was to be cleared.
     tries: u8,
 }
@@ -133,13 +135,16 @@ impl<B: Bus> QuirkBus<B> {
             next: Toggle::Zero,
             cleared: 0,
             stuck: 0,
+            dark: false,
             tries: 0,
         }
     }
 
-    /// The change of connection of this root port stays set from now on.
-    pub(super) fn hold(&mut self, port: u8) {
+    /// The change of connection of this root port stays set from now on; in the dark it never shows that it is
+    /// enabled.
+    pub(super) fn hold(&mut self, port: u8, dark: bool) {
         self.stuck = port;
+        self.dark = dark;
     }
 
     /// How often the change that stays was to be cleared.
@@ -324,7 +329,8 @@ impl<B: Bus> Bus for QuirkBus<B> {
         }
         let status = self.bus.root_status(port);
         if port == self.stuck {
-            return [status[0], status[1], status[2] | 1, status[3]];
+            let enabled = if self.dark { 0xfd } else { 0xff };
+            return [status[0] & enabled, status[1], status[2] | 1, status[3]];
         }
         status
     }

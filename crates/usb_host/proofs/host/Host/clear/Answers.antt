@@ -15,11 +15,13 @@ pub returns-clause-spends : goal.returns-clause-spends
 returns-clause-spends g c =
     rw (← c.self.view_is) (counts_spend g.B.Bus.modelled (g.B.Bus.spent c.self.inside.bus)
     (g.B.Bus.spent c.clear_port.new.bus) (g.B.Bus.failed c.self.inside.bus)
-    (g.B.Bus.failed c.clear_port.new.bus) c.self.inside.left _ c.clear_port.ensures.uses.spends.0 (order_most
+    (g.B.Bus.failed c.clear_port.new.bus) c.self.inside.left _ c.clear_port.ensures.uses.spends.0
+    (order_most
     c.args.port))
 
 pub returns-clause-told : goal.returns-clause-told
 returns-clause-told g c =
-    counts_told (g.B.Bus.spent c.clear_port.new.bus) (g.B.Bus.failed c.clear_port.new.bus) c.self.inside.left
+    counts_told (g.B.Bus.spent c.clear_port.new.bus) (g.B.Bus.failed c.clear_port.new.bus)
+    c.self.inside.left
     g.B.Bus.modelled c.at_port.result (rw c.at_port.ensures (ports_reported _ _
     c.clear_port.ensures.uses.told))

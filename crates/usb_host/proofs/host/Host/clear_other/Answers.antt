@@ -19,7 +19,8 @@ pub returns-then-asked-clause-spends : goal.returns-then-asked-clause-spends
 returns-then-asked-clause-spends g c =
     rw (← c.self.view_is) (counts_spend g.B.Bus.modelled (g.B.Bus.spent c.self.inside.bus)
     (g.B.Bus.spent c.clear_port_change.new.bus) (g.B.Bus.failed c.self.inside.bus)
-    (g.B.Bus.failed c.clear_port_change.new.bus) c.self.inside.left _ c.clear_port_change.ensures.uses.spends.0
+    (g.B.Bus.failed c.clear_port_change.new.bus) c.self.inside.left _
+    c.clear_port_change.ensures.uses.spends.0
     (order_most c.args.port))
 
 pub returns-then-asked-clause-told : goal.returns-then-asked-clause-told

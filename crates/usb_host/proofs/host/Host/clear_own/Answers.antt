@@ -31,7 +31,8 @@ pub returns-in-External-clause-spends : goal.returns-in-External-clause-spends
 returns-in-External-clause-spends g c =
     rw (← c.self.view_is) (counts_spend g.B.Bus.modelled (g.B.Bus.spent c.self.inside.bus)
     (g.B.Bus.spent c.clear_hub_changes.new.bus) (g.B.Bus.failed c.self.inside.bus)
-    (g.B.Bus.failed c.clear_hub_changes.new.bus) c.self.inside.left _ c.clear_hub_changes.ensures.uses.spends.0 (omega (
+    (g.B.Bus.failed c.clear_hub_changes.new.bus) c.self.inside.left _
+    c.clear_hub_changes.ensures.uses.spends.0 (omega (
       arith,
       status_most (External c.in-External.hub c.in-External.port)
           (rw c.in-External.is at c.requires.askable).wide,

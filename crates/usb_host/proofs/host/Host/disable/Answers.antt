@@ -108,7 +108,8 @@ pub returns-clause-spends : goal.returns-clause-spends
 returns-clause-spends g c =
     rw (← c.self.view_is) (counts_spend g.B.Bus.modelled (g.B.Bus.spent c.self.inside.bus)
     (g.B.Bus.spent c.clear_port.new.bus) (g.B.Bus.failed c.self.inside.bus)
-    (g.B.Bus.failed c.clear_port.new.bus) c.self.inside.left _ c.clear_port.ensures.uses.spends.0 (order_most
+    (g.B.Bus.failed c.clear_port.new.bus) c.self.inside.left _ c.clear_port.ensures.uses.spends.0
+    (order_most
     c.in-Some.port.port))
 
 pub returns-clause-ends : goal.returns-clause-ends
@@ -117,7 +118,8 @@ returns-clause-ends g c =
       | in-Ok w ↦ rw w.result-is (λ done. subst IsSome (sym c.in-Some.ensures.some.known) refl)
       | in-Err-Bus w ↦ rw w.result-is (
         λ known. rw w.in-Err-Bus.field-0-is at (w.in-Err-Bus.ensures.fault known),
-        counts_last (g.B.Bus.spent c.clear_port.new.bus) (g.B.Bus.failed c.clear_port.new.bus) c.self.inside.left
+        counts_last (g.B.Bus.spent c.clear_port.new.bus) (g.B.Bus.failed c.clear_port.new.bus)
+            c.self.inside.left
             g.B.Bus.modelled (rw w.in-Err-Bus.field-0-is at w.in-Err-Bus.ensures.uses.told),
       )
       | in-Err w ↦ rw w.result-is (λ done. absurd (cc done))

@@ -71,7 +71,8 @@ pub returns-in_err-finding-clause-spends : goal.returns-in_err-finding-clause-sp
 returns-in_err-finding-clause-spends g c =
     rw (← c.self.view_is) (counts_spend g.B.Bus.modelled (g.B.Bus.spent c.self.inside.bus)
     (g.B.Bus.spent c.enumerate.new.bus) (g.B.Bus.failed c.self.inside.bus)
-    (g.B.Bus.failed c.enumerate.new.bus) c.self.inside.left _ c.enumerate.ensures.uses.spends.0 (enumeration_most
+    (g.B.Bus.failed c.enumerate.new.bus) c.self.inside.left _ c.enumerate.ensures.uses.spends.0
+    (enumeration_most
     c.args.port.port
     (askable_wide c.args.port.port c.requires.port.askable)))
 
@@ -79,7 +80,8 @@ pub returns-in_err-enter-clause-spends : goal.returns-in_err-enter-clause-spends
 returns-in_err-enter-clause-spends g c =
     rw (← c.self.view_is) (counts_spend g.B.Bus.modelled (g.B.Bus.spent c.self.inside.bus)
     (g.B.Bus.spent c.enumerate.new.bus) (g.B.Bus.failed c.self.inside.bus)
-    (g.B.Bus.failed c.enumerate.new.bus) c.self.inside.left _ c.enumerate.ensures.uses.spends.0 (enumeration_most
+    (g.B.Bus.failed c.enumerate.new.bus) c.self.inside.left _ c.enumerate.ensures.uses.spends.0
+    (enumeration_most
     c.args.port.port
     (askable_wide c.args.port.port c.requires.port.askable)))
 
@@ -87,7 +89,8 @@ pub returns-clause-spends : goal.returns-clause-spends
 returns-clause-spends g c =
     rw (← c.self.view_is) (counts_spend g.B.Bus.modelled (g.B.Bus.spent c.self.inside.bus)
     (g.B.Bus.spent c.enumerate.new.bus) (g.B.Bus.failed c.self.inside.bus)
-    (g.B.Bus.failed c.enumerate.new.bus) c.self.inside.left _ c.enumerate.ensures.uses.spends.0 (enumeration_most
+    (g.B.Bus.failed c.enumerate.new.bus) c.self.inside.left _ c.enumerate.ensures.uses.spends.0
+    (enumeration_most
     c.args.port.port
     (askable_wide c.args.port.port c.requires.port.askable)))
 

@@ -38,9 +38,11 @@ returns-clause-any_bus g c = record {
   calls = record {
     spends = rw (← c.self.view_is) (counts_spend g.B.Bus.modelled (g.B.Bus.spent c.self.inside.bus)
         (g.B.Bus.spent c.send.new.bus) (g.B.Bus.failed c.self.inside.bus)
-        (g.B.Bus.failed c.send.new.bus) c.self.inside.left _ c.send.ensures.any_bus.0.0 (omega arith));
+        (g.B.Bus.failed c.send.new.bus) c.self.inside.left _ c.send.ensures.any_bus.0.0
+        (omega arith));
     told = λ off. rw c.as_host_fault-sent.ensures (counts_transfer
-        (g.B.Bus.spent c.send.new.bus) (g.B.Bus.failed c.send.new.bus) c.self.inside.left g.B.Bus.modelled
+        (g.B.Bus.spent c.send.new.bus) (g.B.Bus.failed c.send.new.bus) c.self.inside.left
+        g.B.Bus.modelled
         c.send.result c.send.ensures.any_bus.1 off);
   };
   left = rw (← c.self.view_is) (left_same g.B.Bus.modelled (g.B.Bus.spent c.self.inside.bus)

@@ -131,7 +131,8 @@ pub returns-in-Err-Bus-clause-told : goal.returns-in-Err-Bus-clause-told
 returns-in-Err-Bus-clause-told g c = (
   first_of (search rules, grind (arith, common_steps)),
   counts_last
-      (g.B.Bus.spent c.poll.new.bus) (g.B.Bus.failed c.poll.new.bus) c.self.inside.left g.B.Bus.modelled
+      (g.B.Bus.spent c.poll.new.bus) (g.B.Bus.failed c.poll.new.bus) c.self.inside.left
+      g.B.Bus.modelled
       (rw c.in-Err-Bus.field-0-is at c.in-Err-Bus.ensures.any_bus.1),
 )
 

@@ -23,7 +23,8 @@ serve_hub-requires g c = next_listed c.in-Some.ensures.some
 
 pub hubs-smaller : goal.hubs-smaller
 hubs-smaller g c =
-    let rises = rank_rises c.hubs.last c.in-Some.hub c.hubs.invariant.path c.numbers-numbers.ensures.path
+    let rises = rank_rises c.hubs.last c.in-Some.hub c.hubs.invariant.path
+    c.numbers-numbers.ensures.path
     c.in-Some.ensures.some.stands.after in
     omega (arith, rank_most c.in-Some.hub c.numbers-numbers.ensures.path)
 
@@ -54,7 +55,8 @@ hubs-preserved g c =
 pub returns-in_err-serve_hub-clause-hubs : goal.returns-in_err-serve_hub-clause-hubs
 returns-in_err-serve_hub-clause-hubs g c known =
     let i = c.hubs.invariant in
-    hubs_cut (i.so known) i.path c.numbers-numbers.ensures.path c.in-Some.ensures.some (i.works known)
+    hubs_cut (i.so known) i.path c.numbers-numbers.ensures.path c.in-Some.ensures.some
+    (i.works known)
     c.from_residual.ensures.0 (c.in_err-serve_hub.ensures.polls known) (λ none. (i.idle none).1)
 
 pub returns-clause-hubs : goal.returns-clause-hubs
@@ -65,7 +67,8 @@ returns-clause-hubs g c known =
 
 pub returns-in_err-serve_hub-clause-spends : goal.returns-in_err-serve_hub-clause-spends
 returns-in_err-serve_hub-clause-spends g c =
-    let rises = rank_rises c.hubs.last c.in-Some.hub c.hubs.invariant.path c.numbers-numbers.ensures.path
+    let rises = rank_rises c.hubs.last c.in-Some.hub c.hubs.invariant.path
+    c.numbers-numbers.ensures.path
     c.in-Some.ensures.some.stands.after in
     omega (
       arith,

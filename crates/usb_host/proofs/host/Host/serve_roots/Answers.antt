@@ -54,7 +54,8 @@ ports-preserved g c =
 pub returns-in_err-handle_root-clause-roots : goal.returns-in_err-handle_root-clause-roots
 returns-in_err-handle_root-clause-roots g c known =
     let same = c.has_changed.ensures.rests.none known in
-    roots_cut {round = c.ports.round} (rw same (c.ports.invariant.so known)) (omega (arith, c.ports.auto.number))
+    roots_cut {round = c.ports.round} (rw same (c.ports.invariant.so known))
+    (omega (arith, c.ports.auto.number))
     (rw same (sym (c.has_changed.ensures.changed known) ∙ c.if-has_changed.true))
     (omega (arith, c.ports-test.true, c.root_ports-roots.ensures.most))
     (rw same (c.ports.invariant.works known)) c.from_residual.ensures.0
