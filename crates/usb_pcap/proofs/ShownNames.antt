@@ -62,7 +62,8 @@ cons_alone : (d c : ℕ) (es : List ℕ) → d ∷ [] ≡ c ∷ es → es ≡ []
 cons_alone d c es e = cc
 
 backslash : (d : ℕ) → is_escaped d ≡ false → d ≡ 92 → ⊥
-backslash d plain e = let bad : is_escaped 92 ≡ false = subst (λ x. is_escaped x ≡ false) e plain in cc
+backslash d plain e =
+    let bad : is_escaped 92 ≡ false = subst (λ x. is_escaped x ≡ false) e plain in cc
 
 -- none begins another one
 shown_alone : (p q text : List ℕ) → IsShownChar p → IsShownChar text → text ≡ p ++ q → q ≡ []
@@ -73,7 +74,8 @@ shown_alone p q text (c, cs, cis) (d, ds, dis) split =
     let long : length (escaped d) ≡ length (escaped c) + length q =
     ap length whole ∙ length-append (escaped c) q in
     none_left q (omega (arith, long, escaped_length c, escaped_length d)))
-    (λ dp de. absurd (backslash d dp (char_from_byte text [] d (de ∙ sym (append-nil (encode_utf8 d)))
+    (λ dp de. absurd (backslash d dp (char_from_byte text [] d (de
+    ∙ sym (append-nil (encode_utf8 d)))
     (rw (split, ce) (omega arith)) (rw (split, ce) (omega arith))
     ∙ rw (split, ce) refl))))
     (λ cp ce. by_escape d text dis
@@ -236,15 +238,16 @@ first_begun begun more first rest some stuck e is none =
 
 pub not_whole : (line begun : List ℕ) → begun ≢ [] → Begins line begun → IsShownText line → ⊥
 not_whole line begun some h (ms, mas, is) =
-    let (ns, nas, e) = shown_behind h.letters ms (begun ++ h.more) h.scalar mas (sym is ∙ h.split) in
+    let (ns, nas, e) = shown_behind h.letters ms (begun ++ h.more) h.scalar mas
+    (sym is ∙ h.split) in
     go ns nas e
   where
     go : (ns : List ℕ) → All IsScalar ns → begun ++ h.more ≡ flat_map shown_char ns → ⊥
     go [] nas e = let all : length begun + length h.more ≡ 0 =
         sym (length-append begun h.more) ∙ ap length e in
         some (none_left begun (omega (arith, all)))
-    go (n ∷ ns) nas e = first_begun begun h.more (shown_char n) (flat_map shown_char ns) some h.stuck
-        e (n, All-head IsScalar n ns nas, refl) h.none
+    go (n ∷ ns) nas e = first_begun begun h.more (shown_char n) (flat_map shown_char ns) some
+        h.stuck e (n, All-head IsScalar n ns nas, refl) h.none
 
 pub shown_decided : (line begun : List ℕ) (shown : Bool) → shown ≡ (length begun == 0)
     → Begins line begun → Decides shown (IsShownText line)

@@ -6,8 +6,8 @@ use Rattle.std.specs.Char.{IsScalar}
 use Rattle.usb_bus.specs.{is_escaped, shown_char}
 use Rattle.usb_pcap.specs.Text.{is_digit, value_of}
 
--- a character as a run shows it: in UTF-8; one that may end a line, and the backslash, as \u and its
--- four digits
+-- a character as a run shows it: in UTF-8; one that may end a line, and the backslash, as \u and
+-- its four digits
 abbrev pub IsShownChar : List ℕ → Type 0
 IsShownChar text = (c : ℕ) × IsScalar c × (text ≡ shown_char c)
 

@@ -1,6 +1,7 @@
 use Rattle.std.proofs.Common.{◌∙◌, sym, subst}
 use Rattle.usb_pcap.specs.{Begins}
-use Rattle.usb_pcap.proofs.ShownNames.{begins_anew, begins_more, begins_plain, begins_stuck, has_room, is_stuck}
+use Rattle.usb_pcap.proofs.ShownNames.{begins_anew, begins_more, begins_plain, begins_stuck}
+use Rattle.usb_pcap.proofs.ShownNames.{has_room, is_stuck}
 use Rattle.usb_pcap.proofs.shown.take_shown.Goals as goal
 
 pub returns-then-is_plain_byte : goal.returns-then-is_plain_byte
