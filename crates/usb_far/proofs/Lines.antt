@@ -16,7 +16,8 @@ use Rattle.usb_wire.specs.{Answered, IsQuestion, IsQuestionLine, said_line, Ques
 use Rattle.usb_far.specs.{Phase, FarFault, Far, HasNoReply, IsReplied, Played, Replies, done}
 use Rattle.usb_far.specs.{may_ask, reading_fault, AllReplied, HasNoQuestion, HasQuestion, MayGoOn}
 use Rattle.usb_far.specs.{OnlyReads, OnlyReadsLine, Passed, Passes, ReadsOn, ReadsQuestion, Replied}
-use Rattle.usb_far.specs.{Scene, ServedOne, ServedSome, ServesNext, CauseOf, and_then, is_told}
+use Rattle.usb_far.specs.{Scene, InTurn, ServedOne, ServedSome, ServesNext, CauseOf, and_then}
+use Rattle.usb_far.specs.{is_told}
 use Rattle.usb_far.specs.{passed, phase_behind}
 use Rattle.usb_far.specs.declared.fault.FarFault.TheVariants as fault
 
@@ -313,6 +314,7 @@ not_skipped played before mid behind writer front more Cut f is full one read on
 
 pub served_none : (s : Scene) → ServedSome s 0 s
 served_none s = record {
+  turns = InTurn.none;
   passed = passed [] [] [];
   replies = AllReplied.none;
   passes = record {
@@ -350,6 +352,7 @@ passes_then a b c p q first second = record {
 pub served_more : (a b c : Scene) (count more : ℕ) → more ≡ count + 1 → ServedSome a count b
     → ServedOne b c → ServedSome a more c
 served_more a b c count more is so one = record {
+  turns = subst (λ n. InTurn a n c) (sym is) (InTurn.next so.turns one);
   passed = and_then so.passed one.passed;
   replies = subst (λ n. AllReplied a.played.far n (and_then so.passed one.passed) c.played.far)
       (sym is) (AllReplied.next so.replies one.replied);

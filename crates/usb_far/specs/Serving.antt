@@ -166,9 +166,25 @@ pub data CauseOf (old new : Scene) : FarFault → Type 0 where
 
 -- ---- the whole
 
--- all of it was read and answered
+-- one line was read, and its reply has gone out and was flushed
+pub record ServedOne (old new : Scene) : Type 0 where
+  pub passed : Passed
+  pub replied : Replied old.played.far passed new.played.far
+  pub passes : Passes old passed new
+
+-- so many lines, each answered before the next one was read: between two of them just those before
+-- were read, and just their replies have gone out and were flushed
+pub data InTurn (old : Scene) : ℕ → Scene → Type 0 where
+  none : InTurn old 0 old
+  next : {count : ℕ} {mid new : Scene} → InTurn old count mid → ServedOne mid new
+      → InTurn old (count + 1) new
+
+-- all of it was read and answered, line by line, and at last nothing was left to read
 pub record ServedAll (old new : Scene) : Type 0 where
   pub count : ℕ
+  pub mid : Scene
+  pub turns : InTurn old count mid
+  pub over : Passes mid (passed [] [] []) new
   pub passed : Passed
   pub replies : AllReplied old.played.far count passed new.played.far
   pub passes : Passes old passed new
@@ -183,6 +199,7 @@ pub record ServedUpTo (old : Scene) (number : ℕ) (f : FarFault) (new : Scene) 
   pub count : ℕ
   pub passed : Passed
   pub mid : Scene
+  pub turns : InTurn old count mid
   pub replies : AllReplied old.played.far count passed mid.played.far
   pub passes : Passes old passed mid
   pub next : number ≡ count + 1
@@ -192,16 +209,12 @@ abbrev pub ServesHost : Scene → Result (Unit {0}) (ℕ × FarFault) → Scene 
 ServesHost old (Ok _) new = ServedAll old new
 ServesHost old (Err end) new = ServedUpTo old end.0 end.1 new
 
--- of the private functions: the lines so far, and the next one
+-- of the private functions: the lines so far, and that none is left
 
 pub record ServedSome (old : Scene) (count : ℕ) (new : Scene) : Type 0 where
+  pub turns : InTurn old count new
   pub passed : Passed
   pub replies : AllReplied old.played.far count passed new.played.far
-  pub passes : Passes old passed new
-
-pub record ServedOne (old new : Scene) : Type 0 where
-  pub passed : Passed
-  pub replied : Replied old.played.far passed new.played.far
   pub passes : Passes old passed new
 
 pub record ServedNone (old new : Scene) : Type 0 where

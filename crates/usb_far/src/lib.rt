@@ -14,8 +14,9 @@
 //! behind it is the world `after` it (*done*, *far_after*, `specs/FarEnd.antt`); so with root calls and events. The
 //! trace has the lines of just these attempts and events.
 //!
-//! Each reply is flushed, and before the next line is read: if a write or a flush fails, no byte was read after the
-//! question's newline, and each of them may fail (*IsUnwritten*).
+//! A question is answered before the next one is read (*InTurn*): between two lines just those before were read, and
+//! just their replies have gone out, each flushed. If a write or a flush fails, no byte was read after the question's
+//! newline, and each of them may fail (*IsUnwritten*).
 //!
 //! At a fault the lines before the one that is told were answered, and nothing more; *CauseOf* has, for each fault,
 //! what is so of that line, of the reader and the writer, and of the far end behind it: so Read and Write are told

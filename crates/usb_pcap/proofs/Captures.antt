@@ -332,7 +332,8 @@ pub told_records : (front line : List ℕ) (records : ArrayVec ℕ) → records.
 told_records front line records none told =
     subst (λ l. LineRecords line l) (sym none) (LineRecords.told told)
 
-pub plug_records : (front line : List ℕ) (shown : Bool) (records : ArrayVec ℕ) → front ≡ take longest line
+pub plug_records : (front line : List ℕ) (shown : Bool) (records : ArrayVec ℕ)
+    → front ≡ take longest line
     → Decides shown (IsShownText line) → (shown && fits_form plug_form front) ≡ true
     → records.items ≡ [] → RecordsOf line (Some records)
 plug_records front line shown records e decides fits none =
@@ -360,7 +361,8 @@ no_shown_plug front line shown e decides none plug is =
 
 pub long_refused : (front line : List ℕ) (shown is_long : Bool) → front ≡ take longest line
     → is_long ≡ nat_lt longest (length line) → is_long ≡ true
-    → Decides shown (IsShownText line) → (shown && fits_form plug_form front) ≡ false → IsRunLine line → ⊥
+    → Decides shown (IsShownText line) → (shown && fits_form plug_form front) ≡ false
+    → IsRunLine line → ⊥
 long_refused front line shown is_long e long fit decides none (inl (inl (plug, is))) =
     no_shown_plug front line shown e decides none plug is
 long_refused front line shown is_long e long fit decides none (inl (inr (few, report))) = let over =
@@ -382,11 +384,13 @@ attempt_records front line is_long a records e long short of made =
 
 pub none_refused : (front line : List ℕ) (shown is_long : Bool) → front ≡ take longest line
     → is_long ≡ nat_lt longest (length line) → is_long ≡ false
-    → Decides shown (IsShownText line) → (shown && fits_form plug_form front) ≡ false → has_form report_forms front ≡ false
+    → Decides shown (IsShownText line) → (shown && fits_form plug_form front) ≡ false
+    → has_form report_forms front ≡ false
     → ((a : TracedAttempt) → IsAttemptLine front a → None ≡ Some a) → IsRunLine line → ⊥
 none_refused front line shown is_long e long short decides no_p no_r no_a (inl (inl (plug, is))) =
     no_shown_plug front line shown e decides no_p plug is
-none_refused front line shown is_long e long short decides no_p no_r no_a (inl (inr (few, report))) =
+none_refused front line shown is_long e long short decides no_p no_r no_a
+    (inl (inr (few, report))) =
     let fit = is_report-complete front (subst IsReport (sym (short_whole front line e few)) report)
     in absurd (cc)
 none_refused front line shown is_long e long short decides no_p no_r no_a (inr (a, (few, of))) =

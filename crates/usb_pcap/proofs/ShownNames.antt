@@ -1,14 +1,15 @@
 -- Names as a run shows them: how they go on, byte after byte.
-use Rattle.std.proofs.Common.{◌≡◌, ◌≢◌, ◌⊎◌, inl, inr, ℕ, zero, suc, ◌+◌, ◌-◌, ◌*◌, ◌/◌, ◌%◌, ◌<◌}
+use Rattle.std.proofs.Common.{◌≡◌, ◌≢◌, ◌⊎◌, inl, inr, ℕ, zero, suc, ◌+◌, ◌*◌, ◌/◌, ◌%◌, ◌<◌}
 use Rattle.std.proofs.Common.{◌≤◌, ◌==◌, ◌&&◌, ◌||◌, Bool, true, false, List, [], ◌∷◌, ◌++◌, length}
-use Rattle.std.proofs.Common.{All, Decides, flat_map, encode_utf8, get_or, refl, sym, ap, ap₂, subst, ◌∙◌}
+use Rattle.std.proofs.Common.{All, Decides, flat_map, encode_utf8, refl, sym, ap, ap₂, subst, ◌∙◌}
 use Rattle.std.proofs.Common.{arith, append_assoc, append-nil, codes, length-append, slice_index}
-use Rattle.std.proofs.Common.{IsUtf8, Option, Some, None, not}
+use Rattle.std.proofs.Common.{IsAscii, IsUtf8, Option, Some, None, not}
 use Rattle.std.proofs.lemmas.Bool.{and_parts, cases_lt, eqb-true}
 use Rattle.std.proofs.lemmas.Bool.Decides.{nat_tests}
 use Rattle.std.proofs.lemmas.List.Concat.{flat_map-append}
-use Rattle.std.proofs.lemmas.List.Elements.{All-append, All-cons, All-head, All-nil, All-push}
+use Rattle.std.proofs.lemmas.List.Elements.{All-head, All-nil, All-push}
 use Rattle.std.proofs.lemmas.List.Elements.{All-tail}
+use Rattle.std.proofs.lemmas.Str.{encodes-IsAscii}
 use Rattle.std.proofs.lemmas.Str.{IsUtf8-encode, char_from_byte, cons_from_encodes, length-encode}
 use Rattle.std.specs.Char.{IsScalar, len_utf8}
 use Rattle.usb_bus.specs.{escaped, is_escaped, shown_char}
@@ -61,7 +62,8 @@ cons_alone : (d c : ℕ) (es : List ℕ) → d ∷ [] ≡ c ∷ es → es ≡ []
 cons_alone d c es e = cc
 
 backslash : (d : ℕ) → is_escaped d ≡ false → d ≡ 92 → ⊥
-backslash d plain e = let bad : is_escaped 92 ≡ false = subst (λ x. is_escaped x ≡ false) e plain in cc
+backslash d plain e =
+    let bad : is_escaped 92 ≡ false = subst (λ x. is_escaped x ≡ false) e plain in cc
 
 -- none begins another one
 shown_alone : (p q text : List ℕ) → IsShownChar p → IsShownChar text → text ≡ p ++ q → q ≡ []
@@ -72,7 +74,8 @@ shown_alone p q text (c, cs, cis) (d, ds, dis) split =
     let long : length (escaped d) ≡ length (escaped c) + length q =
     ap length whole ∙ length-append (escaped c) q in
     none_left q (omega (arith, long, escaped_length c, escaped_length d)))
-    (λ dp de. absurd (backslash d dp (char_from_byte text [] d (de ∙ sym (append-nil (encode_utf8 d)))
+    (λ dp de. absurd (backslash d dp (char_from_byte text [] d (de
+    ∙ sym (append-nil (encode_utf8 d)))
     (rw (split, ce) (omega arith)) (rw (split, ce) (omega arith))
     ∙ rw (split, ce) refl))))
     (λ cp ce. by_escape d text dis
@@ -235,15 +238,16 @@ first_begun begun more first rest some stuck e is none =
 
 pub not_whole : (line begun : List ℕ) → begun ≢ [] → Begins line begun → IsShownText line → ⊥
 not_whole line begun some h (ms, mas, is) =
-    let (ns, nas, e) = shown_behind h.letters ms (begun ++ h.more) h.scalar mas (sym is ∙ h.split) in
+    let (ns, nas, e) = shown_behind h.letters ms (begun ++ h.more) h.scalar mas
+    (sym is ∙ h.split) in
     go ns nas e
   where
     go : (ns : List ℕ) → All IsScalar ns → begun ++ h.more ≡ flat_map shown_char ns → ⊥
     go [] nas e = let all : length begun + length h.more ≡ 0 =
         sym (length-append begun h.more) ∙ ap length e in
         some (none_left begun (omega (arith, all)))
-    go (n ∷ ns) nas e = first_begun begun h.more (shown_char n) (flat_map shown_char ns) some h.stuck
-        e (n, All-head IsScalar n ns nas, refl) h.none
+    go (n ∷ ns) nas e = first_begun begun h.more (shown_char n) (flat_map shown_char ns) some
+        h.stuck e (n, All-head IsScalar n ns nas, refl) h.none
 
 pub shown_decided : (line begun : List ℕ) (shown : Bool) → shown ≡ (length begun == 0)
     → Begins line begun → Decides shown (IsShownText line)
@@ -387,3 +391,17 @@ plain_decides text c marked utf is same = (
 pub no_text : (text : List ℕ) → (IsUtf8 text → ⊥) → IsPlainChar text → ⊥
 no_text text none (c, scalar, free, is) =
     none (subst IsUtf8 (sym is) (IsUtf8-encode c scalar))
+
+one_ascii : (b : ℕ) → b < 128 → IsAscii (b ∷ [])
+one_ascii b few zero = few
+one_ascii b few (suc i) = omega arith
+
+pub begins_plain : (line begun : List ℕ) (b : ℕ) → (length begun == 0) ≡ true → b < 128
+    → is_escaped b ≡ false → Begins line begun → Begins (line ++ b ∷ []) begun
+begins_plain line [] b none few free h =
+    let alone : encode_utf8 b ≡ b ∷ [] = sym (append-nil (encode_utf8 b))
+    ∙ encodes-IsAscii (b ∷ []) (one_ascii b few) in
+    begins_anew line [] b (omega arith)
+    (b, low_scalar b (omega (arith, few)), sym alone ∙ sym (shown_plain b free)) h
+begins_plain line (x ∷ begun) b none few free h =
+    let empty = eqb-true (length (x ∷ begun)) 0 none in absurd (omega (arith, empty))

@@ -1,13 +1,13 @@
 -- Names of devices, as a run shows them.
-use Rattle.std.specs.Prelude.{◌≡◌, ◌≢◌, ◌⊎◌, ℕ, ◌+◌, ◌*◌, ◌==◌, ◌&&◌, Bool, true, false, List, []}
+use Rattle.std.specs.Prelude.{◌≡◌, ◌≢◌, ◌⊎◌, ℕ, ◌+◌, ◌*◌, ◌==◌, ◌&&◌, Bool, false, List, []}
 use Rattle.std.specs.Prelude.{◌∷◌, ◌++◌, All, length, flat_map, encode_utf8, Option, Some, None}
 use Rattle.std.specs.Prelude.{if◌then◌else◌}
 use Rattle.std.specs.Char.{IsScalar}
-use Rattle.usb_bus.specs.{escaped, is_escaped, shown_char}
+use Rattle.usb_bus.specs.{is_escaped, shown_char}
 use Rattle.usb_pcap.specs.Text.{is_digit, value_of}
 
--- a character as a run shows it: in UTF-8; one that may end a line, and the backslash, as \u and its
--- four digits
+-- a character as a run shows it: in UTF-8; one that may end a line, and the backslash, as \u and
+-- its four digits
 abbrev pub IsShownChar : List ℕ → Type 0
 IsShownChar text = (c : ℕ) × IsScalar c × (text ≡ shown_char c)
 

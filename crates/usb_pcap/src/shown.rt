@@ -1,5 +1,5 @@
 //! Names of devices, as a run shows them.
-ghost use Rattle.std.specs.Prelude.{◌≡◌, ◌<◌, ◌∷◌, ◌++◌, [], Decides, IfSome, List, ℕ};
+ghost use Rattle.std.specs.Prelude.{◌≡◌, ◌<◌, ◌∷◌, ◌++◌, [], Decides, IfSome, IsTrue, List, ℕ, false};
 ghost use Rattle.usb_bus.specs.Shown.{is_escaped};
 ghost use Rattle.usb_pcap.specs.Shown.{Begins, IsPlainChar, IsShownChar, is_escape_of, is_escaped_pair, pair_value};
 
@@ -14,6 +14,10 @@ pub(crate) fn take_shown(begun: &mut Begun, byte: u8)
     ensures { (line : List ℕ) → Begins line begun.old.items
         → Begins (line ++ byte ∷ []) begun.new.items }
 {
+    // most bytes are whole characters
+    if begun.is_empty() && is_plain_byte(byte) {
+        return;
+    }
     if begun.is_full() {
         return;
     }
@@ -21,6 +25,13 @@ pub(crate) fn take_shown(begun: &mut Begun, byte: u8)
     if is_shown_char(begun.as_slice()) {
         begun.clear();
     }
+}
+
+/// Whether a byte is a character of ASCII that stands for itself.
+fn is_plain_byte(byte: u8) -> bool
+    ensures { IsTrue result → (byte < 128) × (is_escaped byte ≡ false) }
+{
+    byte < 128 && !is_escaped(u32::from(byte))
 }
 
 /// Whether bytes are one character as a run shows it.

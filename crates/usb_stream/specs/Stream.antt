@@ -267,8 +267,8 @@ CauseOf q s old new fault.Gone = IsUnheard q s old fault.Gone new
 CauseOf q s old new Write = IsUnwritten q s old new
 CauseOf q s old new LimitReached = IsAtLimit s old new
 
--- a fault is kept, for its cause; one question less is left, and an attempt is counted where it asks
--- for one, but at the limit
+-- a fault is kept, for its cause; one question less is left, and what asks for an attempt is
+-- counted; at the limit neither
 pub record AsksNoMore (q : Question) (s : StreamPipes) (old : Kept) (f : LiveFault) (new : Kept) :
     Type 0 where
   pub kept : new.fault ≡ Some f

@@ -1,8 +1,13 @@
-use Rattle.std.proofs.Common.{◌∙◌, sym, arith, true, subst}
-use Rattle.std.proofs.lemmas.Bool.Decides.{nat_tests}
+use Rattle.std.proofs.Common.{◌∙◌, sym, subst}
 use Rattle.usb_pcap.specs.{Begins}
-use Rattle.usb_pcap.proofs.ShownNames.{begins_anew, begins_more, begins_stuck, has_room, is_stuck}
+use Rattle.usb_pcap.proofs.ShownNames.{begins_anew, begins_more, begins_plain, begins_stuck}
+use Rattle.usb_pcap.proofs.ShownNames.{has_room, is_stuck}
 use Rattle.usb_pcap.proofs.shown.take_shown.Goals as goal
+
+pub returns-then-is_plain_byte : goal.returns-then-is_plain_byte
+returns-then-is_plain_byte c = λ line h.
+    let plain = c.is_plain_byte.ensures c.if-is_plain_byte.true in
+    begins_plain line _ c.args.byte (sym c.is_empty.ensures ∙ c.if-is_empty.true) plain.0 plain.1 h
 
 pub returns-then-is_full : goal.returns-then-is_full
 returns-then-is_full c = λ line h. begins_stuck line _ c.args.byte
