@@ -13,7 +13,7 @@ struct Row {
     /// The events behind the two plugs at port 1, each with a way to rest behind it.
     events: &'static str,
     count: u8,
-    /// The root port whose change stays, and whether it never shows that it is enabled.
+    /// The root port whose change stays, and whether it is disabled once the hub there is configured.
     stuck: u8,
     dark: bool,
     /// What the hub tells before the last event comes.
@@ -71,7 +71,7 @@ const ROWS: &[Row] = &[
                quiet, 1 device, 1.2 device; tries 1",
     },
     Row {
-        about: "the port never shows that it is enabled: it is looked at once more",
+        about: "the port is disabled behind each look: it is looked at once more",
         events: "",
         count: 0,
         stuck: 1,

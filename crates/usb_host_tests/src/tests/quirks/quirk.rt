@@ -8,7 +8,7 @@ ghost use Rattle.usb_world.specs.Worlds.{FitsMaximum, IsAttempt};
 use arrayvec::ArrayVec;
 use usb_bus::{Attempt, Bus, BusFault, Outcome};
 use usb_packet::Toggle;
-use usb_request::feature::C_PORT_CONNECTION;
+use usb_request::feature::{C_PORT_CONNECTION, PORT_RESET};
 
 /// The hub's address: it is found first.
 const HUB: u8 = 1;
@@ -94,8 +94,10 @@ pub(super) struct QuirkBus<B: Bus> {
     cleared: u8,
     /// The root port whose change of connection no clearing takes away; 0 where there is none.
     stuck: u8,
-    /// Whether that port never shows that it is enabled.
+    /// Whether that port shows no longer that it is enabled, once the hub there is configured.
     dark: bool,
+    /// Whether the hub was configured since that port was reset.
+    configured: bool,
     /// How often that change was to be cleared.
     tries: u8,
 }
@@ -136,12 +138,13 @@ impl<B: Bus> QuirkBus<B> {
             cleared: 0,
             stuck: 0,
             dark: false,
+            configured: false,
             tries: 0,
         }
     }
 
-    /// The change of connection of this root port stays set from now on; in the dark it never shows that it is
-    /// enabled.
+    /// The change of connection of this root port stays set from now on; in the dark it shows no longer that it is
+    /// enabled, once the hub there is configured.
     pub(super) fn hold(&mut self, port: u8, dark: bool) {
         self.stuck = port;
         self.dark = dark;
@@ -199,6 +202,7 @@ impl<B: Bus> QuirkBus<B> {
         self.disabled = self.disabled && setup != RESET.as_slice();
         if setup == CONFIGURE.as_slice() {
             self.next = Toggle::Zero;
+            self.configured = true;
         }
         match self.answers {
             Answers::Below | Answers::WithChange => self.bus.attempt(attempt),
@@ -329,7 +333,11 @@ impl<B: Bus> Bus for QuirkBus<B> {
         }
         let status = self.bus.root_status(port);
         if port == self.stuck {
-            let enabled = if self.dark { 0xfd } else { 0xff };
+            let enabled = if self.dark && self.configured {
+                0xfd
+            } else {
+                0xff
+            };
             return [status[0] & enabled, status[1], status[2] | 1, status[3]];
         }
         status
@@ -337,6 +345,9 @@ impl<B: Bus> Bus for QuirkBus<B> {
 
     fn root_set(&mut self, port: u8, feature: u16) {
         if port > 0 && port <= self.bus.root_ports() {
+            if port == self.stuck && feature == PORT_RESET {
+                self.configured = false;
+            }
             self.bus.root_set(port, feature);
         }
     }
