@@ -81,7 +81,7 @@ mod packets;
 mod stage;
 
 pub use bulk::BulkPipe;
-pub use control::{control_in, control_none};
+pub use control::{control_in, control_none, control_out};
 pub use fault::PipeFault;
 pub use interrupt::InterruptPipe;
 pub use laws::{
