@@ -82,9 +82,9 @@ pub fn control_none<B: Bus>(bus: &mut B, target: Target, setup: Setup) -> Result
 /// Sends data to endpoint 0: a SETUP, the data in packets of the target's maximum, and an IN that is
 /// answered by DATA1.
 ///
-/// The request is one whose data go to the device, and its length is theirs, from 1 on. Where no
-/// address was ever held twice, `Ok` means that the device at the target's address took the data,
-/// once; a transfer that failed brought it all of them or none.
+/// The request is one whose data go to the device, and its length is theirs, from 1 on. No packet
+/// of the data goes before the SETUP was acknowledged, and none again once it was acknowledged; no
+/// SETUP goes behind any of them.
 ///
 /// # Errors
 ///
