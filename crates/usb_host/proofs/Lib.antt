@@ -23,3 +23,4 @@ pub mod PortDrops
 pub mod RoundLoops
 pub mod HubPolls
 pub mod WorkingBuses
+pub mod ControlWorks

@@ -21,11 +21,11 @@ use Rattle.usb_table.specs.declared.fault.TableFault.TheVariants as table
 use Rattle.usb_enum.specs.{EnumFault, EnumWorks, ParentLost, Bus, Memory}
 use Rattle.usb_host.specs.{EndsAs, HostFault, HostNotOfBus, HostState, HostWorks, host_told}
 
-same_works : (old new : World) → new ≡ old → StillWorks old new
+pub same_works : (old new : World) → new ≡ old → StillWorks old new
 same_works old new same none = ap (λ (w : World). w.fault) same ∙ none
 
 -- how few attempts came before each end
-made_works : {A : Type 0} (n m : ℕ) (answer : Result A PipeFault) (old new : World)
+pub made_works : {A : Type 0} (n m : ℕ) (answer : Result A PipeFault) (old new : World)
     → MatchResult answer (λ _. AttemptsMade n old new) (λ fault. FaultAfter m old fault new)
     → WorksAfter answer old new
 made_works n m (Ok done) old new ends sound none = ends.still
@@ -78,11 +78,11 @@ TableNotOfBus (table.Transfer fault) = Unit {0}
 TableNotOfBus (table.Bus fault) = ⊥
 TableNotOfBus table.Memory = Unit {0}
 
-abbrev TableWorks : {A : Type 0} → World → Result A TableFault → World → Type 0
+abbrev pub TableWorks : {A : Type 0} → World → Result A TableFault → World → Type 0
 TableWorks old result new = MatchResult result (λ done. StillWorks old new)
     (λ fault. TableNotOfBus fault → StillWorks old new)
 
-table_works : {A : Type 0} (result : Result A TableFault) (answer : Result A PipeFault)
+pub table_works : {A : Type 0} (result : Result A TableFault) (answer : Result A PipeFault)
     (old new : World) → result ≡ table_answer answer → WorksAfter answer old new
     → TableWorks old result new
 table_works {A} result answer old new is works = rw is (by_answer answer works)
@@ -164,7 +164,7 @@ abbrev pub ToldWorks : {A : Type 0} → World → Result A HostFault → World �
 ToldWorks old result new = MatchResult result (λ done. StillWorks old new)
     (λ fault. HostNotOfBus fault → StillWorks old new)
 
-host_works : {A : Type 0} (result : Result A HostFault) (answer : Result A TableFault)
+pub host_works : {A : Type 0} (result : Result A HostFault) (answer : Result A TableFault)
     (old new : World) → result ≡ host_told answer → TableWorks old answer new
     → ToldWorks old result new
 host_works {A} result answer old new is works = rw is (by_answer answer works)

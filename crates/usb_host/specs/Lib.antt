@@ -4,6 +4,7 @@ pub mod Backlog
 pub mod Bounds
 pub mod Budget
 pub mod BulkPipes
+pub mod Controls
 pub mod Cuts
 pub mod Discoveries
 pub mod PortHandling
@@ -32,6 +33,7 @@ pub use Budget.{Affords, Costs, HubPaid, NumberPaid, Pays, PaysDone, PaysPart, P
 pub use Budget.{RootsPaid, RoundKeeps, RoundPaid, ShowsChange, ShowsTold, Stops, StopsWithin}
 pub use Budget.{ToldPaid, Weights, WorksOn, debt, event_weight, handling_most, hub_weight}
 pub use Budget.{hubs_most, idle, look_weight, paid, poll_most, stray_weight, told_most}
+pub use Controls.{AsksOrRefuses, ControlsAnyBus, ControlsAt, ControlsOrRefuses, ReadAt, ReadTells}
 pub use Discoveries.{EntersFound, FindsAnew}
 pub use BulkPipes.{EndpointsBegan, EndpointsStayed, KeepsBulk, RenewedAt, SameBulk, StayedAt}
 pub use BulkPipes.{NamedEndpointsStayed}

@@ -37,7 +37,7 @@ pub struct Host<B: Bus> {
     pub(crate) pool: AddressPool,
     pub(crate) table: DeviceTable,
     pub(crate) left: LeftPorts<B>,
-    stopped: bool,
+    pub(crate) stopped: bool,
 }
 
 impl<B: Bus> Model for Host<B> {
@@ -246,7 +246,7 @@ impl<B: Bus> Host<B> {
 }
 
 /// What a transfer gave, as the host tells it.
-fn as_host_fault<T>(outcome: Result<T, TableFault>) -> Result<T, HostFault>
+pub(crate) fn as_host_fault<T>(outcome: Result<T, TableFault>) -> Result<T, HostFault>
     ensures { result ≡ host_told outcome }
 {
     match outcome {
@@ -256,7 +256,7 @@ fn as_host_fault<T>(outcome: Result<T, TableFault>) -> Result<T, HostFault>
 }
 
 /// Whether a call ended with a fault after which the host makes no more attempts.
-fn is_final<T>(outcome: &Result<T, HostFault>) -> bool
+pub(crate) fn is_final<T>(outcome: &Result<T, HostFault>) -> bool
     ensures { result ≡ is_final outcome.now }
 {
     match outcome {

@@ -14,25 +14,28 @@
 //!
 //! Each round that worked made an attempt or left less to do, a quiet one changed nothing that is known and found no
 //! change at a root port; at most so many attempts; a hub that is dropped is listed as lost with nothing below it;
-//! after Bus or Memory every `round`, `send`, `receive` and `clear_halt` answers Stopped and changes nothing; each
-//! fault only where its cause stands; the taken addresses are just those of the entries, one each; entries stand by
-//! rising path, each at a port of the root or of a hub that is listed; `send`, `receive` and `clear_halt` go through
-//! the pipes at the path, move what usb_table says of them, with the bytes that were asked, and answer what it answers
-//! (`SentAt`, `ReceivedAt`, `ClearedAt`); what it knows is so and stays so, and a quiet round leaves nothing to do
-//! (`RoundKeeps`, `TransferKeeps`); what a round does, part by part.
+//! after Bus or Memory every `round`, `send`, `receive`, `clear_halt` and `control_in` answers Stopped and changes
+//! nothing; each fault only where its cause stands; the taken addresses are just those of the entries, one each;
+//! entries stand by rising path, each at a port of the root or of a hub that is listed; `send`, `receive` and
+//! `clear_halt` go through the pipes at the path, move what usb_table says of them, with the bytes that were asked, and
+//! answer what it answers (`SentAt`, `ReceivedAt`, `ClearedAt`); `control_in` makes one control transfer to endpoint 0
+//! of the device at the path, or none just where none is accepted there, and one that is done gave what that device
+//! answered (`ReadAt`); what it knows is so and stays so, and a quiet round leaves nothing to do (`RoundKeeps`,
+//! `TransferKeeps`); what a round does, part by part.
 //!
 //! **One holder.** *HostMapHolds* (`usb_host/specs/Ownership.antt`) says of a host that at no attempt so far two
 //! reachable devices held one address, 0 included, and, as long as neither it nor its bus has stopped, that each
 //! reachable device holds the address of the entry at its path. `Host::new` gives it over every bus of which the first
 //! is so until then, whatever another host did there, since it takes the power of each root port first; so a host may
-//! follow one that has stopped (`into_bus`). Each of `round`, `send`, `receive` and `clear_halt` keeps it, whatever it
-//! answers, and so do events that come through `bus_mut`. `usb_run::Runner`, by which `run` and `serve` make a plan's
-//! run item by item, keeps *HostMapHolds* of its host in its type: it stands behind each item, and behind a fault too;
-//! `run` and `serve` say it of the run that they made. With `one_device_at_most_answers` of usb_world no attempt of
-//! such a run is answered by two devices.
+//! follow one that has stopped (`into_bus`). Each of `round`, `send`, `receive`, `clear_halt` and `control_in` keeps
+//! it, whatever it answers, and so do events that come through `bus_mut`. `usb_run::Runner`, by which `run` and `serve`
+//! make a plan's run item by item, keeps *HostMapHolds* of its host in its type: it stands behind each item, and behind
+//! a fault too; `run` and `serve` say it of the run that they made. With `one_device_at_most_answers` of usb_world no
+//! attempt of such a run is answered by two devices.
 //!
-//! **No call keeps the bus's fault to itself.** Unless `round`, `send`, `receive` or `clear_halt` reports `Bus`, the bus
-//! still works after the call, if it did before (`works` of *RoundTells* and *TransferTells*, `specs/HostCalls.antt`).
+//! **No call keeps the bus's fault to itself.** Unless `round`, `send`, `receive`, `clear_halt` or `control_in` reports
+//! `Bus`, the bus still works after the call, if it did before (`works` of *RoundTells* and *TransferTells*,
+//! `specs/HostCalls.antt`).
 //!
 //! - Where what the host knows is so and the bus is at work, a round that is done is its parts in order (`RoundParts`,
 //!   `specs/Service.antt`): by rising number just the root ports whose connection has changed; by strictly rising path
@@ -76,6 +79,7 @@
 //! - An event that comes through `bus_mut` leaves what the host knows so (`known_stays_at_events`).
 #![tactic(auto)]
 
+mod control;
 mod fault;
 mod host;
 mod left;
@@ -91,5 +95,6 @@ pub use listing_laws::{known_stays, known_stays_at_events, settled_matches};
 pub use tree::Tree;
 pub use usb_bus::{Bus, BusFault};
 pub use usb_enum::Finding;
+pub use usb_pipe::Setup;
 pub use usb_port::PortPath;
 pub use usb_table::TransferFault;

@@ -1,5 +1,6 @@
 //! One module a crate, and one for a port that is disabled behind the host. A test is a loop over rows of worked
 //! values.
+mod control;
 mod disabled;
 mod enumeration;
 mod external;

@@ -40,7 +40,7 @@ record HasIt (t : Target) (w : World) (j : Location) : Type 0 where
   at : is_at state t ≡ true
 
 -- transactions leave the address where it is: what has it after them had it before
-record Passed (t : Target) (old new : World) : Type 0 where
+pub record Passed (t : Target) (old new : World) : Type 0 where
   settled : IsSettled old.roots → IsSettled new.roots
   unshared : new.shared ≡ false → old.shared ≡ false
   kept : IsSettled old.roots → new.shared ≡ false → (j : Location) → HasIt t new j → HasIt t old j
@@ -48,7 +48,7 @@ record Passed (t : Target) (old new : World) : Type 0 where
 passed_none : (t : Target) (w : World) → Passed t w w
 passed_none t w = record { settled = λ h. h; unshared = λ h. h; kept = λ h single j d. d }
 
-passed_then : {t : Target} {old mid new : World} → Passed t old mid → Passed t mid new
+pub passed_then : {t : Target} {old mid new : World} → Passed t old mid → Passed t mid new
     → Passed t old new
 passed_then x y = record {
   settled = λ h. y.settled (x.settled h);
@@ -82,7 +82,7 @@ spared_at : (t : Target) (request : Setup) (s : State) → (is_harmless request 
 spared_at t request s addressed at h =
     (addressed h, λ e. addressed h (sym (equal_same (address_of s) t.addr at) ∙ e))
 
-set_up_passed : (t : Target) (request : Setup) {old new : World}
+pub set_up_passed : (t : Target) (request : Setup) {old new : World}
     → (is_harmless request ≡ false → t.addr ≢ 0) → setup_of (bytes_of request) ≡ request
     → SetUp t request old (Ok []) new → Passed t old new
 set_up_passed t request {old} {new} addressed same e =
@@ -126,7 +126,7 @@ stage_passed : (t : Target) {wanted : ℕ} {bytes : List ℕ} {old new : World}
 stage_passed t d = passed_then (goes_passed t d.before)
     (asked_passed t (flips d.packets One) d.last d.came)
 
-gave_passed : (t : Target) (ep : ℕ) (first : Toggle) {old : World} {n : ℕ} {sent : List ℕ}
+pub gave_passed : (t : Target) (ep : ℕ) (first : Toggle) {old : World} {n : ℕ} {sent : List ℕ}
     {new : World} → Gave t ep first old n sent new → Passed t old new
 gave_passed t ep first {old} moves.start = passed_none t old
 gave_passed t ep first (moves.packet {n} bytes g full some fits puts) =
@@ -140,7 +140,7 @@ came_passed t ep first (moves.packet {n} bytes c fetches full) =
 
 -- The device that answered the last one
 
-answerer_after_passed : {t : Target} {old mid new : World} → Passed t old mid → IsSettled old.roots
+pub answerer_after_passed : {t : Target} {old mid new : World} → Passed t old mid → IsSettled old.roots
     → mid.shared ≡ false → (IsSettled mid.roots → Answerer t mid new) → Answerer t old new
 answerer_after_passed {t} {old} {mid} {new} x settled single last =
     let a : Answerer t mid new = last (x.settled settled) in

@@ -63,7 +63,7 @@ module _ (K : Step → World → Type 0) (hear : _) (a : Attempt) {mid : World}
   last_kind (next w r made) on = course_then (attempt a) (trail_kind r on) (kind _ _ r on)
 
   -- a transfer that failed as its last transaction did
-  lost_kind : {A : Type 0} {old new : World} (why : PipeFault) (fault : TransFault)
+  pub lost_kind : {A : Type 0} {old new : World} (why : PipeFault) (fault : TransFault)
       → why ≡ as_pipe_fault fault → Course K old mid → Transacted hear a mid (Err fault) new
       → TransferAttempts {A = A} K old (Err why) new
   lost_kind {A} {old} {new} why fault told c x = record {

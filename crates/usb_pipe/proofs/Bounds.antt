@@ -37,3 +37,27 @@ few_by (suc e) k n less = let all : suc e * suc k ≡ e * k + e + k + 1 = omega 
 pub few_packets : (n max : ℕ) → 1 ≤ max → div_ceil n max ≤ n
 few_packets n zero some = absurd (omega (arith, some))
 few_packets n (suc k) some = few_by (div_ceil n (suc k)) k n (div_ceil_times n (suc k) some).1
+
+-- packets of 8 bytes or more are few
+wide_packets : (d max n : ℕ) → 8 ≤ max → d * max < n + max → d * 8 < n + 8
+wide_packets zero max n wide less = omega arith
+wide_packets (suc e) max n wide less =
+    let all : suc e * max ≡ e * max + max = omega arith in
+    let least : e * 8 ≤ e * max = mul-le-mul_left e wide in
+    omega (arith, all, least, less)
+
+packets_fit_by : (b : Bool) (max n : ℕ) → nat_le 8 max ≡ b → 1 ≤ max
+    → transaction_bound * div_ceil n max
+    ≤ 672 + (if b then 100 else transaction_bound) * n
+packets_fit_by true max n is some =
+    let few : div_ceil n max * 8 < n + 8 = wide_packets (div_ceil n max) max n (leb-true 8 max is)
+    (div_ceil_times n max some).1 in
+    omega (arith, few)
+packets_fit_by false max n is some = omega (arith, few_packets n max some)
+
+-- a SETUP, the packets of so many bytes, and an IN
+pub packets_fit : (max n : ℕ) → 1 ≤ max
+    → 3 + transaction_bound * div_ceil n max + transaction_bound ≤ control_bound max n
+unfolding control_bound byte_bound
+packets_fit max n some =
+    let few = packets_fit_by (nat_le 8 max) max n refl some in omega (arith, few)

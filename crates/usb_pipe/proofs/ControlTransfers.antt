@@ -178,7 +178,7 @@ asks_for : (o : Outcome) (a : ℕ) → address_at_end o ≡ Some a → o ≡ tak
 asks_for (takes_address b) a e = cc e
 asks_for o a e = cc e
 
-first_stage-address : (row : List PortState) (wanted : ℕ) (o : Outcome) (a : ℕ)
+pub first_stage-address : (row : List PortState) (wanted : ℕ) (o : Outcome) (a : ℕ)
     → first_stage row wanted o ≡ ending (Some a) → o ≡ takes_address a
 first_stage-address row wanted o a e = elim (first_stage_of row wanted o) [
   | refuses h ↦ cc (sym h ∙ e)

@@ -9,7 +9,8 @@ pub use Rattle.usb_pipe.proofs.BulkClears.{clear_of-in, asks_out, clear_leaves, 
 pub use Rattle.usb_pipe.proofs.BulkClears.{given_registers, harmless, two_bytes_word}
 pub use Rattle.usb_pipe.proofs.BulkTransfers.{receive_leaves, send_leaves}
 pub use Rattle.usb_pipe.proofs.ControlSteps.{never_three, transacted_ended, host_harmless}
-pub use Rattle.usb_pipe.proofs.ControlTransfers.{is_some_byte, read_leaves, read_why, write_leaves}
-pub use Rattle.usb_pipe.proofs.ControlTransfers.{write_losses, write_why}
+pub use Rattle.usb_pipe.proofs.ControlTransfers.{first_stage-address, is_some_byte, read_leaves}
+pub use Rattle.usb_pipe.proofs.ControlTransfers.{read_why, write_leaves, write_losses, write_why}
+pub use Rattle.usb_pipe.proofs.DataWrites.{put_attempts, who_puts}
 pub use Rattle.usb_pipe.proofs.InterruptPolls.{poll_tells, polling_why}
 pub use Rattle.usb_pipe.proofs.Uses.{uses_as, uses_none, uses_then, uses_wider}

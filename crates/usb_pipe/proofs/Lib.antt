@@ -9,6 +9,7 @@ pub mod InterruptPolls
 pub mod BulkClears
 pub mod ControlTransfers
 pub mod Answerers
+pub mod DataWrites
 pub mod BulkTransfers
 pub mod TransferLosses
 pub mod Uses

@@ -71,6 +71,14 @@ IsBehind t (root_call c n) w = ⊥
 IsBehind t event w = ⊥
 IsBehind t (report line) w = ⊥
 
+-- the same where the data go to the device: IN of endpoint 0, or OUT of some bytes to it
+abbrev pub IsBehindData : Target → Step → World → Type 0
+IsBehindData t (attempt a) w = (a ≡ in_attempt t 0) ⊎ ((toggle : Toggle) × (bytes : List ℕ)
+    × (a ≡ out_attempt t 0 toggle bytes))
+IsBehindData t (root_call c n) w = ⊥
+IsBehindData t event w = ⊥
+IsBehindData t (report line) w = ⊥
+
 -- it did so at a moment of the call: nothing but the stages behind SETUP was attempted since
 pub record Moment (t : Target) (request : Setup) (old new : World) (x : Location)
     (row : List PortState) (s : State) : Type 0 where

@@ -2,8 +2,8 @@ pub mod Control
 pub mod End
 pub mod InterruptPipes
 pub mod BulkPipes
-pub mod Stages
 pub mod Moves
+pub mod Stages
 pub mod Packets
 pub mod Leaves
 pub mod Failures
@@ -19,18 +19,20 @@ pub use BulkPipes.{Bulk, Cleared, Clears, Idle, MovedIn, MovedOut, Receives, Sen
 pub use BulkPipes.{after_failed_clear, after_fault, after_transfer, bulk_made, cleared}
 pub use BulkPipes.{halt_address, is_broken, is_ready, packets_of}
 pub use Stages.{Asks, Confirms, DataEnds, DataLost, DataStage, Goes, NoData, NoRoom, NoSetUp}
-pub use Stages.{NoStatus, NotConfirmed, Reads, SetUp, WasRead, Writes, Written}
+pub use Stages.{NoStatus, NotConfirmed, NotPut, PutsData, PutUnconfirmed, Reads, SetUp, WasPut}
+pub use Stages.{WasRead, Writes, Written}
 pub use Moves.{AllCame, AllGone, Came, Fetches, Gave, NoRoomLeft, NotCame, NotGone, Puts}
 pub use Moves.{ReceiveEnds, SendEnds, SendsAt, WhileSending, packets_came, packets_gone}
 pub use Packets.{PacketsReceived, PacketsSent}
 pub use Leaves.{AcceptedIn, AnswerRead, BegunAgain, ByteTold, CanEnd, ClearLeaves, EffectDone}
-pub use Leaves.{EffectOrNone, FrontTaken, InPipeInSync, IsBehind, IsMaximum, IsNoBusFault}
-pub use Leaves.{IsTransferAnswer, LossesKept, LossesOf, Moment, OnlyEndpoint, OutPipeInSync}
+pub use Leaves.{EffectOrNone, FrontTaken, InPipeInSync, IsBehind, IsBehindData, IsMaximum}
+pub use Leaves.{IsNoBusFault, IsTransferAnswer, LossesKept, LossesOf, Moment, OnlyEndpoint, OutPipeInSync}
 pub use Leaves.{PollLeaves, PollTells, ReadLeaves, ReceiveLeaves, SendLeaves, SendingLeaves, ToldOf}
 pub use Leaves.{TookItOrLost, WasRefused, WriteLeaves, came_with, got_after, lost, none, pipe_known}
 pub use Leaves.{some, took, whole}
 pub use Failures.{ControlReadFailure, PollingFailure, ReceiveFailure, SendFailure, WriteFailure}
-pub use Attempts.{IsOfTransfer, TransferAttempts}
+pub use Attempts.{IsOfDataWrite, IsOfTransfer, TransferAttempts}
+pub use Transfers.{DataWrite}
 pub use Transfers.{BulkClear, BulkReceive, BulkSend, Completed, ControlRead, ControlWrite}
 pub use Transfers.{InterruptPoll, Undamaged, Unshared}
 pub use Uses.{UsesBus}

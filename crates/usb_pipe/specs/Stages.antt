@@ -10,6 +10,7 @@ use Rattle.usb_transaction.specs.{setup_attempt, in_attempt, out_attempt, Transa
 use Rattle.usb_pipe.specs.declared.fault.PipeFault.{PipeFault}
 use Rattle.usb_pipe.specs.declared.fault.PipeFault.TheVariants.{Memory}
 use Rattle.usb_pipe.specs.Control.{as_pipe_fault, ends_stage}
+use Rattle.usb_pipe.specs.Moves.{AllGone, NotGone}
 
 -- Transactions of endpoint 0
 
@@ -140,3 +141,38 @@ abbrev pub Reads : Target → Setup → World → Result (Vec ℕ) PipeFault →
 Reads t request old (Ok bytes) new = WasRead t request old bytes.items new
 Reads t request old (Err why) new = NoSetUp t request old why new ⊎ NoData t request old why new
     ⊎ NotConfirmed t request old why new
+
+-- With data to the device
+
+-- a request with these data: its SETUP was acknowledged, the data went, DATA1 first and then by
+-- turns, and an IN was answered by DATA1
+pub record WasPut (t : Target) (request : Setup) (bytes : List ℕ) (old new : World) : Type 0 where
+  pub first : World
+  pub set_up : SetUp t request old (Ok []) first
+  pub second : World
+  pub data_stage : AllGone t 0 One bytes first second
+  pub given : List ℕ
+  pub status : Asks t One second (Ok given) new
+
+-- at its data stage
+pub record NotPut (t : Target) (request : Setup) (bytes : List ℕ) (old : World) (why : PipeFault)
+    (new : World) : Type 0 where
+  pub mid : World
+  pub set_up : SetUp t request old (Ok []) mid
+  pub data_stage : NotGone t 0 One bytes mid why new
+
+-- at its status stage
+pub record PutUnconfirmed (t : Target) (request : Setup) (bytes : List ℕ) (old : World)
+    (why : PipeFault) (new : World) : Type 0 where
+  pub first : World
+  pub set_up : SetUp t request old (Ok []) first
+  pub second : World
+  pub data_stage : AllGone t 0 One bytes first second
+  pub fault : TransFault
+  pub told : why ≡ as_pipe_fault fault
+  pub status : Asks t One second (Err fault) new
+
+abbrev pub PutsData : Target → Setup → List ℕ → World → Result (Unit {0}) PipeFault → World → Type 0
+PutsData t request bytes old (Ok done) new = WasPut t request bytes old new
+PutsData t request bytes old (Err why) new = NoSetUp t request old why new
+    ⊎ NotPut t request bytes old why new ⊎ PutUnconfirmed t request bytes old why new

@@ -1,9 +1,10 @@
 -- What each call tells of its transfer: how few attempts were made, which they were and what was
 -- heard of each, and what that says of each device.
-use Rattle.std.specs.Prelude.{◌≡◌, ◌≢◌, ℕ, ◌≤◌, List, [], length, true, false, Option, Result, Err}
-use Rattle.std.specs.Prelude.{OnOk, IfOk, MatchResult}
+use Rattle.std.specs.Prelude.{◌≡◌, ◌≢◌, ℕ, ◌+◌, ◌≤◌, List, [], length, true, false, Option, Result}
+use Rattle.std.specs.Prelude.{Err, OnOk, IfOk, MatchResult}
 use Rattle.arrayvec.specs.ArrayVec.{ArrayVec}
 use Rattle.std.specs.Global.{Vec}
+use Rattle.std.specs.Int.{div_ceil}
 use Rattle.usb_request.specs.{Setup}
 use Rattle.usb_world.specs.{is_harmless, EachWas, World}
 use Rattle.usb_tree.specs.{IsSettled}
@@ -15,7 +16,7 @@ use Rattle.usb_pipe.specs.declared.fault.PipeFault.TheVariants.{Memory}
 use Rattle.usb_pipe.specs.BulkPipes.{Bulk, Sends, Receives, Clears}
 use Rattle.usb_pipe.specs.Control.{FaultAfter}
 use Rattle.usb_pipe.specs.InterruptPipes.{Interrupt, Polls}
-use Rattle.usb_pipe.specs.Stages.{Reads, Writes}
+use Rattle.usb_pipe.specs.Stages.{PutsData, Reads, Writes}
 use Rattle.usb_pipe.specs.Leaves.{IsNoBusFault, ReadLeaves, WriteLeaves, LossesOf, LossesKept}
 use Rattle.usb_pipe.specs.Leaves.{SendLeaves, ReceiveLeaves, ClearLeaves, PollLeaves}
 use Rattle.usb_pipe.specs.Failures.{ControlReadFailure, WriteFailure, SendFailure, ReceiveFailure}
@@ -70,6 +71,18 @@ pub record ControlWrite (t : Target) (request : Setup) (old : World)
       → Unshared new (Answerer t old new))
   pub losses : begins_no_stretch request ≡ true
       → Completed result new (EachSpared t request (LossesOf t request result old new) old new)
+
+-- a request with data to the device: how few attempts were made, and which: a SETUP, one for each
+-- packet, and an IN
+pub record DataWrite (t : Target) (request : Setup) (bytes : List ℕ) (old : World)
+    (result : Result (Unit {0}) PipeFault) (new : World) : Type 0 where
+  pub ends : MatchResult result (λ _. AttemptsMade (div_ceil (length bytes) t.max + 2) old new)
+      (λ fault. FaultAfter 1 old fault new)
+  pub stages : PutsData t request bytes old result new
+  pub settled : IsSettled old.roots
+  pub room : result ≢ Err Memory
+  pub who : OnOk result ((is_harmless request ≡ false → t.addr ≢ 0)
+      → Unshared new (Answerer t old new))
 
 -- Bulk pipes (5.8)
 

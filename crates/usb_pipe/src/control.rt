@@ -4,9 +4,10 @@ ghost use Rattle.usb_bus.specs.Traces.{Spends, Steps};
 ghost use Rattle.usb_request.specs.Layout.{IsToHost, IsToDevice};
 ghost use Rattle.usb_transaction.specs.Transactions.{IsTarget};
 ghost use Rattle.usb_pipe.specs.Control.{BusToldIt, control_bound, write_bound};
-ghost use Rattle.usb_pipe.specs.Transfers.{ControlRead, ControlWrite};
+ghost use Rattle.usb_pipe.specs.Transfers.{ControlRead, ControlWrite, DataWrite};
 
 use crate::PipeFault;
+use crate::packets::send_packets;
 use crate::stage::data_stage;
 use std::alloc::Global;
 use usb_packet::Toggle;
@@ -53,7 +54,7 @@ pub fn control_in<B: Bus>(
 
 /// Asks endpoint 0 for something that has no data: a SETUP, and an IN that is answered by DATA1.
 ///
-/// The request is one whose data would go to the device, and its length is 0. Where no address was
+/// The length of the request is 0, whichever way its data would go (9.3.1). Where no address was
 /// ever held twice, `Ok` means that the device at the target's address did what was asked; a new
 /// address it takes where it saw the last ACK, and else one address loss more is counted.
 ///
@@ -65,7 +66,6 @@ pub fn control_in<B: Bus>(
 #[tactic(auto, using(usb_bus::proofs::Interface::went_wider))]
 pub fn control_none<B: Bus>(bus: &mut B, target: Target, setup: Setup) -> Result<(), PipeFault>
     requires target { IsTarget target }
-    requires writes { IsToDevice setup }
     requires none { setup.length ≡ 0 }
     ensures any_bus { Spends B.spent B.ports write_bound bus.old bus.new
         × BusToldIt result (B.failed bus.new) }
@@ -76,5 +76,44 @@ pub fn control_none<B: Bus>(bus: &mut B, target: Target, setup: Setup) -> Result
     send_setup(bus, target, setup.to_bytes())?;
     let mut toggle = Toggle::One;
     data_in(bus, target, 0, &mut toggle)?;
+    Ok(())
+}
+
+/// Sends data to endpoint 0: a SETUP, the data in packets of the target's maximum, and an IN that is
+/// answered by DATA1.
+///
+/// The request is one whose data go to the device, and its length is theirs, from 1 on. No packet
+/// of the data goes before the SETUP was acknowledged, and none again once it was acknowledged; no
+/// SETUP goes behind any of them.
+///
+/// # Errors
+///
+/// `Stalled`, `Busy` and `NoAnswer` where a transaction ended so, `Bus` where the bus makes no more
+/// steps. It never answers `Broken` or `Memory`. After `Busy` and `NoAnswer` the device may have
+/// done what was asked.
+#[tactic(auto, using(usb_bus::proofs::Interface::went_wider), unfolding(crate::specs::Control::control_bound))]
+pub fn control_out<B: Bus>(
+    bus: &mut B,
+    target: Target,
+    setup: Setup,
+    bytes: &[u8],
+) -> Result<(), PipeFault>
+    requires target { IsTarget target }
+    requires writes { IsToDevice setup }
+    requires some { 1 ≤ setup.length }
+    requires all { setup.length ≡ length bytes.now }
+    ensures any_bus { Spends B.spent B.ports (control_bound target.max setup.length) bus.old bus.new
+        × BusToldIt result (B.failed bus.new) }
+    ensures steps { B.modelled ≡ true
+        → Steps B.world B.trace (control_bound target.max setup.length) bus.old bus.new }
+    ensures transfer { B.modelled ≡ true → DataWrite target setup bytes.now
+        (B.world bus.old) result (B.world bus.new) }
+{
+    let first = setup.to_bytes();
+    send_setup(bus, target, first)?;
+    let mut data = Toggle::One;
+    send_packets(bus, target, 0, &mut data, bytes)?;
+    let mut status = Toggle::One;
+    data_in(bus, target, 0, &mut status)?;
     Ok(())
 }

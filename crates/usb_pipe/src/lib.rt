@@ -14,19 +14,20 @@
 //! Each call has, beside its count (`went`), one clause `transfer`: a record of `usb_pipe/specs/Transfers.antt`, whose
 //! fields say on each call, for every answer:
 //!
-//! - At most 1,600 attempts and 100 per byte of its length for a control read, 1,600 for a control write and
+//! - At most 1,600 attempts and 100 per byte of its length for a control transfer with data, 1,600 for one without and
 //!   `clear_halt`, 768 for a poll, 768 per packet for `send` and `receive`. At most wLength bytes, at most the maximum
 //!   for each packet.
 //! - A control transfer, a clear and a poll say which transactions were made, in which order, direction and toggle, and
 //!   what was heard of each (*stages*): a SETUP of just the request's eight bytes, the data by turns from DATA1 on,
-//!   ended by a short packet or by all that was wanted, and the status stage the other way; a fault tells at which of
-//!   them. `send` and `receive` say which packets went or came, in which order and with which toggle (*moves*).
+//!   ended by a short packet or by all that was wanted (of data to the device, in packets of the maximum, no empty one
+//!   behind), and the status stage the other way; a fault tells at which of them. `send` and `receive` say which
+//!   packets went or came, in which order and with which toggle (*moves*).
 //! - Which answers leave a bulk pipe ready, halted or broken; `Broken` exactly where it was broken, and then, as where
 //!   nothing is to be moved, no attempt. The toggle turns once for each packet, and is DATA0 after a clear; however a
 //!   send or receive ends, also where the bus gave up, it is the one behind the packets that moved.
 //!
-//! On each call too, where no address was ever held twice, of each device that is reachable in the end, also where the
-//! bus gave up (why a call fails and which losses it counts are said where it did not):
+//! On each call but `control_out` too, where no address was ever held twice, of each device that is reachable in the
+//! end, also where the bus gave up (why a call fails and which losses it counts are said where it did not):
 //!
 //! - A control read that is done gave the first bytes of the answer that the device had for the request when it
 //!   accepted it, at a moment of the call, with its ports as they were then (where the target's maximum is the
@@ -45,8 +46,8 @@
 //!   that it has not seen acknowledged; one that failed leaves the endpoint as it was or begun again; no clear moves a
 //!   byte, or changes anything of a device but its endpoint and where its control transfer stands.
 //! - Where no earlier poll failed, a poll's byte is the bits of the hub's ports at a moment of it.
-//! - A transfer that is done was answered by a device that had the target's address, and is still reachable (a clear,
-//!   of a pipe that was not ready; PORT_RESET sent to address 0 apart).
+//! - A transfer that is done (of `control_out` too) was answered by a device that had the target's address, and is
+//!   still reachable (a clear, of a pipe that was not ready; PORT_RESET sent to address 0 apart).
 //! - Where no three attempts running are damaged, a transfer with a device that listens never ends without an answer,
 //!   and in vain waiting only where the device is always busy, or, of a receive, where its source has run out. This is
 //!   said of a read where the target's maximum is as above and at least 8; of a device that gives at most 200 NAKs
@@ -81,7 +82,7 @@ mod packets;
 mod stage;
 
 pub use bulk::BulkPipe;
-pub use control::{control_in, control_none};
+pub use control::{control_in, control_none, control_out};
 pub use fault::PipeFault;
 pub use interrupt::InterruptPipe;
 pub use laws::{

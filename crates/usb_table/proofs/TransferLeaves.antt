@@ -63,7 +63,7 @@ pipe_told : (why : PipeFault) (w : World)
 pipe_told (pipe_fault.Bus fault) w told = told fault refl
 pipe_told _ w told = tt
 
-told_through : {A : Type 0} (old : World) (answer : Result A PipeFault)
+pub told_through : {A : Type 0} (old : World) (answer : Result A PipeFault)
     (result : Result A TableFault) (w : World) → result ≡ table_answer answer
     → PipeKeeps old answer w → IfErr result (λ fault. TableFaultAllowed fault w)
 told_through old (Ok x) result w e kept = rw e tt

@@ -1,9 +1,13 @@
 -- What transfers leave.
 pub mod Collections
+pub mod ControlReads
 pub mod Deliveries
 pub mod DevicesKept
+pub mod FreeRequests
 pub mod HaltClears
 pub mod HubPolls
 pub mod PathTransfers
+pub mod PlainRequests
+pub mod PlainTransfers
 pub mod Restarts
 pub mod SparedBulk

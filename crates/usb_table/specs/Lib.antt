@@ -1,3 +1,4 @@
+pub mod Controls
 pub mod Deliveries
 pub mod TableEntries
 pub mod Findings
@@ -11,6 +12,9 @@ pub mod TablePipes
 pub mod Tables
 pub mod Transfers
 -- the words of this crate, wherever one stands
+pub use Controls.{ControlledAt, MadeOrRefused, ReadIf, ReadLeft, ReadLeftIf, ReadMade, TableReads}
+pub use Controls.{TransferIf, TransferIs, TransferLeaves, TransferMade, control_most}
+pub use Controls.{control_target, target_asked, without_bytes}
 pub use Deliveries.{ChangesAt, Collected, Delivered, GaveBy, GaveBytes, HaltCleared, HaltClearedBy}
 pub use Deliveries.{HaltsCleared, JoinsSink, Restarted, TookBytes, TransfersAt, bytes_in, pipe_in}
 pub use Deliveries.{pipe_out}

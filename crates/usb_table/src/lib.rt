@@ -16,6 +16,11 @@
 //! bits at a moment of it; where no three attempts running are damaged, a hub whose pipe is level and that is reached
 //! in the end is polled (`KeepsPolled`).
 //!
+//! `control_in` makes one control transfer to endpoint 0 of the accepted device at a path, with usb_pipe's own clauses,
+//! and changes no pipe; just where there is no such device it tells so, and nothing is attempted (`control_target`).
+//! It keeps all that the calls above keep, and moves nothing but at the device at that path, which is reached in the
+//! end where it is done (`ControlledAt`).
+//!
 //! **What a right listing is.** `verdict` (`usb_enum/specs/Verdicts.antt`) is what a host finds in a device of a
 //! description, row by row: the first of twelve that holds. 19 devices that cover each row are computed beside it
 //! (`usb_enum/proofs/verdicts/VerdictExamples.antt`). *Lists* (`usb_table/specs/Listing.antt`) says of a listing that
@@ -37,6 +42,7 @@
 //! plugged (usb_serve).
 #![tactic(auto)]
 
+mod control;
 mod entry;
 mod fault;
 mod found;

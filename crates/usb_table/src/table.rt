@@ -93,6 +93,7 @@ impl DeviceTable {
     pub fn get(&self, path: &PortPath) -> Option<&Finding>
         ensures value { option_copied result ≡ lookup (is_at (path_cmp path.now)) self.now.entries }
         ensures sound { IfSome result (λ finding. IsSoundFinding finding.now) }
+        ensures pipes { ArePipesAt path.now self.now }
     {
         match self.indexes.by_path.get(path) {
             Some(key) => Some(self.entries[*key].finding()),

@@ -6,3 +6,4 @@ mod plans;
 mod polls;
 mod ready;
 mod resent;
+mod writes;

@@ -19,15 +19,15 @@ use Rattle.usb_table.proofs.transfers.DevicesKept.{RanAs}
 -- An endpoint that nothing moved at
 
 -- the settings are the same wherever a device stands
-abbrev root : Location
+abbrev pub root : Location
 root = record { row = 0; rest = [] }
 
-same_end : (way : Bool) (s v : State) → SameSettings root s v → bulk_at v.spec v.registers way
+pub same_end : (way : Bool) (s v : State) → SameSettings root s v → bulk_at v.spec v.registers way
     ≡ bulk_at s.spec s.registers way
 same_end way s v k = ap (λ (x : Spec). bulk_at x v.registers way) k.0
     ∙ ap (λ (g : Registers). bulk_at s.spec g way) k.1
 
-same_tells : (s v : State) → SameSettings root s v → tells_changes v.spec v.registers
+pub same_tells : (s v : State) → SameSettings root s v → tells_changes v.spec v.registers
     ≡ tells_changes s.spec s.registers
 same_tells s v k = ap (λ (x : Spec). tells_changes x v.registers) k.0
     ∙ ap (λ (g : Registers). tells_changes s.spec g) k.1
@@ -85,7 +85,7 @@ still_poll t s v e held (PollAt.told bits so a b) = absurd so
 still_poll t s v e held (PollAt.ahead bits a b) =
     PollAt.ahead bits (held ∙ a) (ap (λ (x : EndpointState). x.toggle) e ∙ b)
 
-still_status : (pipe : Interrupt) (s v : State) → SameSettings root s v → v.changes ≡ s.changes
+pub still_status : (pipe : Interrupt) (s v : State) → SameSettings root s v → v.changes ≡ s.changes
     → v.held ≡ s.held → StatusPipeInSync pipe s → StatusPipeInSync pipe v
 still_status pipe s v k e held f = record {
   tells = same_tells s v k ∙ f.tells;

@@ -77,6 +77,23 @@ module _ (path : List ℕ) (table : Table) (old : World) (held : IsHeld table ol
         apart far = others j w.before v w.so (false_from_ne_true _ (λ at. far
             (stands_there path table old held device found a is j w.before w.on w.stands at)))
 
+    -- what is so of each device is so of the one there, and any other is as it was
+    pub leaves_there : (L : Relation) (new : World)
+        → ((j : Location) (s v : State) → L j s v → (address_of s == a) ≡ false → v ≡ s)
+        → EachWas L old new → EachWas (λ j. ChangesAt path (L j) j) old new
+    leaves_there L new others each j v on there =
+        let w : Was L old j v = each j v on there in
+        record {
+          before = w.before;
+          on = w.on;
+          stands = w.stands;
+          so = record {
+            itself = λ e. w.so;
+            others = λ far. others j w.before v w.so (false_from_ne_true _ (λ at. far
+                (stands_there path table old held device found a is j w.before w.on w.stands at)));
+          };
+        }
+
     -- who answered is reached there
     pub answers_there : (t : Target) (new : World) → t.addr ≡ a → Answerer t old new
         → reach new.roots path ≡ true

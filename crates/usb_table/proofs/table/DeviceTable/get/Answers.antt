@@ -3,6 +3,7 @@ use Rattle.std.proofs.Common.{◌∙◌, sym, ap, Some}
 use Rattle.slab.specs.Slab.{get}
 use Rattle.usb_table.specs.{findings}
 use Rattle.usb_table.proofs.entries.Keys.{entries_of-key, entries_of-no_key, findings-standing}
+use Rattle.usb_table.proofs.levels.PipeCalls.{are_pipes_at}
 use Rattle.usb_table.proofs.table.DeviceTable.get.Goals as goal
 
 pub returns-in-Some-clause-value : goal.returns-in-Some-clause-value
@@ -26,3 +27,13 @@ returns-in-Some-clause-sound c =
     (c.self.invariant.1 c.args.path.now c.in-Some.key.now c.index.result.now
     (sym c.in-Some.ensures.value) c.index.ensures).0 in
     rw c.finding.ensures sound
+
+pub returns-in-Some-clause-pipes : goal.returns-in-Some-clause-pipes
+returns-in-Some-clause-pipes c =
+    rw (← c.self.view_is) (are_pipes_at (get c.self.inside.entries) _ _ c.self.invariant.0
+    c.self.invariant.1 c.args.path.now)
+
+pub returns-in-None-clause-pipes : goal.returns-in-None-clause-pipes
+returns-in-None-clause-pipes c =
+    rw (← c.self.view_is) (are_pipes_at (get c.self.inside.entries) _ _ c.self.invariant.0
+    c.self.invariant.1 c.args.path.now)

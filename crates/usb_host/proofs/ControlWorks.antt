@@ -1,0 +1,63 @@
+-- After which control transfers of a driver's own the bus still works.
+use Rattle.std.proofs.Common.{◌≡◌, ℕ, ◌==◌, Bool, true, false, List, Result, Ok, Err}
+use Rattle.std.proofs.Common.{MatchResult, ap, refl, sym, ◌∙◌}
+use Rattle.std.specs.Global.{Vec}
+use Rattle.usb_request.specs.{Setup}
+use Rattle.usb_world.specs.{World}
+use Rattle.usb_transaction.specs.{AttemptsMade, Target}
+use Rattle.usb_pipe.specs.{PipeFault, FaultAfter}
+use Rattle.usb_hub.specs.{StillWorks, WorksAfter}
+use Rattle.usb_table.specs.{MadeOrRefused, ReadIf, ReadLeft, ReadMade, Table, TableFault}
+use Rattle.usb_table.specs.{TransferFault, TransferIf, TransferIs, TransferLeaves, table_answer}
+use Rattle.usb_table.specs.{without_bytes}
+use Rattle.usb_table.specs.declared.fault.TableFault.TheVariants as table
+use Rattle.usb_host.specs.{AsksOrRefuses, HostFault, HostState, host_told, is_final}
+use Rattle.usb_host.specs.declared.fault.HostFault.TheVariants as host
+use Rattle.usb_host.proofs.WorkingBuses.{TableWorks, ToldWorks, host_works, made_works, same_works}
+use Rattle.usb_host.proofs.WorkingBuses.{table_works}
+
+works_without : {A : Type 0} (answer : Result A PipeFault) (old new : World)
+    → WorksAfter (without_bytes answer) old new → WorksAfter answer old new
+works_without (Ok bytes) old new works = works
+works_without (Err why) old new works = works
+
+read_works : (none : Bool) (request : Setup) (t : Target) (old : World)
+    (answer : Result (Vec ℕ) PipeFault) (new : World) → ReadIf none request t old answer new
+    → WorksAfter answer old new
+read_works true request t old answer new x =
+    works_without answer old new (made_works 2 1 (without_bytes answer) old new x.0.ends)
+read_works false request t old answer new x = made_works 3 1 answer old new x.ends
+
+transfer_works : {A : Type 0} (Is : TransferIs A) (Leaves : TransferLeaves A)
+    → ((t : Target) (old : World) (answer : Result A PipeFault) (new : World) → Is t old answer new
+    → WorksAfter answer old new) → (path : List ℕ) (tab : Table)
+    (target : Result Target TransferFault) (old : World) (result : Result A TableFault)
+    (new : World) → TransferIf Is Leaves path tab target old result new → TableWorks old result new
+transfer_works Is Leaves each path tab (Ok target) old result new x =
+    table_works result x.answer old new x.told (each target old x.answer new x.is)
+transfer_works Is Leaves each path tab (Err fault) old result new x =
+    rw x.0 (λ sound. same_works old new x.1)
+
+pub read_told_works : (request : Setup) (path : List ℕ) (tab : Table)
+    (target : Result Target TransferFault) (old new : World) (answer : Result (Vec ℕ) TableFault)
+    (result : Result (Vec ℕ) HostFault) → result ≡ host_told answer
+    → TransferIf (ReadMade request) (ReadLeft request) path tab target old answer new
+    → ToldWorks old result new
+read_told_works request path tab target old new answer result is did =
+    host_works result answer old new is (transfer_works (ReadMade request) (ReadLeft request)
+    (read_works (request.length == 0) request) path tab target old answer new did)
+
+-- Over any bus
+
+pub asks_or_refuses : {A W : Type 0} (target : Result Target TransferFault)
+    (view : W → Bool → HostState) (old new : W) (answer : Result A TableFault)
+    (result : Result A HostFault) (before after : Bool) → MadeOrRefused target old answer new
+    → result ≡ host_told answer → before ≡ false → after ≡ is_final result
+    → AsksOrRefuses target (view old before) result (view new after)
+asks_or_refuses (Ok target) view old new answer result before after x is going ends =
+    (x.0, is ∙ ap host_told x.1)
+asks_or_refuses (Err fault) view old new answer result before after x is going ends =
+    let same : result ≡ Err (host.Transfer fault) = is ∙ ap host_told x.0 in (
+      same,
+      ap (λ w. view w after) x.1 ∙ ap (view old) (ends ∙ ap is_final same ∙ sym going),
+    )

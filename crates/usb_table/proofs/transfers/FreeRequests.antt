@@ -1,0 +1,134 @@
+-- What a request asks of a device that changes no address, no configuration, no toggle and no port.
+use Rattle.std.proofs.Common.{◌≡◌, ◌⊎◌, inl, inr, refl, ◌∙◌, ap, ℕ, ◌/◌, ◌==◌, ◌≤◌, nat_lt, Bool, true}
+use Rattle.std.proofs.Common.{sym, false, arith, not, ◌&&◌, ◌||◌, if◌then◌else◌, List, Option, None, Some}
+use Rattle.std.proofs.Common.{slice_get}
+use Rattle.std.proofs.lemmas.Bool.Decides.{nat_tests}
+use Rattle.usb_request.specs.{CLEAR_FEATURE, SET_FEATURE, SET_ADDRESS, SET_CONFIGURATION}
+use Rattle.usb_request.specs.{DEVICE_OUT, ENDPOINT_OUT, PORT_OUT}
+use Rattle.usb_request.specs.{ENDPOINT_HALT, DEVICE_IN, HUB_IN, PORT_IN, GET_DESCRIPTOR, GET_STATUS}
+use Rattle.usb_request.specs.{GET_CONFIGURATION, CONFIGURATION, DEVICE, STRING, HUB}
+use Rattle.usb_request.specs.{IsToHost, Setup, descriptor_value}
+use Rattle.usb_port.specs.{PortState}
+use Rattle.usb_device.specs.{Is, Outcome, Registers, Spec, stalled, halts, unhalts, tells_port}
+use Rattle.usb_device.specs.Request.{answers}
+use Rattle.usb_device.specs.{outcome, on_endpoint, endpoint_of, ServedEndpoint, told_port}
+use Rattle.usb_device.specs.{asked_descriptor, asked_hub_descriptor, port_named}
+use Rattle.usb_world.specs.{asks_no_port, is_harmless}
+
+request_type-other : (n type : ℕ) (b : Bool) → 128 ≤ n → nat_lt type 128 ≡ true
+    → (n == type && b) ≡ false
+request_type-other n type b h g = grind (arith, nat_tests, h, g)
+
+-- a read, or no request that changes what the host knows of a function
+pub record IsFree (to_hub : Bool) (r : Setup) : Type 0 where
+  pub reads : IsToHost r ⊎ (to_hub ≡ false)
+  pub address : Is r DEVICE_OUT SET_ADDRESS ≡ false
+  pub configuration : Is r DEVICE_OUT SET_CONFIGURATION ≡ false
+  pub halt : (Is r ENDPOINT_OUT CLEAR_FEATURE && r.value == ENDPOINT_HALT) ≡ false
+  pub clears_port : Is r PORT_OUT CLEAR_FEATURE ≡ false
+  pub sets_port : Is r PORT_OUT SET_FEATURE ≡ false
+
+pub read_is_free : (to_hub : Bool) (r : Setup) → IsToHost r → IsFree to_hub r
+read_is_free to_hub r host = record {
+  reads = inl host;
+  address = request_type-other r.request_type DEVICE_OUT (r.request == SET_ADDRESS) host refl;
+  configuration = request_type-other r.request_type DEVICE_OUT
+      (r.request == SET_CONFIGURATION) host refl;
+  halt = ap (λ b. b && r.value == ENDPOINT_HALT) (request_type-other r.request_type ENDPOINT_OUT
+      (r.request == CLEAR_FEATURE) host refl);
+  clears_port = request_type-other r.request_type PORT_OUT (r.request == CLEAR_FEATURE) host refl;
+  sets_port = request_type-other r.request_type PORT_OUT (r.request == SET_FEATURE) host refl;
+}
+
+module _ {to_hub : Bool} (r : Setup) (free : IsFree to_hub r) where
+  pub free_is_harmless : is_harmless r ≡ true
+  free_is_harmless = rw free.sets_port refl
+
+  pub free_asks_no_port : asks_no_port r ≡ true
+  free_asks_no_port = rw (free.sets_port, free.clears_port, free.configuration) refl
+
+-- What it asks
+
+-- bytes, a refusal, or, of a function, that an endpoint halts
+abbrev pub IsAllowed : Bool → Outcome → Type 0
+IsAllowed to_hub stalled = Unit {0}
+IsAllowed to_hub (answers bytes) = Unit {0}
+IsAllowed to_hub (tells_port i) = Unit {0}
+IsAllowed to_hub (halts which) = to_hub ≡ false
+IsAllowed to_hub o = ⊥
+
+module _ (to_hub : Bool) where
+  abbrev Fine : Outcome → Type 0
+  Fine = IsAllowed to_hub
+
+  either_fine : (b : Bool) (x y : Outcome) → Fine x → Fine y → Fine (if b then x else y)
+  either_fine true x y h g = h
+  either_fine false x y h g = g
+
+  not_asked : (b : Bool) (x y : Outcome) → b ≡ false → Fine y → Fine (if b then x else y)
+  not_asked true x y e g = cc e
+  not_asked false x y e g = g
+
+  where_asked : (b : Bool) (x y : Outcome) → (b ≡ true → Fine x) → Fine y
+      → Fine (if b then x else y)
+  where_asked true x y h g = h refl
+  where_asked false x y h g = g
+
+  text_fine : (o : Option (List ℕ)) → Fine (elim o
+      as (λ _. Outcome) [ None ↦ stalled | Some text ↦ answers text ])
+  text_fine None = tt
+  text_fine (Some text) = tt
+
+  descriptor_fine : (s : Spec) (value : ℕ) → Fine (asked_descriptor s value)
+  descriptor_fine s value =
+      either_fine (value == descriptor_value DEVICE 0) _ _
+      (either_fine s.stalls.device _ _ tt tt)
+      (either_fine (value / 256 == CONFIGURATION) _ _
+      (either_fine s.stalls.config _ _ tt (text_fine _))
+      (either_fine (value / 256 == STRING) _ _
+      (either_fine s.stalls.string _ _ tt (text_fine _)) tt))
+
+  hub_fine : (s : Spec) (r : Setup) → Fine (asked_hub_descriptor s.hub r)
+  hub_fine s r = elim s.hub as (λ o. Fine (asked_hub_descriptor o r)) [
+    | None ↦ tt
+    | Some hub ↦ either_fine (r.value == descriptor_value HUB 0) _ _ tt tt
+  ]
+
+  port_fine : (i : Option ℕ) → Fine (told_port i)
+  port_fine None = tt
+  port_fine (Some i) = tt
+
+  halt_fine : (which : Option ServedEndpoint) → to_hub ≡ false → Fine (on_endpoint halts which)
+  halt_fine None e = tt
+  halt_fine (Some which) e = e
+
+  clear_fine : (s : Spec) (g : Registers) (r : Setup) → (r.value == ENDPOINT_HALT) ≡ false
+      → Fine (on_endpoint unhalts (endpoint_of s g r))
+  clear_fine s g r other = rw other tt
+
+  pub outcome_fine : (s : Spec) (g : Registers) (r : Setup) → IsFree to_hub r
+      → Fine (outcome s g r)
+  unfolding outcome
+  outcome_fine s g r free =
+      either_fine (Is r DEVICE_IN GET_DESCRIPTOR) _ _ (descriptor_fine s r.value)
+      (either_fine (Is r DEVICE_IN GET_STATUS) _ _
+      (either_fine s.stalls.status _ _ tt
+      (either_fine (r.value == 0 && r.index == 0) _ _ tt tt))
+      (either_fine (Is r DEVICE_IN GET_CONFIGURATION) _ _ tt
+      (not_asked (Is r DEVICE_OUT SET_ADDRESS) _ _ free.address
+      (not_asked (Is r DEVICE_OUT SET_CONFIGURATION) _ _ free.configuration
+      (where_asked (Is r ENDPOINT_OUT CLEAR_FEATURE) _ _ (λ e. clear_fine s g r
+      (ap (λ b. b && r.value == ENDPOINT_HALT) (sym e) ∙ free.halt))
+      (where_asked (Is r ENDPOINT_OUT SET_FEATURE) _ _ (λ e. halt_fine _ (elim free.reads [
+        | inl host ↦ absurd (cc (
+          request_type-other r.request_type ENDPOINT_OUT
+              (r.request == SET_FEATURE) host refl,
+          e,
+        ))
+        | inr function ↦ function
+      ]))
+      (either_fine (Is r HUB_IN GET_DESCRIPTOR) _ _
+      (either_fine s.stalls.hub _ _ tt (hub_fine s r))
+      (either_fine (Is r PORT_IN GET_STATUS) _ _ (port_fine _)
+      (not_asked (Is r PORT_OUT SET_FEATURE) _ _ free.sets_port
+      (not_asked (Is r PORT_OUT CLEAR_FEATURE) _ _ free.clears_port tt))))))))))

@@ -1,0 +1,309 @@
+-- Control transfers of a driver's own are plain: reads, and what has no data.
+use Rattle.std.proofs.Common.{◌≡◌, ◌∙◌, refl, sym, ap, subst, ℕ, ◌==◌, true, false, Bool, List, None}
+use Rattle.std.proofs.Common.{Option, Some, Result, Ok, Err, is_ok, is_some, OnOk, ◌≢◌, ◌<◌, ◌&&◌}
+use Rattle.std.proofs.Common.{length}
+use Rattle.std.specs.Global.{Vec}
+use Rattle.usb_request.specs.{IsToHost, Setup}
+use Rattle.usb_packet.specs.{Toggle}
+use Rattle.usb_port.specs.{PortState}
+use Rattle.usb_device.specs.{accepted, advanced, begun, BulkIn, BulkOut, Changes, EndpointState}
+use Rattle.usb_device.specs.{ending, first_stage, OnlyControl, OnlyStage, Outcome}
+use Rattle.usb_device.specs.{outcome, Spec, State}
+use Rattle.usb_device.specs.{halts, Location, SourceAt, stalled, tells_port}
+use Rattle.usb_device.specs.Request.{answers}
+use Rattle.usb_world.specs.{BusFault, HasFault, is_harmless, World}
+use Rattle.usb_transaction.specs.{Answerer, Target}
+use Rattle.usb_transaction.proofs.Interface.{spared_all}
+use Rattle.usb_pipe.specs.{Bulk, ControlRead, ControlWrite, FaultAfter, IsNoBusFault, PipeFault}
+use Rattle.usb_pipe.specs.{ReadLeaves, WriteLeaves}
+use Rattle.usb_pipe.specs.declared.fault.PipeFault.TheVariants as pipe_fault
+use Rattle.usb_pipe.proofs.Interface.{first_stage-address, given_registers, host_harmless}
+use Rattle.usb_address.proofs.Interface.{read_keeps, reads_other, same_setup, write_keeps}
+use Rattle.usb_hub.specs.{EndsAfter}
+use Rattle.usb_hub.proofs.Interface.{reads_backlog, reads_rests, write_backlog, write_rests}
+use Rattle.usb_hub.proofs.Interface.{write_so}
+use Rattle.usb_enum.specs.{Accepted}
+use Rattle.usb_enum.proofs.Interface.{ends_without_fault}
+use Rattle.usb_table.specs.{Absent, ArePipesTo, FitsIn, FitsOut, Function, Hub, is_below_hub}
+use Rattle.usb_table.specs.{Pipes, pipes_at, PipesInSync, SameSettings, Table, without_bytes}
+use Rattle.usb_table.proofs.levels.FittingPipes.{root, same_end, same_tells, still_level}
+use Rattle.usb_table.proofs.levels.FittingPipes.{still_status}
+use Rattle.usb_table.proofs.transfers.FreeRequests.{IsAllowed, IsFree, free_asks_no_port}
+use Rattle.usb_table.proofs.transfers.FreeRequests.{free_is_harmless, outcome_fine}
+use Rattle.usb_table.proofs.transfers.PlainTransfers.{IsPlain}
+
+bus_told : {A : Type 0} (k : ℕ) (answer : Result A PipeFault) (old new : World)
+    → EndsAfter k old answer new → (fault : BusFault) → answer ≡ Err (pipe_fault.Bus fault)
+    → HasFault fault new
+bus_told k (Ok done) old new ends fault e = absurd (cc e)
+bus_told k (Err why) old new ends fault e =
+    let same : why ≡ pipe_fault.Bus fault = cc e in
+    subst (λ w. FaultAfter 1 old w new) same ends
+
+-- Reads
+
+pub read_is_plain : (path : List ℕ) (table : Table) (t : Target) (request : Setup) (old : World)
+    (answer : Result (Vec ℕ) PipeFault) (new : World) → IsToHost request
+    → ControlRead t request old answer new
+    → IsPlain path table t answer (ReadLeaves t request answer old new) old new
+read_is_plain path table t request old answer new host x = record {
+  addresses = read_keeps t request (same_setup request) (host_harmless request host)
+      (reads_other request host) 3 1 old new answer x.ends x.stages;
+  each = x.what;
+  others = λ j s v y. y.others;
+  settings = λ j s v y.
+      (ap (λ (d : State). d.spec) y.frame, ap (λ (d : State). d.registers) y.frame);
+  level = λ j s v y. still_level (pipes_at path table) s v y.frame;
+  sound = ends_without_fault 3 answer old new x.ends;
+  told = bus_told 3 answer old new x.ends;
+  rests = reads_rests t request answer old new host x.settled x.stages;
+  backlog = reads_backlog t request answer old new host x.settled x.stages;
+  who = answered answer x.who;
+}
+  where
+    answered : (r : Result (Vec ℕ) PipeFault) → OnOk r (new.shared ≡ false → Answerer t old new)
+        → is_ok r ≡ true → new.shared ≡ false → Answerer t old new
+    answered (Ok bytes) who done = who
+    answered (Err why) who done = absurd (cc done)
+
+-- A device that accepted what is allowed
+
+-- an endpoint keeps its toggle, and its halt
+abbrev MayHalt : EndpointState → EndpointState → Type 0
+MayHalt before after = (after.toggle ≡ before.toggle) × (before.halted ≡ true
+    → after.halted ≡ true)
+
+same_halts : (before after : EndpointState) → after ≡ before → MayHalt before after
+same_halts before after e = (
+  ap (λ (x : EndpointState). x.toggle) e,
+  λ h. ap (λ (x : EndpointState). x.halted) e ∙ h,
+)
+
+-- settings and toggles are as they were, and so is what is left of the source
+record KeepsEnds (s v : State) : Type 0 where
+  settings : SameSettings root s v
+  place : v.place ≡ s.place
+  out : MayHalt s.bulk_out v.bulk_out
+  into : MayHalt s.bulk_in v.bulk_in
+
+record KeepsChanges (s v : State) : Type 0 where
+  changes : v.changes ≡ s.changes
+  held : v.held ≡ s.held
+
+module _ (s : State) (row : List PortState) (n : ℕ) where
+  began_ends : (to_hub : Bool) (o : Outcome) → IsAllowed to_hub o → KeepsEnds s (begun s row n o)
+  began_ends to_hub (halts BulkOut) fine = record {
+    settings = (refl, refl);
+    place = refl;
+    out = (refl, λ h. refl);
+    into = (refl, λ h. h);
+  }
+  began_ends to_hub (halts BulkIn) fine = record {
+    settings = (refl, refl);
+    place = refl;
+    out = (refl, λ h. h);
+    into = (refl, λ h. refl);
+  }
+  began_ends to_hub (halts Changes) fine = record {
+    settings = (refl, refl);
+    place = refl;
+    out = (refl, λ h. h);
+    into = (refl, λ h. h);
+  }
+  began_ends to_hub stalled fine = record {
+    settings = (refl, refl);
+    place = refl;
+    out = (refl, λ h. h);
+    into = (refl, λ h. h);
+  }
+  began_ends to_hub (answers bytes) fine = record {
+    settings = (refl, refl);
+    place = refl;
+    out = (refl, λ h. h);
+    into = (refl, λ h. h);
+  }
+  began_ends to_hub (tells_port i) fine = record {
+    settings = (refl, refl);
+    place = refl;
+    out = (refl, λ h. h);
+    into = (refl, λ h. h);
+  }
+  began_ends to_hub _ fine = absurd fine
+
+  began_changes : (o : Outcome) → IsAllowed true o → KeepsChanges s (begun s row n o)
+  began_changes stalled fine = record { changes = refl; held = refl }
+  began_changes (answers bytes) fine = record { changes = refl; held = refl }
+  began_changes (tells_port i) fine = record { changes = refl; held = refl }
+  began_changes (halts which) fine = absurd (cc fine)
+  began_changes _ fine = absurd fine
+
+  allowed_address : (to_hub : Bool) (o : Outcome) (address : Option ℕ) → IsAllowed to_hub o
+      → first_stage row n o ≡ ending address → address ≡ None
+  allowed_address to_hub o None fine e = refl
+  allowed_address to_hub o (Some a) fine e =
+      absurd (subst (IsAllowed to_hub) (first_stage-address row n o a e) fine)
+
+-- behind it, where nothing but its own transfer moved
+
+ends_on : (s u v : State) → KeepsEnds s u → OnlyControl u v → v.registers ≡ u.registers
+    → KeepsEnds s v
+ends_on s u v x frame same = record {
+  settings = (ap (λ (d : State). d.spec) frame ∙ x.settings.0, same ∙ x.settings.1);
+  place = ap (λ (d : State). d.place) frame ∙ x.place;
+  out = (
+    ap (λ (d : State). d.bulk_out.toggle) frame ∙ x.out.0,
+    λ h. ap (λ (d : State). d.bulk_out.halted) frame ∙ x.out.1 h,
+  );
+  into = (
+    ap (λ (d : State). d.bulk_in.toggle) frame ∙ x.into.0,
+    λ h. ap (λ (d : State). d.bulk_in.halted) frame ∙ x.into.1 h,
+  );
+}
+
+changes_on : (s u v : State) → KeepsChanges s u → OnlyControl u v → KeepsChanges s v
+changes_on s u v x frame = record {
+  changes = ap (λ (d : State). d.changes) frame ∙ x.changes;
+  held = ap (λ (d : State). d.held) frame ∙ x.held;
+}
+
+-- The pipes to it
+
+out_kept : (out : Option Bulk) (s v : State) → KeepsEnds s v → FitsOut out s → FitsOut out v
+out_kept None s v x f = tt
+out_kept (Some pipe) s v x f = record {
+  endpoint = record {
+    endpoint = same_end false s v x.settings ∙ f.endpoint.endpoint;
+    not_zero = f.endpoint.not_zero;
+  };
+  level = λ ready. x.out.0 ∙ f.level ready;
+  halted = λ halts. x.out.1 (f.halted halts);
+}
+
+source_kept : (most got : ℕ) (t : Toggle) (s v : State) → KeepsEnds s v → SourceAt most got t s
+    → SourceAt most got t v
+source_kept most got t s v x (SourceAt.level a b) = SourceAt.level (x.place ∙ a) (x.into.0 ∙ b)
+source_kept most got t s v x (SourceAt.ahead a b c) =
+    SourceAt.ahead
+    (a ∙ ap (λ n. advanced n most (length s.spec.source)) (sym x.place)
+    ∙ ap (λ (d : Spec). advanced v.place most (length d.source)) (sym x.settings.0))
+    (subst (λ (d : Spec). v.place < length d.source) (sym x.settings.0)
+    (subst (λ n. n < length s.spec.source) (sym x.place) b))
+    (x.into.0 ∙ c)
+
+in_kept : (into : Option Bulk) (s v : State) → KeepsEnds s v → FitsIn into s → FitsIn into v
+in_kept None s v x f = tt
+in_kept (Some pipe) s v x (got, f) = (
+  got,
+  record {
+    endpoint = record {
+      endpoint = same_end true s v x.settings ∙ f.endpoint.endpoint;
+      not_zero = f.endpoint.not_zero;
+      alone = ap (λ b. pipe.ep == 1 && b) (same_tells s v x.settings) ∙ f.endpoint.alone;
+    };
+    level = λ ready. source_kept pipe.max got pipe.toggle s v x (f.level ready);
+    halted = λ halts. x.into.1 (f.halted halts);
+  },
+)
+
+pub allowed_level : (device : Accepted) (below_hub : Bool) (pipes : Pipes)
+    → ArePipesTo device below_hub pipes → (s : State) (row : List PortState) (n : ℕ) (o : Outcome)
+    → IsAllowed (is_some device.hub) o → (v : State) → OnlyControl (begun s row n o) v
+    → v.registers ≡ (begun s row n o).registers → PipesInSync pipes s → PipesInSync pipes v
+allowed_level device below_hub (Hub pipe) are s row n o fine v frame same f =
+    let fine_hub : IsAllowed true o = subst (λ b. IsAllowed b o) are.0 fine in
+    let ends = ends_on s (begun s row n o) v (began_ends s row n (is_some device.hub) o fine) frame
+    same in
+    let kept = changes_on s (begun s row n o) v (began_changes s row n o fine_hub) frame in
+    still_status pipe s v ends.settings kept.changes kept.held f
+allowed_level device below_hub (Function pipes) are s row n o fine v frame same f =
+    let ends = ends_on s (begun s row n o) v (began_ends s row n (is_some device.hub) o fine) frame
+    same in
+    (out_kept pipes.out s v ends f.0, in_kept pipes.into s v ends f.1)
+allowed_level device below_hub Absent are s row n o fine v frame same f = absurd are
+
+-- What has no data
+
+module _ {A : Type 0} (path : List ℕ) (table : Table) (t : Target) (request : Setup)
+    (device : Accepted) (are : ArePipesTo device (is_below_hub path) (pipes_at path table))
+    (free : IsFree (is_some device.hub) request) (old : World) (answer : Result A PipeFault)
+    (new : World) where
+  abbrev Left : Location → State → State → Type 0
+  Left = WriteLeaves t request (without_bytes answer) old new
+
+  fine_at : (s : State) → IsAllowed (is_some device.hub) (outcome s.spec s.registers request)
+  fine_at s = outcome_fine (is_some device.hub) s.spec s.registers request free
+
+  only_stage : (s v : State) → OnlyControl s v → v.registers ≡ s.registers → OnlyStage s v
+  only_stage s v f e = f ∙ ap {A = _} {B = State} (λ g. record s {
+    memory = v.memory;
+    naks = v.naks;
+    stage = v.stage;
+    registers = g;
+  }) e
+
+  none_settings : (j : Location) (s v : State) → Left j s v → SameSettings j s v
+  none_settings j s v =
+      write_so t request old new j s v (SameSettings j s v)
+      (λ row frame same. (ends_on s (accepted s row request) v (began_ends s row request.length
+      (is_some device.hub) (outcome s.spec s.registers request) (fine_at s)) frame same).settings)
+      (λ row address is frame given. (ends_on s (accepted s row request) v (began_ends s row
+      request.length (is_some device.hub) (outcome s.spec s.registers request) (fine_at s)) frame
+      (given_registers address (accepted s row request) v (allowed_address s row request.length
+      (is_some device.hub) (outcome s.spec s.registers request) address (fine_at s) is)
+      given)).settings)
+      (λ frame same. (ap (λ (d : State). d.spec) frame, same)) (without_bytes answer)
+
+  none_level : (j : Location) (s v : State) → Left j s v → PipesInSync (pipes_at path table) s
+      → PipesInSync (pipes_at path table) v
+  none_level j s v =
+      write_so t request old new j s v
+      (PipesInSync (pipes_at path table) s → PipesInSync (pipes_at path table) v)
+      (λ row frame same. allowed_level device (is_below_hub path) (pipes_at path table) are s row
+      request.length (outcome s.spec s.registers request) (fine_at s) v frame same)
+      (λ row address is frame given. allowed_level device (is_below_hub path)
+      (pipes_at path table) are s row request.length (outcome s.spec s.registers request)
+      (fine_at s) v frame
+      (given_registers address (accepted s row request) v (allowed_address s row request.length
+      (is_some device.hub) (outcome s.spec s.registers request) address (fine_at s) is) given))
+      (λ frame same. still_level (pipes_at path table) s v (only_stage s v frame same))
+      (without_bytes answer)
+
+  pub none_is_plain : ControlWrite t request old (without_bytes answer) new
+      → IsPlain path table t answer Left old new
+  none_is_plain x = record {
+    addresses = write_keeps t request (same_setup request) (free_is_harmless request free)
+        free.address 2 1 old new (without_bytes answer) x.ends x.stages;
+    each = λ single.
+        spared_all t request Left old new (free_is_harmless request free) (x.what single);
+    others = λ j s v y. y.others;
+    settings = none_settings;
+    level = none_level;
+    sound = λ still. bytes_back answer
+        (ends_without_fault 2 (without_bytes answer) old new x.ends still);
+    told = told_back answer (bus_told 2 (without_bytes answer) old new x.ends);
+    rests = λ sound. write_rests t request (without_bytes answer) old new x.settled x.stages
+        (free_asks_no_port request free) (bytes_off answer sound);
+    backlog = λ sound. write_backlog t request (without_bytes answer) old new x.settled x.stages
+        free.sets_port (bytes_off answer sound);
+    who = who_back answer x.who;
+  }
+    where
+      bytes_back : (r : Result A PipeFault) → IsNoBusFault (without_bytes r) → IsNoBusFault r
+      bytes_back (Ok bytes) n = tt
+      bytes_back (Err why) n = n
+
+      bytes_off : (r : Result A PipeFault) → IsNoBusFault r → IsNoBusFault (without_bytes r)
+      bytes_off (Ok bytes) n = tt
+      bytes_off (Err why) n = n
+
+      told_back : (r : Result A PipeFault) → ((fault : BusFault) → without_bytes r
+          ≡ Err (pipe_fault.Bus fault) → HasFault fault new) → (fault : BusFault)
+          → r ≡ Err (pipe_fault.Bus fault) → HasFault fault new
+      told_back r told fault e = told fault (ap without_bytes e)
+
+      who_back : (r : Result A PipeFault) → OnOk (without_bytes r)
+          ((is_harmless request ≡ false → t.addr ≢ 0) → new.shared ≡ false → Answerer t old new)
+          → is_ok r ≡ true → new.shared ≡ false → Answerer t old new
+      who_back (Ok bytes) who done =
+          who (λ harm. absurd (cc (free_is_harmless request free, harm)))
+      who_back (Err why) who done = absurd (cc done)
