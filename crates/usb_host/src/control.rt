@@ -6,7 +6,7 @@ use usb_pipe::Setup;
 use usb_port::PortPath;
 
 impl<B: Bus> Host<B> {
-    ghost use Rattle.std.specs.Prelude.{◌≡◌, true};
+    ghost use Rattle.std.specs.Prelude.{◌≡◌, ◌≤◌, length, true, IfOk};
     ghost use Rattle.usb_request.specs.Layout.{IsToHost};
     ghost use Rattle.usb_host.specs.Controls.{ControlsAnyBus, ReadTells};
     ghost use Rattle.usb_host.specs.ToldFaults.{StopsAsTransfer};
@@ -23,6 +23,7 @@ impl<B: Bus> Host<B> {
     pub fn control_in(&mut self, path: &PortPath, setup: Setup) -> Result<Vec<u8>, HostFault>
         requires reads { IsToHost setup }
         ensures any_bus { ControlsAnyBus B.modelled path.now setup self.old result self.new }
+        ensures most { IfOk result (λ bytes. length bytes.items ≤ setup.length) }
         ensures stopped { StopsAsTransfer self.old result self.new }
         ensures tells { B.modelled ≡ true → ReadTells path.now setup self.old result self.new }
     {

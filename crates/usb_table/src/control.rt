@@ -1,5 +1,5 @@
 //! Control transfers of a driver's own to the device at a path (8.5.3).
-ghost use Rattle.std.specs.Prelude.{◌≡◌, ◌≤◌, true, IfOk};
+ghost use Rattle.std.specs.Prelude.{◌≡◌, ◌≤◌, true, IfOk, length};
 ghost use Rattle.usb_bus.specs.Traces.{Spends, Steps};
 ghost use Rattle.usb_request.specs.Layout.{IsToHost};
 ghost use Rattle.usb_transaction.specs.Transactions.{IsTarget};
@@ -37,6 +37,7 @@ impl DeviceTable {
         ensures any_bus { Spends B.spent B.ports (control_most setup.length) bus.old bus.new
             × TransferTold result (B.failed bus.new)
             × MadeOrRefused (control_target path.now self.now.entries) bus.old result bus.new }
+        ensures most { IfOk result (λ bytes. length bytes.items ≤ setup.length) }
         ensures reads { B.modelled ≡ true → TableReads path.now setup self.now (B.world bus.old)
             (B.trace bus.old) result (B.world bus.new) (B.trace bus.new) }
     {
@@ -72,6 +73,7 @@ fn read_from<B: Bus>(
     requires reads { IsToHost setup }
     ensures any_bus { Spends B.spent B.ports (control_most setup.length) bus.old bus.new
         × BusToldIt result (B.failed bus.new) }
+    ensures most { IfOk result (λ bytes. length bytes.items ≤ setup.length) }
     ensures steps { B.modelled ≡ true
         → Steps B.world B.trace (control_most setup.length) bus.old bus.new }
     ensures read { B.modelled ≡ true
