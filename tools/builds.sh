@@ -88,7 +88,7 @@ lock() {
   mkdir -p "$kept" 2>/dev/null || stop "'$kept' cannot be made"
   exec 9>"$kept/lock" || stop "'$kept' cannot be written"
   flock -n 9 || {
-    [ ! -t 2 ] || echo "usbplan: waiting for a build that is going on" >&2
+    echo "usbplan: waiting for a build that is going on" >&2
     flock 9
   }
   trap clean EXIT
