@@ -317,20 +317,82 @@ fn writes(rt: HostRuntime) -> Result<(), Fail> {
     Ok(())
 }
 
-/// A port that never stops to report a change keeps the host busy, and it still asks what is wanted.
+/// What a far end answers of a hub with one port, until it is asked what is wanted a second time: a listing.
+const HUB: &str = "\
+roots 1
+ok
+port 1 00010000
+ok
+port 1 01010100
+ok
+port 1 01010000
+ok
+port 1 03011000
+ok
+port 1 03010000
+ok
+ACK
+DATA1 1201000209000040
+ACK
+ACK
+DATA1 -
+ACK
+DATA1 120100020900004001000200000100000001
+ACK
+ACK
+DATA1 09021900010100C000
+ACK
+ACK
+DATA1 09021900010100C000090400000109000000070581030100FF
+ACK
+ACK
+DATA1 -
+ACK
+DATA1 0929010100000000FF
+ACK
+ACK
+DATA1 0100
+ACK
+ACK
+DATA1 -
+NAK
+NAK
+show
+";
+
+/// What it answers in a round, behind the poll's toggle: port 1 has changed, and so it has behind the clearing.
+const ROUND: &str = " 02\nACK\nDATA1 00010100\nACK\nACK\nDATA1 -\nACK\nDATA1 00010100\nACK\n";
+
+/// A hub of which an empty port never stops to report a change keeps the host busy, and it still asks what is wanted.
 #[test]
 fn busy(rt: HostRuntime) -> Result<(), Fail> {
-    let mut far = String::from_str(rt.alloc(), "roots 1\nok\nport 1 00010100\nok\n")?;
+    let mut far = String::from_str(rt.alloc(), HUB)?;
+    let mut is_odd = false;
     for wanted in ["show\n", "end\n"] {
         for _ in 0..257u16 {
-            far.push_str("ok\n")?;
+            far.push_str(if is_odd { "DATA1" } else { "DATA0" })?;
+            far.push_str(ROUND)?;
+            is_odd = !is_odd;
         }
         far.push_str(wanted)?;
     }
     let played = play(rt.alloc(), far.as_bytes(), u64::MAX, u64::MAX);
     assert_eq!(rt; played.ended, Ok(()));
     let host = str::from_utf8(played.host.as_slice())?;
-    assert!(rt; host.ends_with("wait\nlisting 2\nend\n"));
-    assert_eq!(rt; host.matches("wait\n").count(), 2);
+    assert_eq!(rt; host.matches("wait\n").count(), 4);
+    assert_eq!(rt; host.matches("IN 1.1 1\n").count(), 516);
+    assert!(rt; host.ends_with("1 hub 1 ports 500 mA\nend\n"));
+    assert_eq!(rt; host.matches("\nlisting ").count(), 3);
+    Ok(())
+}
+
+/// A root port whose change no clearing takes away is left alone: the host asks at once what is wanted.
+#[test]
+fn left(rt: HostRuntime) -> Result<(), Fail> {
+    let far = "roots 1\nok\nport 1 00010100\nok\nok\nok\nend\n";
+    let played = play(rt.alloc(), far.as_bytes(), u64::MAX, u64::MAX);
+    assert_eq!(rt; played.ended, Ok(()));
+    let host = str::from_utf8(played.host.as_slice())?;
+    assert!(rt; host.ends_with("port 1 clear C_PORT_CONNECTION\nwait\nwait\nlisting 1\nend\n"));
     Ok(())
 }
