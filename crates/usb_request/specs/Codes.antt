@@ -8,6 +8,9 @@ DEVICE_IN = 0x80
 abbrev pub DEVICE_OUT : ℕ
 DEVICE_OUT = 0x00
 
+abbrev pub INTERFACE_OUT : ℕ
+INTERFACE_OUT = 0x01
+
 abbrev pub ENDPOINT_OUT : ℕ
 ENDPOINT_OUT = 0x02
 
@@ -41,6 +44,9 @@ GET_CONFIGURATION = 8
 
 abbrev pub SET_CONFIGURATION : ℕ
 SET_CONFIGURATION = 9
+
+abbrev pub SET_INTERFACE : ℕ
+SET_INTERFACE = 11
 
 -- bDescriptorType (table 9-5, 11.23.2.1)
 abbrev pub DEVICE : ℕ

@@ -3,7 +3,8 @@
 //!
 //! # What is proved
 //!
-//! Setup data and eight bytes agree both ways; each maker's fields.
+//! Setup data and eight bytes agree both ways; each maker's fields; exactly which requests only the
+//! host itself may send (`is_reserved`).
 #![tactic(auto)]
 
 pub mod class_code;
@@ -14,8 +15,11 @@ pub mod feature;
 pub mod hub_feature;
 mod hub_makers;
 mod makers;
+mod read_request;
 pub mod request_code;
 pub mod request_type;
+mod reserved;
 mod setup;
 
+pub use read_request::ReadRequest;
 pub use setup::Setup;

@@ -20,3 +20,6 @@ pub const GET_CONFIGURATION: u8 = 8;
 
 /// SET_CONFIGURATION: sets a configuration by its number, or none by 0.
 pub const SET_CONFIGURATION: u8 = 9;
+
+/// SET_INTERFACE: chooses an alternate setting of an interface.
+pub const SET_INTERFACE: u8 = 11;
