@@ -5,9 +5,10 @@ use Rattle.std.proofs.lemmas.Bool.Decides.{nat_tests}
 use Rattle.usb_packet.specs.{OutTok, InTok, SetupTok, Toggle, Zero, One, Packet, Token, Payload}
 use Rattle.usb_packet.specs.declared.Packet.TheVariants as packet
 use Rattle.usb_request.specs.{setup_of}
-use Rattle.usb_device.specs.{Answer, RememberedPacket, InEndpoint, BulkOut, Changes, tells_changes}
+use Rattle.usb_device.specs.{Answer, RememberedPacket, InEndpoint, BulkOut, tells_changes}
 use Rattle.usb_device.specs.{change_bits, Outcome, halts, unhalts, outcome, Stage, idle, refused}
-use Rattle.usb_device.specs.{reading, read, ending, max_packet, packet_at, toggle_at, State, Reply}
+use Rattle.usb_device.specs.{reading, read, ending, writing, is_done, max_packet, packet_at}
+use Rattle.usb_device.specs.{toggle_at, State, Reply}
 use Rattle.usb_device.specs.{received, answered, unread, forgotten, accepted, payload, is_busy}
 use Rattle.usb_device.specs.{nak_row, unless_busy, gives, in_row, begun, data_row, token_row}
 use Rattle.usb_device.specs.{source_row, changes_row, held_row, in_other_row, in_bulk_row}
@@ -243,6 +244,16 @@ in_stage_is d row max loud t2 t3 refused = stalls row max t2 t3 (with_stage d re
 in_stage_is d row max loud t2 t3 read = acked-none row max t2 t3 (with_stage d read)
 in_stage_is d row max loud t2 t3 (ending a) = gave_is (with_stage d (ending a)) row by.Control One
     [] max loud t2 t3
+in_stage_is d row max loud t2 t3 (writing w) =
+    let D = with_stage d (writing w) in
+    elim (is_done w)
+    as (λ b. acked row max t2 t3
+    (if b then gives D by.Control One [] else attempt_reply (Some Stall) D)
+    ≡ (if b then gave D by.Control max One [] t2 t3 else attempt_reply (heard t2 (Some Stall))
+    D)) [
+      | true ↦ gave_is D row by.Control One [] max loud t2 t3
+      | false ↦ stalls row max t2 t3 D
+    ]
 in_stage_is d row max loud t2 t3 (reading answer wanted k) =
     let D = with_stage d (reading answer wanted k) in
     elim (packet_at (max_packet d.spec) wanted answer k)

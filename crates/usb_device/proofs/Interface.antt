@@ -4,9 +4,12 @@ pub use Rattle.usb_device.proofs.Attempts.{silent-unread}
 pub use Rattle.usb_device.proofs.progress.BulkProgress.{bulk_law_is, other-other, source_on}
 pub use Rattle.usb_device.proofs.progress.ChangesProgress.{law_is, other_toggle, poll_on}
 pub use Rattle.usb_device.proofs.progress.ControlProgress.{control_read, is_same-refl}
+pub use Rattle.usb_device.proofs.progress.WriteProgress.{control_write, control_write_status}
+pub use Rattle.usb_device.proofs.progress.WriteProgress.{out_only_write}
 pub use Rattle.usb_device.proofs.Deliveries.{heard_of-append}
 pub use Rattle.usb_device.proofs.Figures.{answer-spec, figure-after}
 pub use Rattle.usb_device.proofs.Hubs.{at_least_one}
+pub use Rattle.usb_device.proofs.OwnOutcomes.{asked_own-any, asked_own-to_host}
 pub use Rattle.usb_device.proofs.packets.RowFrames.{keeps-received}
 pub use Rattle.usb_device.proofs.packets.Packets.{packets_joined-is, packets_joined-whole}
 pub use Rattle.usb_device.proofs.packets.Packets.{packet-fits, packet-further}

@@ -1,5 +1,7 @@
 pub mod Interface
 pub mod Names
+pub mod Answers
+pub mod OwnOutcomes
 pub mod Hubs
 pub mod Endpoints
 pub mod Attempts

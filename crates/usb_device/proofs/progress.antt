@@ -2,3 +2,4 @@
 pub mod BulkProgress
 pub mod ChangesProgress
 pub mod ControlProgress
+pub mod WriteProgress

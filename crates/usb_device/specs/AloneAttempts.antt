@@ -1,5 +1,5 @@
 -- A whole attempt at one device, of which nothing is damaged: token, the host's data, ACK (8.5).
-use Rattle.std.specs.Prelude.{ℕ, nat_le, length, if◌then◌else◌, ◌&&◌, Bool, true, false, [], Option}
+use Rattle.std.specs.Prelude.{ℕ, nat_le, length, if◌then◌else◌, ◌&&◌, Bool, false, [], Option}
 use Rattle.std.specs.Prelude.{None, Some}
 use Rattle.usb_packet.specs.declared.Packet.TheVariants as packet
 use Rattle.usb_device.specs.declared.answer.Answer.{Answer}

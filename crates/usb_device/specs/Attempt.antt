@@ -7,8 +7,8 @@ use Rattle.usb_packet.specs.declared.Packet.TheVariants as packet
 use Rattle.usb_request.specs.{setup_of}
 use Rattle.usb_device.specs.declared.answer.Answer.{Answer}
 use Rattle.usb_device.specs.declared.answer.Answer.TheVariants.{Ack, Nak, Stall, Data}
-use Rattle.usb_device.specs.Transfer.{Stage, idle, refused, reading, read, ending, max_packet}
-use Rattle.usb_device.specs.Transfer.{packet_at, toggle_at}
+use Rattle.usb_device.specs.Transfer.{Stage, idle, refused, reading, read, ending, writing}
+use Rattle.usb_device.specs.Transfer.{max_packet, packet_at, toggle_at, Write, is_done}
 use Rattle.usb_device.specs.declared.transfer.InEndpoint.{InEndpoint}
 use Rattle.usb_device.specs.declared.transfer.InEndpoint.TheVariants as by
 use Rattle.usb_port.specs.{PortState}
@@ -93,6 +93,11 @@ gave d endpoint max t bytes t2 t3 = (
       is_whole t3 then forgotten (acknowledged d endpoint) else d,
 )
 
+-- the status stage of a control write
+abbrev pub write_status_law : State → Write → ℕ → Way → Way → Reply
+write_status_law d w max t2 t3 = if is_done w then gave d by.Control max One [] t2 t3
+    else (heard t2 (Some Stall), d)
+
 -- IN of a device that is not busy, by where its transfer stands
 abbrev pub in_stage_law : State → Stage → ℕ → Way → Way → Reply
 in_stage_law d idle max t2 t3 = (None, d)
@@ -105,6 +110,7 @@ in_stage_law d (reading answer wanted k) max t2 t3 =
     ]
 in_stage_law d read max t2 t3 = (None, d)
 in_stage_law d (ending a) max t2 t3 = gave d by.Control max One [] t2 t3
+in_stage_law d (writing w) max t2 t3 = write_status_law d w max t2 t3
 
 -- IN of the bulk IN endpoint, whose packets have at most this many bytes
 abbrev pub source_law : State → ℕ → ℕ → Way → Way → Reply

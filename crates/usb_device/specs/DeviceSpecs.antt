@@ -7,6 +7,7 @@ use Rattle.std.specs.Str.{bytes_eq}
 use Rattle.usb_request.specs.{HUB_CLASS, HUB, HUB_LENGTH}
 use Rattle.usb_descriptor.specs.{device_class, hub_spelled, port_count}
 use Rattle.usb_device.specs.declared.spec.Stalls.{Stalls}
+use Rattle.usb_device.specs.declared.own_request.OwnRequest.{OwnRequest}
 
 -- a hub: its ports, and its hub descriptor (11.23.2.1)
 pub record Hub : Type 0 where
@@ -33,6 +34,8 @@ pub record Spec : Type 0 where
   pub source : List ℕ
   -- bulk OUT halts once, when so many packets were taken since the plug
   pub halt_after : Option ℕ
+  -- its own requests, the first that fits first
+  pub requests : List OwnRequest
 
 -- bDeviceClass is a hub's (11.23.1)
 abbrev pub has_hub_class : List ℕ → Bool
@@ -65,6 +68,7 @@ pub record IsSpec (s : Spec) : Type 0 where
   pub texts : All (λ text. length text ≤ 65535) s.configs
   pub strings : length s.strings ≤ 256
   pub halt : IfSome s.halt_after (λ packets. 1 ≤ packets)
+  pub requests : length s.requests ≤ 64
 
 -- a hub whose ports are switched one by one
 abbrev pub usual_hub : ℕ → Hub
@@ -102,6 +106,7 @@ function name descriptor configs = record {
   hub = None;
   source = [];
   halt_after = None;
+  requests = [];
 }
 
 -- a device has the name

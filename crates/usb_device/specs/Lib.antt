@@ -1,4 +1,5 @@
 pub mod DeviceSpecs
+pub mod OwnRequests
 pub mod SaidLengths
 pub mod Bulk
 pub mod ServedBulk
@@ -34,12 +35,17 @@ pub use Bulk.{advanced, bulk_at, bulk_in, changed_bit, count_down, halted, has_v
 pub use Bulk.{is_last, rested, served, tells_changes, text_with, total_of, turned}
 unfoldable pub use Bulk.{change_bits}
 pub use ServedBulk.{AreServed}
+pub use OwnRequests.{bytes_given, fits, goes_so, is_or_any, is_to_host, own_bytes, own_place}
+pub use OwnRequests.{row_bytes}
+pub use Request.{answers_taken, asked_at, asked_by_answer, asked_by_row, asked_own, takes}
 pub use Request.{Is, Outcome, address_at_end, asked_address, asked_configuration, asked_descriptor}
 pub use Request.{asked_hub_descriptor, asked_port_status, asked_status, called_at, calls_port}
 pub use Request.{endpoint_of, halts, is_value, on_endpoint, port_feature, port_named}
 pub use Request.{registers_at_setup, stalled, status_bytes, takes_address, takes_configuration}
 pub use Request.{tells_port, text_asked, told_port, unhalts, unless}
 unfoldable pub use Request.{outcome}
+pub use Transfer.{Write, ends_if, first_write, has_all, is_done, is_next, judged, taken_with}
+pub use Transfer.{writes, writing, written_on}
 pub use Transfer.{Stage, ending, first_stage, idle, max_packet, packet_at, packet_count}
 pub use Transfer.{packets_joined, put_if, read, reading, reads, reads_port, refused, toggle_at}
 pub use Rows.{Reply, State, accepted, ack_row, acknowledged, after_memory, answered, awaits_control}
@@ -48,7 +54,8 @@ pub use Rows.{endpoint_state, ends_with_address, forgotten, gives, held_row, in_
 pub use Rows.{in_other_row, in_row, is_busy, is_other_out, nak_row, new_changes_row, out_bulk_row}
 pub use Rows.{out_row, packet_sinks, payload, payload_row, payload_sinks, rest_of, setup_row}
 pub use Rows.{sink_grows, sink_row, sinks, source_row, status_row, sunk, token_row, unless_busy}
-pub use Rows.{with_endpoint_state, with_endpoints}
+pub use Rows.{out_sinks, stage_takes, with_endpoint_state, with_endpoints, write_row}
+pub use Rows.{write_status_row, wrote}
 unfoldable pub use Rows.{awaits_address, fresh, received, reset_state, unread}
 pub use Effects.{asked_by_data, asked_by_packet, asked_by_setup, effect_of_request}
 unfoldable pub use Effects.{asks}
@@ -75,12 +82,13 @@ pub use Hearings.{heard_with, pid_heard}
 pub use Attempt.{Way, acked, changes_law, gave, heard, held_law, in_bulk_law, in_control_law}
 pub use Attempt.{in_exchange, in_law, in_other_law, in_stage_law, is_good, is_own, is_whole, lost}
 pub use Attempt.{new_changes_law, out_exchange, out_law, sends, setup_exchange, setup_law}
-pub use Attempt.{source_law, through}
+pub use Attempt.{source_law, through, write_status_law}
 pub use PacketFrames.{Keeps, is_ack, is_data}
 pub use View.{forgotten_place, port_there, state_there}
 pub use Loans.{LendsInner, LendsPlace, holding, with_device, with_device_on}
 pub use StrayPackets.{awaits_ack, awaits_data, concerns, is_for, is_token}
 unfoldable pub use StrayPackets.{concerns_some}
+pub use Progress.{IsPacketOf, OnlyWrite, WriteAt, WriteEnded, WriteOn, WriteStatusOn, WritingAt}
 pub use Progress.{IsRead, IsSink, IsSource, Joined, NeverTold, OnlyChanges, OnlyControl, OnlySink}
 pub use Progress.{OnlySource, OnlyStage, PollAt, PollOn, ReadOn, ReadingAt, SinkAt, SinkOn}
 pub use Progress.{SourceAt, SourceOn, StatusGiven, StatusOn, ToldByte, address_then, ahead, level}
@@ -114,7 +122,11 @@ pub use declared.effect.Effect.{Effect}
 pub use declared.effect.Effect.TheVariants.{Calls, Leaves, PortsOff}
 pub use declared.hearing.HeardPid.{HeardPid}
 pub use declared.holders.Holder.{Holder}
+pub use declared.own_request.OwnAnswer.{OwnAnswer}
+pub use declared.own_request.OwnRequest.{OwnRequest}
 pub use declared.request.Registers.{Registers}
 pub use declared.spec.Stalls.{Stalls}
 pub use declared.transfer.InEndpoint.{InEndpoint}
 pub use declared.transfer.RememberedPacket.{RememberedPacket}
+pub use declared.write.WriteData.{WriteData}
+pub use declared.write.WriteData.TheVariants.{Next, Repeat, TooLong, Wrong}

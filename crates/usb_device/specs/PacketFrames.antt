@@ -12,11 +12,11 @@ is_ack Ack = true
 is_ack p = false
 
 -- a packet changes no description; only an ACK changes the address or moves on in the source, and
--- only data change the
--- configuration, join the sink or count down to the halt
+-- only data change the configuration, are taken or count down to the halt
 pub record Keeps (p : Packet) (old new : State) : Type 0 where
   pub spec : new.spec ≡ old.spec
   pub address : is_ack p ≡ false → new.registers.address ≡ old.registers.address
   pub configuration : is_data p ≡ false → new.registers.configuration ≡ old.registers.configuration
   pub sink : is_data p ≡ false → (new.sink ≡ old.sink) × (new.until_halt ≡ old.until_halt)
   pub place : is_ack p ≡ false → new.place ≡ old.place
+  pub taken : is_data p ≡ false → new.taken ≡ old.taken

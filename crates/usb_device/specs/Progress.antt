@@ -1,14 +1,15 @@
 -- How far a transfer is, as the host's end and the device's end see it: level, or the host one
 -- packet ahead where the device did
 -- not see its last ACK, or the device one ahead where the host did not see its own (8.6).
-use Rattle.std.specs.Prelude.{◌≡◌, ◌≢◌, ◌⊎◌, ℕ, ◌+◌, ◌<◌, ◌==◌, nat_le, ◌&&◌, true, false}
+use Rattle.std.specs.Prelude.{◌≡◌, ◌≢◌, ◌⊎◌, ℕ, ◌+◌, ◌<◌, ◌≤◌, ◌==◌, nat_le, ◌&&◌, true, false}
 use Rattle.std.specs.Prelude.{if◌then◌else◌, List, [], ◌∷◌, ◌++◌, length, take, drop, Option, None}
 use Rattle.std.specs.Prelude.{Some, is_some}
 use Rattle.usb_packet.specs.{Toggle, other, is_same}
 use Rattle.usb_device.specs.declared.answer.Answer.{Answer}
 use Rattle.usb_device.specs.declared.answer.Answer.TheVariants.{Ack, Nak, Stall, Data}
 use Rattle.usb_device.specs.Bulk.{advanced, tells_changes}
-use Rattle.usb_device.specs.Transfer.{reading, read, ending, idle, max_packet, packet_at}
+use Rattle.usb_device.specs.Transfer.{reading, read, ending, idle, max_packet, packet_at, Write}
+use Rattle.usb_device.specs.Transfer.{writing, written_on, taken_with, is_done}
 use Rattle.usb_device.specs.Rows.{State, bulk_of}
 
 -- what a host that awaits a toggle takes of an answer: its bytes, where they have the toggle and
@@ -58,6 +59,41 @@ StatusOn a s (Some bytes) s' = (bytes ≡ []) × StatusGiven a s s'
 
 abbrev pub IsRead : State → Type 0
 IsRead s = s.stage ≡ read
+
+-- A control write (8.5.3)
+
+-- the device is so far in it, and control writes had brought these bytes before it
+pub record WritingAt (old : List ℕ) (w : Write) (s : State) : Type 0 where
+  pub stage : s.stage ≡ writing w
+  pub taken : s.taken ≡ taken_with old w
+
+-- a packet is being sent to a device that was so far: it has not come, or it has, and the host has
+-- not seen the ACK
+pub data WriteAt (old : List ℕ) (w : Write) (bytes : List ℕ) (s : State) : Type 0 where
+  level : WritingAt old w s → WriteAt old w bytes s
+  ahead : WritingAt old (written_on w bytes) s → WriteAt old w bytes s
+
+abbrev pub WriteOn : List ℕ → Write → List ℕ → Option Answer → State → Type 0
+WriteOn old w bytes None s' = WriteAt old w bytes s'
+WriteOn old w bytes (Some Ack) s' = WritingAt old (written_on w bytes) s'
+WriteOn old w bytes (Some Nak) s' = WriteAt old w bytes s'
+WriteOn old w bytes (Some Stall) s' = ⊥
+WriteOn old w bytes (Some (Data u b)) s' = ⊥
+
+-- The status stage of a control write (8.5.3): the packet has no bytes and comes if the write is
+-- done, which is over if the device saw the host's ACK
+pub data WriteEnded (old : List ℕ) (w : Write) (s : State) : Type 0 where
+  seen : s.stage ≡ idle → s.taken ≡ taken_with old w → WriteEnded old w s
+  unseen : WritingAt old w s → WriteEnded old w s
+
+abbrev pub WriteStatusOn : List ℕ → Write → Option (List ℕ) → State → Type 0
+WriteStatusOn old w None s' = WritingAt old w s'
+WriteStatusOn old w (Some bytes) s' = (bytes ≡ []) × (is_done w ≡ true) × WriteEnded old w s'
+
+-- the packet is one of the write: some bytes, and no more in all than the host said
+pub record IsPacketOf (w : Write) (bytes : List ℕ) : Type 0 where
+  pub some : 1 ≤ length bytes
+  pub within : length w.got + length bytes ≤ w.wanted
 
 -- The bulk IN endpoint (5.8)
 
@@ -146,7 +182,16 @@ OnlyControl s s' = s' ≡ record s {
       s'.registers;
 }
 
--- OUT of endpoint 0
+-- OUT of endpoint 0: only a packet of a control write changes what such writes have brought
+abbrev pub OnlyWrite : State → State → Type 0
+OnlyWrite s s' = s' ≡ record s {
+  memory = s'.memory;
+  naks = s'.naks;
+  stage = s'.stage;
+  taken = s'.taken;
+}
+
+-- OUT of endpoint 0 with no bytes
 abbrev pub OnlyStage : State → State → Type 0
 OnlyStage s s' = s' ≡ record s { memory = s'.memory; naks = s'.naks; stage = s'.stage }
 

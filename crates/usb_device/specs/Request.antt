@@ -1,7 +1,7 @@
 -- What each request asks of a device: bytes, a change of the device or of one of its ports, or a
 -- refusal (9.4, 11.24).
 use Rattle.std.specs.Prelude.{ℕ, ◌-◌, ◌/◌, ◌%◌, ◌==◌, nat_lt, nat_le, if◌then◌else◌, ◌&&◌, ◌||◌}
-use Rattle.std.specs.Prelude.{not, Bool, List, [], ◌∷◌, slice_get, Option, None, Some}
+use Rattle.std.specs.Prelude.{not, Bool, true, false, List, [], ◌∷◌, slice_get, Option, None, Some}
 use Rattle.std.specs.List.{list_any}
 use Rattle.usb_request.specs.{DEVICE, CONFIGURATION, STRING, HUB, GET_STATUS, CLEAR_FEATURE}
 use Rattle.usb_request.specs.{SET_FEATURE, SET_ADDRESS, GET_DESCRIPTOR, GET_CONFIGURATION}
@@ -9,6 +9,11 @@ use Rattle.usb_request.specs.{SET_CONFIGURATION, DEVICE_IN, DEVICE_OUT, ENDPOINT
 use Rattle.usb_request.specs.{PORT_IN, PORT_OUT, ENDPOINT_HALT, descriptor_value, Setup}
 use Rattle.usb_port.specs.{PortCall, set_call, clear_call}
 use Rattle.usb_device.specs.declared.request.Registers.{Registers}
+use Rattle.usb_device.specs.declared.own_request.OwnAnswer.{OwnAnswer}
+use Rattle.usb_device.specs.declared.own_request.OwnAnswer.TheVariants.{RefuseData, RefuseStatus}
+use Rattle.usb_device.specs.declared.own_request.OwnAnswer.TheVariants.{Give, GiveTaken, Take}
+use Rattle.usb_device.specs.declared.own_request.OwnRequest.{OwnRequest}
+use Rattle.usb_device.specs.OwnRequests.{own_place}
 use Rattle.usb_device.specs.DeviceSpecs.{Spec, Hub}
 use Rattle.usb_device.specs.declared.bulk.ServedEndpoint.{ServedEndpoint}
 use Rattle.usb_device.specs.Bulk.{has_value, served}
@@ -29,6 +34,10 @@ pub data Outcome : Type 0 where
   tells_port : ℕ → Outcome
   -- a port, counted from 0, is set or cleared (11.24.2.13, 11.24.2.2)
   calls_port : PortCall → ℕ → Outcome
+  -- the answer is what control writes have brought
+  answers_taken : Outcome
+  -- the host's data are taken, and kept, or refused at the status stage
+  takes : Bool → Outcome
 
 -- the request has this type and this code
 abbrev pub Is : Setup → ℕ → ℕ → Bool
@@ -108,7 +117,27 @@ abbrev pub port_feature : Option PortCall → Spec → Registers → Setup → O
 port_feature call s g r = if r.length == 0 then called_at call (port_named s.hub g r.index)
     else stalled
 
--- what each request asks
+-- what a row of the device's own requests asks
+abbrev pub asked_by_answer : OwnAnswer → Outcome
+asked_by_answer RefuseData = stalled
+asked_by_answer RefuseStatus = takes false
+asked_by_answer (Give bytes) = answers bytes
+asked_by_answer GiveTaken = answers_taken
+asked_by_answer Take = takes true
+
+abbrev pub asked_by_row : Option OwnRequest → Outcome
+asked_by_row None = stalled
+asked_by_row (Some row) = asked_by_answer row.answer
+
+abbrev pub asked_at : List OwnRequest → Option ℕ → Outcome
+asked_at rows None = stalled
+asked_at rows (Some i) = asked_by_row (slice_get rows i)
+
+-- a configured device answers requests of its own, by the first row that the setup data fit
+abbrev pub asked_own : List OwnRequest → Registers → Setup → Outcome
+asked_own rows g r = if g.configuration == 0 then stalled else asked_at rows (own_place rows r)
+
+-- what each request asks: a device's own requests come last, so that no function plays a hub
 unfoldable pub outcome : Spec → Registers → Setup → Outcome
 outcome s g r =
     if Is r DEVICE_IN GET_DESCRIPTOR then asked_descriptor s r.value
@@ -123,7 +152,7 @@ outcome s g r =
     else if Is r PORT_IN GET_STATUS then asked_port_status s g r
     else if Is r PORT_OUT SET_FEATURE then port_feature (set_call r.value) s g r
     else if Is r PORT_OUT CLEAR_FEATURE then port_feature (clear_call r.value) s g r
-    else stalled
+    else asked_own s.requests g r
 
 -- the registers once the setup data is accepted
 abbrev pub registers_at_setup : Registers → Outcome → Registers

@@ -23,9 +23,13 @@ use Rattle.usb_device.specs.Bulk.{rested, turned, halted, count_down, is_last, b
 use Rattle.usb_device.specs.Bulk.{tells_changes, change_bits}
 use Rattle.usb_device.specs.Request.{Outcome, stalled, answers, takes_address, takes_configuration}
 use Rattle.usb_device.specs.Request.{halts, unhalts, tells_port, calls_port, outcome}
+use Rattle.usb_device.specs.Request.{answers_taken, takes}
 use Rattle.usb_device.specs.Request.{registers_at_setup}
+use Rattle.usb_device.specs.declared.write.WriteData.{WriteData}
+use Rattle.usb_device.specs.declared.write.WriteData.TheVariants.{Wrong, TooLong, Repeat, Next}
 use Rattle.usb_device.specs.Transfer.{Stage, idle, refused, reading, read, ending, first_stage}
-use Rattle.usb_device.specs.Transfer.{max_packet, packet_at, toggle_at}
+use Rattle.usb_device.specs.Transfer.{max_packet, packet_at, toggle_at, Write, writing, judged}
+use Rattle.usb_device.specs.Transfer.{is_next, is_done, written_on, taken_with}
 
 pub record State : Type 0 where
   pub spec : Spec
@@ -46,6 +50,8 @@ pub record State : Type 0 where
   pub until_halt : Option ℕ
   -- how many bytes of the source the host has acknowledged
   pub place : ℕ
+  -- what control writes have brought since the plug
+  pub taken : List ℕ
 
 abbrev pub Reply : Type 0
 Reply = Option Answer × State
@@ -84,6 +90,8 @@ with_endpoints d (halts endpoint) = with_endpoint_state d endpoint
 with_endpoints d (unhalts endpoint) = with_endpoint_state d endpoint rested
 with_endpoints d (tells_port i) = d
 with_endpoints d (calls_port c i) = d
+with_endpoints d answers_taken = d
+with_endpoints d (takes kept) = d
 
 -- the configuration is taken
 abbrev pub configured : State → ℕ → State
@@ -94,7 +102,7 @@ abbrev pub begun : State → List PortState → ℕ → Outcome → State
 begun d row wanted o = record (with_endpoints d o) {
   registers = registers_at_setup d.registers o;
   naks = d.spec.naks;
-  stage = first_stage row wanted o;
+  stage = first_stage row d.taken wanted o;
 }
 
 -- the setup data is accepted
@@ -116,7 +124,11 @@ unless_busy d row = if is_busy d then nak_row d else row
 abbrev pub gives : State → InEndpoint → Toggle → List ℕ → Reply
 gives d endpoint t bytes = (Some (payload t bytes), record d { memory = AckAwaited endpoint })
 
--- IN 0: the next packet of a control read, or the status stage of a request without data
+-- the status stage of a control write: STALL before all bytes have come, and if they are not kept
+abbrev pub write_status_row : State → Write → Reply
+write_status_row d w = if is_done w then gives d by.Control One [] else (Some Stall, d)
+
+-- IN 0: the next packet of a control read, or the status stage of another request
 abbrev pub in_row : State → Stage → Reply
 in_row d idle = (None, d)
 in_row d refused = (Some Stall, d)
@@ -127,12 +139,27 @@ in_row d (reading answer wanted k) = elim (packet_at (max_packet d.spec) wanted 
 ]
 in_row d read = (None, d)
 in_row d (ending a) = gives d by.Control One []
+in_row d (writing w) = write_status_row d w
 
 -- the status stage of a control read, also where the last ACK was not seen
 abbrev pub status_row : State → Toggle → List ℕ → Reply
 status_row d Zero bytes = (Some Ack, d)
 status_row d One [] = (Some Ack, record d { stage = read })
 status_row d One (b ∷ bytes) = (Some Stall, d)
+
+-- one more packet of a control write has come; if it is the last, the bytes are kept at once
+abbrev pub wrote : State → Write → List ℕ → State
+wrote d w bytes = record d {
+  stage = writing (written_on w bytes);
+  taken = taken_with d.taken (written_on w bytes);
+}
+
+-- data of a control write, by what the packet is to it
+abbrev pub write_row : State → Write → List ℕ → WriteData → Reply
+write_row d w bytes Wrong = (Some Stall, d)
+write_row d w bytes TooLong = (None, d)
+write_row d w bytes Repeat = (Some Ack, d)
+write_row d w bytes Next = (Some Ack, wrote d w bytes)
 
 -- OUT 0 with good data
 abbrev pub out_row : State → Stage → Toggle → List ℕ → Reply
@@ -141,6 +168,12 @@ out_row d refused t bytes = (Some Stall, d)
 out_row d (reading answer wanted k) t bytes = status_row d t bytes
 out_row d read t bytes = status_row d t bytes
 out_row d (ending a) t bytes = (None, d)
+out_row d (writing w) t bytes = write_row d w bytes (judged (max_packet d.spec) w t bytes)
+
+-- data on endpoint 0 that a control write takes
+abbrev pub stage_takes : State → Stage → Toggle → List ℕ → Bool
+stage_takes d (writing w) t bytes = is_next (judged (max_packet d.spec) w t bytes)
+stage_takes d stage t bytes = false
 
 -- the host's ACK of what was given on endpoint 0
 abbrev pub ack_row : State → Stage → State
@@ -155,6 +188,7 @@ ack_row d (ending (Some a)) = record d {
   stage =
       idle;
 }
+ack_row d (writing w) = record d { stage = idle }
 ack_row d stage = d
 
 -- the bulk endpoint of a direction
@@ -262,9 +296,13 @@ payload_row d row SetupSeen Zero bytes = setup_row d row bytes
 payload_row d row (OutSeen e) t bytes = data_row d e t bytes
 payload_row d row m t bytes = (None, d)
 
--- data make the sink grow
+-- data are taken by a control write or by the sink, which wants memory
+abbrev pub out_sinks : State → ℕ → Toggle → List ℕ → Bool
+out_sinks d e t bytes = if e == 0 then not (is_busy d) && stage_takes d d.stage t bytes
+    else bulk_sinks d e (bulk_of d false) t bytes
+
 abbrev pub payload_sinks : State → RememberedPacket → Toggle → List ℕ → Bool
-payload_sinks d (OutSeen e) t bytes = not (e == 0) && bulk_sinks d e (bulk_of d false) t bytes
+payload_sinks d (OutSeen e) t bytes = out_sinks d e t bytes
 payload_sinks d m t bytes = false
 
 -- an OUT token for another endpoint than 0 came before
@@ -289,7 +327,7 @@ abbrev pub packet_sinks : State → Packet → Bool
 packet_sinks d (Payload t bytes) = payload_sinks d d.memory t bytes.items
 packet_sinks d p = false
 
--- the packet makes the sink grow, which wants memory
+-- the packet brings data that the device takes, which wants memory
 abbrev pub sink_grows : State → Packet → Bool
 sink_grows d p = not d.spec.silent && packet_sinks d p
 
@@ -318,10 +356,11 @@ fresh s = record {
   sink = [];
   until_halt = s.halt_after;
   place = 0;
+  taken = [];
 }
 
--- a bus reset (9.1.1.3); what bulk OUT has taken, what is left of the source and the count until
--- the halt stay
+-- a bus reset (9.1.1.3); what bulk OUT and control writes have taken, what is left of the source
+-- and the count until the halt stay
 unfoldable pub reset_state : State → State
 reset_state d = record d {
   registers = record { address = 0; configuration = 0 };

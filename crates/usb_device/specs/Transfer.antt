@@ -3,11 +3,25 @@ use Rattle.std.specs.Prelude.{ℕ, zero, suc, ◌+◌, ◌*◌, ◌/◌, ◌%◌
 use Rattle.std.specs.Prelude.{◌||◌, not, Bool, true, false, List, [], ◌++◌, length, take, drop}
 use Rattle.std.specs.Prelude.{slice_get, Option, None, Some, unwrap_or}
 use Rattle.arrayvec.specs.ArrayVec.{ArrayVec}
-use Rattle.usb_packet.specs.{Toggle, Zero, One}
+use Rattle.usb_packet.specs.{Toggle, Zero, One, other, is_same}
 use Rattle.usb_descriptor.specs.{max_packet_0}
 use Rattle.usb_device.specs.DeviceSpecs.{Spec}
 use Rattle.usb_port.specs.{PortState, status_of}
-use Rattle.usb_device.specs.Request.{Outcome, stalled, answers, tells_port, address_at_end}
+use Rattle.usb_device.specs.declared.write.WriteData.{WriteData}
+use Rattle.usb_device.specs.declared.write.WriteData.TheVariants.{Wrong, TooLong, Repeat, Next}
+use Rattle.usb_device.specs.Request.{Outcome, stalled, answers, tells_port, answers_taken, takes}
+use Rattle.usb_device.specs.Request.{address_at_end}
+
+-- a control write (8.5.3)
+pub record Write : Type 0 where
+  -- how many bytes the host sends: wLength
+  pub wanted : ℕ
+  -- those that have come
+  pub got : List ℕ
+  -- the toggle of the next packet
+  pub toggle : Toggle
+  -- whether they are kept, or refused at the status stage
+  pub kept : Bool
 
 pub data Stage : Type 0 where
   -- no transfer, or one without a data stage that is over
@@ -21,6 +35,8 @@ pub data Stage : Type 0 where
   read : Stage
   -- the status stage of a transfer without a data stage, and the address that is taken at its end
   ending : Option ℕ → Stage
+  -- a control write in its data stage, or in its status stage if all bytes have come
+  writing : Write → Stage
 
 -- a control read begins; where the host wants no byte, there is no data stage
 abbrev pub reads : ℕ → List ℕ → Stage
@@ -31,12 +47,24 @@ abbrev pub reads_port : ℕ → Option PortState → Stage
 reads_port wanted None = refused
 reads_port wanted (Some p) = reads wanted (status_of p)
 
--- the stage that a request begins, by the ports of the device
-abbrev pub first_stage : List PortState → ℕ → Outcome → Stage
-first_stage row wanted stalled = refused
-first_stage row wanted (answers bytes) = reads wanted bytes
-first_stage row wanted (tells_port i) = reads_port wanted (slice_get row i)
-first_stage row wanted o = ending (address_at_end o)
+-- a control write begins; if the host sends no byte, there is no data stage
+abbrev pub first_write : ℕ → Bool → Write
+first_write wanted kept = record { wanted = wanted; got = []; toggle = One; kept = kept }
+
+abbrev pub ends_if : Bool → Stage
+ends_if kept = if kept then ending None else refused
+
+abbrev pub writes : ℕ → Bool → Stage
+writes wanted kept = if wanted == 0 then ends_if kept else writing (first_write wanted kept)
+
+-- the stage that a request begins, by the ports of the device and what control writes have brought
+abbrev pub first_stage : List PortState → List ℕ → ℕ → Outcome → Stage
+first_stage row taken wanted stalled = refused
+first_stage row taken wanted (answers bytes) = reads wanted bytes
+first_stage row taken wanted (tells_port i) = reads_port wanted (slice_get row i)
+first_stage row taken wanted answers_taken = reads wanted taken
+first_stage row taken wanted (takes kept) = writes wanted kept
+first_stage row taken wanted o = ending (address_at_end o)
 
 -- the most data bytes of a packet on endpoint 0 (5.5.3): what the device descriptor says, where the
 -- speed allows it
@@ -72,3 +100,33 @@ packets_joined max wanted answer (suc k) =
 -- the data stage begins with DATA1 (8.6.1)
 abbrev pub toggle_at : ℕ → Toggle
 toggle_at k = if k % 2 == 0 then One else Zero
+
+-- What a packet of the host is to a control write: no packet of a data stage is empty, since the
+-- length is known (9.3.5), and one of the other toggle has come before (8.6.4).
+abbrev pub judged : ℕ → Write → Toggle → List ℕ → WriteData
+judged max w t bytes =
+    if length bytes == 0 then Wrong
+    else if nat_lt max (length bytes) then TooLong
+    else if not (is_same t w.toggle) then Repeat
+    else if nat_lt w.wanted (length w.got + length bytes) then Wrong
+    else Next
+
+abbrev pub is_next : WriteData → Bool
+is_next Next = true
+is_next data_packet = false
+
+-- after one more packet
+abbrev pub written_on : Write → List ℕ → Write
+written_on w bytes = record w { got = w.got ++ bytes; toggle = other w.toggle }
+
+-- all bytes have come
+abbrev pub has_all : Write → Bool
+has_all w = length w.got == w.wanted
+
+-- its status stage is good (8.5.3.1)
+abbrev pub is_done : Write → Bool
+is_done w = has_all w && w.kept
+
+-- what control writes have brought with this one, where they brought these bytes before it
+abbrev pub taken_with : List ℕ → Write → List ℕ
+taken_with old w = if is_done w then old ++ w.got else old

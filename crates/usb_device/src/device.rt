@@ -89,6 +89,13 @@ impl Device {
         self.own.sink()
     }
 
+    /// All bytes that control writes have brought since it was plugged, and that it kept.
+    pub fn taken(&self) -> &[u8]
+        ensures { result.now ≡ self.now.own.taken }
+    {
+        self.own.taken()
+    }
+
     /// Whether it gave the status stage of SET_ADDRESS, and takes its address at the host's ACK
     /// (9.4.6).
     pub fn awaits_address(&self) -> bool

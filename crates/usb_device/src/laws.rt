@@ -11,13 +11,13 @@ ghost use Rattle.usb_port.specs.PortStates.{PortState};
 ghost use Rattle.usb_device.specs.declared.answer.Answer.TheVariants.{Ack, Stall};
 ghost use Rattle.usb_device.specs.declared.delivery.Sent.{Sent};
 ghost use Rattle.usb_device.specs.declared.delivery.Content.TheVariants.{Whole, Broken};
-ghost use Rattle.usb_device.specs.Transfer.{packet_at, packets_joined, toggle_at};
+ghost use Rattle.usb_device.specs.Transfer.{packet_at, packets_joined, toggle_at, Write};
 ghost use Rattle.usb_device.specs.Rows.{State, forgotten};
 ghost use Rattle.usb_device.specs.Tree.{Ports as TreePorts};
 ghost use Rattle.usb_device.specs.Delivery.{after_packet, all_forgotten, answers, held_addresses, has};
 ghost use Rattle.usb_device.specs.StrayPackets.{is_token, concerns_some};
 ghost use Rattle.usb_device.specs.Attempt.{Way, setup_exchange, setup_law, out_exchange, out_law, in_exchange, in_law};
-ghost use Rattle.usb_device.specs.Progress.{taken_of, ReadingAt, ReadOn, IsSource, SourceAt, SourceOn, IsSink, SinkAt, SinkOn};
+ghost use Rattle.usb_device.specs.Progress.{taken_of, ReadingAt, ReadOn, IsPacketOf, OnlyWrite, WritingAt, WriteAt, WriteOn, WriteStatusOn, IsSource, SourceAt, SourceOn, IsSink, SinkAt, SinkOn};
 
 /// A whole attempt with a device that remembers nothing, each packet of it coming or not.
 #[tactic(auto, using(crate::proofs::Attempts::attempts))]
@@ -82,6 +82,24 @@ pub fn control_read_goes_on()
     ensures not_refused { (answer : List ℕ) (wanted n : ℕ) (s : State)
         → ReadingAt answer wanted n s → (row : List PortState) (max : ℕ) (t1 t2 t3 : Way)
         → (in_law s row 0 max t1 t2 t3).0 ≡ Some Stall → ⊥ }
+{}
+
+/// OUT of endpoint 0 in a control write, and its status stage (8.5.3): each packet comes once, in
+/// order, whatever is lost; the bytes are kept once, when the last has come.
+#[tactic(auto, using(crate::proofs::progress::WriteProgress::control_writes))]
+pub fn control_write_goes_on()
+    ensures write { (old bytes : List ℕ) (w : Write) (s : State)
+        → WriteAt old w bytes s → IsPacketOf w bytes → (t1 t2 t3 : Way)
+        → WriteOn old w bytes (out_law s 0 w.toggle bytes t1 t2 t3).0
+        (out_law s 0 w.toggle bytes t1 t2 t3).1 }
+    // Nothing else changes at OUT of endpoint 0.
+    ensures frame { (t : Toggle) (bytes : List ℕ) (s : State) (t1 t2 t3 : Way)
+        → OnlyWrite s (out_law s 0 t bytes t1 t2 t3).1 }
+    ensures status { (old : List ℕ) (w : Write) (s : State) → WritingAt old w s
+        → (row : List PortState) (max : ℕ) (t1 t2 t3 : Way)
+        → WriteStatusOn old w (taken_of Toggle.One max (in_law s row 0 max t1 t2 t3).0)
+        (in_law s row 0 max t1 t2 t3).1
+        × ((in_law s row 0 max t1 t2 t3).1.registers ≡ s.registers) }
 {}
 
 /// IN of the bulk IN endpoint (5.8): each byte of the source comes once, in order, whatever is

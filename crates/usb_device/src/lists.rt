@@ -1,6 +1,7 @@
 //! Names, bytes and texts of a device, with their bounds in their types.
 ghost use Rattle.std.specs.Prelude.{◌≡◌, IfOk};
 
+use crate::own_request::OwnRequests;
 use std::alloc::{AllocError, Global};
 use std::marker::Model;
 
@@ -181,6 +182,13 @@ impl<const COUNT: usize, const MAX: usize> Texts<COUNT, MAX> {
         ensures { result ≡ [] }
     {
         Bytes::new(Vec::new(*self.texts.allocator()))
+    }
+
+    /// No requests of a device's own, by the allocator of the texts.
+    pub(crate) fn no_requests_beside(&self) -> OwnRequests
+        ensures { result ≡ [] }
+    {
+        OwnRequests::new(*self.texts.allocator())
     }
 
     /// The same texts in memory of their own.

@@ -1,10 +1,11 @@
 //! A device without its ports: its transfers, packet by packet (8.5).
-ghost use Rattle.std.specs.Prelude.{◌≡◌, ◌≤◌, ◌==◌, None, if◌then◌else◌, is_some, length};
+ghost use Rattle.std.specs.Prelude.{◌≡◌, ◌≤◌, ◌==◌, ℕ, List, None, if◌then◌else◌, is_some, length};
 ghost use Rattle.std.specs.Option.{IfSome};
 ghost use Rattle.usb_descriptor.specs.Choice.{IsUsable};
 ghost use Rattle.usb_device.specs.DeviceSpecs.{Spec};
 ghost use Rattle.usb_device.specs.Code.{source_bytes, hub_text, text_at, meaning_of, stage_of};
-ghost use Rattle.usb_device.specs.Transfer.{max_packet, packet_at, put_if, reads, first_stage};
+ghost use Rattle.usb_device.specs.OwnRequests.{own_bytes};
+ghost use Rattle.usb_device.specs.Transfer.{max_packet, packet_at, put_if, reads, first_stage, Write};
 ghost use Rattle.usb_device.specs.StrayPackets.{awaits_data, awaits_ack};
 ghost use Rattle.usb_device.specs.Tree.{row_of};
 ghost use Rattle.usb_device.specs.Effects.{effect_of_request};
@@ -25,6 +26,7 @@ use crate::spec::DeviceSpec;
 use crate::transfer::{
     InEndpoint, Progress, RememberedPacket, fill, has_packet, put_packet, toggle_at,
 };
+use crate::write::{ControlWrite, WriteData};
 use arrayvec::ArrayVec;
 use std::alloc::{AllocError, Global};
 use std::marker::Model;
@@ -59,6 +61,10 @@ pub struct FunctionState {
     until_halt: Option<u16>,
     /// How many bytes of its source the host has acknowledged.
     place: usize,
+    /// What control writes have brought since the plug.
+    taken: Vec<u8>,
+    /// The last control write.
+    write: ControlWrite,
 }
 
 impl Model for FunctionState {
@@ -73,7 +79,7 @@ impl Model for FunctionState {
       registers = d.registers;
       memory = d.memory;
       naks = d.naks;
-      stage = stage_of d.spec.value d.progress;
+      stage = stage_of d.spec.value d.taken.items d.write d.progress;
       bulk_out = d.bulk_out;
       bulk_in = d.bulk_in;
       changes = d.changes;
@@ -81,6 +87,7 @@ impl Model for FunctionState {
       sink = d.sink.items;
       until_halt = d.until_halt;
       place = d.place;
+      taken = d.taken.items;
     } };
 
     ghost invariant = { λ d. AreServed d.spec.value d.registers d.served };
@@ -104,8 +111,19 @@ fn text_at<const MAX: usize>(texts: &[Bytes<MAX>], i: usize) -> &[u8]
     }
 }
 
+/// The bytes of a request of the device's own, by its place.
+fn own_bytes(spec: &DeviceSpec, place: usize) -> &[u8]
+    ensures { result.now ≡ own_bytes spec.now.requests place }
+{
+    match spec.requests().as_slice().get(place) {
+        Some(row) => row.answer.bytes_given(),
+        None => &[],
+    }
+}
+
 fn reading(source: Source, wanted: u16) -> Progress
-    ensures { (s : Spec) → stage_of s result ≡ reads wanted (source_bytes s source) }
+    ensures { (s : Spec) (taken : List ℕ) (w : Write)
+        → stage_of s taken w result ≡ reads wanted (source_bytes s taken source) }
 {
     if wanted == 0 {
         Progress::Ending(None)
@@ -119,9 +137,15 @@ fn reading(source: Source, wanted: u16) -> Progress
 }
 
 /// Where a transfer stands that a request begins.
-fn first_progress(ports: &Ports, wanted: u16, reaction: Reaction) -> Progress
-    ensures { (s : Spec) → stage_of s result
-        ≡ first_stage (row_of ports.now) wanted (meaning_of s reaction) }
+#[tactic(auto, using(crate::proofs::Answers::answers))]
+fn first_progress(
+    ports: &Ports,
+    write: &mut ControlWrite,
+    wanted: u16,
+    reaction: Reaction,
+) -> Progress
+    ensures { (s : Spec) (taken : List ℕ) → stage_of s taken write.new result
+        ≡ first_stage (row_of ports.now) taken wanted (meaning_of s reaction) }
 {
     match reaction {
         Reaction::Refuse => Progress::Refused,
@@ -135,6 +159,7 @@ fn first_progress(ports: &Ports, wanted: u16, reaction: Reaction) -> Progress
         | Reaction::Halt(_)
         | Reaction::Unhalt(_)
         | Reaction::CallPort(..) => Progress::Ending(None),
+        Reaction::Take(kept) => write.begin(wanted, kept),
     }
 }
 
@@ -173,7 +198,7 @@ impl FunctionState {
     ghost use Rattle.std.specs.Prelude.{IfOk, OnErr, true, false, not, ◌&&◌, [], ◌∷◌};
     ghost use Rattle.usb_device.specs.declared.transfer.InEndpoint.TheVariants as by;
     ghost use Rattle.usb_device.specs.Effects.{asks, asked_by_data, asked_by_setup};
-    ghost use Rattle.usb_device.specs.Rows.{State, received, unread, forgotten, awaits_address, ends_with_address, fresh, reset_state, accepted, configured, begun, is_busy, nak_row, gives, in_row, status_row, out_row, ack_row, token_row, setup_row, payload_row, answered, unless_busy, endpoint_state, with_endpoint_state, bulk_of, rest_of, source_row, bulk_ack_row, acknowledged, sink_row, sinks, in_bulk_row, out_bulk_row, bulk_sinks, data_row, payload_sinks, sink_grows, is_other_out, after_memory, with_endpoints, in_other_row, changes_row, new_changes_row};
+    ghost use Rattle.usb_device.specs.Rows.{State, received, unread, forgotten, awaits_address, ends_with_address, fresh, reset_state, accepted, configured, begun, is_busy, nak_row, gives, in_row, status_row, out_row, ack_row, token_row, setup_row, payload_row, answered, unless_busy, endpoint_state, with_endpoint_state, bulk_of, rest_of, source_row, bulk_ack_row, acknowledged, sink_row, sinks, in_bulk_row, out_bulk_row, bulk_sinks, data_row, payload_sinks, out_sinks, stage_takes, sink_grows, is_other_out, after_memory, with_endpoints, in_other_row, changes_row, new_changes_row};
 
     /// A device that was just plugged; it shares its description.
     ///
@@ -198,6 +223,8 @@ impl FunctionState {
             sink: Vec::new(alloc),
             until_halt: spec.halt_after(),
             place: 0,
+            taken: Vec::new(alloc),
+            write: ControlWrite::none(alloc),
         })
     }
 
@@ -220,6 +247,13 @@ impl FunctionState {
         ensures { result.now ≡ self.now.sink }
     {
         self.sink.as_slice()
+    }
+
+    /// All bytes that control writes have brought since it was plugged, and that it kept.
+    pub fn taken(&self) -> &[u8]
+        ensures { result.now ≡ self.now.taken }
+    {
+        self.taken.as_slice()
     }
 
     /// Whether it is a low-speed device; else it is a full-speed one.
@@ -253,8 +287,8 @@ impl FunctionState {
     }
 
     /// A bus reset (9.1.1.3): the device has no address, no configuration and no transfer. What its
-    /// bulk OUT endpoint has taken stays, and so do its place in its source and the count until it
-    /// halts.
+    /// bulk OUT endpoint and control writes have brought stays, and so do its place in its source
+    /// and the count until it halts.
     #[tactic(auto, unfolding(crate::specs::Rows::reset_state))]
     pub fn reset(&mut self)
         ensures { self.new ≡ reset_state self.old }
@@ -310,7 +344,7 @@ impl FunctionState {
     ///
     /// # Errors
     ///
-    /// Memory was refused for a packet that joins the sink, and the device is as it was.
+    /// Memory was refused for a packet whose bytes the device takes, and the device is as it was.
     #[tactic(auto, unfolding(crate::specs::Rows::received, crate::specs::Effects::asks))]
     pub fn received(
         &mut self,
@@ -437,7 +471,11 @@ impl FunctionState {
             RememberedPacket::OutSeen(ep) if ep != 0 => self.take_bulk(ep, toggle, bytes),
             memory => {
                 self.attempt_over();
-                Ok(self.control_payload(ports, memory, toggle, bytes, effect))
+                let taken = self.control_payload(ports, memory, toggle, bytes, effect);
+                if taken.is_err() {
+                    self.memory = memory;
+                }
+                taken
             }
         }
     }
@@ -450,17 +488,22 @@ impl FunctionState {
         toggle: Toggle,
         bytes: &[u8],
         effect: &mut Effect,
-    ) -> Option<AnswerPid>
+    ) -> Result<Option<AnswerPid>, AllocError>
         requires memory { is_other_out memory ≡ false }
         requires effect { effect.old ≡ Effect.Leaves }
-        ensures answer { (room : Room) → (answer_with result room, self.new)
-            ≡ payload_row self.old (row_of ports.now) memory toggle bytes.now }
+        ensures answer { IfOk result (λ pid. (room : Room) → (answer_with pid room, self.new)
+            ≡ payload_row self.old (row_of ports.now) memory toggle bytes.now) }
         ensures asked { effect.new ≡ asked_by_data self.old memory toggle bytes.now }
+        ensures refused { OnErr result (self.new ≡ self.old) }
+        ensures grows { OnErr result
+            (payload_sinks self.old memory toggle bytes.now ≡ true) }
     {
         match (memory, toggle) {
-            (RememberedPacket::SetupSeen, Toggle::Zero) => self.take_setup(ports, bytes, effect),
+            (RememberedPacket::SetupSeen, Toggle::Zero) => {
+                Ok(self.take_setup(ports, bytes, effect))
+            }
             (RememberedPacket::OutSeen(_), toggle) => self.take_unless_busy(toggle, bytes),
-            _ => None,
+            _ => Ok(None),
         }
     }
 
@@ -509,12 +552,18 @@ impl FunctionState {
         }
     }
 
-    fn take_unless_busy(&mut self, toggle: Toggle, bytes: &[u8]) -> Option<AnswerPid>
-        ensures { (room : Room) → (answer_with result room, self.new)
-            ≡ unless_busy self.old (out_row self.old self.old.stage toggle bytes.now) }
+    fn take_unless_busy(
+        &mut self,
+        toggle: Toggle,
+        bytes: &[u8],
+    ) -> Result<Option<AnswerPid>, AllocError>
+        ensures answer { IfOk result (λ pid. (room : Room) → (answer_with pid room, self.new)
+            ≡ unless_busy self.old (out_row self.old self.old.stage toggle bytes.now)) }
+        ensures refused { OnErr result (self.new ≡ self.old) }
+        ensures grows { OnErr result (out_sinks self.old 0 toggle bytes.now ≡ true) }
     {
         if self.is_busy() {
-            self.nak()
+            Ok(self.nak())
         } else {
             self.take(toggle, bytes)
         }
@@ -553,7 +602,7 @@ impl FunctionState {
             self.configure(value);
         }
         self.naks = self.spec.naks();
-        self.progress = first_progress(ports, wanted, reaction);
+        self.progress = first_progress(ports, &mut self.write, wanted, reaction);
     }
 
     /// A configuration is taken, and its bulk endpoints are served from here on (9.4.7).
@@ -584,7 +633,8 @@ impl FunctionState {
             | Reaction::Answer(_)
             | Reaction::TakeAddress(_)
             | Reaction::TellPort(_)
-            | Reaction::CallPort(..) => {}
+            | Reaction::CallPort(..)
+            | Reaction::Take(_) => {}
         }
     }
 
@@ -622,8 +672,8 @@ impl FunctionState {
     /// Puts a packet of the answer that the host reads into the room, and tells whether there is
     /// one.
     fn put_packet(&self, source: Source, wanted: u16, k: u32, room: &mut ArrayVec<u8, 64>) -> bool
-        ensures { put_if result room.new
-            ≡ packet_at (max_packet self.now.spec) wanted (source_bytes self.now.spec source) k }
+        ensures { let answer = source_bytes self.now.spec self.now.taken source in
+            put_if result room.new ≡ packet_at (max_packet self.now.spec) wanted answer k }
     {
         let max = usize::from(self.spec.max_packet());
         match source {
@@ -640,12 +690,14 @@ impl FunctionState {
             ),
             Source::Configuration(value) => put_packet(max, wanted, &[value], k, room),
             Source::Port(bytes) => put_packet(max, wanted, &bytes, k, room),
+            Source::Own(i) => put_packet(max, wanted, own_bytes(&self.spec, i), k, room),
+            Source::Taken => put_packet(max, wanted, self.taken.as_slice(), k, room),
         }
     }
 
     /// How many bytes the answer has.
     fn length_of(&self, source: Source) -> usize
-        ensures { result ≡ length (source_bytes self.now.spec source) }
+        ensures { result ≡ length (source_bytes self.now.spec self.now.taken source) }
     {
         match source {
             Source::Descriptor => self.spec.descriptor().len(),
@@ -655,12 +707,14 @@ impl FunctionState {
             Source::Status => 2,
             Source::Configuration(_) => 1,
             Source::Port(bytes) => bytes.len(),
+            Source::Own(i) => own_bytes(&self.spec, i).len(),
+            Source::Taken => self.taken.len(),
         }
     }
 
     /// Whether the answer has a packet `k`.
     fn has_packet(&self, source: Source, wanted: u16, k: u32) -> bool
-        ensures { let answer = source_bytes self.now.spec source in
+        ensures { let answer = source_bytes self.now.spec self.now.taken source in
             result ≡ is_some (packet_at (max_packet self.now.spec) wanted answer k) }
     {
         let max = usize::from(self.spec.max_packet());
@@ -694,22 +748,40 @@ impl FunctionState {
                     None
                 }
             }
-            Progress::Ending(_) => {
-                fill(room, &[]);
-                self.give_data(InEndpoint::Control, Toggle::One)
-            }
+            Progress::Ending(_) => self.give_status(room),
+            Progress::Writing if self.write.is_done() => self.give_status(room),
+            Progress::Writing => Some(AnswerPid::Stall),
         }
     }
 
+    /// The status stage of a request that does not read.
+    fn give_status(&mut self, room: &mut ArrayVec<u8, 64>) -> Option<AnswerPid>
+        ensures { (answer_with result room.new, self.new) ≡ gives self.old by.Control Toggle.One [] }
+    {
+        fill(room, &[]);
+        self.give_data(InEndpoint::Control, Toggle::One)
+    }
+
     /// OUT 0 with good data, of a device that is not busy.
-    fn take(&mut self, toggle: Toggle, bytes: &[u8]) -> Option<AnswerPid>
-        ensures { (room : Room) → (answer_with result room, self.new)
-            ≡ out_row self.old self.old.stage toggle bytes.now }
+    fn take(&mut self, toggle: Toggle, bytes: &[u8]) -> Result<Option<AnswerPid>, AllocError>
+        ensures answer { IfOk result (λ pid. (room : Room) → (answer_with pid room, self.new)
+            ≡ out_row self.old self.old.stage toggle bytes.now) }
+        ensures refused { OnErr result (self.new ≡ self.old) }
+        ensures grows { OnErr result (stage_takes self.old self.old.stage toggle bytes.now ≡ true) }
     {
         match self.progress {
-            Progress::Idle | Progress::Ending(_) => None,
-            Progress::Refused => Some(AnswerPid::Stall),
-            Progress::Reading { .. } | Progress::Read => self.take_status(toggle, bytes),
+            Progress::Idle | Progress::Ending(_) => Ok(None),
+            Progress::Refused => Ok(Some(AnswerPid::Stall)),
+            Progress::Reading { .. } | Progress::Read => Ok(self.take_status(toggle, bytes)),
+            Progress::Writing => match self.write.judged(self.spec.max_packet(), toggle, bytes) {
+                WriteData::Wrong => Ok(Some(AnswerPid::Stall)),
+                WriteData::TooLong => Ok(None),
+                WriteData::Repeat => Ok(Some(AnswerPid::Ack)),
+                WriteData::Next => {
+                    self.write.take(bytes, &mut self.taken)?;
+                    Ok(Some(AnswerPid::Ack))
+                }
+            },
         }
     }
 
@@ -753,6 +825,7 @@ impl FunctionState {
                 }
                 self.progress = Progress::Idle;
             }
+            Progress::Writing => self.progress = Progress::Idle,
         }
     }
 

@@ -2,12 +2,14 @@
 ghost use Rattle.std.specs.Prelude.{◌≡◌};
 ghost use Rattle.std.specs.List.{list_any};
 ghost use Rattle.usb_device.specs.DeviceSpecs.{Spec};
-ghost use Rattle.usb_device.specs.Request.{outcome, unless, asked_descriptor, asked_status, asked_address, is_value, asked_configuration, endpoint_of, on_endpoint, halts, unhalts, asked_hub_descriptor, port_named, called_at, asked_port_status, port_feature};
+ghost use Rattle.usb_device.specs.Request.{outcome, asked_at, asked_by_answer, asked_own, unless, asked_descriptor, asked_status, asked_address, is_value, asked_configuration, endpoint_of, on_endpoint, halts, unhalts, asked_hub_descriptor, port_named, called_at, asked_port_status, port_feature};
 ghost use Rattle.usb_device.specs.Bulk.{has_value};
+ghost use Rattle.usb_device.specs.OwnRequests.{bytes_given, own_bytes};
 ghost use Rattle.usb_device.specs.Code.{meaning_of};
 
 use crate::bulk::{ServedEndpoint, served};
 use crate::lists::Bytes;
+use crate::own_request::{OwnAnswer, OwnRequest};
 use crate::spec::DeviceSpec;
 use usb_port::PortCall;
 use usb_request::feature::ENDPOINT_HALT;
@@ -50,6 +52,10 @@ pub enum Source {
     Configuration(u8),
     /// The status of a port as it was asked for.
     Port([u8; 4]),
+    /// The bytes of a request of the device's own, by its place.
+    Own(usize),
+    /// What control writes have brought since the plug.
+    Taken,
 }
 
 /// What a device does about a request.
@@ -71,6 +77,8 @@ pub enum Reaction {
     TellPort(usize),
     /// A port, counted from 0, is set or cleared.
     CallPort(PortCall, usize),
+    /// It takes the host's data, and keeps them or refuses them at the status stage.
+    Take(bool),
 }
 
 fn unless(refused: bool, reaction: Reaction) -> Reaction
@@ -234,6 +242,44 @@ fn port_feature(
     }
 }
 
+/// What a row of the device's own requests, at a place, does.
+fn own_reaction(row: &OwnRequest, place: usize) -> Reaction
+    ensures { (s : Spec) → own_bytes s.requests place ≡ bytes_given row.now.answer
+        → meaning_of s result ≡ asked_by_answer row.now.answer }
+{
+    match &row.answer {
+        OwnAnswer::RefuseData => Reaction::Refuse,
+        OwnAnswer::RefuseStatus => Reaction::Take(false),
+        OwnAnswer::Give(_) => Reaction::Answer(Source::Own(place)),
+        OwnAnswer::GiveTaken => Reaction::Answer(Source::Taken),
+        OwnAnswer::Take => Reaction::Take(true),
+    }
+}
+
+/// What the row at a place does, if there is one.
+fn reaction_at(spec: &DeviceSpec, place: Option<usize>) -> Reaction
+    ensures { meaning_of spec.now result ≡ asked_at spec.now.requests place }
+{
+    let Some(place) = place else {
+        return Reaction::Refuse;
+    };
+    match spec.requests().as_slice().get(place) {
+        Some(row) => own_reaction(row, place),
+        None => Reaction::Refuse,
+    }
+}
+
+/// What a configured device does about a request of its own.
+fn react_own(spec: &DeviceSpec, registers: Registers, setup: &Setup) -> Reaction
+    ensures { meaning_of spec.now result ≡ asked_own spec.now.requests registers setup.now }
+{
+    if registers.configuration == 0 {
+        Reaction::Refuse
+    } else {
+        reaction_at(spec, spec.requests().place_of(setup))
+    }
+}
+
 /// What a device with these registers does about a request.
 #[tactic(auto, unfolding(crate::specs::Request::outcome))]
 pub fn react(spec: &DeviceSpec, registers: Registers, setup: &Setup) -> Reaction
@@ -263,6 +309,6 @@ pub fn react(spec: &DeviceSpec, registers: Registers, setup: &Setup) -> Reaction
             let call = PortCall::of_clear(setup.value);
             port_feature(call, spec, registers, setup)
         }
-        _ => Reaction::Refuse,
+        _ => react_own(spec, registers, setup),
     }
 }

@@ -4,6 +4,7 @@ ghost use Rattle.usb_device.specs.DeviceSpecs.{no_stalls, function, hub_fits, Is
 
 use crate::hub_spec::HubSpec;
 use crate::lists::{Bytes, ConfigTexts, Name, StringTexts};
+use crate::own_request::OwnRequests;
 use std::alloc::{AllocError, Global};
 use std::marker::Model;
 
@@ -69,6 +70,7 @@ pub struct DeviceSpec {
     hub: Option<HubSpec>,
     source: Bytes<65535>,
     halt_after: Option<u16>,
+    requests: OwnRequests,
 }
 
 impl Model for DeviceSpec {
@@ -92,6 +94,7 @@ impl Model for DeviceSpec {
       hub = s.hub;
       source = s.source;
       halt_after = s.halt_after;
+      requests = s.requests;
     } };
 
     ghost invariant = { λ s. (s.naks ≤ 200)
@@ -101,14 +104,15 @@ impl Model for DeviceSpec {
 
 impl DeviceSpec {
     /// A full-speed function without strings that does nothing special: no request is refused, no
-    /// NAK is given, its bulk IN has nothing to give, its bulk OUT never halts, and it has its
-    /// power from the bus. Its device descriptor (9.6.1) and the texts of its configurations
+    /// NAK is given, it has no requests of its own, its bulk IN has nothing to give, its bulk OUT
+    /// never halts, and it has its power from the bus. Its device descriptor (9.6.1) and the texts of its configurations
     /// (9.6.3) are any bytes.
     pub fn function(name: Name, descriptor: Bytes<255>, configs: ConfigTexts) -> Self
         ensures { result ≡ function name descriptor configs }
     {
         let strings = StringTexts::none_beside(&configs);
         let source = configs.no_bytes_beside();
+        let requests = configs.no_requests_beside();
         DeviceSpec {
             name,
             low: false,
@@ -123,6 +127,7 @@ impl DeviceSpec {
             hub: None,
             source,
             halt_after: None,
+            requests,
         }
     }
 
@@ -211,6 +216,14 @@ impl DeviceSpec {
         self
     }
 
+    /// The same device with these requests of its own.
+    pub fn with_requests(mut self, requests: OwnRequests) -> Self
+        ensures { result ≡ record self { requests = requests } }
+    {
+        self.requests = requests;
+        self
+    }
+
     /// The same description in memory of its own.
     ///
     /// # Errors
@@ -233,6 +246,7 @@ impl DeviceSpec {
             hub: copied_hub(alloc, &self.hub)?,
             source: self.source.try_clone(alloc)?,
             halt_after: self.halt_after,
+            requests: self.requests.try_clone(alloc)?,
         })
     }
 
@@ -334,12 +348,22 @@ impl DeviceSpec {
         self.halt_after
     }
 
+    /// The requests of its own.
+    pub fn requests(&self) -> &OwnRequests
+        ensures value { result.now ≡ self.now.requests }
+        ensures bound { length self.now.requests ≤ 64 }
+    {
+        self.requests.as_slice();
+        &self.requests
+    }
+
     /// Does nothing; what it ensures is for `Devices` to cite: the rules of a device.
     pub(crate) fn keeps_rules(&self)
         ensures { IsSpec self.now }
     {
         self.configs.as_slice();
         self.strings.as_slice();
+        self.requests.as_slice();
         if let Some(hub) = &self.hub {
             hub.ports();
             hub.descriptor();

@@ -51,6 +51,8 @@ pub enum Progress {
     /// The status stage of a transfer without a data stage, and the address that is taken at its
     /// end.
     Ending(Option<u8>),
+    /// A control write: how far it is stands beside.
+    Writing,
 }
 
 /// How many packets carry `len` bytes of an answer to a request for `wanted`.

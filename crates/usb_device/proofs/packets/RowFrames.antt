@@ -4,14 +4,14 @@ use Rattle.std.proofs.Common.{rules}
 use Rattle.usb_packet.specs.{TokenKind, OutTok, InTok, SetupTok, Toggle, Zero, One, Packet, Token}
 use Rattle.usb_packet.specs.{Payload}
 use Rattle.usb_packet.specs.declared.Packet.TheVariants as packet
-use Rattle.usb_device.specs.declared.answer.Answer.TheVariants.{Ack}
 use Rattle.arrayvec.specs.ArrayVec.{ArrayVec}
 use Rattle.usb_device.specs.{RememberedPacket, BulkOut, Outcome, halts, unhalts, Stage, idle}
-use Rattle.usb_device.specs.{reading, ending, max_packet, packet_at, toggle_at, State, Reply}
+use Rattle.usb_device.specs.{reading, max_packet, packet_at, toggle_at, State, Reply}
 use Rattle.usb_device.specs.{received, answered, forgotten, begun, gives, in_row, status_row}
 use Rattle.usb_device.specs.{out_row, ack_row, token_row, payload_row, source_row, held_row}
 use Rattle.usb_device.specs.{in_other_row, in_bulk_row, sink_row, out_bulk_row, bulk_ack_row}
-use Rattle.usb_device.specs.{after_memory, bulk_of, Keeps}
+use Rattle.usb_device.specs.{after_memory, bulk_of, Keeps, Write, WriteData, Next, judged, writing}
+use Rattle.usb_device.specs.{write_row}
 use Rattle.usb_device.specs.declared.transfer.InEndpoint.TheVariants as by
 use Rattle.usb_port.specs.{PortState}
 use Rattle.usb_device.specs.declared.transfer.RememberedPacket.TheVariants.{SetupSeen, OutSeen}
@@ -40,10 +40,16 @@ keeps-status : (p : Packet) (d : State) (t : Toggle) (b : List ℕ) → Keeps p 
 keeps-status p d One [] = search rules
 keeps-status p d t b = search rules
 
-keeps-out : (p : Packet) (d : State) (s : Stage) (t : Toggle) (b : List ℕ)
-    → Keeps p d (out_row d s t b).1
-keeps-out p d idle t b = search rules
-keeps-out p d s t b = search (rules, keeps-status)
+keeps-write : (u : Toggle) (c : ArrayVec ℕ) (d : State) (w : Write) (b : List ℕ) (x : WriteData)
+    → Keeps (Payload u c) d (write_row d w b x).1
+keeps-write u c d w b Next = search rules
+keeps-write u c d w b x = search rules
+
+keeps-out : (u : Toggle) (c : ArrayVec ℕ) (d : State) (s : Stage) (t : Toggle) (b : List ℕ)
+    → Keeps (Payload u c) d (out_row d s t b).1
+keeps-out u c d idle t b = search rules
+keeps-out u c d (writing w) t b = keeps-write u c d w b (judged (max_packet d.spec) w t b)
+keeps-out u c d s t b = search (rules, keeps-status)
 
 keeps-begun : (t : Toggle) (b : ArrayVec ℕ) (d : State) (row : List PortState) (n : ℕ) (o : Outcome)
     → Keeps (Payload t b) d (begun d row n o)
@@ -121,4 +127,5 @@ keeps-received d row p =
       configuration = k.configuration;
       sink = k.sink;
       place = k.place;
+      taken = k.taken;
     })

@@ -8,3 +8,4 @@ mod packets;
 mod requests;
 mod steps;
 mod trees;
+mod writes;

@@ -147,3 +147,84 @@ fn requests_as_they_go_over_the_bus(rt: HostRuntime) {
         assert_eq!(rt; told, (Some(read), row.bytes), "{:?}", row.bytes);
     }
 }
+
+/// Whether a request is reserved to a function, and to a hub.
+struct ReservedRow {
+    bytes: [u8; 8],
+    to_function: bool,
+    to_hub: bool,
+}
+
+const RESERVED: &[ReservedRow] = &[
+    ReservedRow {
+        bytes: [0, 5, 1, 0, 0, 0, 0, 0],
+        to_function: true,
+        to_hub: true,
+    },
+    ReservedRow {
+        bytes: [0, 9, 1, 0, 0, 0, 0, 0],
+        to_function: true,
+        to_hub: true,
+    },
+    ReservedRow {
+        bytes: [1, 11, 1, 0, 0, 0, 0, 0],
+        to_function: true,
+        to_hub: true,
+    },
+    // CLEAR_FEATURE and SET_FEATURE of ENDPOINT_HALT, and CLEAR_FEATURE of another feature
+    ReservedRow {
+        bytes: [2, 1, 0, 0, 0x81, 0, 0, 0],
+        to_function: true,
+        to_hub: true,
+    },
+    ReservedRow {
+        bytes: [2, 3, 0, 0, 0x81, 0, 0, 0],
+        to_function: false,
+        to_hub: true,
+    },
+    ReservedRow {
+        bytes: [2, 1, 1, 0, 0x81, 0, 0, 0],
+        to_function: false,
+        to_hub: true,
+    },
+    ReservedRow {
+        bytes: [0x23, 1, 16, 0, 1, 0, 0, 0],
+        to_function: true,
+        to_hub: true,
+    },
+    ReservedRow {
+        bytes: [0x23, 3, 4, 0, 1, 0, 0, 0],
+        to_function: true,
+        to_hub: true,
+    },
+    ReservedRow {
+        bytes: [0x23, 2, 4, 0, 1, 0, 0, 0],
+        to_function: false,
+        to_hub: true,
+    },
+    // SET_IDLE, and reads
+    ReservedRow {
+        bytes: [0x21, 10, 0, 0, 0, 0, 0, 0],
+        to_function: false,
+        to_hub: true,
+    },
+    ReservedRow {
+        bytes: [0xa3, 0, 0, 0, 1, 0, 4, 0],
+        to_function: false,
+        to_hub: false,
+    },
+    ReservedRow {
+        bytes: [0x80, 5, 0, 0, 0, 0, 1, 0],
+        to_function: false,
+        to_hub: false,
+    },
+];
+
+#[test]
+fn requests_of_the_host_alone(rt: HostRuntime) {
+    for row in RESERVED {
+        let setup = Setup::from_bytes(row.bytes);
+        let is = (setup.is_reserved(false), setup.is_reserved(true));
+        assert_eq!(rt; is, (row.to_function, row.to_hub), "{:?}", row.bytes);
+    }
+}

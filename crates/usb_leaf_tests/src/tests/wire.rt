@@ -268,6 +268,40 @@ const SAID: &[SaidRow] = &[
         line: "clear 1.2.3.4.5.6.7",
         written: "clear 1.2.3.4.5.6.7",
     },
+    // GET_STATUS (9.4.5)
+    SaidRow {
+        asked: Asked::Wait,
+        line: "control 1.7 8000000000000200",
+        written: "control 1.7 8000000000000200",
+    },
+    // every bit of the setup data
+    SaidRow {
+        asked: Asked::Wait,
+        line: "control 2 ff01020304aBcDeF",
+        written: "control 2 FF01020304ABCDEF",
+    },
+    // SET_CONFIGURATION (9.4.7), which has no data
+    SaidRow {
+        asked: Asked::Wait,
+        line: "control 1 0009010000000000",
+        written: "control 1 0009010000000000",
+    },
+    // SET_REPORT of the class HID, with one byte
+    SaidRow {
+        asked: Asked::Wait,
+        line: "control 1.7 2109000200000100 0a",
+        written: "control 1.7 2109000200000100 0A",
+    },
+    SaidRow {
+        asked: Asked::Wait,
+        line: "look 3.1",
+        written: "look 3.1",
+    },
+    SaidRow {
+        asked: Asked::Wait,
+        line: "news",
+        written: "news",
+    },
 ];
 
 #[test]
@@ -382,6 +416,110 @@ const FAULTS: &[FaultRow] = &[
         line: b"clear 8",
         fault: WireFault::BadPath,
     },
+    FaultRow {
+        asked: Asked::Wait,
+        line: b"look 0",
+        fault: WireFault::BadPath,
+    },
+    FaultRow {
+        asked: Asked::Wait,
+        line: b"look",
+        fault: WireFault::NoAnswer,
+    },
+    FaultRow {
+        asked: Asked::Wait,
+        line: b"news 1",
+        fault: WireFault::NoAnswer,
+    },
+    FaultRow {
+        asked: Asked::Attempt,
+        line: b"news",
+        fault: WireFault::NoAnswer,
+    },
+    FaultRow {
+        asked: Asked::Wait,
+        line: b"control 8 8000000000000200",
+        fault: WireFault::BadPath,
+    },
+    // a request with bytes for the device, but no bytes; then also a path that is none
+    FaultRow {
+        asked: Asked::Wait,
+        line: b"control 1 2109000200000100",
+        fault: WireFault::NoAnswer,
+    },
+    FaultRow {
+        asked: Asked::Wait,
+        line: b"control 8 7F05010000000080",
+        fault: WireFault::NoAnswer,
+    },
+    // bytes, but a request that reads, or that has no data; before any other fault of the bytes
+    FaultRow {
+        asked: Asked::Wait,
+        line: b"control 1 8000000000000200 0000",
+        fault: WireFault::NoAnswer,
+    },
+    FaultRow {
+        asked: Asked::Wait,
+        line: b"control 1 0005010000000000 -",
+        fault: WireFault::NoAnswer,
+    },
+    FaultRow {
+        asked: Asked::Wait,
+        line: b"control 1 8000000000000200 0",
+        fault: WireFault::NoAnswer,
+    },
+    // one byte more or fewer than wLength, and none
+    FaultRow {
+        asked: Asked::Wait,
+        line: b"control 8 2109000200000200 0A",
+        fault: WireFault::BadLength,
+    },
+    FaultRow {
+        asked: Asked::Wait,
+        line: b"control 1 2109000200000100 0A0B",
+        fault: WireFault::BadLength,
+    },
+    FaultRow {
+        asked: Asked::Wait,
+        line: b"control 1 2109000200000100 -",
+        fault: WireFault::BadLength,
+    },
+    // setup data too short, and bytes that are no pairs of digits
+    FaultRow {
+        asked: Asked::Wait,
+        line: b"control 1 21090002000001 0",
+        fault: WireFault::BadHex,
+    },
+    FaultRow {
+        asked: Asked::Wait,
+        line: b"control 8 2109000200000100 0A",
+        fault: WireFault::BadPath,
+    },
+    FaultRow {
+        asked: Asked::Wait,
+        line: b"control 8 80000000000002",
+        fault: WireFault::BadLength,
+    },
+    FaultRow {
+        asked: Asked::Wait,
+        line: b"control 1 000501000000000000",
+        fault: WireFault::BadLength,
+    },
+    FaultRow {
+        asked: Asked::Wait,
+        line: b"control 1 -",
+        fault: WireFault::BadLength,
+    },
+    FaultRow {
+        asked: Asked::Wait,
+        line: b"control 8 800000000000020",
+        fault: WireFault::BadHex,
+    },
+    FaultRow {
+        asked: Asked::Wait,
+        line: b"control 1 2109000200000100 0A 0B",
+        fault: WireFault::NoAnswer,
+    },
 ];
 
 #[test]
@@ -422,6 +560,38 @@ fn transfers_that_are_wanted(rt: HostRuntime) {
     for (count, fault) in SENDS {
         let mut line = ArrayString::<1023>::new();
         line.push_str("send 1.2.3.4.5.6.7 ");
+        for _ in 0..*count {
+            let _ = line.write_str("5A");
+        }
+        let said = read_said(Asked::Wait, 3, line.as_str().as_bytes());
+        match (said, fault) {
+            (Ok(said), None) => assert_eq!(rt; said_line(&said).as_str(), line.as_str()),
+            (said, fault) => assert_eq!(rt; said.err(), *fault),
+        }
+    }
+}
+
+/// How many bytes are to be written, by wLength and in fact, and the fault that is told of the line.
+const WRITES: &[(&str, usize, Option<WireFault>)] = &[
+    (
+        "control 1.2.3.4.5.6.7 40010000000040E0 ",
+        480,
+        Some(WireFault::BadLength),
+    ),
+    ("control 1.2.3.4.5.6.7 400100000000E001 ", 480, None),
+    (
+        "control 1.2.3.4.5.6.7 400100000000E101 ",
+        481,
+        Some(WireFault::BadLength),
+    ),
+];
+
+/// The longest line that wants a write to endpoint 0 has 999 bytes.
+#[test]
+fn writes_that_are_wanted(rt: HostRuntime) {
+    for (front, count, fault) in WRITES {
+        let mut line = ArrayString::<1023>::new();
+        line.push_str(front);
         for _ in 0..*count {
             let _ = line.write_str("5A");
         }

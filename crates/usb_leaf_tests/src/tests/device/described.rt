@@ -1,11 +1,14 @@
 //! Devices as they are described.
 use super::kinds::{
     BULK, BUS_HUB, EMPTY, FUNCTION, HUB, LATE_HALT, LOW, NO_CONFIG, NO_SET_CONFIG, NO_STATUS,
-    NO_STRING, ODD, ODD_HUB, Plan, Refused, SHORT, STALLING, TEXTS, new_device, spec_of,
+    NO_STRING, ODD, ODD_HUB, OWN, Own, OwnText, Plan, Refused, SHORT, STALLING, TEXTS, new_device,
+    spec_of,
 };
 use std::alloc::{AllocError, Global};
 use std::test::Fail;
-use usb_device::{Bytes, DeviceSpec, Devices, HubSpec, Stalls, has_hub_class};
+use usb_device::{
+    Bytes, DeviceSpec, Devices, HubSpec, OwnAnswer, OwnRequest, Stalls, has_hub_class,
+};
 
 /// Devices of which, one or the other, everything is said that can be said.
 const PLANS: &[Plan] = &[
@@ -25,6 +28,7 @@ const PLANS: &[Plan] = &[
     ODD_HUB,
     LOW,
     ODD,
+    OWN,
 ];
 
 fn are_same<const MAX: usize>(texts: &[Bytes<MAX>], plan: &[&[u8]]) -> bool {
@@ -34,6 +38,37 @@ fn are_same<const MAX: usize>(texts: &[Bytes<MAX>], plan: &[&[u8]]) -> bool {
         }
     }
     texts.len() == plan.len()
+}
+
+fn is_answer(answer: &OwnAnswer, text: Own) -> bool {
+    match (answer, text) {
+        (OwnAnswer::Give(bytes), Own::Give(given)) => bytes.as_slice() == given,
+        (OwnAnswer::RefuseData, Own::RefuseData)
+        | (OwnAnswer::RefuseStatus, Own::RefuseStatus)
+        | (OwnAnswer::GiveTaken, Own::GiveTaken)
+        | (OwnAnswer::Take, Own::Take) => true,
+        _ => false,
+    }
+}
+
+fn is_row(row: &OwnRequest, text: &OwnText) -> bool {
+    row.request_type == text.request_type
+        && row.request == text.request
+        && row.value == text.value
+        && row.index == text.index
+        && row.length == text.length
+        && is_answer(&row.answer, text.answer)
+}
+
+/// Whether these are the requests of its own.
+fn are_own(spec: &DeviceSpec, plan: &Plan) -> bool {
+    let rows = spec.requests().as_slice();
+    for (row, text) in rows.iter().zip(plan.requests) {
+        if !is_row(row, text) {
+            return false;
+        }
+    }
+    rows.len() == plan.requests.len()
 }
 
 /// Whether these are the name, the descriptor, the configurations, the strings and the source.
@@ -71,8 +106,9 @@ fn is_hub_same(spec: &DeviceSpec, plan: &Plan) -> bool {
     }
 }
 
-/// Whether these are the speed, the power, the quirks of the answers, the halt, the refused requests and the hub.
-fn quirks(spec: &DeviceSpec, plan: &Plan) -> [bool; 8] {
+/// Whether these are the speed, the power, the quirks of the answers, the halt, the refused requests,
+/// the hub and the requests of its own.
+fn quirks(spec: &DeviceSpec, plan: &Plan) -> [bool; 9] {
     [
         spec.is_low() == plan.low,
         spec.is_self_powered() == plan.self_powered,
@@ -82,10 +118,11 @@ fn quirks(spec: &DeviceSpec, plan: &Plan) -> [bool; 8] {
         spec.halt_after() == plan.halt_after,
         is_refused_alone(spec.stalls(), plan.refused),
         is_hub_same(spec, plan),
+        are_own(spec, plan),
     ]
 }
 
-type Told = ([bool; 5], [bool; 8], bool);
+type Told = ([bool; 5], [bool; 9], bool);
 
 fn copy_of(alloc: Global, plan: &Plan) -> Result<DeviceSpec, AllocError> {
     spec_of(alloc, plan)?.try_clone(alloc)
@@ -106,7 +143,7 @@ fn told(alloc: Global, plan: &Plan) -> Result<Told, AllocError> {
 #[test]
 fn devices_are_described(rt: HostRuntime) -> Result<(), Fail> {
     for plan in PLANS {
-        let is = told(rt.alloc(), plan)? == ([true; 5], [true; 8], true);
+        let is = told(rt.alloc(), plan)? == ([true; 5], [true; 9], true);
         assert!(rt; is, "{}", plan.name);
     }
     Ok(())

@@ -1,7 +1,10 @@
 //! The devices of the tests.
 use std::alloc::{AllocError, Global};
 use std::rc::Rc;
-use usb_device::{Bytes, Device, DeviceSpec, HubSpec, Name, Stalls, Texts, has_hub_class};
+use usb_device::{
+    Bytes, Device, DeviceSpec, HubSpec, Name, OwnAnswer, OwnRequest, OwnRequests, Stalls, Texts,
+    has_hub_class,
+};
 
 /// A request that a device refuses.
 #[derive(Clone, Copy, Debug, PartialEq)]
@@ -24,6 +27,27 @@ pub(super) struct HubText {
     pub descriptor: &'static [u8],
 }
 
+/// What a device does about a request of its own.
+#[derive(Clone, Copy)]
+pub(super) enum Own {
+    RefuseData,
+    RefuseStatus,
+    Give(&'static [u8]),
+    GiveTaken,
+    Take,
+}
+
+/// A request of a device's own: its type and its number, and what else it must have.
+#[derive(Clone, Copy)]
+pub(super) struct OwnText {
+    pub request_type: u8,
+    pub request: u8,
+    pub value: Option<u16>,
+    pub index: Option<u16>,
+    pub length: Option<u16>,
+    pub answer: Own,
+}
+
 /// What is said of a device.
 #[derive(Clone, Copy)]
 pub(super) struct Plan {
@@ -40,6 +64,7 @@ pub(super) struct Plan {
     pub hub: Option<HubText>,
     pub source: &'static [u8],
     pub halt_after: Option<u16>,
+    pub requests: &'static [OwnText],
 }
 
 /// A function whose packets on endpoint 0 have at most 8 bytes.
@@ -57,6 +82,109 @@ pub(super) const FUNCTION: Plan = Plan {
     hub: None,
     source: &[],
     halt_after: None,
+    requests: &[],
+};
+
+/// A vendor's request, whatever its value, its index and its length.
+const VENDOR: OwnText = OwnText {
+    request_type: 0x40,
+    request: 1,
+    value: None,
+    index: None,
+    length: None,
+    answer: Own::Take,
+};
+
+/// A function with requests of its own.
+pub(super) const OWN: Plan = Plan {
+    name: "own",
+    requests: &[
+        VENDOR,
+        OwnText {
+            request: 2,
+            answer: Own::RefuseData,
+            ..VENDOR
+        },
+        OwnText {
+            request: 3,
+            answer: Own::RefuseStatus,
+            ..VENDOR
+        },
+        OwnText {
+            request: 4,
+            length: Some(2),
+            ..VENDOR
+        },
+        OwnText {
+            request_type: 0xc0,
+            value: Some(7),
+            index: Some(8),
+            answer: Own::Give(&[1, 2, 3, 4, 5, 6, 7, 8, 9]),
+            ..VENDOR
+        },
+        OwnText {
+            request_type: 0xc0,
+            answer: Own::GiveTaken,
+            ..VENDOR
+        },
+        OwnText {
+            request_type: 0xc0,
+            request: 2,
+            answer: Own::RefuseData,
+            ..VENDOR
+        },
+        // A row that gives is for no request that writes, and one that takes for none that reads.
+        OwnText {
+            request: 5,
+            answer: Own::Give(&[1]),
+            ..VENDOR
+        },
+        OwnText {
+            request_type: 0xc0,
+            request: 5,
+            answer: Own::Take,
+            ..VENDOR
+        },
+        // What a hub is asked is refused, and what each device is asked is answered as ever.
+        OwnText {
+            request_type: 0xa0,
+            request: 6,
+            answer: Own::Give(&[9]),
+            ..VENDOR
+        },
+        OwnText {
+            request_type: 0xa3,
+            request: 0,
+            answer: Own::Give(&[0, 0, 0, 0]),
+            ..VENDOR
+        },
+        OwnText {
+            request_type: 0x23,
+            request: 3,
+            answer: Own::Take,
+            ..VENDOR
+        },
+        OwnText {
+            request_type: 0x23,
+            request: 1,
+            answer: Own::Take,
+            ..VENDOR
+        },
+        OwnText {
+            request_type: 0x80,
+            request: 0,
+            answer: Own::Give(&[9, 9]),
+            ..VENDOR
+        },
+    ],
+    ..FUNCTION
+};
+
+/// The same, which begins each transfer with two NAKs.
+pub(super) const OWN_NAKS: Plan = Plan {
+    name: "own naks",
+    naks: 2,
+    ..OWN
 };
 
 /// The same, which refuses to give its device descriptor.
@@ -295,6 +423,33 @@ fn stalls(refused: Option<Refused>) -> Stalls {
     stalls
 }
 
+fn own_answer(alloc: Global, answer: Own) -> Result<OwnAnswer, AllocError> {
+    Ok(match answer {
+        Own::RefuseData => OwnAnswer::RefuseData,
+        Own::RefuseStatus => OwnAnswer::RefuseStatus,
+        Own::Give(given) => OwnAnswer::Give(bytes(alloc, given)?),
+        Own::GiveTaken => OwnAnswer::GiveTaken,
+        Own::Take => OwnAnswer::Take,
+    })
+}
+
+fn requests(alloc: Global, rows: &[OwnText]) -> Result<OwnRequests, AllocError> {
+    let mut all = OwnRequests::new(alloc);
+    for row in rows {
+        if all.as_slice().len() < 64 {
+            all.push(OwnRequest {
+                request_type: row.request_type,
+                request: row.request,
+                value: row.value,
+                index: row.index,
+                length: row.length,
+                answer: own_answer(alloc, row.answer)?,
+            })?;
+        }
+    }
+    Ok(all)
+}
+
 /// A function with its speed, which has no strings yet.
 fn function(alloc: Global, plan: &Plan) -> Result<DeviceSpec, AllocError> {
     let name = if plan.name.is_empty() {
@@ -358,7 +513,11 @@ pub(super) fn spec_of(alloc: Global, plan: &Plan) -> Result<DeviceSpec, AllocErr
     let source = bytes(alloc, plan.source)?;
     let hub = ports(alloc, plan.hub)?;
     let spec = function(alloc, plan)?;
-    let spec = spec.with_strings(strings).with_source(source);
+    let requests = requests(alloc, plan.requests)?;
+    let spec = spec
+        .with_strings(strings)
+        .with_source(source)
+        .with_requests(requests);
     Ok(with_quirks(with_ports(spec, hub), plan))
 }
 

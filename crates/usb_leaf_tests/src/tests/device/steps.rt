@@ -1,7 +1,7 @@
 //! What comes to a device, and what is so then, step by step.
 use super::kinds::{LOW, Plan, new_device};
 use super::packets::{ADDRESSING, Exchange, Host, are_answered, is_answered};
-use super::{attempts, bulk, hubs, requests};
+use super::{attempts, bulk, hubs, requests, writes};
 use std::alloc::{AllocError, Global};
 use std::test::Fail;
 use usb_device::{Device, Parent};
@@ -26,6 +26,8 @@ pub(super) enum Step {
     Registers(u8, u8),
     AwaitsAddress(bool),
     Sink(&'static [u8]),
+    /// What control writes have brought.
+    Taken(&'static [u8]),
     /// A low-speed function is plugged at a port, after these packets came to it.
     Plugs(u8, &'static [Exchange]),
     /// The device at port 1 is unplugged, where one is.
@@ -47,13 +49,15 @@ pub(super) struct Row {
 
 /// Whether the answer is the printed one, at once or after memory was refused.
 fn is_answered_at_last(device: &mut Device, host: Host, text: &str) -> Result<bool, AllocError> {
-    let taken = device.sink().len();
+    let sink = device.sink().len();
+    let taken = device.taken().len();
     let address = device.address();
     let value = device.configuration();
     if let Ok(is) = is_answered(device, host, text) {
         return Ok(is);
     }
-    let is_same = device.sink().len() == taken
+    let is_same = device.sink().len() == sink
+        && device.taken().len() == taken
         && device.address() == address
         && device.configuration() == value;
     Ok(is_same && is_answered(device, host, text)?)
@@ -138,6 +142,7 @@ fn tells(device: &Device, step: Step) -> bool {
         }
         Step::AwaitsAddress(awaits) => device.awaits_address() == awaits,
         Step::Sink(bytes) => device.sink() == bytes,
+        Step::Taken(bytes) => device.taken() == bytes,
         Step::PortBytes(port, bytes) => device.port_bytes(port) == bytes,
         Step::ChildAddress(address) => child_address(device) == address,
         _ => true,
@@ -186,6 +191,8 @@ fn devices_do_as_rows_say(rt: HostRuntime) -> Result<(), Fail> {
         requests::of_refusals(),
         hubs::of_changes(),
         hubs::of_ports(),
+        writes::of_writes(),
+        writes::of_requests(),
     ];
     for rows in tables {
         for row in rows {
