@@ -12,7 +12,9 @@ use Rattle.usb_device.specs.{text_asked, asked_descriptor, asked_status, asked_a
 use Rattle.usb_device.specs.{asked_configuration, endpoint_of, on_endpoint, asked_hub_descriptor}
 use Rattle.usb_device.specs.{port_named, told_port, called_at, asked_port_status, port_feature}
 use Rattle.usb_device.specs.{outcome, reading, ending, reads, reads_port, first_stage}
+use Rattle.usb_device.specs.{answers_taken, takes, writes, writing, ends_if, first_write}
 use Rattle.usb_device.specs.Request.{answers}
+use Rattle.usb_device.proofs.Interface.{asked_own-any}
 use Rattle.usb_address.specs.Aims.{Aims}
 use Rattle.usb_address.specs.{TakesOnly}
 
@@ -90,10 +92,10 @@ module _ (Q : ℕ → Type 0) where
       (only_if (Is r PORT_OUT SET_FEATURE) (port_feature (set_call r.value) s g r) _
       (only_if (r.length == 0) (called_at (set_call r.value) (port_named s.hub g r.index))
       stalled (called_only (set_call r.value) (port_named s.hub g r.index)) tt)
-      (only_if (Is r PORT_OUT CLEAR_FEATURE) (port_feature (clear_call r.value) s g r) stalled
+      (only_if (Is r PORT_OUT CLEAR_FEATURE) (port_feature (clear_call r.value) s g r) _
       (only_if (r.length == 0) (called_at (clear_call r.value) (port_named s.hub g r.index))
       stalled (called_only (clear_call r.value) (port_named s.hub g r.index)) tt)
-      tt))))))))))
+      (asked_own-any (TakesOnly Q) tt s.requests g r (λ bytes. tt) tt (λ kept. tt))))))))))))
 
   reads_aim : (wanted : ℕ) (bytes : List ℕ) → Aims Q (reads wanted bytes)
   reads_aim wanted bytes = split (wanted == 0)
@@ -106,9 +108,20 @@ module _ (Q : ℕ → Type 0) where
   port_aims wanted None = tt
   port_aims wanted (Some p) = reads_aim wanted _
 
-  pub first_aims : (row : List PortState) (wanted : ℕ) (o : Outcome) → TakesOnly Q o
-      → Aims Q (first_stage row wanted o)
-  first_aims row wanted (answers bytes) h = reads_aim wanted bytes
-  first_aims row wanted (takes_address a) h = h
-  first_aims row wanted (tells_port i) h = port_aims wanted (slice_get row i)
-  first_aims row wanted o h = tt
+  writes_aim : (wanted : ℕ) (kept : Bool) → Aims Q (writes wanted kept)
+  writes_aim wanted kept = split (wanted == 0) kept
+    where
+      split : (b kept : Bool) → Aims Q (if b then ends_if kept
+          else writing (first_write wanted kept))
+      split true true = tt
+      split true false = tt
+      split false kept = tt
+
+  pub first_aims : (row : List PortState) (taken : List ℕ) (wanted : ℕ) (o : Outcome)
+      → TakesOnly Q o → Aims Q (first_stage row taken wanted o)
+  first_aims row taken wanted (answers bytes) h = reads_aim wanted bytes
+  first_aims row taken wanted (takes_address a) h = h
+  first_aims row taken wanted (tells_port i) h = port_aims wanted (slice_get row i)
+  first_aims row taken wanted answers_taken h = reads_aim wanted taken
+  first_aims row taken wanted (takes kept) h = writes_aim wanted kept
+  first_aims row taken wanted o h = tt

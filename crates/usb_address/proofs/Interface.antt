@@ -6,7 +6,7 @@ pub use Rattle.usb_address.proofs.Endpoints.{clears_keep, polls_keep, receives_k
 pub use Rattle.usb_address.proofs.Events.{event_keeps}
 pub use Rattle.usb_address.proofs.HubPorts.{place_ports, held_of, less_one, port_named-cases}
 pub use Rattle.usb_address.proofs.TransferSequences.{either_alone, keeps_none, keeps_then}
-pub use Rattle.usb_address.proofs.TransferSequences.{read_keeps, trail_sound, write_keeps}
+pub use Rattle.usb_address.proofs.TransferSequences.{put_keeps, read_keeps, trail_sound, write_keeps}
 pub use Rattle.usb_address.proofs.TransferSequences.{write_nothing, write_till}
 pub use Rattle.usb_address.proofs.UnheldAddresses.{nobody_asks_nothing}
 pub use Rattle.usb_address.proofs.Openings.{opening_reach, opening_settled}

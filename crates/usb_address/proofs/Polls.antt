@@ -8,7 +8,8 @@ use Rattle.usb_port.specs.{PortState}
 use Rattle.usb_device.specs.declared.answer.Answer.TheVariants as answer
 use Rattle.usb_device.specs.{Stage, reading, read, State, Reply, out_row, status_row, sink_row}
 use Rattle.usb_device.specs.{out_bulk_row, data_row, Way, in_law, out_law, Ports, vacant, taken}
-use Rattle.usb_device.specs.{row_of, reach_at, state_at, Location, Registers}
+use Rattle.usb_device.specs.{row_of, reach_at, state_at, Location, Registers, Write, WriteData}
+use Rattle.usb_device.specs.{Next, writing, judged, max_packet, write_row}
 use Rattle.usb_world.specs.{Attempt, Outcome, World, attempt, after, HoldsMapped, Was, EachWas}
 use Rattle.usb_world.specs.{DidIn, DidOut, IsOut, IsIn, IsMade}
 use Rattle.usb_tree.specs.{address_of}
@@ -39,9 +40,14 @@ module _ (s : State) where
     status_keeps Data1 [] = refl
     status_keeps t b = refl
 
+    written_keeps : (w : Write) (x : WriteData) → Kept (write_row s w bytes x)
+    written_keeps w Next = refl
+    written_keeps w x = refl
+
     out_row_keeps : (g : Stage) → Kept (out_row s g t bytes)
     out_row_keeps (reading a w k) = status_keeps t bytes
     out_row_keeps read = status_keeps t bytes
+    out_row_keeps (writing w) = written_keeps w (judged (max_packet s.spec) w t bytes)
     out_row_keeps g = refl
 
     sink_keeps : (max : ℕ) → Kept (sink_row s max t bytes)

@@ -9,6 +9,7 @@ use Rattle.usb_device.specs.{toggle_at, State, Reply, forgotten, out_row, status
 use Rattle.usb_device.specs.{sink_row, out_bulk_row, bulk_ack_row, bulk_of, data_row, acknowledged}
 use Rattle.usb_device.specs.{ends_with_address, Way, is_whole, gave, in_stage_law, source_law}
 use Rattle.usb_device.specs.{held_law, in_bulk_law, in_other_law, in_control_law, in_law, out_law}
+use Rattle.usb_device.specs.{heard, Write, WriteData, Next, writing, is_done, judged, write_row}
 use Rattle.usb_device.specs.declared.transfer.InEndpoint.TheVariants as by
 use Rattle.usb_address.specs.Aims.{Aims}
 use Rattle.usb_address.specs.{Never}
@@ -33,6 +34,7 @@ module _ (Q : ℕ → Type 0) where
       split false = h
   acked s (ending None) h = tt
   acked s (ending (Some a)) h = tt
+  acked s (writing w) h = tt
   acked s g h = h
 
   bulk_acked : (s : State) (o : Option (ℕ × ℕ)) → Aims Q s.stage → Aims Q (bulk_ack_row s o).stage
@@ -67,6 +69,8 @@ module _ (Q : ℕ → Type 0) where
         split None = h
         split (Some bytes) = gives s by.Control max (toggle_at k) bytes x y h
     in_stage (ending a) = gives s by.Control max Data1 [] x y h
+    in_stage (writing w) = keeps_if (is_done w) (gave s by.Control max Data1 [] x y)
+        (heard x (Some answer.Stall), s) (gives s by.Control max Data1 [] x y h) h
     in_stage g = h
 
     source_keeps : (most : ℕ) → Keeps (source_law s most max x y)
@@ -97,9 +101,14 @@ module _ (Q : ℕ → Type 0) where
     status_keeps Data1 [] = tt
     status_keeps t b = h
 
+    written_keeps : (w : Write) (x : WriteData) → Keeps (write_row s w bytes x)
+    written_keeps w Next = tt
+    written_keeps w x = h
+
     out_row_keeps : (g : Stage) → Keeps (out_row s g t bytes)
     out_row_keeps (reading a w k) = status_keeps t bytes
     out_row_keeps read = status_keeps t bytes
+    out_row_keeps (writing w) = written_keeps w (judged (max_packet s.spec) w t bytes)
     out_row_keeps g = h
 
     sink_keeps : (max : ℕ) → Keeps (sink_row s max t bytes)

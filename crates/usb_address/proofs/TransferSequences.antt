@@ -10,10 +10,10 @@ use Rattle.usb_transaction.specs.{Target, TransFault, setup_attempt, AttemptsMad
 use Rattle.usb_transaction.specs.{start, next}
 use Rattle.usb_transaction.specs.declared.fault.TransFault.TheVariants as trans
 use Rattle.usb_pipe.specs.{PipeFault, FaultAfter, SetUp, NoSetUp, NoStatus, NoData, NotConfirmed}
-use Rattle.usb_pipe.specs.{Reads, Writes}
+use Rattle.usb_pipe.specs.{PutsData, Reads, Writes}
 use Rattle.usb_pipe.specs.declared.fault.PipeFault.TheVariants.{Bus}
 use Rattle.usb_address.specs.{AddressMap, LeavesPipe, MapHolds, WhileBusWorks, KeepsAddresses}
-use Rattle.usb_address.proofs.Transfers.{reads_leave, writes_leave}
+use Rattle.usb_address.proofs.Transfers.{puts_leave, reads_leave, writes_leave}
 
 pub keeps_none : (w : World) → KeepsAddresses w w
 keeps_none w = record { kept = λ f o. o }
@@ -59,6 +59,13 @@ module _ (t : Target) (request : Setup) (old new : World) (g : BusFault) (e : ol
         failed (inl x) = set_up_nothing x.fault x.set_up
         failed (inr x) = absurd (cc (e, trail_sound x.set_up.trail))
 
+    pub put_nothing : (bytes : List ℕ) (result : Result (Unit {0}) PipeFault)
+        → PutsData t request bytes old result new → new ≡ old
+    put_nothing bytes (Ok done) x = absurd (cc (e, trail_sound x.set_up.trail))
+    put_nothing bytes (Err why) (inl x) = set_up_nothing x.fault x.set_up
+    put_nothing bytes (Err why) (inr (inl x)) = absurd (cc (e, trail_sound x.set_up.trail))
+    put_nothing bytes (Err why) (inr (inr x)) = absurd (cc (e, trail_sound x.set_up.trail))
+
 -- A fault of the bus is told
 
 module _ (P : World → Type 0) (alone : (w : World) → P w → w.shared ≡ false) (old new : World) where
@@ -99,6 +106,17 @@ module _ (P : World → Type 0) (alone : (w : World) → P w → w.shared ≡ fa
         split None e = till k n result ends (leaves e)
         split (Some g) e = still g e single (write_nothing t request old new g e result writes)
 
+    put_till : (bytes : List ℕ) (result : Result (Unit {0}) PipeFault)
+        → MatchResult result (λ _. AttemptsMade k old new) (λ fault. FaultAfter n old fault new)
+        → PutsData t request bytes old result new
+        → (old.fault ≡ None → LeavesPipe P result new) → WhileBusWorks P new
+    put_till bytes result ends puts leaves = split old.fault refl
+      where
+        split : (x : Option BusFault) → old.fault ≡ x → WhileBusWorks P new
+        split None e = till k n result ends (leaves e)
+        split (Some g) e =
+            still g e single (put_nothing t request old new g e bytes result puts)
+
 pub owned_alone : (f : AddressMap) (w : World) → MapHolds f w → w.shared ≡ false
 owned_alone f w o = o.single
 
@@ -117,6 +135,15 @@ module _ (t : Target) (request : Setup) (same : setup_of (bytes_of request) ≡ 
   read_keeps result ends reads = record {
     kept = λ f o. read_till (MapHolds f) (owned_alone f) old new k n t request o.single result ends
         reads (λ e. reads_leave f t request same harmless other old result new reads (o.so e));
+  }
+
+  pub put_keeps : (bytes : List ℕ) (result : Result (Unit {0}) PipeFault)
+      → MatchResult result (λ _. AttemptsMade k old new) (λ fault. FaultAfter n old fault new)
+      → PutsData t request bytes old result new → KeepsAddresses old new
+  put_keeps bytes result ends puts = record {
+    kept = λ f o. put_till (MapHolds f) (owned_alone f) old new k n t request o.single bytes result
+        ends puts
+        (λ e. puts_leave f t request same harmless other bytes old result new puts (o.so e));
   }
 
   pub write_keeps : (result : Result (Unit {0}) PipeFault)

@@ -1,6 +1,6 @@
 -- What a control transfer leaves of addresses, whatever is lost.
 use Rattle.std.proofs.Common.{◌≡◌, ℕ, ◌⊎◌, inl, inr, true, false, List, [], Option, Some, Result}
-use Rattle.std.proofs.Common.{Ok, Err, refl, ap, sym, subst, ◌∙◌}
+use Rattle.std.proofs.Common.{Ok, Err, refl, ap, sym, subst, take, ◌∙◌}
 use Rattle.std.specs.Global.{Vec}
 use Rattle.usb_packet.specs.{Toggle, One, flips}
 use Rattle.usb_request.specs.{SET_ADDRESS, DEVICE_OUT, setup_of, bytes_of, Setup}
@@ -9,7 +9,8 @@ use Rattle.usb_world.specs.{World, is_harmless, IsSetup, after_taking}
 use Rattle.usb_transaction.specs.{Target, TransFault, Stalled as TransStalled, Bus as TransBus}
 use Rattle.usb_transaction.specs.{heard_as, heard_when_sent, setup_attempt, in_attempt, out_attempt}
 use Rattle.usb_pipe.specs.{PipeFault, as_pipe_fault, SetUp, Asks, Confirms, NoSetUp, Writes, Goes}
-use Rattle.usb_pipe.specs.{DataStage, DataLost, NoRoom, Reads}
+use Rattle.usb_pipe.specs.{DataStage, DataLost, Gave, NoRoom, Puts, PutsData, Reads}
+use Rattle.usb_pipe.specs.Moves as moves
 use Rattle.usb_pipe.specs.declared.fault.PipeFault.TheVariants.{Stalled}
 use Rattle.usb_pipe.specs.Stages.{start, packet}
 use Rattle.usb_address.specs.{AllAim, TakesOnly, Never, LeavesTrans, LeavesPipe, MapHolds}
@@ -58,6 +59,21 @@ goes_leaves f t wanted start c = c
 goes_leaves f t wanted {new} (packet {n} {got} {mid} bytes before came last) c =
     asks_leaves f t (flips n One) mid (Ok bytes) new came (goes_leaves f t wanted before c)
 
+is_put : (t : Target) (toggle : Toggle) (bytes : List ℕ) → IsData (out_attempt t 0 toggle bytes)
+is_put t toggle bytes = out toggle bytes (record { kind = refl; payload = refl })
+
+put_leaves : (f : List ℕ → Option ℕ) (t : Target) (toggle : Toggle) (bytes : List ℕ) (old : World)
+    (answer : Result (List ℕ) TransFault) (new : World) → Puts t 0 toggle bytes old answer new
+    → Calm f t old → LeavesTrans (Calm f t) answer new
+put_leaves f t toggle bytes old answer new e c = data_transacted f (out_attempt t 0 toggle bytes)
+    (is_put t toggle bytes) heard_when_sent old answer new e c.0 c.1
+
+gave_leaves : (f : List ℕ → Option ℕ) (t : Target) (first : Toggle) {old : World} {n : ℕ}
+    {sent : List ℕ} {new : World} → Gave t 0 first old n sent new → Calm f t old → Calm f t new
+gave_leaves f t first moves.start c = c
+gave_leaves f t first {new = new} (moves.packet {n} {sent} {mid} bytes before full some fits went) c =
+    put_leaves f t (flips n first) bytes mid (Ok []) new went (gave_leaves f t first before c)
+
 module _ (f : List ℕ → Option ℕ) (t : Target) (request : Setup) (same : setup_of (bytes_of request)
     ≡ request) (harmless : is_harmless request ≡ true) where
   is_set_up : IsSetup (setup_attempt t (bytes_of request)) (bytes_of request)
@@ -102,6 +118,24 @@ module _ (f : List ℕ → Option ℕ) (t : Target) (request : Setup) (same : se
         of_fault (Calm f t) (MapHolds f) new (λ x. x.0) n.fault why n.told
         (asks_leaves f t One n.mid (Err n.fault) new n.status
         (calm_set_up old (Ok []) n.mid n.set_up o))
+
+    -- a request with data to the device
+    pub puts_leave : (bytes : List ℕ) (old : World) (result : Result (Unit {0}) PipeFault)
+        (new : World) → PutsData t request bytes old result new → MapHolds f old
+        → LeavesPipe (MapHolds f) result new
+    puts_leave bytes old (Ok u) new x o =
+        (asks_leaves f t One x.second (Ok x.given) new x.status (gave_leaves f t One
+        x.data_stage.gone (calm_set_up old (Ok []) x.first x.set_up o))).0
+    puts_leave bytes old (Err why) new (inl n) o = no_set_up old why new n o
+    puts_leave bytes old (Err why) new (inr (inl n)) o =
+        let d = n.data_stage in
+        of_fault (Calm f t) (MapHolds f) new (λ x. x.0) d.fault why d.told
+        (put_leaves f t (flips d.packets One) (take t.max d.rest) d.mid (Err d.fault) new d.lost
+        (gave_leaves f t One d.before (calm_set_up old (Ok []) n.mid n.set_up o)))
+    puts_leave bytes old (Err why) new (inr (inr n)) o =
+        of_fault (Calm f t) (MapHolds f) new (λ x. x.0) n.fault why n.told
+        (asks_leaves f t One n.second (Err n.fault) new n.status (gave_leaves f t One
+        n.data_stage.gone (calm_set_up old (Ok []) n.first n.set_up o)))
 
     -- a request for data
     stage_leaves : (wanted : ℕ) (bytes : List ℕ) (old new : World)

@@ -2,7 +2,7 @@
 use Rattle.std.specs.Prelude.{◌≡◌, ℕ, true, None, Some, ⊤}
 use Rattle.usb_device.specs.{Outcome, stalled, takes_address, takes_configuration, halts, unhalts}
 use Rattle.usb_device.specs.{tells_port, calls_port, State, Stage, idle, refused, reading, read}
-use Rattle.usb_device.specs.{ending, Location, reach_on, state_on}
+use Rattle.usb_device.specs.{ending, writing, answers_taken, takes, Location, reach_on, state_on}
 use Rattle.usb_device.specs.Request.{answers}
 use Rattle.usb_tree.specs.{address_of}
 use Rattle.usb_world.specs.{World}
@@ -15,6 +15,7 @@ Aims Q (reading answer wanted k) = ⊤
 Aims Q read = ⊤
 Aims Q (ending None) = ⊤
 Aims Q (ending (Some a)) = Q a
+Aims Q (writing w) = ⊤
 
 -- so it is of each reachable device at an address
 abbrev pub AllAim : (ℕ → Type 0) → ℕ → World → Type 0
@@ -31,6 +32,8 @@ TakesOnly Q (halts x) = ⊤
 TakesOnly Q (unhalts x) = ⊤
 TakesOnly Q (tells_port i) = ⊤
 TakesOnly Q (calls_port c i) = ⊤
+TakesOnly Q answers_taken = ⊤
+TakesOnly Q (takes kept) = ⊤
 
 abbrev pub Never : ℕ → Type 0
 Never a = ⊥

@@ -21,7 +21,7 @@ charged-most false n = omega arith
 
 -- The ports of a new device
 
-devices_in-new : (n : ℕ) → devices_in (new_ports n) ≡ 0
+pub devices_in-new : (n : ℕ) → devices_in (new_ports n) ≡ 0
 unfolding devices_in new_ports
 devices_in-new zero = refl
 devices_in-new (suc n) = devices_in-new n

@@ -1,4 +1,5 @@
 -- The lemmas that crates above cite. All others are for this crate alone.
+pub use Rattle.usb_backlog.proofs.Counts.{anew_owed, devices_in-plan}
 pub use Rattle.usb_backlog.proofs.Events.{keeps-event, keeps-none, keeps-ready, keeps-then}
 pub use Rattle.usb_backlog.proofs.Places.{devices_by-empty, devices_by-nowhere, devices_by-there}
 pub use Rattle.usb_backlog.proofs.Places.{few-none, few-reset, few-vacant, just_covers}

@@ -7,5 +7,6 @@ mod Requests
 mod Places
 mod Phases
 mod Units
+mod Counts
 mod Products
 pub mod Interface

@@ -90,6 +90,16 @@ looks_by-found (taken c t d k) zero (suc j ∷ e) b s a at h =
 looks_by-found (taken c t d k) (suc i) e b s a at h = omega (arith, looks_by-found k i e b s a at h)
 looks_by-found k i e b s a at h = false_true (ap is_some at)
 
+-- they count for a look at each device at most
+pub looks_by-ports : (k : Ports) (i : ℕ) (e : List ℕ)
+    → looks_by (ports_of i e) k ≤ looks_by unmarked k + devices_in k
+unfolding looks_by devices_in
+looks_by-ports (vacant c k) (suc i) e = looks_by-ports k i e
+looks_by-ports (taken c t d k) zero [] = omega (arith, looks_by-row d)
+looks_by-ports (taken c t d k) zero (suc j ∷ e) = omega (arith, looks_by-ports d j e)
+looks_by-ports (taken c t d k) (suc i) e = omega (arith, looks_by-ports k i e)
+looks_by-ports k i e = omega arith
+
 -- where no device stands, they come to nothing
 pub looks_by-nowhere : (k : Ports) (i : ℕ) (e : List ℕ) → devices_by (just i e) k ≡ 0
     → looks_by (ports_of i e) k ≡ looks_by unmarked k

@@ -5,8 +5,8 @@ use Rattle.std.specs.Bool.{⊤}
 use Rattle.usb_port.specs.{PortCall, is_reset}
 use Rattle.usb_device.specs.{Sent, Ports, called, changed}
 use Rattle.usb_world.specs.{Damage, Attempt, payload_out, ports_in, reply_out, token_out, IsMade}
-use Rattle.usb_world.specs.{AtPorts, Course, Step, after, attempt, damage_in, event, here}
-use Rattle.usb_world.specs.{at_attempt, report, root_call, step, with_attempt, World}
+use Rattle.usb_world.specs.{AtPorts, Course, Step, after, attempt, damage_in, here}
+use Rattle.usb_world.specs.{at_attempt, root_call, step, with_attempt, World}
 use Rattle.usb_tree.specs.{NobodyHolds, after_sent}
 use Rattle.usb_world.proofs.Interface.{OverSteps, ack_out, goes, made_is, nobody_in, over_course}
 use Rattle.usb_world.proofs.Interface.{over_step, token_out as token_calm, with_call}
@@ -32,21 +32,9 @@ StepAllows m r (attempt a) w = AttemptAllows m r a w
 StepAllows m r (root_call c n) w = root_allowed m r c n ≡ true
 StepAllows m r _ w = ⊤
 
-module _ (m v r : PortMark) (few : Few v r) where
-  -- a world in which no event came, and no more is left to do
-  keeps-less : (w x : World) → x.taken ≡ w.taken → x.left ≡ w.left → AtPorts w.left
-      → Less m v r w.roots x.roots → KeepsBy m v r w x
-  keeps-less w x t l h less = record {
-    looks = omega (arith, less.looks, t);
-    strays = omega (arith, less.strays, t);
-    devices = λ d. omega (arith, less.devices d, t);
-    left = subst AtPorts (sym l) h;
-    onward = omega (arith, t);
-    still = λ e d. less.ports d;
-  }
-
+module _ (m v r : PortMark) where
   -- the packets of an attempt
-  less-attempt : (a : Attempt) (d : Option Damage) (k : Ports)
+  pub less-attempt : (a : Attempt) (d : Option Damage) (k : Ports)
       → ((q : Sent) → payload_out a d ≡ Some q → AllowsMarks m r q (after_sent (token_out a d) k))
       → Less m v r k (ports_in a d k)
   unfolding ports_in
@@ -60,12 +48,25 @@ module _ (m v r : PortMark) (few : Few v r) where
       (less-forgotten m v r (after_sent (reply_out a d k)
       (after_sent (payload_out a d) (after_sent (token_out a d) k))))))
 
-  less-root : (c : PortCall) (n : ℕ) (k : Ports) → root_allowed m r c n ≡ true
+  pub less-root : (c : PortCall) (n : ℕ) (k : Ports) → root_allowed m r c n ≡ true
       → Less m v r k (changed (called c) k (n ∷ []))
   less-root c zero k h = less-same m v r k
   less-root c (suc i) k h =
       let x : _ = both (m i [] || not (gives_power c)) (r i [] || not (is_reset c)) h in
       less-called m v r c k i x.0 x.1
+
+module _ (m v r : PortMark) (few : Few v r) where
+  -- a world in which no event came, and no more is left to do
+  keeps-less : (w x : World) → x.taken ≡ w.taken → x.left ≡ w.left → AtPorts w.left
+      → Less m v r w.roots x.roots → KeepsBy m v r w x
+  keeps-less w x t l h less = record {
+    looks = omega (arith, less.looks, t);
+    strays = omega (arith, less.strays, t);
+    devices = λ d. omega (arith, less.devices d, t);
+    left = subst AtPorts (sym l) h;
+    onward = omega (arith, t);
+    still = λ e d. less.ports d;
+  }
 
   keeps-steps : OverSteps (StepAllows m r) (KeepsFrom m v r few)
   unfolding with_attempt
@@ -73,8 +74,8 @@ module _ (m v r : PortMark) (few : Few v r) where
     events = keeps-events m v r few;
     made = λ a w made k h.
         keeps-less (at_attempt w) (with_attempt a (at_attempt w)) refl refl h
-        (less-attempt a (damage_in (at_attempt w)) (at_attempt w).roots k);
-    root = λ c n w k h. keeps-less w (with_call c n w) refl refl h (less-root c n w.roots k);
+        (less-attempt m v r a (damage_in (at_attempt w)) (at_attempt w).roots k);
+    root = λ c n w k h. keeps-less w (with_call c n w) refl refl h (less-root m v r c n w.roots k);
     refused = λ w h. keeps-less w (with_limit_told w) refl refl h (less-same m v r w.roots);
   }
 

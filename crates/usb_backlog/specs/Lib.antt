@@ -7,4 +7,4 @@ pub use Marks.{after_first, allowed, below_first, charged, is_child, is_marked, 
 pub use Marks.{ports_at, ports_of, shifted, unmarked}
 unfoldable pub use Marks.{devices_by, devices_in, looks_by, ports_by, strays_by}
 pub use PortSettings.{gives_power, sets_feature}
-pub use Units.{KeepsPlain, PaysBare, PaysLook, PaysStray}
+pub use Units.{KeepsPlain, OwesAnew, PaysBare, PaysLook, PaysStray}

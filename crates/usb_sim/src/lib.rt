@@ -32,4 +32,5 @@ pub use trace::{Line, push_attempt};
 pub use tracer::{Trace, Tracer, Untraced};
 pub use usb_world::{
     Action, Ask, Change, Damage, Damages, Event, Events, Exchange, Harm, Plan, SentBytes,
+    WriteRequest,
 };

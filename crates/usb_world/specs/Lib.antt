@@ -21,9 +21,11 @@ pub mod Devices
 pub mod PlanCourses
 pub mod RestingPorts
 pub mod Silence
+pub mod WriteRequests
 pub mod HostSides
 -- the words of this crate, wherever one stands
 pub use PlainAttempts.{Attempt, attempt_data, attempt_kind, attempt_payload, destination_of}
+pub use WriteRequests.{IsWrite, Write}
 pub use Worlds.{AnswerFits, AttemptEnds, Attempted, AttemptsWithin, FitsMaximum, FitsPayload}
 pub use Worlds.{HasFault, IsAttempt, IsRootPort, Made, World, root_row, roots_of, sends_data}
 pub use Worlds.{to_come}
@@ -81,7 +83,8 @@ pub use declared.damage.Damage.{Damage}
 pub use declared.damage.Harm.{Harm}
 pub use declared.damage.Harm.TheVariants.{Flip, Lose, LosePre}
 pub use declared.event.Action.{Action}
-pub use declared.event.Ask.TheVariants.{Clear, Receive, Send, Show}
+pub use declared.event.Ask.TheVariants.{Clear, ControlIn, ControlOut, Look, News, Receive, Send}
+pub use declared.event.Ask.TheVariants.{Show}
 pub use declared.event.Change.TheVariants.{Plug, Unplug}
 pub use declared.event.Event.{Event}
 pub use declared.exchange.Exchange.{Exchange}

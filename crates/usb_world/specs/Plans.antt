@@ -7,7 +7,8 @@ use Rattle.usb_world.specs.declared.event.Action.{Action}
 use Rattle.usb_world.specs.declared.event.Action.TheVariants.{Change, Ask}
 use Rattle.usb_world.specs.declared.event.Change.TheVariants.{Plug, Unplug}
 use Rattle.usb_world.specs.declared.event.Ask.{Ask as Asked}
-use Rattle.usb_world.specs.declared.event.Ask.TheVariants.{Show, Send, Receive, Clear}
+use Rattle.usb_world.specs.declared.event.Ask.TheVariants.{Show, Send, Receive, Clear, ControlIn}
+use Rattle.usb_world.specs.declared.event.Ask.TheVariants.{ControlOut, Look, News}
 use Rattle.usb_world.specs.declared.damage.Damage.{Damage}
 use Rattle.usb_world.specs.declared.damage.Harm.{Harm}
 use Rattle.usb_world.specs.declared.damage.Harm.TheVariants.{Lose, LosePre, Flip}
@@ -24,6 +25,10 @@ ask_fits roots Show = true
 ask_fits roots (Send path bytes) = is_rooted roots path
 ask_fits roots (Receive path packets) = is_rooted roots path && nat_le packets 1000
 ask_fits roots (Clear path) = is_rooted roots path
+ask_fits roots (ControlIn path request) = is_rooted roots path
+ask_fits roots (ControlOut path request) = is_rooted roots path
+ask_fits roots (Look path) = is_rooted roots path
+ask_fits roots News = true
 
 -- the action may come where so much is plugged
 abbrev pub action_fits : ℕ → List Spec → PluggedMap → Action → Bool

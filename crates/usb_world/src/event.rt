@@ -6,6 +6,8 @@ ghost use Rattle.usb_world.specs.Steps.{waits, ask_of};
 use std::alloc::{AllocError, Global};
 use std::marker::Model;
 use usb_port::PortPath;
+use usb_request::endpoint_address::DIRECTION_IN;
+use usb_request::{ReadRequest, Setup};
 
 /// Bytes that an event sends.
 #[derive(Debug, Drop)]
@@ -50,6 +52,74 @@ impl SentBytes {
     }
 }
 
+/// A request that writes: bit 7 of bmRequestType is clear (9.3.1), and wLength is the number of its
+/// bytes.
+#[derive(Debug, Drop)]
+pub struct WriteRequest {
+    setup: Setup,
+    bytes: SentBytes,
+}
+
+impl Model for WriteRequest {
+    ghost use Rattle.usb_world.specs.WriteRequests.{IsWrite, Write};
+
+    ghost Value = { Write };
+
+    ghost view = { λ r. record { setup = r.setup; bytes = r.bytes } };
+
+    ghost invariant = { λ r. IsWrite (record { setup = r.setup; bytes = r.bytes }) };
+}
+
+impl WriteRequest {
+    ghost use Rattle.std.specs.Prelude.{◌≡◌, IfSome, IfNone, IfOk};
+    ghost use Rattle.usb_world.specs.WriteRequests.{IsWrite};
+
+    /// The request of this setup data with these bytes; `None` if bit 7 is set, or wLength is not
+    /// their number.
+    pub fn new(setup: Setup, bytes: SentBytes) -> Option<WriteRequest>
+        ensures some { IfSome result (λ r. r ≡ record { setup = setup; bytes = bytes }) }
+        ensures none { IfNone result (IsWrite (record { setup = setup; bytes = bytes }) → ⊥) }
+    {
+        if setup.request_type < DIRECTION_IN
+            && usize::from(setup.length) == bytes.as_slice().len()
+        {
+            Some(WriteRequest { setup, bytes })
+        } else {
+            None
+        }
+    }
+
+    /// Its setup data.
+    pub fn setup(&self) -> Setup
+        ensures value { result ≡ self.now.setup }
+        ensures writes { IsWrite self.now }
+    {
+        self.setup
+    }
+
+    /// Its bytes.
+    pub fn bytes(&self) -> &[u8]
+        ensures value { result.now ≡ self.now.bytes }
+        ensures writes { IsWrite self.now }
+    {
+        self.bytes.as_slice()
+    }
+
+    /// The same request in memory of its own.
+    ///
+    /// # Errors
+    ///
+    /// Memory is refused.
+    pub fn try_clone(&self, alloc: Global) -> Result<Self, AllocError>
+        ensures { IfOk result (λ r. r ≡ self.now) }
+    {
+        Ok(WriteRequest {
+            setup: self.setup,
+            bytes: self.bytes.try_clone(alloc)?,
+        })
+    }
+}
+
 /// What an event does to what is plugged.
 #[derive(Debug, Drop)]
 pub enum Change {
@@ -70,6 +140,14 @@ pub enum Ask {
     Receive(PortPath, u16),
     /// To clear the halts of the bulk endpoints of the device at a port (9.4.1).
     Clear(PortPath),
+    /// To read from endpoint 0 of the device at a port (9.3).
+    ControlIn(PortPath, ReadRequest),
+    /// To write to endpoint 0 of the device at a port (9.3).
+    ControlOut(PortPath, WriteRequest),
+    /// To look once more at what is at a port.
+    Look(PortPath),
+    /// To say which devices left and which arrived since this was last asked.
+    News,
 }
 
 /// What an event does.
@@ -232,5 +310,11 @@ fn ask_copy(alloc: Global, ask: &Ask) -> Result<Ask, AllocError>
         Ask::Send(path, bytes) => Ask::Send(path.duplicate(), bytes.try_clone(alloc)?),
         Ask::Receive(path, packets) => Ask::Receive(path.duplicate(), *packets),
         Ask::Clear(path) => Ask::Clear(path.duplicate()),
+        Ask::ControlIn(path, request) => Ask::ControlIn(path.duplicate(), *request),
+        Ask::ControlOut(path, request) => {
+            Ask::ControlOut(path.duplicate(), request.try_clone(alloc)?)
+        }
+        Ask::Look(path) => Ask::Look(path.duplicate()),
+        Ask::News => Ask::News,
     })
 }

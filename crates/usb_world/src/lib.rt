@@ -64,7 +64,7 @@ mod types;
 mod wire;
 
 pub use damage::{Damage, Damages, Harm};
-pub use event::{Action, Ask, Change, Event, Events, SentBytes, event_copies};
+pub use event::{Action, Ask, Change, Event, Events, SentBytes, WriteRequest, event_copies};
 pub use exchange::{Exchange, ExchangeAnswer, outcome_of};
 pub use laws::{
     a_port_rests_or_is_pending, control_courses_keep_addresses, devices_have_their_ports,

@@ -1,14 +1,18 @@
 -- Which courses keep each device at its own address, and set no mark.
-use Rattle.std.proofs.Common.{arith, ◌≡◌, ℕ, zero, suc, ◌+◌, ◌&&◌, ◌||◌, if◌then◌else◌, ◌⊎◌, inl}
+use Rattle.std.proofs.Common.{arith, ◌≡◌, ℕ, zero, suc, ◌+◌, ◌==◌, ◌&&◌, ◌||◌, if◌then◌else◌, ◌⊎◌, inl}
 use Rattle.std.proofs.Common.{inr, Bool, true, false, List, [], ◌∷◌, ◌++◌, Option, None, Some}
 use Rattle.std.proofs.Common.{option_map, refl, ap, sym, ◌∙◌}
-use Rattle.usb_packet.specs.{Packet, Token, Payload, Toggle, TokenKind, SetupTok}
+use Rattle.usb_packet.specs.{Packet, Token, Payload, Toggle, Zero, TokenKind, SetupTok}
 use Rattle.arrayvec.specs.ArrayVec.{ArrayVec}
 use Rattle.usb_port.specs.{PortState, PortCall}
 use Rattle.usb_device.specs.{Answer, Content, Whole, Broken, Sent, is_ack, State, Reply, received}
 use Rattle.usb_device.specs.{unread, refused, Ports, ended, vacant, taken, called, changed, reach}
 use Rattle.usb_device.specs.{state_at, path_to, state_on, reply_to, answer_of, listed}
 use Rattle.usb_device.specs.{held_addresses, repeats, state_there, Place, answers}
+use Rattle.usb_device.specs.{Stage, Write, WriteData, bulk_of, data_row, is_busy, judged}
+use Rattle.usb_device.specs.{max_packet, nak_row, out_bulk_row, out_row, unless_busy, write_row}
+use Rattle.usb_device.specs.{writing, RememberedPacket, payload_row, forgotten, answered}
+use Rattle.usb_device.specs.declared.transfer.RememberedPacket.TheVariants.{SetupSeen, OutSeen}
 use Rattle.usb_device.specs.declared.answer.Answer.TheVariants as answer
 use Rattle.usb_device.proofs.Interface.{keeps-received}
 use Rattle.usb_world.specs.{Damage, Attempt, BusFault, Mark, marked, marked_some, token_of}
@@ -140,10 +144,38 @@ IsSetupOut (Whole (Payload t b)) = Unit {0}
 IsSetupOut Broken = Unit {0}
 IsSetupOut (Whole p) = ⊥
 
+no_data_written : (s : State) (w : Write) (bytes : List ℕ) (x : WriteData)
+    → has_no_data (write_row s w bytes x).0 ≡ true
+no_data_written s w bytes x = grind arith
+
+no_data_out : (s : State) (stage : Stage) (t : Toggle) (bytes : List ℕ)
+    → has_no_data (out_row s stage t bytes).0 ≡ true
+no_data_out s (writing w) t bytes = no_data_written s w bytes (judged (max_packet s.spec) w t bytes)
+no_data_out s stage t bytes = grind arith
+
+no_data_after : (s : State) (e : ℕ) (t : Toggle) (bytes : List ℕ)
+    → has_no_data (data_row s e t bytes).0 ≡ true
+no_data_after s e t bytes =
+    no_data_if (e == 0) (unless_busy s (out_row s s.stage t bytes))
+    (out_bulk_row s e (bulk_of s false) t bytes)
+    (no_data_if (is_busy s) (nak_row s) (out_row s s.stage t bytes) refl
+    (no_data_out s s.stage t bytes)) (grind arith)
+
+no_data_payload : (s : State) (row : List PortState) (m : RememberedPacket) (t : Toggle)
+    (bytes : List ℕ) → has_no_data (payload_row s row m t bytes).0 ≡ true
+no_data_payload s row SetupSeen Zero bytes = grind arith
+no_data_payload s row (OutSeen e) t bytes = no_data_after s e t bytes
+no_data_payload s row m t bytes = refl
+
 no_data_content : (c : Content) (s : State) (row : List PortState) → IsSetupOut c
     → has_no_data (reply_to c s row).0 ≡ true
 unfolding received IsSetupOut
-no_data_content c s row h = grind arith
+no_data_content (Whole (Token SetupTok a e)) s row h = grind arith
+no_data_content (Whole (Payload t b)) s row h = no_data_if s.spec.silent (None, s)
+    (answered (forgotten s) row s.memory (Payload t b)) refl
+    (no_data_payload (forgotten s) row s.memory t b.items)
+no_data_content Broken s row h = refl
+no_data_content c s row h = elim h [ ]
 
 no_data_answer : (q : Sent) → IsSetupOut q.content → (deep : Bool) (s : State) (a : Ports)
     → has_no_data (answer_of q deep s a).0 ≡ true

@@ -17,6 +17,7 @@ use Rattle.usb_device.specs.{outcome, is_value, State, asks, asked_by_data, effe
 use Rattle.usb_device.specs.{Ports, asked_by, effect_of}
 use Rattle.usb_port.specs.{PortCall, SetPower, SetReset, is_reset, set_call, clear_call}
 use Rattle.usb_device.specs.Request.{answers}
+use Rattle.usb_device.proofs.Interface.{asked_own-any}
 use Rattle.usb_tree.specs.{effect_resets, resets_at}
 use Rattle.usb_world.specs.{is_harmless}
 use Rattle.usb_tree.proofs.Interface.{resets_if}
@@ -120,8 +121,10 @@ harmless_outcome s g r h =
     (λ e. by_feature (set_call r.value) s g r (set_resets r.value
     ∙ harmless_set (Is r PORT_OUT SET_FEATURE) (r.value == PORT_POWER)
     (r.value == PORT_RESET) h e))
-    (both_ways (Is r PORT_OUT CLEAR_FEATURE) (port_feature (clear_call r.value) s g r) stalled
-    (by_feature (clear_call r.value) s g r (clear_resets r.value)) refl))))))))))
+    (both_ways (Is r PORT_OUT CLEAR_FEATURE) (port_feature (clear_call r.value) s g r) _
+    (by_feature (clear_call r.value) s g r (clear_resets r.value))
+    (asked_own-any (λ o. asks_reset o ≡ false) refl s.requests g r (λ bytes. refl) refl
+    (λ kept. refl))))))))))))
 
 -- no call of a reset
 abbrev no_reset : Effect → Bool

@@ -19,6 +19,7 @@ use Rattle.usb_port.specs.{PortCall, set_call, clear_call}
 use Rattle.usb_device.specs.declared.transfer.RememberedPacket.TheVariants.{Nothing, SetupSeen}
 use Rattle.usb_device.specs.declared.transfer.RememberedPacket.TheVariants.{OutSeen, AckAwaited}
 use Rattle.usb_device.specs.Request.{answers}
+use Rattle.usb_device.proofs.Interface.{asked_own-any}
 use Rattle.usb_world.specs.{Damage, Attempt, marked, marked_some, payload_of, payload_out}
 use Rattle.usb_world.specs.{asks_no_port}
 use Rattle.usb_tree.specs.{IfOut}
@@ -100,8 +101,10 @@ module _ (T : Effect → Bool) (r : Setup) (h : Allows T r) where
       (by_status (port_named s.hub g r.index))
       (branch (Is r PORT_OUT SET_FEATURE) (port_feature (set_call r.value) s g r) _
       (λ e. by_feature (set_call r.value) s g (h.set e))
-      (branch (Is r PORT_OUT CLEAR_FEATURE) (port_feature (clear_call r.value) s g r) stalled
-      (λ e. by_feature (clear_call r.value) s g (h.clear e)) h.rests))))))))))
+      (branch (Is r PORT_OUT CLEAR_FEATURE) (port_feature (clear_call r.value) s g r) _
+      (λ e. by_feature (clear_call r.value) s g (h.clear e))
+      (asked_own-any Good h.rests s.requests g r (λ bytes. h.rests) h.rests
+      (λ kept. h.rests))))))))))))
 
   pub setup_allowed : (s : State) → T (asked_by_setup s r) ≡ true
   setup_allowed s = good_outcome s.spec s.registers
