@@ -24,10 +24,11 @@ use Rattle.usb_device.specs.{stalled, tells_port, Is, asked_descriptor, asked_hu
 use Rattle.usb_device.specs.{port_named, told_port, outcome, takes_address, registers_at_setup}
 use Rattle.usb_device.specs.{address_at_end, State, accepted, begun, Spec, reading, max_packet}
 use Rattle.usb_device.specs.{packet_at, Stage, ending, refused, packets_joined, first_stage}
-use Rattle.usb_device.specs.{reads_port, packet_count, row_of, Location, Registers}
+use Rattle.usb_device.specs.{reads_port, packet_count, row_of, Location, Registers, answers_taken}
+use Rattle.usb_device.specs.{takes, Write, writing, first_write, ends_if}
 use Rattle.usb_device.specs.Request.{answers}
 use Rattle.usb_device.proofs.Interface.{packets_joined-is, packets_joined-whole, packet-further}
-use Rattle.usb_device.proofs.Interface.{packet-fits}
+use Rattle.usb_device.proofs.Interface.{packet-fits, asked_own-to_host}
 use Rattle.usb_world.specs.{is_harmless, Relation, EachWas, one_more, Course, World, AttemptsWithin}
 use Rattle.usb_tree.specs.{IsSettled, address_of}
 use Rattle.usb_world.proofs.Interface.{course_joined, register_address, spends_none, spends_then}
@@ -39,7 +40,7 @@ use Rattle.usb_transaction.specs.{Answerer, NoThreeDamaged, Listens, HasNext, Fi
 use Rattle.usb_transaction.specs.{ControlIn, AcceptedAt, is_at, CanAccept, CanAnswer, IsInRead}
 use Rattle.usb_transaction.specs.{IsNotOfBus as TransNotOfBus, begins_no_stretch, LossesIn}
 use Rattle.usb_transaction.specs.{EachSpared, Transacted, setup_attempt, AttemptsMade}
-use Rattle.usb_transaction.specs.{transaction_bound, TransFault, Target}
+use Rattle.usb_transaction.specs.{transaction_bound, TransFault, Target, refuses_in}
 use Rattle.usb_transaction.specs.Losses as transaction
 use Rattle.usb_transaction.specs.declared.fault.TransFault.TheVariants as trans
 use Rattle.usb_transaction.proofs.Interface.{at_from, spared_all, listens_at, spared_wider}
@@ -70,6 +71,7 @@ abbrev IsReadingOutcome : Outcome → Type 0
 IsReadingOutcome stalled = Unit {0}
 IsReadingOutcome (answers bytes) = Unit {0}
 IsReadingOutcome (tells_port i) = Unit {0}
+IsReadingOutcome answers_taken = Unit {0}
 IsReadingOutcome o = ⊥
 
 tells_not : (b : Bool) (x y : Outcome) → b ≡ false → IsReadingOutcome y
@@ -123,14 +125,17 @@ outcome-is_reading s g r h =
     (request_type-other r.request_type PORT_OUT (r.request == SET_FEATURE) h (omega arith))
     (tells_not (Is r PORT_OUT CLEAR_FEATURE) _ _
     (request_type-other r.request_type PORT_OUT (r.request == CLEAR_FEATURE) h (omega arith))
-    tt))))))))))
+    (asked_own-to_host IsReadingOutcome tt s.requests g r (grind (arith, nat_tests, h))
+    (λ bytes. tt) tt)))))))))))
 
 -- nothing else comes of it
 asks_only : (s : State) (row : List PortState) (wanted : ℕ) (o : Outcome) → IsReadingOutcome o
-    → begun s row wanted o ≡ record s { naks = s.spec.naks; stage = first_stage row wanted o }
+    → begun s row wanted o
+    ≡ record s { naks = s.spec.naks; stage = first_stage row s.taken wanted o }
 asks_only s row wanted stalled h = refl
 asks_only s row wanted (answers bytes) h = refl
 asks_only s row wanted (tells_port i) h = refl
+asks_only s row wanted answers_taken h = refl
 asks_only s row wanted o h = absurd h
 
 -- The stage that a request begins
@@ -140,6 +145,8 @@ data FirstStage (wanted : ℕ) (o : Outcome) (st : Stage) : Type 0 where
   answers_with : (bytes : List ℕ) → (wanted == 0) ≡ false → st ≡ reading bytes wanted 0
       → FirstStage wanted o st
   ends : st ≡ ending (address_at_end o) → (IsReadingOutcome o → (wanted == 0) ≡ true)
+      → FirstStage wanted o st
+  writes_from : (w : Write) → (wanted == 0) ≡ false → st ≡ writing w → (IsReadingOutcome o → ⊥)
       → FirstStage wanted o st
 
 first_bytes : (wanted : ℕ) (o : Outcome) (bytes : List ℕ) (b : Bool) → (wanted == 0) ≡ b
@@ -153,24 +160,37 @@ first_port : (wanted : ℕ) (o : Outcome) (port : Option PortState) → address_
 first_port wanted o None none = refuses refl
 first_port wanted o (Some port) none = first_bytes wanted o (status_of port) (wanted == 0) refl none
 
-first_stage_of : (row : List PortState) (wanted : ℕ) (o : Outcome)
-    → FirstStage wanted o (first_stage row wanted o)
-first_stage_of row wanted stalled = refuses refl
-first_stage_of row wanted (answers bytes) = first_bytes wanted (answers bytes) bytes (wanted == 0)
-    refl refl
-first_stage_of row wanted (tells_port i) = first_port wanted (tells_port i) (slice_get row i) refl
-first_stage_of row wanted o = ends refl (λ h. absurd h)
+first_write-kept : (wanted : ℕ) (kept b : Bool) → (wanted == 0) ≡ b
+    → FirstStage wanted (takes kept) (if b then ends_if kept
+    else writing (first_write wanted kept))
+first_write-kept wanted true true e = ends refl (λ h. absurd h)
+first_write-kept wanted false true e = refuses refl
+first_write-kept wanted kept false e = writes_from (first_write wanted kept) e refl (λ h. h)
+
+first_stage_of : (row : List PortState) (taken : List ℕ) (wanted : ℕ) (o : Outcome)
+    → FirstStage wanted o (first_stage row taken wanted o)
+first_stage_of row taken wanted stalled = refuses refl
+first_stage_of row taken wanted (answers bytes) =
+    first_bytes wanted (answers bytes) bytes (wanted == 0) refl refl
+first_stage_of row taken wanted (tells_port i) =
+    first_port wanted (tells_port i) (slice_get row i) refl
+first_stage_of row taken wanted answers_taken =
+    first_bytes wanted answers_taken taken (wanted == 0) refl refl
+first_stage_of row taken wanted (takes kept) = first_write-kept wanted kept (wanted == 0) refl
+first_stage_of row taken wanted o = ends refl (λ h. absurd h)
 
 pub is_some_byte : (wanted : ℕ) → 1 ≤ wanted → (wanted == 0) ≡ false
 is_some_byte wanted h = grind (arith, nat_tests, h)
 
 -- where no data are wanted, it refuses or ends
-closes : (row : List PortState) (wanted : ℕ) (o : Outcome) → wanted ≡ 0
-    → (first_stage row wanted o ≡ refused) ⊎ (first_stage row wanted o ≡ ending (address_at_end o))
-closes row wanted o e = elim (first_stage_of row wanted o) [
+closes : (row : List PortState) (taken : List ℕ) (wanted : ℕ) (o : Outcome) → wanted ≡ 0
+    → (first_stage row taken wanted o ≡ refused)
+    ⊎ (first_stage row taken wanted o ≡ ending (address_at_end o))
+closes row taken wanted o e = elim (first_stage_of row taken wanted o) [
   | refuses h ↦ inl h
   | answers_with bytes f h ↦ cc (sym f ∙ ap (λ n. n == 0) e)
   | ends h g ↦ inr h
+  | writes_from w f h g ↦ cc (sym f ∙ ap (λ n. n == 0) e)
 ]
 
 -- it gives an address only where the request asks for one
@@ -178,12 +198,13 @@ asks_for : (o : Outcome) (a : ℕ) → address_at_end o ≡ Some a → o ≡ tak
 asks_for (takes_address b) a e = cc e
 asks_for o a e = cc e
 
-pub first_stage-address : (row : List PortState) (wanted : ℕ) (o : Outcome) (a : ℕ)
-    → first_stage row wanted o ≡ ending (Some a) → o ≡ takes_address a
-first_stage-address row wanted o a e = elim (first_stage_of row wanted o) [
+pub first_stage-address : (row : List PortState) (taken : List ℕ) (wanted : ℕ) (o : Outcome)
+    (a : ℕ) → first_stage row taken wanted o ≡ ending (Some a) → o ≡ takes_address a
+first_stage-address row taken wanted o a e = elim (first_stage_of row taken wanted o) [
   | refuses h ↦ cc (sym h ∙ e)
   | answers_with bytes f h ↦ cc (sym h ∙ e)
   | ends h g ↦ asks_for o a (cc (sym h ∙ e))
+  | writes_from w f h g ↦ cc (sym h ∙ e)
 ]
 
 -- The packets of an answer
@@ -342,7 +363,7 @@ record ReadTold (t : Target) (request : Setup) (n : ℕ) (got : List ℕ) (So : 
   naks : v.naks ≤ s.spec.naks
   losses : now.losses ≡ old.losses
   far : Far request.length n got (So s)
-      (first_stage row request.length (outcome s.spec s.registers request)) s v
+      (first_stage row s.taken request.length (outcome s.spec s.registers request)) s v
 
 -- What a read tells of the device that it asked: what it leaves of it, why it fails, and what it
 -- loses
@@ -368,7 +389,8 @@ module _ (t : Target) (request : Setup) (host : IsToHost request) (some : 1 ≤ 
   accepted_is : {old now : World} {j : Location} (s u : State)
       (x : AcceptedAt t (bytes_of request) old now j s u) → u ≡ record s {
         naks = s.spec.naks;
-        stage = first_stage (row_of x.holder.below) Wants (outcome s.spec s.registers request);
+        stage = first_stage (row_of x.holder.below) s.taken Wants
+            (outcome s.spec s.registers request);
       }
   accepted_is s u x = x.is ∙ ap (λ r. accepted s (row_of x.holder.below) r) same
       ∙ asks_only s (row_of x.holder.below) Wants (outcome s.spec s.registers request)
@@ -382,7 +404,7 @@ module _ (t : Target) (request : Setup) (host : IsToHost request) (some : 1 ≤ 
       let o : Outcome = outcome s.spec s.registers request in
       let e : u ≡ record s {
         naks = s.spec.naks;
-        stage = first_stage (row_of x.holder.below) Wants o;
+        stage = first_stage (row_of x.holder.below) s.taken Wants o;
       } = accepted_is s u x in
       record {
         row = row_of x.holder.below;
@@ -390,13 +412,15 @@ module _ (t : Target) (request : Setup) (host : IsToHost request) (some : 1 ≤ 
         frame = subst (λ d. OnlyStage s d) (sym e) refl;
         naks = subst (λ d. d.naks ≤ s.spec.naks) (sym e) (omega arith);
         losses = y.kept (host_stretch request host) tt;
-        far = elim (first_stage_of (row_of x.holder.below) Wants o) [
+        far = elim (first_stage_of (row_of x.holder.below) s.taken Wants o) [
           | refuses h ↦ refuses_at h (ap (λ d. d.stage) e ∙ h) refl
           | answers_with answer f h ↦ answers_at answer h
               (record { known = 0; stage = ap (λ d. d.stage) e ∙ h; near = inl refl }) refl
               (λ least m. first_packet (max_packet s.spec) Wants answer some)
           | ends h f ↦ cc (sym (is_some_byte Wants some)
               ∙ f (outcome-is_reading s.spec s.registers request host))
+          | writes_from w f h g ↦
+              absurd (g (outcome-is_reading s.spec s.registers request host))
         ];
       }
 
@@ -479,9 +503,11 @@ module _ (t : Target) (request : Setup) (host : IsToHost request) (some : 1 ≤ 
     refused = λ e.
         let down : Fell fault trans.Stalled = fell fault trans.Stalled e in
         let is_refused = elim x.far
-        as (λ _. first_stage x.row Wants (outcome s.spec s.registers request) ≡ refused) [
+        as (λ _. first_stage x.row s.taken Wants (outcome s.spec s.registers request)
+        ≡ refused) [
           | refuses_at f h none ↦ f
-          | answers_at answer f r b so ↦ cc (sym r.stage ∙ y.leaves.stalled (told_at at x) down)
+          | answers_at answer f r b so ↦
+              cc (sym (ap refuses_in r.stage) ∙ y.leaves.stalled (told_at at x) down)
         ] in
         record {
           row = x.row;
@@ -734,7 +760,7 @@ record AskedWrite (t : Target) (request : Setup) (result : Result (Unit {0}) Pip
   failed : request.length ≡ 0 → (fault : PipeFault) → result ≡ Err fault
       → EffectOrNone t request fault old j s v
   done : request.length ≡ 0 → (u : Unit {0}) → result ≡ Ok u → EffectDone t request old new j s v
-  refused : result ≡ Err pipe_fault.Stalled → WasRefused t request old new j s
+  refused : request.length ≡ 0 → result ≡ Err pipe_fault.Stalled → WasRefused t request old new j s
   could : CanEnd s.spec result
   answered : request.length ≡ 0 → NoThreeDamaged old → IsNoBusFault result → Listens t j s
       → result ≢ Err pipe_fault.NoAnswer
@@ -765,7 +791,8 @@ module _ (t : Target) (request : Setup) (same : setup_of (bytes_of request) ≡ 
     taken_accepts : AcceptedIn t request old mid j (row_of x.holder.below) s
     taken_accepts = record { state = u; at = x; had = refl }
 
-    taken_stage : u.stage ≡ first_stage (row_of x.holder.below) request.length taken_asked
+    taken_stage : u.stage
+        ≡ first_stage (row_of x.holder.below) s.taken request.length taken_asked
     taken_stage = ap (λ d. d.stage) taken_is
 
     taken_spec : u.spec ≡ s.spec
@@ -779,10 +806,11 @@ module _ (t : Target) (request : Setup) (same : setup_of (bytes_of request) ≡ 
 
     -- a status stage or a refusal
     taken_next : request.length ≡ 0 → HasNext t One u
-    taken_next nothing = elim (closes (row_of x.holder.below) request.length taken_asked nothing) [
-      | inl h ↦ HasNext.refusal (taken_stage ∙ h)
-      | inr h ↦ HasNext.status (address_at_end taken_asked) (taken_stage ∙ h) refl
-    ]
+    taken_next nothing = elim (closes (row_of x.holder.below) s.taken request.length taken_asked
+        nothing) [
+          | inl h ↦ HasNext.refusal (taken_stage ∙ h)
+          | inr h ↦ HasNext.status (address_at_end taken_asked) (taken_stage ∙ h) refl
+        ]
 
     -- the registers are as the request left them
     kept_then : (fault : PipeFault) (v : State) → OnlyControl u v → v.registers ≡ u.registers
@@ -794,7 +822,7 @@ module _ (t : Target) (request : Setup) (same : setup_of (bytes_of request) ≡ 
     effect_then : request.length ≡ 0 → (fault : TransFault) (v : State)
         → ControlIn t One (Err fault) j u v → EffectOrNone t request (as_pipe_fault fault) old j s v
     effect_then nothing (trans.Bus fault) v y =
-        elim (closes (row_of x.holder.below) request.length taken_asked nothing) [
+        elim (closes (row_of x.holder.below) s.taken request.length taken_asked nothing) [
           | inl h ↦ kept_then (pipe_fault.Bus fault) v y.frame (y.rests (taken_stage ∙ h))
           | inr h ↦ EffectOrNone.whole fault refl (row_of x.holder.below) mid taken_accepts
               (subst (λ d. OnlyControl d v) taken_is y.frame) (address_at_end taken_asked) h
@@ -808,7 +836,7 @@ module _ (t : Target) (request : Setup) (same : setup_of (bytes_of request) ≡ 
       effect_done : (given : List ℕ) → Course (IsBehind t) mid new → request.length ≡ 0
           → ControlIn t One (Ok given) j u v → EffectDone t request old new j s v
       effect_done given since nothing y =
-          elim (closes (row_of x.holder.below) request.length taken_asked nothing) [
+          elim (closes (row_of x.holder.below) s.taken request.length taken_asked nothing) [
             | inl h ↦ absurd ((y.refused (taken_stage ∙ h)).1 taken_at given refl)
             | inr h ↦ record {
               row = row_of x.holder.below;
@@ -826,8 +854,8 @@ module _ (t : Target) (request : Setup) (same : setup_of (bytes_of request) ≡ 
         none_counted : {result : Result (List ℕ) TransFault} → LossesIn t result mid new j u v
             → ((n : ℕ) → taken_asked ≢ takes_address n) → new.losses ≡ old.losses
         none_counted l unasked = l.none taken_at
-            (λ n e. unasked n (first_stage-address (row_of x.holder.below) request.length
-            taken_asked n (sym taken_stage ∙ e))) ∙ before
+            (λ n e. unasked n (first_stage-address (row_of x.holder.below) s.taken
+            request.length taken_asked n (sym taken_stage ∙ e))) ∙ before
 
         failed_counted : {fault : TransFault} → LossesIn t (Err fault) mid new j u v → (st : Stage)
             → u.stage ≡ st → new.losses ≡ old.losses
@@ -840,7 +868,7 @@ module _ (t : Target) (request : Setup) (same : setup_of (bytes_of request) ≡ 
             let kept : u.registers ≡ s.registers = ap (λ d. d.registers) taken_is
             ∙ ap (registers_at_setup s.registers) o in
             elim (l.done taken_at n (taken_stage
-            ∙ ap (first_stage (row_of x.holder.below) request.length) o) given refl) [
+            ∙ ap (first_stage (row_of x.holder.below) s.taken request.length) o) given refl) [
               | transaction.took idles registers losses ↦
                   TookItOrLost.took (registers ∙ ap {A = Registers} (λ g. record g { address = n })
                   kept) (losses ∙ before)
@@ -856,7 +884,7 @@ module _ (t : Target) (request : Setup) (same : setup_of (bytes_of request) ≡ 
   write_whole {given} unit since j s u v at (x, before) y = record {
     failed = λ nothing fault e. cc e;
     done = λ nothing d e. effect_done at x v given since nothing y.leaves;
-    refused = λ e. cc e;
+    refused = λ nothing e. cc e;
     could = subst (λ d. CanAnswer {A = List ℕ} d (Ok given)) (taken_spec at x)
         (y.leaves.could (taken_at at x));
     answered = λ nothing three sound l e. cc e;
@@ -878,12 +906,17 @@ module _ (t : Target) (request : Setup) (same : setup_of (bytes_of request) ≡ 
     failed = λ nothing f e. subst (λ w. EffectOrNone t request w old j s v) (cc e)
         (effect_then at x nothing fault v y.leaves);
     done = λ nothing d e. cc e;
-    refused = λ e.
+    refused = λ nothing e.
         let down : Fell fault trans.Stalled = fell fault trans.Stalled e in
         record {
           row = row_of x.holder.below;
           moment = record { now = mid; accepts = taken_accepts at x; since = since down };
-          is = sym (taken_stage at x) ∙ y.leaves.stalled (taken_at at x) down;
+          is = elim (closes (row_of x.holder.below) s.taken request.length (taken_asked at x)
+              nothing) [
+                | inl h ↦ h
+                | inr h ↦ cc (sym (ap refuses_in (taken_stage at x ∙ h))
+                    ∙ y.leaves.stalled (taken_at at x) down)
+              ];
         };
     could = could_answer (Unit {0}) s.spec (as_pipe_fault fault) fault refl
         (subst (λ d. CanAnswer {A = List ℕ} d (Err fault)) (taken_spec at x)
@@ -919,8 +952,8 @@ module _ (t : Target) (request : Setup) (same : setup_of (bytes_of request) ≡ 
       | inr a ↦ kept_then at a.at f v refl refl
     ];
     done = λ nothing d e. cc e;
-    refused = λ e. absurd (subst (λ r. CanAccept {A = List ℕ} s.spec r) (fell fault trans.Stalled e)
-        (x.done.could at));
+    refused = λ nothing e. absurd (subst (λ r. CanAccept {A = List ℕ} s.spec r)
+        (fell fault trans.Stalled e) (x.done.could at));
     could = could_accept (Unit {0}) s.spec (as_pipe_fault fault) fault refl (x.done.could at);
     answered = λ nothing three sound l e. (x.why three (sound_in (Unit {0}) fault sound)).answered l
         (fell fault trans.NoAnswer e);
@@ -986,7 +1019,7 @@ module _ (t : Target) (request : Setup) (result : Result (Unit {0}) PipeFault) (
             | inr off ↦ effect_or_none_same t request fault old j s v (y.others off)
           ];
           done = λ at. (y.mine at).done nothing;
-          refused = λ at. (y.mine at).refused;
+          refused = λ at. (y.mine at).refused nothing;
           could = λ at. (y.mine at).could;
         })
 

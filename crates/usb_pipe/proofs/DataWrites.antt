@@ -1,19 +1,17 @@
 -- Control transfers with data to the device: which attempts they make, and who answers them.
-use Rattle.std.proofs.Common.{inl, inr, ◌≡◌, ◌≢◌, ℕ, ◌+◌, List, [], length, take, Result, Ok, Err}
-use Rattle.std.proofs.Common.{refl, subst, false, MatchResult, OnOk}
-use Rattle.std.specs.Int.{div_ceil}
+use Rattle.std.proofs.Common.{inl, inr, ◌≡◌, ◌≢◌, ℕ, List, [], take, Result, Ok, Err}
+use Rattle.std.proofs.Common.{refl, subst, false}
 use Rattle.usb_packet.specs.{Toggle, One, flips}
 use Rattle.usb_request.specs.{Setup, bytes_of, setup_of}
 use Rattle.usb_world.specs.{here, Course, is_harmless, Step, World}
 use Rattle.usb_world.proofs.Interface.{course_joined, course_wider}
 use Rattle.usb_tree.specs.{IsSettled}
-use Rattle.usb_transaction.specs.{Answerer, AttemptsMade, heard_as, heard_when_sent, in_attempt}
+use Rattle.usb_transaction.specs.{Answerer, heard_as, heard_when_sent, in_attempt}
 use Rattle.usb_transaction.specs.{out_attempt, set_up_as, setup_attempt, Target, Transacted}
 use Rattle.usb_transaction.specs.{TransactionDone}
 use Rattle.usb_transaction.proofs.Interface.{read_answered, trail_course}
-use Rattle.usb_pipe.specs.{AllGone, Asks, DataWrite, FaultAfter, Gave, IsBehindData, IsOfDataWrite}
-use Rattle.usb_pipe.specs.{PipeFault, PutsData, SetUp, TransferAttempts, Unshared}
-use Rattle.usb_pipe.specs.declared.fault.PipeFault.TheVariants.{Memory}
+use Rattle.usb_pipe.specs.{AllGone, Asks, Gave, IsBehindData, IsOfDataWrite}
+use Rattle.usb_pipe.specs.{PipeFault, PutsData, SetUp, TransferAttempts}
 use Rattle.usb_pipe.specs.Moves as moves
 use Rattle.usb_pipe.proofs.Answerers.{answerer_after_passed, gave_passed, passed_then, set_up_passed}
 use Rattle.usb_pipe.proofs.Attempts.{lost_kind}
@@ -99,27 +97,4 @@ put_whole t request bytes sent given last {old} {first} {second} is nothing set_
       data_stage = gone;
       given = last;
       status = status;
-    }
-
-pub put_told : (t : Target) (request : Setup) (bytes sent : List ℕ) {old : World} (new : World)
-    (result : Result (Unit {0}) PipeFault) → sent ≡ bytes_of request → setup_of sent ≡ request
-    → IsSettled old.roots
-    → MatchResult result (λ _. AttemptsMade (div_ceil (length bytes) t.max + 2) old new)
-    (λ fault. FaultAfter 1 old fault new)
-    → result ≢ Err Memory → PutsData t request bytes old result new
-    → DataWrite t request bytes old result new
-put_told t request bytes sent {old} new result is fields settled ended room x =
-    let same : setup_of (bytes_of request) ≡ request =
-    subst (λ b. setup_of b ≡ request) is fields in
-    record {
-      ends = ended;
-      stages = x;
-      settled = settled;
-      room = room;
-      who = elim result as (λ r. PutsData t request bytes old r new
-          → OnOk r ((is_harmless request ≡ false → t.addr ≢ 0) → Unshared new (Answerer t old new))) [
-            | Ok done ↦ λ y addressed. who_puts t request bytes done old new same addressed settled
-                y
-            | Err why ↦ λ y. tt
-          ] x;
     }

@@ -10,6 +10,7 @@ pub mod BulkClears
 pub mod ControlTransfers
 pub mod Answerers
 pub mod DataWrites
+pub mod DataWriteLeaves
 pub mod BulkTransfers
 pub mod TransferLosses
 pub mod Uses

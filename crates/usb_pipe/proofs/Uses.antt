@@ -1,5 +1,5 @@
 -- How calls over a bus join.
-use Rattle.std.proofs.Common.{◌≡◌, ◌≤◌, ◌+◌, ◌∙◌, ℕ, Bool, true, List, Option, arith, refl}
+use Rattle.std.proofs.Common.{◌≤◌, ◌+◌, ◌∙◌, ℕ, Bool, List, Option, arith, refl}
 use Rattle.usb_world.specs.{BusFault, World}
 use Rattle.usb_bus.specs.{Steps}
 use Rattle.usb_bus.proofs.Interface.{went_none, went_then, went_wider}

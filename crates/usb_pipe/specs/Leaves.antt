@@ -91,7 +91,8 @@ pub record WasRefused (t : Target) (request : Setup) (old new : World) (x : Loca
     Type 0 where
   pub row : List PortState
   pub moment : Moment t request old new x row s
-  pub is : first_stage row request.length (outcome s.spec s.registers request) ≡ stage_refused
+  pub is : first_stage row s.taken request.length (outcome s.spec s.registers request)
+      ≡ stage_refused
 
 -- the target's maximum is the device's, or so little is wanted that one packet holds it
 abbrev pub IsMaximum : Target → ℕ → State → Type 0
@@ -105,7 +106,7 @@ pub record AnswerRead (t : Target) (request : Setup) (bytes : List ℕ) (old new
   pub row : List PortState
   pub moment : Moment t request old new x row s
   pub answer : List ℕ
-  pub is : first_stage row request.length (outcome s.spec s.registers request)
+  pub is : first_stage row s.taken request.length (outcome s.spec s.registers request)
       ≡ reading answer request.length 0
   pub came : IsMaximum t request.length s → bytes ≡ take request.length answer
   pub over : IsRead v
@@ -127,7 +128,8 @@ pub record EffectDone (t : Target) (request : Setup) (old new : World) (x : Loca
   pub row : List PortState
   pub moment : Moment t request old new x row s
   pub address : Option ℕ
-  pub is : first_stage row request.length (outcome s.spec s.registers request) ≡ ending address
+  pub is : first_stage row s.taken request.length (outcome s.spec s.registers request)
+      ≡ ending address
   pub given : StatusGiven address (accepted s row request) v
   pub rest : OnlyControl (accepted s row request) v
 
@@ -141,7 +143,8 @@ pub data EffectOrNone (t : Target) (request : Setup) (fault : PipeFault) (old : 
       → EffectOrNone t request fault old x s v
   whole : (why : BusFault) → fault ≡ Bus why → (row : List PortState) (now : World)
       → AcceptedIn t request old now x row s → OnlyControl (accepted s row request) v
-      → (address : Option ℕ) → first_stage row request.length (outcome s.spec s.registers request)
+      → (address : Option ℕ)
+      → first_stage row s.taken request.length (outcome s.spec s.registers request)
       ≡ ending address → StatusGiven address (accepted s row request) v
       → EffectOrNone t request fault old x s v
 

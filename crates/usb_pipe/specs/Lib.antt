@@ -6,6 +6,7 @@ pub mod Moves
 pub mod Stages
 pub mod Packets
 pub mod Leaves
+pub mod DataWrites
 pub mod Failures
 pub mod Attempts
 pub mod Transfers
@@ -26,10 +27,12 @@ pub use Moves.{ReceiveEnds, SendEnds, SendsAt, WhileSending, packets_came, packe
 pub use Packets.{PacketsReceived, PacketsSent}
 pub use Leaves.{AcceptedIn, AnswerRead, BegunAgain, ByteTold, CanEnd, ClearLeaves, EffectDone}
 pub use Leaves.{EffectOrNone, FrontTaken, InPipeInSync, IsBehind, IsBehindData, IsMaximum}
-pub use Leaves.{IsNoBusFault, IsTransferAnswer, LossesKept, LossesOf, Moment, OnlyEndpoint, OutPipeInSync}
-pub use Leaves.{PollLeaves, PollTells, ReadLeaves, ReceiveLeaves, SendLeaves, SendingLeaves, ToldOf}
+pub use Leaves.{IsNoBusFault, IsTransferAnswer, LossesKept, LossesOf, Moment, OnlyEndpoint}
+pub use Leaves.{OutPipeInSync, PollLeaves, PollTells, ReadLeaves, ReceiveLeaves, SendLeaves}
+pub use Leaves.{SendingLeaves, ToldOf}
 pub use Leaves.{TookItOrLost, WasRefused, WriteLeaves, came_with, got_after, lost, none, pipe_known}
 pub use Leaves.{some, took, whole}
+pub use DataWrites.{DataMoment, DataRefused, DataTaken, DataWriteLeaves, stage_begun}
 pub use Failures.{ControlReadFailure, PollingFailure, ReceiveFailure, SendFailure, WriteFailure}
 pub use Attempts.{IsOfDataWrite, IsOfTransfer, TransferAttempts}
 pub use Transfers.{DataWrite}

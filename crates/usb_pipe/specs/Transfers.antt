@@ -19,6 +19,7 @@ use Rattle.usb_pipe.specs.InterruptPipes.{Interrupt, Polls}
 use Rattle.usb_pipe.specs.Stages.{PutsData, Reads, Writes}
 use Rattle.usb_pipe.specs.Leaves.{IsNoBusFault, ReadLeaves, WriteLeaves, LossesOf, LossesKept}
 use Rattle.usb_pipe.specs.Leaves.{SendLeaves, ReceiveLeaves, ClearLeaves, PollLeaves}
+use Rattle.usb_pipe.specs.DataWrites.{DataWriteLeaves}
 use Rattle.usb_pipe.specs.Failures.{ControlReadFailure, WriteFailure, SendFailure, ReceiveFailure}
 use Rattle.usb_pipe.specs.Failures.{PollingFailure}
 
@@ -73,7 +74,8 @@ pub record ControlWrite (t : Target) (request : Setup) (old : World)
       → Completed result new (EachSpared t request (LossesOf t request result old new) old new)
 
 -- a request with data to the device: how few attempts were made, and which: a SETUP, one for each
--- packet, and an IN
+-- packet, and an IN; if it is done, the device has taken the data once, and if it failed, all or
+-- none
 pub record DataWrite (t : Target) (request : Setup) (bytes : List ℕ) (old : World)
     (result : Result (Unit {0}) PipeFault) (new : World) : Type 0 where
   pub ends : MatchResult result (λ _. AttemptsMade (div_ceil (length bytes) t.max + 2) old new)
@@ -81,6 +83,8 @@ pub record DataWrite (t : Target) (request : Setup) (bytes : List ℕ) (old : Wo
   pub stages : PutsData t request bytes old result new
   pub settled : IsSettled old.roots
   pub room : result ≢ Err Memory
+  pub what : Unshared new
+      (EachSpared t request (DataWriteLeaves t request bytes result old new) old new)
   pub who : OnOk result ((is_harmless request ≡ false → t.addr ≢ 0)
       → Unshared new (Answerer t old new))
 

@@ -84,13 +84,15 @@ pub fn control_none<B: Bus>(bus: &mut B, target: Target, setup: Setup) -> Result
 ///
 /// The request is one whose data go to the device, and its length is theirs, from 1 on. No packet
 /// of the data goes before the SETUP was acknowledged, and none again once it was acknowledged; no
-/// SETUP goes behind any of them.
+/// SETUP goes after any of them. If the call is done, the device has taken the data once.
 ///
 /// # Errors
 ///
-/// `Stalled`, `Busy` and `NoAnswer` where a transaction ended so, `Bus` where the bus makes no more
-/// steps. It never answers `Broken` or `Memory`. After `Busy` and `NoAnswer` the device may have
-/// done what was asked.
+/// - `Stalled`: the device refused the request, or its data when all had come.
+/// - `Busy`, `NoAnswer`: a transaction ended so. The device has taken all of the data, or none.
+/// - `Bus`: the bus makes no more steps. The device has taken all of the data, or none.
+///
+/// It never returns `Broken` or `Memory`.
 #[tactic(auto, using(usb_bus::proofs::Interface::went_wider), unfolding(crate::specs::Control::control_bound))]
 pub fn control_out<B: Bus>(
     bus: &mut B,

@@ -12,7 +12,7 @@ use Rattle.usb_world.proofs.Interface.{CountsNone, Counts, EndsWithAddress, Stay
 use Rattle.usb_world.proofs.Interface.{each_counts, got_it, got_none, in_counts, made_of}
 use Rattle.usb_world.proofs.Interface.{out_counts, set_up_counts}
 use Rattle.usb_tree.proofs.Interface.{false_true, not-true}
-use Rattle.usb_transaction.specs.{Target, TransFault, Stalled, Busy, NoAnswer, Bus, heard_as, is_at}
+use Rattle.usb_transaction.specs.{Target, TransFault, Stalled, Bus, heard_as, is_at}
 use Rattle.usb_transaction.specs.{begins_no_stretch, LossesIn, LosesNone, AttemptLog, start, next}
 use Rattle.usb_transaction.specs.{IsNoEnd, LastOutcome, TransactionDone, packed, setup_attempt}
 use Rattle.usb_transaction.specs.{in_attempt, out_attempt}

@@ -8,6 +8,7 @@ use Rattle.usb_request.specs.{setup_of}
 use Rattle.usb_device.specs.{Answer, Way, is_whole, heard, State, Reply, accepted, forgotten}
 use Rattle.usb_device.specs.{row_of, Location, reach_on, state_on}
 use Rattle.usb_device.specs.declared.answer.Answer.TheVariants as answer
+use Rattle.usb_world.specs.{Relation}
 use Rattle.usb_world.specs.{Attempt, Outcome, is_harmless, IsMade, AttemptAnswerer, IsSetup, got}
 use Rattle.usb_world.specs.{hears_attempt, token_way, payload_way, answer_way, World, at_attempt}
 use Rattle.usb_world.specs.{damage_in, outcome_in, with_attempt, attempt, after, Course, here, Was}
@@ -19,7 +20,7 @@ use Rattle.usb_world.proofs.Interface.{got_given, holder_in, in_in, is_state, ma
 use Rattle.usb_world.proofs.Interface.{made_unshared, one_answers, out_in, setup_in, setup_sound_in}
 use Rattle.usb_world.proofs.Interface.{stands, state_stands, stays_reachable_in, third, each_beside}
 use Rattle.usb_tree.proofs.Interface.{decided, equal_same, same_equal}
-use Rattle.usb_transaction.specs.{Target, TransFault, Stalled, Busy, NoAnswer, Bus, HeardOutcome}
+use Rattle.usb_transaction.specs.{Target, TransFault, Stalled, Busy, NoAnswer, HeardOutcome}
 use Rattle.usb_transaction.specs.{Lost, Moved, Answerer, HadOne, IsAnswer, heard_as, polled_as}
 use Rattle.usb_transaction.specs.{heard_when_sent, set_up_as, is_at, ControlIn, ReadStatus}
 use Rattle.usb_transaction.specs.{SourceIn, SinkOut, ChangesIn, AskedLast, SetupAccepted, Answered}
@@ -29,7 +30,8 @@ use Rattle.usb_transaction.specs.{Polled, packed, setup_attempt, in_attempt, out
 use Rattle.usb_transaction.specs.{MeansOfSetup, SetsUp, InLeaves, InFailure, MeansOfIn, AsksIn}
 use Rattle.usb_transaction.specs.{OutLeaves, OutFailure, MeansOfOut, SendsOut, PollsIn}
 use Rattle.usb_transaction.specs.{ControlInFailure, StatusReadFailure, SourceInFailure}
-use Rattle.usb_transaction.specs.{SinkOutFailure, Ends}
+use Rattle.usb_transaction.specs.{SinkOutFailure, Ends, WriteOut, WriteStatusIn}
+use Rattle.usb_transaction.proofs.ControlWrites.{write_leaves, write_status_leaves}
 use Rattle.usb_transaction.proofs.DeviceRuns.{Deeds, EachIf, Run, had_address, in_others, more}
 use Rattle.usb_transaction.proofs.DeviceRuns.{none, out_others, over_trail}
 use Rattle.usb_transaction.proofs.LastOutcomes.{read_last, sent_last, set_up_last, sent_empty}
@@ -441,6 +443,10 @@ module _ (t : Target) (ep : ℕ) (awaited : Toggle) (old new : World) (settled :
     means_in (Err Stalled) x = read_stalled t ep awaited old new settled x
     means_in result x = tt
 
+    abbrev SourceOrControl : Result (List ℕ) TransFault → Relation
+    SourceOrControl result j s v = SourceIn t ep awaited result j s v
+        × (ep ≡ 0 → ControlIn t awaited result j s v)
+
     pub asks_in : {toggle : Toggle} → toggle ≡ awaited → (result : Result (List ℕ) TransFault)
         → Transacted (heard_as toggle) (in_attempt t ep) old result new
         → IfOk result (λ bytes. length bytes ≤ t.max) → AsksIn t ep awaited old result new
@@ -450,13 +456,16 @@ module _ (t : Target) (ep : ℕ) (awaited : Toggle) (old new : World) (settled :
           heard = x;
           ends = ends_of (heard_as awaited) (in_attempt t ep) old new result x;
           short = short;
-          what = λ single. each_beside (SourceIn t ep awaited result) (ControlIn t awaited result)
-              (InLeaves t ep awaited result) (ep ≡ 0)
-              (λ j s v b c. record { control = c; bulk = b })
+          what = λ single. each_beside (SourceOrControl result) (WriteStatusIn t result)
+              (InLeaves t ep awaited result) ((ep ≡ 0) × (awaited ≡ One))
+              (λ j s v b c. record { control = b.1; write = λ f g. c (f, g); bulk = b.0 })
+              old new (each_beside (SourceIn t ep awaited result) (ControlIn t awaited result)
+              (SourceOrControl result) (ep ≡ 0) (λ j s v b c. (b, c))
               old new (source_leaves t ep awaited result old new settled x single)
               (λ z. control_leaves t awaited result old new settled
               (subst (λ k. Transacted (heard_as awaited) (in_attempt t k) old result new) z x)
-              single);
+              single))
+              (λ z. write_status_leaves t result old new settled (rw (z.0, z.1) at x) single);
           why = λ u. let e = ended_of result x u.whole in
               each_beside (SourceInFailure t ep awaited result) (ControlInFailure t awaited result)
               (InFailure t ep awaited result) (ep ≡ 0)
@@ -495,6 +504,10 @@ module _ (t : Target) (ep : ℕ) (toggle : Toggle) (bytes : List ℕ) (old new :
   means_out (Err Stalled) x = write_stalled t ep toggle bytes old new settled x
   means_out result x = tt
 
+  abbrev SinkOrStatus : Result (List ℕ) TransFault → Relation
+  SinkOrStatus result j s v = SinkOut t ep toggle bytes result j s v
+      × (EndsRead ep toggle bytes → ReadStatus t result j s v)
+
   pub sends_out : (result : Result (List ℕ) TransFault)
       → Transacted heard_when_sent (out_attempt t ep toggle bytes) old result new
       → SendsOut t ep toggle bytes old result new
@@ -503,11 +516,14 @@ module _ (t : Target) (ep : ℕ) (toggle : Toggle) (bytes : List ℕ) (old new :
     ends = ends_of heard_when_sent (out_attempt t ep toggle bytes) old new result x;
     nothing = brings_nothing heard_when_sent (out_attempt t ep toggle bytes) sent_empty old new
         result x;
-    what = λ single. each_beside (SinkOut t ep toggle bytes result) (ReadStatus t result)
-        (OutLeaves t ep toggle bytes result) (EndsRead ep toggle bytes)
-        (λ j s v b c. record { control = λ f g h. c (f, g, h); bulk = b }) old new
+    what = λ single. each_beside (SinkOrStatus result) (WriteOut t toggle bytes result)
+        (OutLeaves t ep toggle bytes result) (ep ≡ 0)
+        (λ j s v b c. record { control = λ f g h. b.1 (f, g, h); write = c; bulk = b.0 }) old new
+        (each_beside (SinkOut t ep toggle bytes result) (ReadStatus t result)
+        (SinkOrStatus result) (EndsRead ep toggle bytes) (λ j s v b c. (b, c)) old new
         (sink_leaves t ep toggle bytes result old new settled x single)
-        (λ z. status_leaves t result old new settled (status_out result x z) single);
+        (λ z. status_leaves t result old new settled (status_out result x z) single))
+        (λ z. write_leaves t toggle bytes result old new settled (rw z at x) single);
     why = λ u. each_beside (SinkOutFailure t ep toggle bytes result) (StatusReadFailure t result)
         (OutFailure t ep toggle bytes result) (EndsRead ep toggle bytes)
         (λ j s v b c. record { control = λ f g h. c (f, g, h); bulk = b }) old new

@@ -2,7 +2,7 @@
 -- device, and why they fail.
 use Rattle.std.proofs.Common.{◌≡◌, ◌≢◌, ◌⊎◌, inl, inr, ℕ, ◌+◌, ◌-◌, ◌<◌, ◌≤◌, nat_le, ◌&&◌}
 use Rattle.std.proofs.Common.{if◌then◌else◌, Bool, true, false, List, [], ◌∷◌, length, Option, None}
-use Rattle.std.proofs.Common.{Some, is_some, Result, Ok, Err, refl, sym, subst, ap, ◌∙◌, arith}
+use Rattle.std.proofs.Common.{Some, is_some, Result, Ok, Err, refl, sym, subst, ap, ◌∙◌, arith, not}
 use Rattle.usb_packet.specs.{Toggle, Zero, One, is_same}
 use Rattle.usb_port.specs.{PortState}
 use Rattle.usb_device.specs.{Answer, RememberedPacket, Stage, idle, refused, reading, read, ending}
@@ -11,7 +11,7 @@ use Rattle.usb_device.specs.{is_busy, nak_row, acknowledged, out_row, Way, lost,
 use Rattle.usb_device.specs.{gave, in_stage_law, in_law, out_law, Registers, row_of, Location}
 use Rattle.usb_device.specs.{reach_on, state_on, held_addresses, repeats, address_then, taken_of}
 use Rattle.usb_device.specs.{ReadingAt, ReadOn, StatusOn, StatusGiven, seen, unseen, OnlyControl}
-use Rattle.usb_device.specs.{IsRead, OnlyStage}
+use Rattle.usb_device.specs.{IsRead, OnlyStage, Write, writing, is_done}
 use Rattle.usb_device.specs.declared.answer.Answer.TheVariants as answer
 use Rattle.usb_device.specs.declared.transfer.InEndpoint.TheVariants as by
 use Rattle.usb_device.specs.Attempt.{whole, broken}
@@ -28,7 +28,7 @@ use Rattle.usb_transaction.specs.{waits_in, TransactionDone, Transacted, NoThree
 use Rattle.usb_transaction.specs.{Fits, HasNext, status, refusal, ControlInFailure}
 use Rattle.usb_transaction.specs.{StatusReadFailure, packed, in_attempt, out_attempt, is_at}
 use Rattle.usb_transaction.specs.{IsNotOfBus, CanAnswer, ReadCut, none_came, one_came, ReadEnds}
-use Rattle.usb_transaction.specs.{StatusEnds, ControlIn, IsInRead, over, ReadStatus}
+use Rattle.usb_transaction.specs.{StatusEnds, ControlIn, IsInRead, over, ReadStatus, refuses_in}
 use Rattle.usb_transaction.specs.Failures.{data_stage}
 use Rattle.std.proofs.lemmas.Bool.Decides.{nat_tests}
 use Rattle.arrayvec.specs.ArrayVec.{ArrayVec}
@@ -49,17 +49,20 @@ use Rattle.usb_tree.proofs.Interface.{decided, equal_same, false_true, same_equa
 
 -- What a device that is asked answers, and what it is then
 
--- what the host got of it: NAK while it is busy; STALL of a request that is refused; a packet of a
--- control read; or the empty packet of a status stage
+-- what the host got of it: NAK while it is busy; STALL where it refuses; a packet of a control
+-- read; or the empty packet of a status stage
 pub data ControlGave (u : State) : Outcome → State → Type 0 where
   silence : (k : ℕ) → k ≤ u.naks → ControlGave u Nothing (record u { naks = k })
   a_nak : is_busy u ≡ true → ControlGave u Nak (nak_row u).1
-  a_stall : is_busy u ≡ false → u.stage ≡ refused → ControlGave u Stall u
+  a_stall : is_busy u ≡ false → refuses_in u.stage ≡ true → ControlGave u Stall u
   a_packet : is_busy u ≡ false → (text bytes : List ℕ) (wanted k n : ℕ) (m : RememberedPacket)
       → u.stage ≡ reading text wanted k → ControlGave u (Payload (toggle_at k) (packed bytes))
       (record u { memory = m; stage = reading text wanted n })
   a_status : is_busy u ≡ false → (a : Option ℕ) (v : State) → u.stage ≡ ending a → StatusGiven a u v
       → OnlyControl u v → v.naks ≡ u.naks → ControlGave u (Payload One (packed [])) v
+  a_written : is_busy u ≡ false → (w : Write) (m : RememberedPacket) (st : Stage)
+      → u.stage ≡ writing w → is_done w ≡ true → (st ≡ idle) ⊎ (st ≡ writing w)
+      → ControlGave u (Payload One (packed [])) (record u { memory = m; stage = st })
 
 abbrev ControlGives : ℕ → State → Reply → Type 0
 ControlGives max u r = ControlGave u (got max r.0) r.1
@@ -112,6 +115,19 @@ gives_read max s text wanted k t2 t3 free (Some bytes) =
     acked true = a_packet free text bytes wanted k (k + 1) _ refl
     acked false = a_packet free text bytes wanted k k _ refl
 
+gives_write : (max : ℕ) (s : State) (w : Write) (t2 t3 : Way) → is_busy s ≡ false → (b : Bool)
+    → is_done w ≡ b → ControlGives max (record_stage s (writing w))
+    (if b then gave (record_stage s (writing w)) by.Control max One [] t2 t3
+    else (heard t2 (Some answer.Stall), record_stage s (writing w)))
+gives_write max s w t2 t3 free true done =
+    gives_packet max One [] (record_stage s (writing w)) t2 t3
+    (a_written free w _ idle refl done (inl refl))
+    (a_written free w _ (writing w) refl done (inr refl))
+gives_write max s w t2 t3 free false unended =
+    heard_or (λ o. ControlGives max (record_stage s (writing w)) (o, record_stage s (writing w)))
+    (Some answer.Stall) t2 (a_stall free (ap not unended))
+    (gives_no_answer max (record_stage s (writing w)))
+
 gives_stage : (max : ℕ) (s : State) (st : Stage) (t2 t3 : Way) → is_busy s ≡ false
     → ControlGives max (record_stage s st) (in_stage_law (record_stage s st) st max t2 t3)
 gives_stage max s idle t2 t3 free = gives_no_answer max (record_stage s idle)
@@ -128,6 +144,7 @@ gives_stage max s (ending (Some a)) t2 t3 free =
     gives_packet max One [] (record_stage s (ending (Some a))) t2 t3
     (a_status free (Some a) _ refl (seen refl refl) refl refl)
     (a_status free (Some a) _ refl (unseen refl refl) refl refl)
+gives_stage max s (writing w) t2 t3 free = gives_write max s w t2 t3 free (is_done w) refl
 
 gives_control : (max : ℕ) (u : State) (t2 t3 : Way) (b : Bool) → is_busy u ≡ b
     → ControlGives max u (if b then (heard t2 (Some answer.Nak), (nak_row u).1) else in_stage_law u
@@ -192,7 +209,7 @@ pub record InReadResult (t : Target) (awaited : Toggle) (came : Option (List ℕ
   pub refuses : s.stage ≡ refused → (v.stage ≡ refused) × (v.registers ≡ s.registers)
       × (is_at s t ≡ true → came ≡ None)
   pub fails : awaited ≡ One → came ≡ None → v.registers ≡ s.registers
-  pub back : v.stage ≡ refused → s.stage ≡ refused
+  pub back : refuses_in v.stage ≡ true → refuses_in s.stage ≡ true
 
 abbrev InReadStep : Target → Toggle → Option (List ℕ) → State → State → Type 0
 InReadStep t awaited came s v = is_at s t ≡ true → (answer : List ℕ) (wanted n : ℕ)
@@ -276,7 +293,24 @@ module _ (t : Target) (awaited : Toggle) where
     refuses = λ g. cc (sym h ∙ g);
     fails = λ e c. absurd (cc (ap (λ z. packet_heard (heard_as z (Payload One (packed [])))) (sym e)
         ∙ c));
-    back = λ g. elim given [ seen e r ↦ cc (sym e ∙ g) | unseen e r ↦ cc (sym e ∙ g) ];
+    back = λ g. elim given [
+      | seen e r ↦ cc (sym (ap refuses_in e) ∙ g)
+      | unseen e r ↦ cc (sym (ap refuses_in e) ∙ g)
+    ];
+  }
+  gave_step u o v (a_written free w m st h done is) at loud reads = record {
+    others = mine t u at;
+    frame = refl;
+    naks = omega arith;
+    there = λ a. inl refl;
+    reading = λ a text wanted n e r. cc (sym h ∙ r.stage);
+    status = λ at e b g. cc (sym h ∙ g);
+    refuses = λ g. cc (sym h ∙ g);
+    fails = λ e c. refl;
+    back = λ g. elim is [
+      | inl e ↦ cc (sym (ap refuses_in e) ∙ g)
+      | inr e ↦ cc (sym (ap refuses_in e ∙ ap not done) ∙ g)
+    ];
   }
 
   gave_says : (u : State) (o : Outcome) (v : State) → ControlGave u o v → u.spec.silent ≡ false
@@ -286,6 +320,7 @@ module _ (t : Target) (awaited : Toggle) where
   gave_says u o v (a_stall free h) loud = inr (loud, inr (not_busy u free))
   gave_says u o v (a_packet free text bytes wanted k n m h) loud = inr (loud, inr (not_busy u free))
   gave_says u o v (a_status free a x h given frame naks) loud = inr (loud, inr (not_busy u free))
+  gave_says u o v (a_written free w m st h done is) loud = inr (loud, inr (not_busy u free))
 
   gave_in : (w : World) (j : Location) (u v : State) → DidIn (in_attempt t 0) w j u v
       → is_at u t ≡ true → ControlGave u (outcome_in (in_attempt t 0) w) v
@@ -368,13 +403,14 @@ trail_begun t settled (next w (next x r before) made) single =
     )
 
 gave_stall : (u : State) (o : Outcome) (v : State) → ControlGave u o v → o ≡ Stall
-    → u.stage ≡ refused
+    → refuses_in u.stage ≡ true
 gave_stall u o v (a_stall free h) e = h
 gave_stall u o v g e = cc e
 
 refused_back : (t : Target) {old : World} {j : Location} {s : State} {outcomes : List Outcome}
     {w : World} {v : State} → Run (DidIn (in_attempt t 0)) (in_attempt t 0) old j s outcomes w v
-    → (is_at v t ≡ true) × (v.stage ≡ refused) → (is_at s t ≡ true) × (s.stage ≡ refused)
+    → (is_at v t ≡ true) × (refuses_in v.stage ≡ true)
+    → (is_at s t ≡ true) × (refuses_in s.stage ≡ true)
 refused_back t Run.none h = h
 refused_back t {j = j} (Run.more w u v r made run d) h =
     refused_back t run (
@@ -386,7 +422,7 @@ pub stalled_refused : (t : Target) {old new : World} {o : Outcome} {outcomes : L
     → IsSettled old.roots → AttemptLog (in_attempt t 0) old (o ∷ outcomes) new → o ≡ Stall
     → new.shared ≡ false
     → (j : Location) (s : State) → reach_on new.roots j ≡ true → state_on old.roots j ≡ Some s
-    → is_at s t ≡ true → s.stage ≡ refused
+    → is_at s t ≡ true → refuses_in s.stage ≡ true
 stalled_refused t {old} settled (next {outcomes} w r made) stall single j s on there at =
     let y : AttemptAnswerer (in_attempt t 0) w =
     one_answers (in_attempt t 0) w (made_of (in_attempt t 0) w (trail_settled r settled) made)
@@ -405,8 +441,8 @@ stalled_refused t {old} settled (next {outcomes} w r made) stall single j s on t
     ) in
     let b = trail_begun t settled (next w r made) single in
     let far : _ = b.1 h.spot (stays_reachable_in (in_attempt t 0) w h) in
-    ap (λ z. z.stage) (one_state t.addr (at_attempt old).roots h.spot.row j.row h.spot.rest j.rest
-    was.before s b.0 far ((due_back old h.spot far).1 ∙ was.stands)
+    ap (λ z. refuses_in z.stage) (one_state t.addr (at_attempt old).roots h.spot.row j.row
+    h.spot.rest j.rest was.before s b.0 far ((due_back old h.spot far).1 ∙ was.stands)
     (equal_same (address_of was.before) t.addr refuses.0)
     (b.1 j on) ((due_back old j (b.1 j on)).1 ∙ there) (equal_same (address_of s) t.addr at))
     ∙ refuses.1
@@ -442,7 +478,8 @@ cut_status a s v None x = unseen x.0 x.1
 cut_status a s v (Some bytes) x = x.1
 
 module _ (t : Target) (awaited : Toggle) (result : Result (List ℕ) TransFault) (j : Location)
-    (s v : State) (stalled : is_at s t ≡ true → result ≡ Err Stalled → s.stage ≡ refused) where
+    (s v : State) (stalled : is_at s t ≡ true → result ≡ Err Stalled
+    → refuses_in s.stage ≡ true) where
   leaves : (o : Outcome) (outcomes : List Outcome) → IsEnd (heard_as awaited) result o outcomes
       → InReadResult t awaited (came_in t awaited o) s v
       → (is_at s t ≡ true → CanAnswer s.spec result) → ControlIn t awaited result j s v
@@ -519,6 +556,7 @@ module _ (t : Target) (awaited : Toggle) (result : Result (List ℕ) TransFault)
 abbrev fits : Toggle → Stage → Bool
 fits awaited (reading text wanted k) = is_same awaited (toggle_at k)
 fits awaited (ending a) = is_same awaited One
+fits awaited (writing w) = is_same awaited One
 fits awaited st = true
 
 heard_some : (x : Bool) (b : ArrayVec ℕ) → (if x then Moved b else Repeat) ≢ Lost
@@ -599,6 +637,11 @@ steady awaited u o v (a_packet free text bytes wanted k n m h) (inr fit) calm en
 steady awaited u o v (a_status free a x h given frame naks) (inl busy) calm end =
     false_true (sym free ∙ busy)
 steady awaited u o v (a_status free a x h given frame naks) (inr fit) calm end =
+    absurd (subst (λ x. IsNoEnd (if x then Moved (packed []) else Repeat))
+    (ap (fits awaited) (sym h) ∙ fit) end)
+steady awaited u o v (a_written free w m st h done is) (inl busy) calm end =
+    false_true (sym free ∙ busy)
+steady awaited u o v (a_written free w m st h done is) (inr fit) calm end =
     absurd (subst (λ x. IsNoEnd (if x then Moved (packed []) else Repeat))
     (ap (fits awaited) (sym h) ∙ fit) end)
 
@@ -745,7 +788,8 @@ control_leaves t awaited result old new settled x single j v on there =
     was.before was.stands at) old new was.so)
   where
     stalled : TransactionDone (heard_as awaited) (in_attempt t 0) old (Err Stalled) new
-        → (s : State) → state_on old.roots j ≡ Some s → is_at s t ≡ true → s.stage ≡ refused
+        → (s : State) → state_on old.roots j ≡ Some s → is_at s t ≡ true
+        → refuses_in s.stage ≡ true
     stalled e s stood at = stalled_refused t settled e.trail e.tells single j s on stood at
 
 pub control_in_leaves : (t : Target) (awaited : Toggle) (result : Result (List ℕ) TransFault)
@@ -780,7 +824,7 @@ abbrev SaysOut : Spec → State → State → Outcome → Type 0
 SaysOut spec s v (Payload given bytes) = ⊥
 SaysOut spec s v Ack = (spec.silent ≡ false) × (spec.busy ≡ false) × IsRead v × IsInRead s
 SaysOut spec s v Nak = (spec.silent ≡ false) × (spec.busy ≡ false → v.naks + 1 ≤ s.naks)
-SaysOut spec s v Stall = (spec.silent ≡ false) × (spec.busy ≡ false) × (s.stage ≡ refused)
+SaysOut spec s v Stall = (spec.silent ≡ false) × (spec.busy ≡ false) × (IsInRead s → ⊥)
 SaysOut spec s v Nothing = Unit {0}
 
 abbrev Does : State → Outcome → State → Type 0
@@ -789,6 +833,15 @@ Does s o v = ControlKept s v × SaysOut s.spec s v o
 unmoved_out : (s : State) (m : RememberedPacket) (o : Outcome)
     → SaysOut s.spec s (record s { memory = m }) o → Does s o (record s { memory = m })
 unmoved_out s m o x = (record { frame = refl; moves = inl refl; naks = omega arith }, x)
+
+abbrev is_of_read : Stage → Bool
+is_of_read (reading answer wanted known) = true
+is_of_read read = true
+is_of_read g = false
+
+in_no_read : (g : Stage) (s : State) → s.stage ≡ g → is_of_read g ≡ false → IsInRead s → ⊥
+in_no_read g s e f (in_stage answer wanted known r) = cc (sym f ∙ ap is_of_read (sym e ∙ r))
+in_no_read g s e f (over r) = cc (sym f ∙ ap is_of_read (sym e ∙ r))
 
 module _ (max : ℕ) (s : State) (loud : s.spec.silent ≡ false) where
   done : s.spec.busy ≡ false → IsInRead s → Does s Ack (forgotten (record s { stage = read }))
@@ -799,9 +852,10 @@ module _ (max : ℕ) (s : State) (loud : s.spec.silent ≡ false) where
 
   row_does : (g : Stage) → s.stage ≡ g → s.spec.busy ≡ false
       → Does s (got max (out_row s g One []).0) (forgotten (out_row s g One []).1)
-  row_does refused e calm = unmoved_out s _ Stall (loud, calm, e)
+  row_does refused e calm = unmoved_out s _ Stall (loud, calm, in_no_read refused s e refl)
   row_does (reading answer wanted k) e calm = done calm (in_stage answer wanted k e)
   row_does read e calm = done calm (over e)
+  row_does (writing w) e calm = unmoved_out s _ Stall (loud, calm, in_no_read (writing w) s e refl)
   row_does _ e calm = unmoved_out s _ Nothing tt
 
   abbrev row_if : Bool → Reply
@@ -930,11 +984,7 @@ out_told s u v o outcomes m x loud (Ok bytes) e =
     (λ b h. (y.2, was_in s u m y.3), λ h r. cc r, (y.0, y.1))
 out_told s u v o outcomes m x loud (Err Stalled) e =
     let y : SaysOut s.spec u v Stall = subst (SaysOut s.spec u v) e x in
-    (λ b h. cc h, λ h r. unrefused u (is_in_read-moves s u m h) y.2, (y.0, y.1))
-  where
-    unrefused : (u : State) → IsInRead u → u.stage ≡ refused → ⊥
-    unrefused u (in_stage answer wanted known h) e = cc (sym h ∙ e)
-    unrefused u (over h) e = cc (sym h ∙ e)
+    (λ b h. cc h, λ h r. y.2 (is_in_read-moves s u m h), (y.0, y.1))
 out_told s u v o outcomes m x loud (Err Busy) e =
     (λ b h. cc h, λ h r. cc r, loud (omega (arith, e.1)))
 out_told s u v o outcomes m x loud _ e = (λ b h. cc h, λ h r. cc r, tt)

@@ -11,6 +11,7 @@ pub use Rattle.usb_transaction.proofs.Calls.{write_answered, write_had}
 pub use Rattle.usb_transaction.proofs.ControlTransactions.{control_in_leaves, control_in_why}
 pub use Rattle.usb_transaction.proofs.ControlTransactions.{control_leaves, read_status_why}
 pub use Rattle.usb_transaction.proofs.ControlTransactions.{status_leaves}
+pub use Rattle.usb_transaction.proofs.ControlWrites.{write_leaves, write_status_leaves}
 pub use Rattle.usb_transaction.proofs.DeviceRuns.{at_end, at_from, each_device, had_address}
 pub use Rattle.usb_transaction.proofs.DeviceRuns.{listens_at, listens_on, others_stay_then, over_in}
 pub use Rattle.usb_transaction.proofs.DeviceRuns.{was_then}

@@ -14,6 +14,7 @@ use Rattle.usb_device.specs.{accepted, effect_of_request, asked_by_setup, Way, i
 use Rattle.usb_device.specs.{Ports, full, acted, row_of, Location, path_to, reach_on, state_on}
 use Rattle.usb_device.specs.{place_on, Place}
 use Rattle.usb_device.specs.Attempt.{whole}
+use Rattle.usb_device.proofs.Interface.{asked_own-any}
 use Rattle.usb_world.specs.{Attempt, is_harmless, resets, Relation, Was, EachWas, DidSetup, IsMade}
 use Rattle.usb_world.specs.{IsSetup, HolderIn, got, token_way, payload_way, answer_way, at_attempt}
 use Rattle.usb_world.specs.{damage_in, outcome_in, attempt, after, World}
@@ -65,7 +66,9 @@ configured_again s g r c =
     (again_if g (Is r PORT_OUT SET_FEATURE) _ _ _ _
     (inr (call_changes-none (set_call r.value) s g r))
     (again_if g (Is r PORT_OUT CLEAR_FEATURE) _ _ _ _
-    (inr (call_changes-none (clear_call r.value) s g r)) (inl refl)))))))))))
+    (inr (call_changes-none (clear_call r.value) s g r))
+    (inr (asked_own-any (λ o. registers_at_setup g o ≡ g) refl s.requests g r (λ bytes. refl) refl
+    (λ kept. refl)))))))))))))
 
 -- only a configuration that was taken changes a register
 asks_again : (s : Spec) (g : Registers) (r : Setup) (o : Outcome) → outcome s g r ≡ o

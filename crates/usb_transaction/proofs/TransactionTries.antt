@@ -5,7 +5,7 @@ use Rattle.std.proofs.Common.{Result, Ok, Err}
 use Rattle.arrayvec.specs.ArrayVec.{ArrayVec}
 use Rattle.usb_packet.specs.{Toggle}
 use Rattle.usb_world.specs.{Attempt, BusFault, Outcome, World, AttemptsWithin, IsAttempt}
-use Rattle.usb_world.specs.{FitsMaximum, attempt, after}
+use Rattle.usb_world.specs.{FitsMaximum}
 use Rattle.usb_world.specs.declared.types.Outcome.TheVariants.{Nak, Stall}
 use Rattle.usb_world.proofs.Interface.{spends_none, spends_then, spends_wider}
 use Rattle.usb_bus.specs.{Attempts, Traced, still, attempted, StepRun}

@@ -16,6 +16,7 @@ use Rattle.usb_transaction.specs.HeardOutcomes.{heard_as, heard_when_sent, set_u
 use Rattle.usb_transaction.specs.AskedDevices.{SetupAccepted, Answered, Took, IsUnheard}
 use Rattle.usb_transaction.specs.Leaves.{IsNotOfBus, ControlIn, ReadStatus, SourceIn, SinkOut}
 use Rattle.usb_transaction.specs.Leaves.{ChangesIn, SetupDone}
+use Rattle.usb_transaction.specs.ControlWrites.{WriteOut, WriteStatusIn}
 use Rattle.usb_transaction.specs.SparedDevices.{EachSpared}
 use Rattle.usb_transaction.specs.AttemptLogs.{Transacted, Polled}
 use Rattle.usb_transaction.specs.Transactions.{Ends, SetupEnds, packed, setup_attempt, in_attempt}
@@ -62,6 +63,7 @@ pub record SetsUp (t : Target) (bytes : List ℕ) (old : World) (result : Result
 pub record InLeaves (t : Target) (ep : ℕ) (awaited : Toggle) (result : Result (List ℕ) TransFault)
     (x : Location) (s v : State) : Type 0 where
   pub control : ep ≡ 0 → ControlIn t awaited result x s v
+  pub write : ep ≡ 0 → awaited ≡ One → WriteStatusIn t result x s v
   pub bulk : SourceIn t ep awaited result x s v
 
 pub record InFailure (t : Target) (ep : ℕ) (awaited : Toggle) (result : Result (List ℕ) TransFault)
@@ -90,11 +92,13 @@ pub record AsksIn (t : Target) (ep : ℕ) (awaited : Toggle) (old : World)
   pub who : OnOk result (new.shared ≡ false → Answerer t old new)
   pub means : MeansOfIn t ep awaited old result new
 
--- OUT: of endpoint 0 the one that ends a control read, or of a bulk endpoint
+-- OUT: of endpoint 0 the one that ends a control read or one of a control write, or of a bulk
+-- endpoint
 
 pub record OutLeaves (t : Target) (ep : ℕ) (toggle : Toggle) (bytes : List ℕ)
     (result : Result (List ℕ) TransFault) (x : Location) (s v : State) : Type 0 where
   pub control : ep ≡ 0 → toggle ≡ One → bytes ≡ [] → ReadStatus t result x s v
+  pub write : ep ≡ 0 → WriteOut t toggle bytes result x s v
   pub bulk : SinkOut t ep toggle bytes result x s v
 
 pub record OutFailure (t : Target) (ep : ℕ) (toggle : Toggle) (bytes : List ℕ)

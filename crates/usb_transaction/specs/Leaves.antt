@@ -1,6 +1,6 @@
 -- One device over a transaction: what it was before, seen from where it is reachable after it.
 use Rattle.std.specs.Prelude.{◌≡◌, ◌≢◌, ◌⊎◌, ◌==◌, ◌≤◌, ℕ, ◌+◌, List, length, Bool, true, false}
-use Rattle.std.specs.Prelude.{Option, None, Some, Result, Ok, Err, ⊤}
+use Rattle.std.specs.Prelude.{Option, None, Some, Result, Ok, Err, ⊤, not}
 use Rattle.usb_packet.specs.{Toggle, One, other}
 use Rattle.usb_port.specs.{PortState}
 use Rattle.usb_request.specs.{setup_of}
@@ -9,7 +9,7 @@ use Rattle.usb_device.specs.{accepted, ending, reading, refused as stage_refused
 use Rattle.usb_device.specs.{full, acted, row_of, Location, place_on, ReadingAt, ReadOn, StatusOn}
 use Rattle.usb_device.specs.{StatusGiven, IsRead, IsSource, SourceAt, SourceOn, IsSink, SinkAt}
 use Rattle.usb_device.specs.{Joined, PollAt, NeverTold, ToldByte, OnlyControl, OnlyStage}
-use Rattle.usb_device.specs.{OnlySource, OnlySink, OnlyChanges}
+use Rattle.usb_device.specs.{OnlySource, OnlySink, OnlyChanges, Stage, writing, is_done}
 use Rattle.usb_world.specs.{Attempt, Outcome, World, HolderIn, at_attempt, attempt, after}
 use Rattle.usb_tree.specs.{address_of}
 use Rattle.usb_transaction.specs.declared.target.Target.{Target}
@@ -67,6 +67,13 @@ StatusEnds a s (Err Busy) v = StatusOn a s None v
 StatusEnds a s (Err NoAnswer) v = StatusOn a s None v
 StatusEnds a s (Err (Bus fault)) v = StatusGiven a s v
 
+-- IN of endpoint 0 gets STALL: the request is refused, or not all bytes of a control write have
+-- come, or they are not kept
+abbrev pub refuses_in : Stage → Bool
+refuses_in stage_refused = true
+refuses_in (writing w) = not (is_done w)
+refuses_in stage = false
+
 -- IN of endpoint 0, by a host that awaits a toggle (8.5.3)
 pub record ControlIn (t : Target) (awaited : Toggle) (result : Result (List ℕ) TransFault)
     (x : Location) (s v : State) : Type 0 where
@@ -81,7 +88,7 @@ pub record ControlIn (t : Target) (awaited : Toggle) (result : Result (List ℕ)
   pub rests : s.stage ≡ stage_refused → v.registers ≡ s.registers
   pub failed : awaited ≡ One → (fault : TransFault) → result ≡ Err fault → IsNotOfBus result
       → v.registers ≡ s.registers
-  pub stalled : is_at s t ≡ true → result ≡ Err Stalled → s.stage ≡ stage_refused
+  pub stalled : is_at s t ≡ true → result ≡ Err Stalled → refuses_in s.stage ≡ true
   pub could : is_at s t ≡ true → CanAnswer s.spec result
   pub naks : v.naks ≤ s.naks
 

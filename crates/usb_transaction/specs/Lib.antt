@@ -3,6 +3,7 @@ pub mod Transactions
 pub mod AttemptLogs
 pub mod AskedDevices
 pub mod Leaves
+pub mod ControlWrites
 pub mod Failures
 pub mod Losses
 pub mod Answerers
@@ -21,6 +22,8 @@ pub use Leaves.{AcceptedAt, AcceptedSince, CanAccept, CanAnswer, ChangesIn, Cont
 pub use Leaves.{IsNotOfBus, PollCut, PollEnds, ReadCut, ReadEnds, ReadStatus, SetupDone}
 pub use Leaves.{SinkBetween, SinkEnds, SinkOut, SourceBetween, SourceCut, SourceEnds, SourceIn}
 pub use Leaves.{StatusEnds, ToldBy, ToldIn, ToldSince, ToldSome, is_at, none_came, one_came, over}
+pub use Leaves.{refuses_in}
+pub use ControlWrites.{WriteEnds, WriteOut, WriteStatusEnds, WriteStatusIn}
 pub use Failures.{ControlInFailure, Fits, HasNext, Listens, NoThreeDamaged, PollFailure}
 pub use Failures.{SetupFailure, SinkOutFailure, SourceInFailure, StatusReadFailure, refusal, status}
 pub use Losses.{LosesNone, LossesIn, begins_no_stretch}

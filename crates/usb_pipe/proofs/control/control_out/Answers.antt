@@ -1,10 +1,11 @@
-use Rattle.std.proofs.Common.{arith, rules, Ok, ◌≤◌, ◌+◌, ◌*◌, ◌≡◌, length}
+use Rattle.std.proofs.Common.{arith, rules, Ok, ◌≤◌, ◌+◌, ◌*◌, length}
 use Rattle.std.specs.Int.{div_ceil}
 use Rattle.usb_bus.proofs.Interface.{went_then, went_wider}
 use Rattle.usb_transaction.specs.{transaction_bound}
 use Rattle.usb_pipe.specs.{control_bound}
 use Rattle.usb_pipe.proofs.Bounds.{packets_fit}
-use Rattle.usb_pipe.proofs.DataWrites.{put_told, put_whole}
+use Rattle.usb_pipe.proofs.DataWriteLeaves.{put_told}
+use Rattle.usb_pipe.proofs.DataWrites.{put_whole}
 use Rattle.usb_pipe.proofs.control.control_out.Given as given
 use Rattle.usb_pipe.proofs.control.control_out.Goals as goal
 use Rattle.usb_pipe.proofs.control.control_out.Goals.{After-send_packets}
@@ -14,26 +15,30 @@ use Rattle.usb_pipe.proofs.control.control_out.Goals.{After-send_packets}
 pub returns-in_err-setup-clause-transfer : goal.returns-in_err-setup-clause-transfer
 returns-in_err-setup-clause-transfer g c known =
     put_told c.args.target c.args.setup c.args.bytes.now c.to_bytes-first.result _
-    c.from_residual.result c.to_bytes-first.ensures.bytes c.to_bytes-first.ensures.fields
+    c.from_residual.result (omega (arith, c.requires.target.max_least)) c.requires.writes
+    c.requires.some c.requires.all c.to_bytes-first.ensures.bytes c.to_bytes-first.ensures.fields
     (g.met.B.Bus.settled known c.args.bus.now) (search rules) (search rules) (search rules)
 
 pub returns-in_err-send_packets-clause-transfer : goal.returns-in_err-send_packets-clause-transfer
 returns-in_err-send_packets-clause-transfer g c known =
     put_told c.args.target c.args.setup c.args.bytes.now c.to_bytes-first.result _
-    c.from_residual-in_err-send_packets.result c.to_bytes-first.ensures.bytes
+    c.from_residual-in_err-send_packets.result (omega (arith, c.requires.target.max_least))
+    c.requires.writes c.requires.some c.requires.all c.to_bytes-first.ensures.bytes
     c.to_bytes-first.ensures.fields (g.met.B.Bus.settled known c.args.bus.now) (search rules)
     (search rules) (search rules)
 
 pub returns-in_err-data_in-clause-transfer : goal.returns-in_err-data_in-clause-transfer
 returns-in_err-data_in-clause-transfer g c known =
     put_told c.args.target c.args.setup c.args.bytes.now c.to_bytes-first.result _
-    c.from_residual-in_err-data_in.result c.to_bytes-first.ensures.bytes
+    c.from_residual-in_err-data_in.result (omega (arith, c.requires.target.max_least))
+    c.requires.writes c.requires.some c.requires.all c.to_bytes-first.ensures.bytes
     c.to_bytes-first.ensures.fields (g.met.B.Bus.settled known c.args.bus.now) (search rules)
     (search rules) (search rules)
 
 pub returns-clause-transfer : goal.returns-clause-transfer
 returns-clause-transfer g c known =
     put_told c.args.target c.args.setup c.args.bytes.now c.to_bytes-first.result _ (Ok tt)
+    (omega (arith, c.requires.target.max_least)) c.requires.writes c.requires.some c.requires.all
     c.to_bytes-first.ensures.bytes c.to_bytes-first.ensures.fields
     (g.met.B.Bus.settled known c.args.bus.now) (search rules) (search rules)
     (put_whole c.args.target c.args.setup c.args.bytes.now c.to_bytes-first.result

@@ -1,0 +1,602 @@
+-- What a control transfer with data to the device leaves of each device.
+use Rattle.std.proofs.Common.{◌≡◌, ◌≢◌, ◌⊎◌, inl, inr, refl, sym, ap, subst, ◌∙◌, arith, ℕ, ◌+◌}
+use Rattle.std.proofs.Common.{◌<◌, ◌≤◌, ◌==◌, ◌&&◌, not, nat_le, if◌then◌else◌, Bool, true, false}
+use Rattle.std.proofs.Common.{List, [], ◌++◌, length, take, slice_get, Option, None, Some, Result}
+use Rattle.std.proofs.Common.{Ok, Err, ap₂, length-append, MatchResult, OnOk}
+use Rattle.std.proofs.lemmas.List.{length-take, take_all}
+use Rattle.std.specs.Int.{div_ceil}
+use Rattle.std.proofs.lemmas.Bool.Decides.{nat_tests}
+use Rattle.std.proofs.lemmas.List.Quantifiers.{position-Some}
+use Rattle.std.proofs.lemmas.Option.{get_or_from_slice_get}
+use Rattle.usb_packet.specs.{Toggle, One, other, flips}
+use Rattle.usb_port.specs.{PortState}
+use Rattle.usb_request.specs.{Setup, bytes_of, setup_of, IsToDevice, DEVICE_IN, DEVICE_OUT}
+use Rattle.usb_request.specs.{ENDPOINT_OUT, HUB_IN, PORT_IN, PORT_OUT, GET_DESCRIPTOR, GET_STATUS}
+use Rattle.usb_request.specs.{GET_CONFIGURATION, SET_ADDRESS, SET_CONFIGURATION, CLEAR_FEATURE}
+use Rattle.usb_request.specs.{SET_FEATURE, ENDPOINT_HALT}
+use Rattle.usb_device.specs.declared.own_request.OwnAnswer.TheVariants.{RefuseData, RefuseStatus}
+use Rattle.usb_device.specs.declared.own_request.OwnAnswer.TheVariants.{Give, GiveTaken, Take}
+use Rattle.usb_device.specs.{OwnAnswer, OwnRequest, asked_at, asked_by_answer, asked_by_row, fits}
+use Rattle.usb_device.specs.{asked_own, goes_so, is_to_host, own_place}
+use Rattle.usb_device.specs.{Is, Outcome, Registers, Spec, State, Stage, Location, ServedEndpoint}
+use Rattle.usb_device.specs.{stalled, takes, halts, unhalts, outcome, on_endpoint, is_value, served}
+use Rattle.usb_device.specs.{first_stage, ends_if, writing, first_write, begun, accepted}
+use Rattle.usb_device.specs.{row_of, refused, Write, written_on, is_done, taken_with}
+use Rattle.usb_device.specs.{IsPacketOf, OnlyWrite, WritingAt, WriteAt, WriteEnded, level, ahead}
+use Rattle.usb_device.specs.{seen, unseen, OnlyControl}
+use Rattle.usb_world.specs.{Course, Relation, World, is_harmless}
+use Rattle.usb_world.proofs.Interface.{course_joined, each_both}
+use Rattle.usb_tree.specs.{IsSettled}
+use Rattle.usb_tree.proofs.Interface.{decided}
+use Rattle.usb_transaction.specs.{Target, TransFault, AcceptedAt, CanAccept, ControlIn, EachSpared}
+use Rattle.usb_transaction.specs.{WriteEnds}
+use Rattle.usb_transaction.specs.{Answerer, AttemptsMade, WriteOut, WriteStatusEnds, WriteStatusIn}
+use Rattle.usb_transaction.specs.{heard_as}
+use Rattle.usb_transaction.specs.{heard_when_sent, in_attempt, is_at, out_attempt, refuses_in}
+use Rattle.usb_transaction.specs.declared.fault.TransFault.TheVariants as trans
+use Rattle.usb_transaction.proofs.Interface.{at_from, control_leaves, spared_wider, write_leaves}
+use Rattle.usb_transaction.proofs.Interface.{write_status_leaves}
+use Rattle.usb_pipe.specs.{AcceptedIn, AllGone, Asks, DataRefused, DataTaken}
+use Rattle.usb_pipe.specs.{DataWrite, FaultAfter}
+use Rattle.usb_pipe.specs.{DataWriteLeaves, Gave, IsBehindData, PipeFault}
+use Rattle.usb_pipe.specs.{Puts, PutsData, SetUp, Unshared, as_pipe_fault}
+use Rattle.usb_pipe.specs.{stage_begun}
+use Rattle.usb_pipe.specs.declared.fault.PipeFault.TheVariants as pipe_fault
+use Rattle.usb_pipe.specs.Moves as moves
+use Rattle.usb_pipe.proofs.ControlSteps.{Only, Requested, RequestReached, either_way, only_first}
+use Rattle.usb_pipe.proofs.ControlSteps.{reached_first, reached_last, reached_more}
+use Rattle.usb_pipe.proofs.DataWrites.{asked_behind, gave_behind, put_behind, who_puts}
+use Rattle.usb_pipe.proofs.MovedPackets.{flips_more}
+use Rattle.usb_pipe.proofs.TransactionFaults.{Fell, fell_same_fault}
+
+-- What a request with data to the device asks: its data, or a refusal
+
+abbrev IsWriting : Outcome → Type 0
+IsWriting stalled = Unit {0}
+IsWriting (takes kept) = Unit {0}
+IsWriting o = ⊥
+
+not_so : (b : Bool) (x y : Outcome) → b ≡ false → IsWriting y → IsWriting (if b then x else y)
+not_so true x y e h = cc e
+not_so false x y e h = h
+
+and_last : (a b : Bool) → b ≡ false → (a && b) ≡ false
+and_last true b e = e
+and_last false b e = refl
+
+reads_not : (type n : ℕ) (b : Bool) → 128 ≤ type → n < 128 → (n == type && b) ≡ false
+reads_not type n b h g = grind (arith, nat_tests, h, g)
+
+-- a request of the device's own whose data go to it
+
+row_goes : (row : OwnRequest) (r : Setup) → fits row r ≡ true
+    → goes_so row.answer (is_to_host r) ≡ true
+row_goes row r h = grind arith
+
+by_answer : (answer : OwnAnswer) (to_host : Bool) → to_host ≡ false → goes_so answer to_host ≡ true
+    → IsWriting (asked_by_answer answer)
+by_answer RefuseData to_host e h = tt
+by_answer RefuseStatus to_host e h = tt
+by_answer (Give bytes) to_host e h = absurd (cc (sym e ∙ h))
+by_answer GiveTaken to_host e h = absurd (cc (sym e ∙ h))
+by_answer Take to_host e h = tt
+
+module _ (rows : List OwnRequest) (r : Setup) (way : is_to_host r ≡ false) where
+  by_row : (i : ℕ) → own_place rows r ≡ Some i → (o : Option OwnRequest) → slice_get rows i ≡ o
+      → IsWriting (asked_by_row o)
+  by_row i e None at = tt
+  by_row i e (Some row) at = by_answer row.answer (is_to_host r) way (row_goes row r
+      (ap (λ x. fits x r) (sym (get_or_from_slice_get rows i row row at))
+      ∙ (position-Some (λ x. fits x r) rows i row e).1))
+
+  by_place : (o : Option ℕ) → own_place rows r ≡ o → IsWriting (asked_at rows o)
+  by_place None e = tt
+  by_place (Some i) e = by_row i e (slice_get rows i) refl
+
+  own_is_writing : (g : Registers) → IsWriting (asked_own rows g r)
+  own_is_writing g = either_way IsWriting (g.configuration == 0) _ _ tt
+      (by_place (own_place rows r) refl)
+
+module _ (s : Spec) (g : Registers) (r : Setup) (way : IsToDevice r)
+    (some : (r.length == 0) ≡ false) where
+  no_endpoint : (f : ServedEndpoint → Outcome) (o : Option ServedEndpoint)
+      → IsWriting (on_endpoint f (if r.value == ENDPOINT_HALT && r.length == 0 then o else None))
+  no_endpoint f o = subst (λ b. IsWriting (on_endpoint f (if b then o else None)))
+      (sym (and_last (r.value == ENDPOINT_HALT) (r.length == 0) some)) tt
+
+  outcome-is_writing : IsWriting (outcome s g r)
+  unfolding outcome
+  outcome-is_writing =
+      not_so (Is r DEVICE_IN GET_DESCRIPTOR) _ _
+      (reads_not DEVICE_IN r.request_type _ (omega arith) way)
+      (not_so (Is r DEVICE_IN GET_STATUS) _ _
+      (reads_not DEVICE_IN r.request_type _ (omega arith) way)
+      (not_so (Is r DEVICE_IN GET_CONFIGURATION) _ _
+      (reads_not DEVICE_IN r.request_type _ (omega arith) way)
+      (either_way IsWriting (Is r DEVICE_OUT SET_ADDRESS) _ _
+      (either_way IsWriting s.stalls.address _ _ tt
+      (not_so (nat_le r.value 127 && r.length == 0) _ _ (and_last (nat_le r.value 127)
+      (r.length == 0) some) tt))
+      (either_way IsWriting (Is r DEVICE_OUT SET_CONFIGURATION) _ _
+      (either_way IsWriting s.stalls.set_config _ _ tt
+      (not_so (not (g.address == 0) && is_value s.configs r.value && r.length == 0) _ _
+      (grind (arith, some)) tt))
+      (either_way IsWriting (Is r ENDPOINT_OUT CLEAR_FEATURE) _ _
+      (no_endpoint unhalts (served s g r.index))
+      (either_way IsWriting (Is r ENDPOINT_OUT SET_FEATURE) _ _
+      (no_endpoint halts (served s g r.index))
+      (not_so (Is r HUB_IN GET_DESCRIPTOR) _ _
+      (reads_not HUB_IN r.request_type _ (omega arith) way)
+      (not_so (Is r PORT_IN GET_STATUS) _ _
+      (reads_not PORT_IN r.request_type _ (omega arith) way)
+      (either_way IsWriting (Is r PORT_OUT SET_FEATURE) _ _
+      (not_so (r.length == 0) _ _ some tt)
+      (either_way IsWriting (Is r PORT_OUT CLEAR_FEATURE) _ _
+      (not_so (r.length == 0) _ _ some tt)
+      (own_is_writing s.requests r (grind (arith, nat_tests, way)) g)))))))))))
+
+-- nothing else comes of it
+asks_data_only : (s : State) (row : List PortState) (wanted : ℕ) (o : Outcome) → IsWriting o
+    → begun s row wanted o ≡ record s {
+      naks = s.spec.naks;
+      stage = first_stage row s.taken wanted o;
+    }
+asks_data_only s row wanted stalled h = refl
+asks_data_only s row wanted (takes kept) h = refl
+asks_data_only s row wanted o h = absurd h
+
+-- the stage that it begins
+data BeginsWrite (wanted : ℕ) (first : Stage) : Type 0 where
+  begins_refused : first ≡ refused → BeginsWrite wanted first
+  begins_write : (kept : Bool) → first ≡ writing (first_write wanted kept)
+      → BeginsWrite wanted first
+
+begins : (row : List PortState) (taken : List ℕ) (wanted : ℕ) (o : Outcome) → IsWriting o
+    → (wanted == 0) ≡ false → BeginsWrite wanted (first_stage row taken wanted o)
+begins row taken wanted stalled h e = begins_refused refl
+begins row taken wanted (takes kept) h e = begins_write kept
+    (ap (λ b. if b then ends_if kept else writing (first_write wanted kept)) e)
+begins row taken wanted o h e = absurd h
+
+-- A device that accepted the request with these ports, as far as its transfer is
+
+-- the write after n packets with these bytes
+abbrev so_far : ℕ → Bool → ℕ → List ℕ → Write
+so_far wanted kept n sent =
+    record { wanted = wanted; got = sent; toggle = flips n One; kept = kept }
+
+so_far-first : (wanted : ℕ) (kept : Bool) → first_write wanted kept ≡ so_far wanted kept 0 []
+unfolding flips
+so_far-first wanted kept = refl
+
+so_far-more : (wanted : ℕ) (kept : Bool) (n : ℕ) (sent bytes : List ℕ)
+    → written_on (so_far wanted kept n sent) bytes ≡ so_far wanted kept (n + 1) (sent ++ bytes)
+so_far-more wanted kept n sent bytes =
+    ap (λ (u : Toggle). record { wanted = wanted; got = sent ++ bytes; toggle = u; kept = kept })
+    (flips_more n One (flips n One) (other (flips n One)) refl refl)
+
+-- it refused; or it has the bytes of n packets
+data DataFar (wanted n : ℕ) (sent : List ℕ) (first : Stage) (s v : State) : Type 0 where
+  refuses_data : first ≡ refused → v.stage ≡ refused → v.taken ≡ s.taken
+      → DataFar wanted n sent first s v
+  writes_data : (kept : Bool) → first ≡ writing (first_write wanted kept)
+      → WritingAt s.taken (so_far wanted kept n sent) v → DataFar wanted n sent first s v
+
+record DataTold (t : Target) (request : Setup) (n : ℕ) (sent : List ℕ) (old first : World)
+    (j : Location) (s v : State) : Type 0 where
+  row : List PortState
+  accepts : AcceptedIn t request old first j row s
+  frame : OnlyWrite s v
+  far : DataFar request.length n sent (stage_begun row request s) s v
+
+-- What a transfer says of the device that it was for
+record DataAsked (t : Target) (request : Setup) (bytes : List ℕ)
+    (result : Result (Unit {0}) PipeFault) (old new : World) (j : Location) (s v : State) : Type 0
+  where
+    frame : OnlyWrite s v
+    done : (u : Unit {0}) → result ≡ Ok u → DataTaken t request bytes old new j s v
+    failed : (v.taken ≡ s.taken) ⊎ (v.taken ≡ s.taken ++ bytes)
+    refuses : result ≡ Err pipe_fault.Stalled → DataRefused t request old new j s
+
+-- the bytes are taken when as many have come as the host said, and not before
+taken_by : (old bytes got : List ℕ) (w : Write) → w.got ≡ got → w.wanted ≡ length bytes
+    → (length got ≡ length bytes → got ≡ bytes) → (v : State) → v.taken ≡ taken_with old w
+    → (v.taken ≡ old) ⊎ (v.taken ≡ old ++ bytes)
+taken_by old bytes got w e f whole v h = by_end (is_done w) refl
+  where
+    by_end : (b : Bool) → is_done w ≡ b → (v.taken ≡ old) ⊎ (v.taken ≡ old ++ bytes)
+    by_end true d =
+        let all : length got ≡ length bytes = grind (arith, nat_tests, d, e, f) in
+        inr (h ∙ ap (λ b. if b then old ++ w.got else old) d ∙ ap (λ x. old ++ x) (e ∙ whole all))
+    by_end false d = inl (h ∙ ap (λ b. if b then old ++ w.got else old) d)
+
+nothing_yet : (old : List ℕ) (wanted : ℕ) (kept : Bool) → 1 ≤ wanted
+    → taken_with old (so_far wanted kept 0 []) ≡ old
+nothing_yet old wanted kept some =
+    let none : (0 == wanted) ≡ false = grind (arith, nat_tests, some) in
+    rw none refl
+
+-- where the registers stay, only the transfer and what such transfers have brought change
+only_write : (s v : State) → OnlyControl s v → v.registers ≡ s.registers → OnlyWrite s v
+only_write s v f e = f ∙ ap₂ {C = State} (λ g k. record s {
+  memory = v.memory;
+  naks = v.naks;
+  stage = v.stage;
+  registers = g;
+  taken = k;
+}) e (sym (ap (λ d. d.taken) f))
+
+write_at : (old : List ℕ) (w : Write) (bytes : List ℕ) (fault : TransFault) (v : State)
+    → WriteEnds old w bytes (Err fault) v → WriteAt old w bytes v
+write_at old w bytes trans.Stalled v h = absurd h
+write_at old w bytes trans.Busy v h = h
+write_at old w bytes trans.NoAnswer v h = h
+write_at old w bytes (trans.Bus fault) v h = h
+
+taken_ended : (old : List ℕ) (w : Write) (v : State) → WriteEnded old w v
+    → v.taken ≡ taken_with old w
+taken_ended old w v (seen e f) = f
+taken_ended old w v (unseen at) = at.taken
+
+taken_failed : (old : List ℕ) (w : Write) (fault : TransFault) (v : State)
+    → WriteStatusEnds old w (Err fault) v → v.taken ≡ taken_with old w
+taken_failed old w trans.Stalled v h = h.taken
+taken_failed old w trans.Busy v h = h.taken
+taken_failed old w trans.NoAnswer v h = h.taken
+taken_failed old w (trans.Bus fault) v h = taken_ended old w v h
+
+-- as many bytes as there are, of the first ones, are all
+all_sent : (bytes sent rest : List ℕ) (max : ℕ) → bytes ≡ sent ++ rest
+    → length (sent ++ take max rest) ≡ length bytes → sent ++ take max rest ≡ bytes
+all_sent bytes sent rest max split e =
+    let few : length (take max rest) ≡ length rest = omega (
+      arith,
+      e,
+      ap length split,
+      length-append sent rest,
+      length-append sent (take max rest),
+    ) in
+    ap (λ x. sent ++ x) (take_all max rest (omega (arith, few, length-take max rest))) ∙ sym split
+
+not_all_sent : (bytes sent rest : List ℕ) → bytes ≡ sent ++ rest → 0 < length rest
+    → length sent ≡ length bytes → sent ≡ bytes
+not_all_sent bytes sent rest split some e =
+    absurd (omega (arith, e, some, ap length split, length-append sent rest))
+
+module _ (t : Target) (request : Setup) (way : IsToDevice request) (some : 1 ≤ request.length)
+    (same : setup_of (bytes_of request) ≡ request) where
+  wants_some : (request.length == 0) ≡ false
+  wants_some = grind (arith, nat_tests, some)
+
+  -- as it accepted it
+  data_accepted : {old now : World} {j : Location} (s u : State)
+      (x : AcceptedAt t (bytes_of request) old now j s u) → u ≡ record s {
+        naks = s.spec.naks;
+        stage = stage_begun (row_of x.holder.below) request s;
+      }
+  data_accepted s u x = x.is ∙ ap (λ r. accepted s (row_of x.holder.below) r) same
+      ∙ asks_data_only s (row_of x.holder.below) request.length
+      (outcome s.spec s.registers request)
+      (outcome-is_writing s.spec s.registers request way wants_some)
+
+  told_data : {old first : World} (j : Location) (s u : State) → is_at s t ≡ true
+      → Requested t request (Ok []) old first j s u → DataTold t request 0 [] old first j s u
+  told_data {old} {first} j s u at y =
+      let x : AcceptedAt t (bytes_of request) old first j s u = y.done.done at [] refl in
+      let e : u ≡ record s {
+        naks = s.spec.naks;
+        stage = stage_begun (row_of x.holder.below) request s;
+      } = data_accepted s u x in
+      record {
+        row = row_of x.holder.below;
+        accepts = record { state = u; at = x; had = refl };
+        frame = subst (λ d. OnlyWrite s d) (sym e) refl;
+        far = elim (begins (row_of x.holder.below) s.taken request.length
+            (outcome s.spec s.registers request)
+            (outcome-is_writing s.spec s.registers request way wants_some) wants_some) [
+              | begins_refused h ↦ refuses_data h (ap (λ d. d.stage) e ∙ h) (ap (λ d. d.taken) e)
+              | begins_write kept h ↦ writes_data kept h (record {
+                stage = ap (λ d. d.stage) e ∙ h ∙ ap writing (so_far-first request.length kept);
+                taken = ap (λ d. d.taken) e ∙ sym (nothing_yet s.taken request.length kept some);
+              })
+            ];
+      }
+
+  module _ {n : ℕ} {sent : List ℕ} {old first : World} {j : Location} {s u : State}
+      (at : is_at s t ≡ true) (x : DataTold t request n sent old first j s u) where
+    -- the next packet
+    abbrev part : List ℕ → List ℕ
+    part rest = take t.max rest
+
+    abbrev w : Bool → Write
+    w kept = so_far request.length kept n sent
+
+    data_at : is_at u t ≡ true
+    data_at = at_from t s u (ap (λ d. d.registers) x.frame) at
+
+    data_frame : (v : State) → OnlyWrite u v → OnlyWrite s v
+    data_frame v f = f ∙ ap {A = State} (λ d. record d {
+      memory = v.memory;
+      naks = v.naks;
+      stage = v.stage;
+      taken = v.taken;
+    }) x.frame
+
+    -- a packet that came
+    data_more : (bytes : List ℕ) {v : State} → WriteOut t (flips n One) bytes (Ok []) j u v
+        → 1 ≤ length bytes → length sent + length bytes ≤ request.length
+        → DataTold t request (n + 1) (sent ++ bytes) old first j s v
+    data_more bytes {v} y more within = record {
+      row = x.row;
+      accepts = x.accepts;
+      frame = data_frame v y.frame;
+      far = elim x.far [
+        | refuses_data f h k ↦ absurd ((y.refused h).2 data_at [] refl)
+        | writes_data kept f h ↦ writes_data kept f (subst (λ w. WritingAt s.taken w v)
+            (so_far-more request.length kept n sent bytes)
+            (y.write data_at s.taken (so_far request.length kept n sent) refl
+            (record { some = more; within = within }) (level h)))
+      ];
+    }
+
+    refused_data : {new : World} → Course (IsBehindData t) first new
+        → (stage_begun x.row request s ≡ refused)
+        ⊎ (stage_begun x.row request s ≡ writing (first_write request.length false))
+        → DataRefused t request old new j s
+    refused_data since is = record {
+      row = x.row;
+      moment = record { now = first; accepts = x.accepts; since = since };
+      is = is;
+    }
+
+    -- a packet that did not come
+    data_lost : (bytes rest : List ℕ) (fault : TransFault) (why : PipeFault)
+        → why ≡ as_pipe_fault fault → request.length ≡ length bytes → bytes ≡ sent ++ rest
+        → 0 < length rest → 1 ≤ t.max → {new : World}
+        → (Fell fault trans.Stalled → Course (IsBehindData t) first new) → (v : State)
+        → WriteOut t (flips n One) (take t.max rest) (Err fault) j u v
+        → DataAsked t request bytes (Err why) old new j s v
+    data_lost bytes rest fault why told all split more least since v y = record {
+      frame = data_frame v y.frame;
+      done = λ z e. cc e;
+      failed = elim x.far [
+        | refuses_data f h k ↦ inl ((y.refused h).1 ∙ k)
+        | writes_data kept f h ↦
+            by_end kept (write_at s.taken (w kept) (part rest) fault v (ends kept h))
+      ];
+      refuses = λ e.
+          let stall = fell_same_fault (Unit {0}) why fault trans.Stalled told e in
+          elim x.far [
+            | refuses_data f h k ↦ refused_data (since stall) (inl f)
+            | writes_data kept f h ↦
+                absurd (subst (λ r. WriteEnds s.taken (w kept) (part rest) r v) stall (ends kept h))
+          ];
+    }
+      where
+        is_packet : (kept : Bool) → IsPacketOf (w kept) (part rest)
+        is_packet kept = record {
+          some = omega (arith, length-take t.max rest, more, least);
+          within = omega (
+            arith,
+            length-take t.max rest,
+            all,
+            ap length split,
+            length-append sent rest,
+          );
+        }
+
+        ends : (kept : Bool) → WritingAt s.taken (w kept) u
+            → WriteEnds s.taken (w kept) (part rest) (Err fault) v
+        ends kept h = y.write data_at s.taken (w kept) refl (is_packet kept) (level h)
+
+        by_end : (kept : Bool) → WriteAt s.taken (w kept) (part rest) v
+            → (v.taken ≡ s.taken) ⊎ (v.taken ≡ s.taken ++ bytes)
+        by_end kept (level z) = taken_by s.taken bytes sent (w kept) refl all
+            (not_all_sent bytes sent rest split more) v z.taken
+        by_end kept (ahead z) = taken_by s.taken bytes (sent ++ part rest)
+            (written_on (w kept) (part rest)) refl all (all_sent bytes sent rest t.max split) v z.taken
+
+    -- The status stage, where all bytes have come
+
+    abbrev StatusLeft : Result (List ℕ) TransFault → State → Type 0
+    StatusLeft result v = ControlIn t One result j u v × WriteStatusIn t result j u v
+
+    data_unconfirmed : (bytes : List ℕ) (fault : TransFault) (why : PipeFault)
+        → why ≡ as_pipe_fault fault → request.length ≡ length bytes → sent ≡ bytes → {new : World}
+        → (Fell fault trans.Stalled → Course (IsBehindData t) first new) → (v : State)
+        → StatusLeft (Err fault) v → DataAsked t request bytes (Err why) old new j s v
+    data_unconfirmed bytes fault why told all is since v y = record {
+      frame = data_frame v (only_write u v y.0.frame (elim x.far [
+        | refuses_data f h k ↦ y.0.rests h
+        | writes_data kept f h ↦ y.1.rests data_at s.taken (w kept) h
+      ]));
+      done = λ z e. cc e;
+      failed = elim x.far [
+        | refuses_data f h k ↦ inl (ap (λ d. d.taken) y.0.frame ∙ k)
+        | writes_data kept f h ↦ taken_by s.taken bytes sent (w kept) refl all (λ e. is) v
+            (taken_failed s.taken (w kept) fault v (y.1.status data_at s.taken (w kept) h))
+      ];
+      refuses = λ e.
+          let stall = fell_same_fault (Unit {0}) why fault trans.Stalled told e in
+          elim x.far [
+            | refuses_data f h k ↦ refused_data (since stall) (inl f)
+            | writes_data kept f h ↦ refused_data (since stall)
+                (inr (f ∙ ap (λ k. writing (first_write request.length k))
+                (not_kept kept (sym (ap refuses_in h.stage) ∙ y.0.stalled data_at stall))))
+          ];
+    }
+      where
+        not_kept : (kept : Bool) → not (is_done (w kept)) ≡ true → kept ≡ false
+        not_kept true h = absurd (grind (arith, nat_tests, h, all, ap length is))
+        not_kept false h = refl
+
+    data_whole : (bytes given : List ℕ) → request.length ≡ length bytes → sent ≡ bytes
+        → {new : World} → Course (IsBehindData t) first new → (v : State)
+        → StatusLeft (Ok given) v → DataAsked t request bytes (Ok tt) old new j s v
+    data_whole bytes given all is {new} since v y = elim x.far [
+      | refuses_data f h k ↦ absurd ((y.0.refused h).1 data_at given refl)
+      | writes_data kept f h ↦ ended kept f h (y.1.status data_at s.taken (w kept) h)
+    ]
+      where
+        is_kept : (kept : Bool) → is_done (w kept) ≡ true → kept ≡ true
+        is_kept true h = refl
+        is_kept false h = absurd (grind (arith, nat_tests, h))
+
+        ended : (kept : Bool) → stage_begun x.row request s
+            ≡ writing (first_write request.length kept) → WritingAt s.taken (w kept) u
+            → WriteStatusEnds s.taken (w kept) (Ok given) v
+            → DataAsked t request bytes (Ok tt) old new j s v
+        ended kept f h (none, done, end) =
+            let came : v.taken ≡ s.taken ++ bytes = taken_ended s.taken (w kept) v end
+            ∙ ap (λ b. if b then s.taken ++ sent else s.taken) done ∙ ap (λ b. s.taken ++ b) is in
+            record {
+              frame = data_frame v (only_write u v y.0.frame
+                  (y.1.rests data_at s.taken (w kept) h));
+              done = λ z e. record {
+                row = x.row;
+                moment = record { now = first; accepts = x.accepts; since = since };
+                is = f ∙ ap (λ k. writing (first_write request.length k)) (is_kept kept done);
+                taken = came;
+              };
+              failed = inr came;
+              refuses = λ e. cc e;
+            }
+
+  -- a SETUP that was not acknowledged
+  data_no_set_up : (bytes : List ℕ) (fault : TransFault) (why : PipeFault)
+      → why ≡ as_pipe_fault fault → {old new : World} (j : Location) (s v : State)
+      → is_at s t ≡ true → Requested t request (Err fault) old new j s v
+      → DataAsked t request bytes (Err why) old new j s v
+  data_no_set_up bytes fault why told j s v at y = record {
+    frame = elim y.done.kept [
+      | inl e ↦ subst (λ d. OnlyWrite s d) (sym e) refl
+      | inr z ↦ subst (λ d. OnlyWrite s d) (sym (data_accepted s v z.at)) refl
+    ];
+    done = λ z e. cc e;
+    failed = inl (elim y.done.kept as (λ _. v.taken ≡ s.taken) [
+      | inl e ↦ ap (λ d. d.taken) e
+      | inr z ↦ ap (λ d. d.taken) (data_accepted s v z.at)
+    ]);
+    refuses = λ e. absurd (subst (λ r. CanAccept {A = List ℕ} s.spec r)
+        (fell_same_fault (Unit {0}) why fault trans.Stalled told e) (y.done.could at));
+  }
+
+  -- so many packets were acknowledged
+  data_gone : {old first : World} {n : ℕ} {sent : List ℕ} {now : World}
+      → Gave t 0 One first n sent now
+      → RequestReached t request (DataTold t request 0 [] old first) old first
+      → length sent ≤ request.length
+      → RequestReached t request (DataTold t request n sent old first) old now
+  data_gone moves.start r few = r
+  data_gone {old} {first} (moves.packet {n} {sent} {mid} {new} bytes g full more fits puts) r few =
+      let all : length (sent ++ bytes) ≡ length sent + length bytes = length-append sent bytes in
+      reached_more (WriteOut t (flips n One) bytes (Ok []))
+      (DataTold t request (n + 1) (sent ++ bytes) old first) [] (λ j s v y. y.others)
+      (λ j s u v at x y. data_more at x bytes y (omega (arith, more)) (omega (arith, few, all)))
+      (data_gone g r (omega (arith, few, all))) puts
+      (λ settled single. write_leaves t (flips n One) bytes (Ok []) mid new settled puts single)
+
+  module _ (bytes : List ℕ) (all : request.length ≡ length bytes) (least : 1 ≤ t.max)
+      (old new : World) (settled : IsSettled old.roots) (single : new.shared ≡ false) where
+    data_reached : {first : World} → SetUp t request old (Ok []) first
+        → RequestReached t request (DataTold t request 0 [] old first) old first
+    data_reached {first} set_up = reached_first t request (DataTold t request 0 [] old first) same
+        settled set_up told_data
+
+    -- at the end
+    data_last : (result : Result (List ℕ) TransFault) (ended : Result (Unit {0}) PipeFault)
+        {first second : World} → SetUp t request old (Ok []) first
+        → (gone : AllGone t 0 One bytes first second) → Asks t One second result new
+        → ((j : Location) (s u v : State) → is_at s t ≡ true
+        → DataTold t request gone.packets bytes old first j s u
+        → ControlIn t One result j u v × WriteStatusIn t result j u v
+        → DataAsked t request bytes ended old new j s v)
+        → EachSpared t request (Only t (DataAsked t request bytes ended old new)) old new
+    data_last result ended {first} {second} set_up gone status f =
+        let both : Relation = λ j u v. ControlIn t One result j u v × WriteStatusIn t result j u v
+        in
+        reached_last both (DataAsked t request bytes ended old new) (heard_as One) (in_attempt t 0)
+        new result (λ j s v y. y.0.others) f
+        (data_gone gone.gone (data_reached set_up) (omega (arith, all))) status
+        (λ still alone. each_both (ControlIn t One result) (WriteStatusIn t result) second new
+        (control_leaves t One result second new still status alone)
+        (write_status_leaves t result second new still status alone)) single
+
+    data_asked : (result : Result (Unit {0}) PipeFault) → PutsData t request bytes old result new
+        → EachSpared t request (Only t (DataAsked t request bytes result old new)) old new
+    data_asked (Ok done) x =
+        data_last (Ok x.given) (Ok done) x.set_up x.data_stage x.status
+        (λ j s u v at y z. data_whole at y bytes x.given all refl
+        (course_joined (gave_behind t x.data_stage.gone) (asked_behind t One x.status)) v z)
+    data_asked (Err why) (inl x) =
+        only_first t request (DataAsked t request bytes (Err why) old new) (Err x.fault) same
+        settled x.set_up
+        (λ j s v at y. data_no_set_up bytes x.fault why x.told j s v at y) single
+    data_asked (Err why) (inr (inl x)) =
+        let d = x.data_stage in
+        let whole = ap length d.split ∙ length-append d.sent d.rest in
+        reached_last (WriteOut t (flips d.packets One) (take t.max d.rest) (Err d.fault))
+        (DataAsked t request bytes (Err why) old new) heard_when_sent
+        (out_attempt t 0 (flips d.packets One) (take t.max d.rest)) new (Err d.fault)
+        (λ j s v y. y.others)
+        (λ j s u v at y z. data_lost at y bytes d.rest d.fault why d.told all d.split d.some least
+        (λ stall. course_joined (gave_behind t d.before) (put_behind t (flips d.packets One)
+        (take t.max d.rest) (subst (λ r. Puts t 0 (flips d.packets One) (take t.max d.rest) d.mid r
+        new) stall d.lost))) v z)
+        (data_gone d.before (data_reached x.set_up) (omega (arith, all, whole))) d.lost
+        (λ still alone. write_leaves t (flips d.packets One) (take t.max d.rest) (Err d.fault) d.mid
+        new still d.lost alone) single
+    data_asked (Err why) (inr (inr x)) =
+        data_last (Err x.fault) (Err why) x.set_up x.data_stage x.status
+        (λ j s u v at y z. data_unconfirmed at y bytes x.fault why x.told all refl
+        (λ stall. course_joined (gave_behind t x.data_stage.gone) (asked_behind t One
+        (subst (λ r. Asks t One x.second r new) stall x.status))) v z)
+
+    pub data_write_leaves : (result : Result (Unit {0}) PipeFault)
+        → PutsData t request bytes old result new
+        → EachSpared t request (DataWriteLeaves t request bytes result old new) old new
+    data_write_leaves result x =
+        spared_wider t request (Only t (DataAsked t request bytes result old new))
+        (DataWriteLeaves t request bytes result old new)
+        (λ j s v y. record {
+          others = y.others;
+          frame = elim (decided (is_at s t)) [
+            | inl h ↦ (y.mine h).frame
+            | inr h ↦ subst (OnlyWrite s) (sym (y.others h)) refl
+          ];
+          done = λ h. (y.mine h).done;
+          failed = elim (decided (is_at s t)) [
+            | inl h ↦ (y.mine h).failed
+            | inr h ↦ inl (ap (λ d. d.taken) (y.others h))
+          ];
+          refused = λ h. (y.mine h).refuses;
+        }) old new (data_asked result x)
+
+-- What its call tells
+
+pub put_told : (t : Target) (request : Setup) (bytes sent : List ℕ) {old : World} (new : World)
+    (result : Result (Unit {0}) PipeFault) → 1 ≤ t.max → IsToDevice request → 1 ≤ request.length
+    → request.length ≡ length bytes → sent ≡ bytes_of request → setup_of sent ≡ request
+    → IsSettled old.roots
+    → MatchResult result (λ _. AttemptsMade (div_ceil (length bytes) t.max + 2) old new)
+    (λ fault. FaultAfter 1 old fault new)
+    → result ≢ Err pipe_fault.Memory → PutsData t request bytes old result new
+    → DataWrite t request bytes old result new
+put_told t request bytes sent {old} new result least way some all is fields settled ended room x =
+    let same : setup_of (bytes_of request) ≡ request =
+    subst (λ b. setup_of b ≡ request) is fields in
+    record {
+      ends = ended;
+      stages = x;
+      settled = settled;
+      room = room;
+      what = λ single. data_write_leaves t request way some same bytes all least old new settled
+          single result x;
+      who = elim result as (λ r. PutsData t request bytes old r new
+          → OnOk r ((is_harmless request ≡ false → t.addr ≢ 0)
+          → Unshared new (Answerer t old new))) [
+            | Ok done ↦ λ y addressed. who_puts t request bytes done old new same addressed settled
+                y
+            | Err why ↦ λ y. tt
+          ] x;
+    }
