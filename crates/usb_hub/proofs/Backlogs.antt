@@ -18,12 +18,13 @@ use Rattle.usb_backlog.proofs.Interface.{keeps-attempt, keeps-chain, keeps-unhea
 use Rattle.usb_backlog.proofs.Interface.{payload_sets_none, request_sets_none, sets_none}
 use Rattle.usb_transaction.specs.{Target, AcceptedAt, AttemptLog, setup_attempt}
 use Rattle.usb_transaction.proofs.Interface.{trail_course}
-use Rattle.usb_pipe.specs.{PipeFault, IsOfTransfer, IsBehind, IsNoBusFault, Reads, Writes}
-use Rattle.usb_pipe.proofs.Interface.{read_attempts, write_attempts}
+use Rattle.usb_pipe.specs.{PipeFault, IsOfDataWrite, IsOfTransfer, IsBehind, IsBehindData}
+use Rattle.usb_pipe.specs.{IsNoBusFault, PutsData, Reads, Writes}
+use Rattle.usb_pipe.proofs.Interface.{put_attempts, read_attempts, write_attempts}
 use Rattle.usb_address.proofs.Interface.{ClaimedAt, KeepsClaim, claimed_holder, same_setup}
 use Rattle.usb_address.proofs.Interface.{trail_with, unshared_after}
 use Rattle.usb_hub.proofs.ActingCalls.{AsksFor}
-use Rattle.usb_hub.proofs.RestingRequests.{no_set_up}
+use Rattle.usb_hub.proofs.RestingRequests.{behind_data_kind, no_set_up}
 
 is_set_up : (t : Target) (request : Setup)
     → IsSetup (setup_attempt t (bytes_of request)) (bytes_of request)
@@ -56,6 +57,23 @@ module _ (m v r : PortMark) (few : Few v r) where
     pub request_keeps : {w x : World} → Course (IsOfTransfer t request) w x → IsSettled w.roots
         → Course (KeepsStep m v r few) w x
     request_keeps c = settled_wider request_step c
+
+  -- the same with data to the device
+  module _ (t : Target) (request : Setup) (plain : Allows sets_none request) where
+    data_step : (s : Step) (w : World) → IsBehindData t s w → IsSettled w.roots
+        → KeepsStep m v r few s w
+    data_step (attempt a) w k h = λ ports. keeps-attempt m v r few a w ports
+        (data_allows m r a w (behind_data_kind t a w k) h)
+    data_step _ w k h = elim k [ ]
+
+    put_step : (s : Step) (w : World) → IsOfDataWrite t request s w → IsSettled w.roots
+        → KeepsStep m v r few s w
+    put_step s w (inl e) h = request_step t request plain s w (inl e) h
+    put_step s w (inr k) h = data_step s w k h
+
+    pub put_course : {w x : World} → Course (IsOfDataWrite t request) w x → IsSettled w.roots
+        → Course (KeepsStep m v r few) w x
+    put_course c = settled_wider put_step c
 
   -- a call at a port of the hub that holds the address
   module _ (t : Target) (q : List ℕ) (i : ℕ) (request : Setup) (c : PortCall)
@@ -155,6 +173,17 @@ write_backlog t request result old new settled writes plain sound =
       all = λ ports m v r few. keeps-chain m v r few ports
           (request_keeps m v r few t request (request_sets_none request plain)
           ((write_attempts t request result old new writes).whole sound) settled);
+    }
+
+pub put_backlog : (t : Target) (request : Setup) (bytes : List ℕ)
+    (result : Result (Unit {0}) PipeFault) (old new : World) → IsSettled old.roots
+    → PutsData t request bytes old result new → Is request PORT_OUT SET_FEATURE ≡ false
+    → IsNoBusFault result → KeepsAll old new
+put_backlog t request bytes result old new settled puts plain sound =
+    record {
+      all = λ ports m v r few. keeps-chain m v r few ports
+          (put_course m v r few t request (request_sets_none request plain)
+          ((put_attempts t request bytes result old new puts).whole sound) settled);
     }
 
 -- the covers of a call at a port, for whoever stands there

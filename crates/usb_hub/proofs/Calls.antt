@@ -139,12 +139,12 @@ behind_about t p c course =
 -- A call at a hub's port
 
 -- where something was done, a port was named
-port_is_named : (c : PortCall) (o : Option ℕ) (n : ℕ) (row : List PortState) (address : Option ℕ)
-    → (o ≡ None) ⊎ (o ≡ Some n) → first_stage row 0 (called_at (Some c) o) ≡ ending address
-    → o ≡ Some n
-port_is_named c None n row address x h = absurd (cc h)
-port_is_named c (Some m) n row address (inl x) h = absurd (cc x)
-port_is_named c (Some m) n row address (inr x) h = x
+port_is_named : (c : PortCall) (o : Option ℕ) (n : ℕ) (row : List PortState) (taken : List ℕ)
+    (address : Option ℕ) → (o ≡ None) ⊎ (o ≡ Some n)
+    → first_stage row taken 0 (called_at (Some c) o) ≡ ending address → o ≡ Some n
+port_is_named c None n row taken address x h = absurd (cc h)
+port_is_named c (Some m) n row taken address (inl x) h = absurd (cc x)
+port_is_named c (Some m) n row taken address (inr x) h = x
 
 module _ (t : Target) (j : Location) (i : ℕ) (request : Setup) (c : PortCall)
     (asked : AsksFor request c (suc i)) (P : World → Type 0)
@@ -236,14 +236,15 @@ module _ (t : Target) (j : Location) (i : ℕ) (request : Setup) (c : PortCall)
     is_named : port_named was.before.spec.hub was.before.registers (suc i) ≡ Some i
     is_named =
         port_is_named c (port_named was.before.spec.hub was.before.registers (suc i)) i done.row
-        done.address
+        was.before.taken done.address
         (subst (λ m. (port_named was.before.spec.hub was.before.registers (suc i) ≡ None)
         ⊎ (port_named was.before.spec.hub was.before.registers (suc i) ≡ Some m))
         (less_one i) (port_named-cases was.before.spec.hub was.before.registers (suc i)))
-        (subst (λ o. first_stage done.row 0 o ≡ ending done.address)
+        (subst (λ o. first_stage done.row was.before.taken 0 o ≡ ending done.address)
         (asked.calls was.before.spec was.before.registers)
-        (subst (λ n. first_stage done.row n (outcome was.before.spec was.before.registers request)
-        ≡ ending done.address) asked.nothing done.is))
+        (subst (λ n. first_stage done.row was.before.taken n
+        (outcome was.before.spec was.before.registers request) ≡ ending done.address)
+        asked.nothing done.is))
 
     -- the hub, which stood there, has the port
     pub hub_named : (s : State) × ((state_on old.roots j ≡ Some s)

@@ -12,8 +12,9 @@ use Rattle.usb_world.proofs.Interface.{course_then, data_asks_nothing, payload_a
 use Rattle.usb_world.proofs.Interface.{settled_wider}
 use Rattle.usb_transaction.specs.{Target, AcceptedAt, setup_attempt}
 use Rattle.usb_transaction.proofs.Interface.{trail_course}
-use Rattle.usb_pipe.specs.{PipeFault, IsOfTransfer, Reads, Writes, IsBehind, IsNoBusFault}
-use Rattle.usb_pipe.proofs.Interface.{read_attempts, write_attempts}
+use Rattle.usb_pipe.specs.{PipeFault, IsOfDataWrite, IsOfTransfer, PutsData, Reads, Writes}
+use Rattle.usb_pipe.specs.{IsBehind, IsBehindData, IsNoBusFault}
+use Rattle.usb_pipe.proofs.Interface.{put_attempts, read_attempts, write_attempts}
 use Rattle.usb_address.proofs.Interface.{same_setup}
 use Rattle.usb_hub.specs.{TouchesNoPort}
 
@@ -59,6 +60,31 @@ module _ (t : Target) (request : Setup) (plain : asks_no_port request ≡ true) 
   transfer_rests : (x : List ℕ) {w v : World} → Course (IsOfTransfer t request) w v
       → IsSettled w.roots → Course (LeavesPortAlone x) w v
   transfer_rests x c = settled_wider (step_rests x) c
+
+-- an attempt behind one with data to the device is none
+pub behind_data_kind : (t : Target) (a : Attempt) (w : World) → IsBehindData t (attempt a) w
+    → is_setup a.kind ≡ false
+behind_data_kind t a w (inl e) = ap (λ (y : Attempt). is_setup y.kind) e
+behind_data_kind t a w (inr x) = ap (λ (y : Attempt). is_setup y.kind) x.2
+
+-- a whole transfer with data to the device
+module _ (t : Target) (request : Setup) (plain : asks_no_port request ≡ true) where
+  data_behind_rests : (x : List ℕ) (s : Step) (w : World) → IsBehindData t s w
+      → IsSettled w.roots → LeavesPortAlone x s w
+  data_behind_rests x (attempt a) w k h = data_asks_nothing a w x (behind_data_kind t a w k) h
+  data_behind_rests x _ w k h = elim k [ ]
+
+  data_step_rests : (x : List ℕ) (s : Step) (w : World) → IsOfDataWrite t request s w
+      → IsSettled w.roots → LeavesPortAlone x s w
+  data_step_rests x s w (inl e) h = step_rests t request plain x s w (inl e) h
+  data_step_rests x s w (inr k) h = data_behind_rests x s w k h
+
+  pub put_rests : (bytes : List ℕ) (result : Result (Unit {0}) PipeFault) (old new : World)
+      → IsSettled old.roots → PutsData t request bytes old result new → IsNoBusFault result
+      → TouchesNoPort old new
+  put_rests bytes result old new settled puts sound x =
+      settled_wider (data_step_rests x)
+      ((put_attempts t request bytes result old new puts).whole sound) settled
 
 read_asks_no_port : (request : Setup) → IsToHost request → asks_no_port request ≡ true
 read_asks_no_port request host = rw (

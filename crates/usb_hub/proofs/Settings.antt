@@ -47,7 +47,7 @@ module _ (t : Target) (request : Setup) (old new : World) (j : Location) (s v : 
     (accepts : (row : List PortState) → OnlyControl (accepted s row request) v
     → v.registers ≡ (accepted s row request).registers → Q)
     (ends : (row : List PortState) (address : Option ℕ)
-    → first_stage row request.length (outcome s.spec s.registers request) ≡ ending address
+    → first_stage row s.taken request.length (outcome s.spec s.registers request) ≡ ending address
     → OnlyControl (accepted s row request) v → StatusGiven address (accepted s row request) v → Q)
     (rests : OnlyControl s v → v.registers ≡ s.registers → Q) where
   failed_so : (fault : PipeFault) → EffectOrNone t request fault old j s v → Q
@@ -134,16 +134,16 @@ asked_registers true a row s = refl
 asked_registers false a row s = refl
 
 -- a status stage is given by one that does not refuse
-asked_ends : (b : Bool) (a : ℕ) (row : List PortState) (address : Option ℕ)
-    → first_stage row 0 (unless b (takes_address a)) ≡ ending address → (b ≡ false)
+asked_ends : (b : Bool) (a : ℕ) (row : List PortState) (taken : List ℕ) (address : Option ℕ)
+    → first_stage row taken 0 (unless b (takes_address a)) ≡ ending address → (b ≡ false)
     × (address ≡ Some a)
-asked_ends true a row address e = absurd cc
-asked_ends false a row address e = (refl, cc)
+asked_ends true a row taken address e = absurd cc
+asked_ends false a row taken address e = (refl, cc)
 
-asked_refuses : (b : Bool) (a : ℕ) (row : List PortState)
-    → first_stage row 0 (unless b (takes_address a)) ≡ refused → b ≡ true
-asked_refuses true a row e = refl
-asked_refuses false a row e = absurd cc
+asked_refuses : (b : Bool) (a : ℕ) (row : List PortState) (taken : List ℕ)
+    → first_stage row taken 0 (unless b (takes_address a)) ≡ refused → b ≡ true
+asked_refuses true a row taken e = refl
+asked_refuses false a row taken e = absurd cc
 
 abbrev Either : ℕ → State → State → Type 0
 Either a s v = (v.registers ≡ s.registers) ⊎ (v.registers ≡ record s.registers { address = a })
@@ -166,10 +166,10 @@ module _ (t : Target) (a : ℕ) (most : a ≤ 127) (old new : World) where
   begun_is s row = ap (begun s row 0) (address_outcome s.spec s.registers a most)
 
   stage_is : (s : State) (row : List PortState)
-      → first_stage row request.length (outcome s.spec s.registers request)
-      ≡ first_stage row 0 (unless s.spec.stalls.address (takes_address a))
+      → first_stage row s.taken request.length (outcome s.spec s.registers request)
+      ≡ first_stage row s.taken 0 (unless s.spec.stalls.address (takes_address a))
   unfolding set_address
-  stage_is s row = ap (first_stage row 0) (address_outcome s.spec s.registers a most)
+  stage_is s row = ap (first_stage row s.taken 0) (address_outcome s.spec s.registers a most)
 
   frame_of : (s v : State) (row : List PortState) → OnlyControl (accepted s row request) v
       → OnlyControl s v
@@ -182,11 +182,12 @@ module _ (t : Target) (a : ℕ) (most : a ≤ 127) (old new : World) where
       ∙ asked_registers s.spec.stalls.address a row s
 
   ended_of : (s v : State) (row : List PortState) (address : Option ℕ)
-      → first_stage row request.length (outcome s.spec s.registers request) ≡ ending address
+      → first_stage row s.taken request.length (outcome s.spec s.registers request) ≡ ending address
       → StatusGiven address (accepted s row request) v → (s.spec.stalls.address ≡ false)
       × Either a s v
   ended_of s v row address e x =
-      let ends : _ = asked_ends s.spec.stalls.address a row address (sym (stage_is s row) ∙ e) in (
+      let ends : _ = asked_ends s.spec.stalls.address a row s.taken address
+      (sym (stage_is s row) ∙ e) in (
         ends.0,
         given_either s.spec.stalls.address a row address s v ends.1
             (subst (λ y. StatusGiven address y v) (begun_is s row) x),
@@ -244,7 +245,7 @@ module _ (t : Target) (a : ℕ) (most : a ≤ 127) (old new : World) where
       either = address_either result x.0;
       done = address_done result x.0 x.1;
       stalled = λ at e. let r : WasRefused t request old new j s = x.0.refused at e in
-          asked_refuses s.spec.stalls.address a r.row (sym (stage_is s r.row) ∙ r.is);
+          asked_refuses s.spec.stalls.address a r.row s.taken (sym (stage_is s r.row) ∙ r.is);
       failed = address_failed result x.0 x.1;
       could = x.0.could;
     }
@@ -310,15 +311,16 @@ accepts_value s value e = split s.spec.stalls.set_config e
     split true e = absurd cc
     split false e = (refl, e)
 
-first_stage-set : (b : Bool) (value : ℕ) (row : List PortState) (address : Option ℕ)
-    → first_stage row 0 (set_to b value) ≡ ending address → (b ≡ true) × (address ≡ None)
-first_stage-set true value row address e = (refl, cc)
-first_stage-set false value row address e = absurd cc
+first_stage-set : (b : Bool) (value : ℕ) (row : List PortState) (taken : List ℕ)
+    (address : Option ℕ) → first_stage row taken 0 (set_to b value) ≡ ending address → (b ≡ true)
+    × (address ≡ None)
+first_stage-set true value row taken address e = (refl, cc)
+first_stage-set false value row taken address e = absurd cc
 
-set_refuses : (b : Bool) (value : ℕ) (row : List PortState) → first_stage row 0 (set_to b value)
-    ≡ refused → b ≡ false
-set_refuses true value row e = absurd cc
-set_refuses false value row e = refl
+set_refuses : (b : Bool) (value : ℕ) (row : List PortState) (taken : List ℕ)
+    → first_stage row taken 0 (set_to b value) ≡ refused → b ≡ false
+set_refuses true value row taken e = absurd cc
+set_refuses false value row taken e = refl
 
 abbrev with_settings : State → State → Registers → EndpointState → EndpointState → EndpointState
     → Option ℕ → State
@@ -393,10 +395,10 @@ module _ (t : Target) (value : ℕ) (old new : World) where
   set_is s row = ap (begun s row 0) (configuration_outcome s value)
 
   set_stage : (s : State) (row : List PortState)
-      → first_stage row order.length (outcome s.spec s.registers order)
-      ≡ first_stage row 0 (set_to (takes_it s value) value)
+      → first_stage row s.taken order.length (outcome s.spec s.registers order)
+      ≡ first_stage row s.taken 0 (set_to (takes_it s value) value)
   unfolding set_configuration
-  set_stage s row = ap (first_stage row 0) (configuration_outcome s value)
+  set_stage s row = ap (first_stage row s.taken 0) (configuration_outcome s value)
 
   set_of : (s v : State) (row : List PortState) → OnlyControl (accepted s row order) v
       → v.registers ≡ (accepted s row order).registers → OnlySet s v
@@ -410,12 +412,12 @@ module _ (t : Target) (value : ℕ) (old new : World) where
         s.registers.configuration h r
 
     whole_set : (row : List PortState) (address : Option ℕ)
-        → first_stage row order.length (outcome s.spec s.registers order) ≡ ending address
+        → first_stage row s.taken order.length (outcome s.spec s.registers order) ≡ ending address
         → OnlyControl (accepted s row order) v → StatusGiven address (accepted s row order) v
         → (takes_it s value ≡ true) × OnlySet s v × IsConfigured value s v
     whole_set row address e h given =
-        let ends : _ = first_stage-set (takes_it s value) value row address (sym (set_stage s row)
-        ∙ e) in
+        let ends : _ = first_stage-set (takes_it s value) value row s.taken address
+        (sym (set_stage s row) ∙ e) in
         let parts : _ = set_of s v row h (given_registers address (accepted s row order) v ends.1
         given) in
         (ends.0, parts.0, subst (λ b. Set b value s v) ends.0 parts.1)
@@ -469,8 +471,8 @@ module _ (t : Target) (value : ℕ) (old new : World) where
           let yes : _ = accepts_value s value parts.0 in
           (yes.0, yes.1, parts.2, went_off d);
       stalled = λ at e. let r : WasRefused t order old new j s = x.refused at e in
-          refuses_value s value (set_refuses (takes_it s value) value r.row (sym (set_stage s r.row)
-          ∙ r.is));
+          refuses_value s value (set_refuses (takes_it s value) value r.row s.taken
+          (sym (set_stage s r.row) ∙ r.is));
       could = x.could;
     }
 

@@ -8,11 +8,13 @@ pub use Rattle.usb_table.proofs.entries.EnteredFindings.{pipes_at-entered_elsewh
 pub use Rattle.usb_table.proofs.levels.FittingPipes.{still_source}
 pub use Rattle.usb_table.proofs.levels.Levels.{address_found, all_kept, held_address}
 pub use Rattle.usb_table.proofs.levels.Levels.{level_elsewhere, level_stays, entry_address-one_path}
-pub use Rattle.usb_table.proofs.entries.Paths.{path_itself, path_tied}
+pub use Rattle.usb_table.proofs.entries.Paths.{cases_path, path_itself, path_tied}
 pub use Rattle.usb_table.proofs.listings.PlannedListing.{lists_of_plan}
 pub use Rattle.usb_table.proofs.entries.Ports.{FoundPort, known_port-without, port_found-some}
 pub use Rattle.usb_table.proofs.entries.Removals.{none_apart, taken_apart, takes_one}
 pub use Rattle.usb_table.proofs.transfers.Restarts.{cleared_restarts}
 pub use Rattle.usb_table.proofs.transfers.SparedBulk.{spares-same, spares-stage, spares-then}
+pub use Rattle.usb_table.proofs.transfers.SparedReads.{read_spares}
+pub use Rattle.usb_table.proofs.transfers.StillEnds.{StillEnds, write_still}
 pub use Rattle.usb_table.proofs.levels.KeptPipes.{empty_or_not}
 pub use Rattle.usb_table.proofs.transfers.PathTransfers.{done_through}

@@ -1,6 +1,7 @@
 -- What transfers leave.
 pub mod Collections
 pub mod ControlReads
+pub mod ControlWrites
 pub mod Deliveries
 pub mod DevicesKept
 pub mod FreeRequests
@@ -11,3 +12,5 @@ pub mod PlainRequests
 pub mod PlainTransfers
 pub mod Restarts
 pub mod SparedBulk
+pub mod SparedReads
+pub mod StillEnds

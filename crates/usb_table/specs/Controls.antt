@@ -1,18 +1,20 @@
 -- What control transfers of a driver's own to the device at a path are (8.5.3).
-use Rattle.std.specs.Prelude.{◌≡◌, ℕ, ◌+◌, ◌*◌, ◌==◌, List, [], Bool, true, false, Option, Some, None}
+use Rattle.std.specs.Prelude.{◌≡◌, ℕ, ◌+◌, ◌*◌, ◌==◌, List, [], Bool, true, false, Option, Some}
+use Rattle.std.specs.Prelude.{None}
 use Rattle.std.specs.Prelude.{is_some, is_ok, if◌then◌else◌, Result, Ok, Err, IfOk, IfErr}
 use Rattle.std.specs.Global.{Vec}
-use Rattle.usb_request.specs.{Setup}
+use Rattle.usb_request.specs.{Setup, is_reserved}
 use Rattle.usb_device.specs.{reach, State, Location}
 use Rattle.usb_world.specs.{EachWas, Relation, World}
 use Rattle.usb_bus.specs.{StepRun}
 use Rattle.usb_transaction.specs.{Target}
-use Rattle.usb_pipe.specs.{ControlRead, ControlWrite, PipeFault, ReadLeaves, WriteLeaves, write_bound}
+use Rattle.usb_pipe.specs.{ControlRead, ControlWrite, DataWrite, DataWriteLeaves, PipeFault}
+use Rattle.usb_pipe.specs.{ReadLeaves, WriteLeaves, write_bound}
 use Rattle.usb_enum.specs.{Accepted, target_of}
 use Rattle.usb_table.specs.declared.fault.TableFault.{TableFault}
 use Rattle.usb_table.specs.declared.fault.TableFault.TheVariants.{Transfer}
 use Rattle.usb_table.specs.declared.fault.TransferFault.{TransferFault}
-use Rattle.usb_table.specs.declared.fault.TransferFault.TheVariants.{NoDevice}
+use Rattle.usb_table.specs.declared.fault.TransferFault.TheVariants.{NoDevice, Reserved}
 use Rattle.usb_table.specs.Deliveries.{ChangesAt}
 use Rattle.usb_table.specs.Findings.{accepted_device_at}
 use Rattle.usb_table.specs.KnownPorts.{is_below_hub}
@@ -35,6 +37,20 @@ target_asked below_hub (Some device) = Ok (target_of device below_hub)
 abbrev pub control_target : List ℕ → Entries → Result Target TransferFault
 control_target path entries =
     target_asked (is_below_hub path) (accepted_device_at path entries)
+
+-- the same for a request that writes, unless the host alone may send it
+abbrev pub unreserved : Bool → Result Target TransferFault → Result Target TransferFault
+unreserved true target = Err Reserved
+unreserved false target = target
+
+abbrev pub write_asked : Bool → Setup → Option Accepted → Result Target TransferFault
+write_asked below_hub request None = Err NoDevice
+write_asked below_hub request (Some device) =
+    unreserved (is_reserved (is_some device.hub) request) (Ok (target_of device below_hub))
+
+abbrev pub write_target : List ℕ → Setup → Entries → Result Target TransferFault
+write_target path request entries =
+    write_asked (is_below_hub path) request (accepted_device_at path entries)
 
 -- over any bus: where there is no target, this is told, and nothing changes; else the answer is the
 -- transfer's own
@@ -74,6 +90,22 @@ ReadLeftIf false request t answer old new = ReadLeaves t request answer old new
 abbrev pub ReadLeft : Setup → TransferLeaves (Vec ℕ)
 ReadLeft request = ReadLeftIf (request.length == 0) request
 
+-- a request to write no bytes has no data stage
+abbrev pub WriteIf : Bool → Setup → List ℕ → TransferIs (Unit {0})
+WriteIf true request bytes t old answer new = ControlWrite t request old answer new
+WriteIf false request bytes t old answer new = DataWrite t request bytes old answer new
+
+abbrev pub WriteMade : Setup → List ℕ → TransferIs (Unit {0})
+WriteMade request = WriteIf (request.length == 0) request
+
+-- if it is done, the device has taken the bytes once; if it failed, all of them or none
+abbrev pub WriteLeftIf : Bool → Setup → List ℕ → TransferLeaves (Unit {0})
+WriteLeftIf true request bytes t answer old new = WriteLeaves t request answer old new
+WriteLeftIf false request bytes t answer old new = DataWriteLeaves t request bytes answer old new
+
+abbrev pub WriteLeft : Setup → List ℕ → TransferLeaves (Unit {0})
+WriteLeft request = WriteLeftIf (request.length == 0) request
+
 -- At a path
 
 -- a transfer was made to a target: what it is, what it left of the device at the path, which is as
@@ -99,15 +131,22 @@ TransferIf Is Leaves path table (Err fault) old result new =
 -- a control transfer to the device at a path: how many attempts it made at most and the text of its
 -- steps, why it failed, what it was, and what it left of all devices
 pub record ControlledAt {A : Type 0} (Is : TransferIs A) (Leaves : TransferLeaves A) (path : List ℕ)
-    (request : Setup) (table : Table) (before : World) (text : Option (List ℕ))
-    (result : Result A TableFault) (after : World) (now : Option (List ℕ)) : Type 0 where
+    (target : Result Target TransferFault) (request : Setup) (table : Table) (before : World)
+    (text : Option (List ℕ)) (result : Result A TableFault) (after : World)
+    (now : Option (List ℕ)) : Type 0 where
   pub went : StepRun (control_most request.length) before text after now
   pub told : IfErr result (λ fault. TableFaultAllowed fault after)
-  pub did : TransferIf Is Leaves path table (control_target path table.entries) before
-      result after
+  pub did : TransferIf Is Leaves path table target before result after
   pub keeps : KeepsMoved path table before table after
 
 -- a read of it
 abbrev pub TableReads : List ℕ → Setup → Table → World → Option (List ℕ)
     → Result (Vec ℕ) TableFault → World → Option (List ℕ) → Type 0
-TableReads path request = ControlledAt (ReadMade request) (ReadLeft request) path request
+TableReads path request table = ControlledAt (ReadMade request) (ReadLeft request) path
+    (control_target path table.entries) request table
+
+-- a write to it
+abbrev pub TableWrites : List ℕ → Setup → List ℕ → Table → World → Option (List ℕ)
+    → Result (Unit {0}) TableFault → World → Option (List ℕ) → Type 0
+TableWrites path request bytes table = ControlledAt (WriteMade request bytes)
+    (WriteLeft request bytes) path (write_target path request table.entries) request table

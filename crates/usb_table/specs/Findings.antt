@@ -46,6 +46,11 @@ abbrev pub HasNoDevice : ℕ → Entries → Type 0
 HasNoDevice address entries = (path : List ℕ) (finding : Finding)
     → lookup (is_at (path_cmp path)) entries ≡ Some finding → address_found finding ≢ Some address
 
+-- an accepted device, hubs too
+abbrev pub is_accepted : Finding → Bool
+is_accepted (Device device) = true
+is_accepted (Refused cause) = false
+
 -- an accepted hub
 abbrev pub is_hub : Finding → Bool
 is_hub (Device device) = is_some device.hub

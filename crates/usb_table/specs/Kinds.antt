@@ -4,10 +4,11 @@ use Rattle.std.specs.declared.ops.Bound.{Bound}
 use Rattle.std.specs.declared.ops.Bound.TheVariants.{Excluded, Unbounded}
 use Rattle.usb_enum.specs.{Finding}
 use Rattle.usb_table.specs.declared.kind.Kind.{Kind}
-use Rattle.usb_table.specs.declared.kind.Kind.TheVariants.{Hub, Waiting}
-use Rattle.usb_table.specs.Findings.{is_hub, is_waiting}
+use Rattle.usb_table.specs.declared.kind.Kind.TheVariants.{Accepted, Hub, Waiting}
+use Rattle.usb_table.specs.Findings.{is_accepted, is_hub, is_waiting}
 
 abbrev pub fits : Kind → Finding → Bool
+fits Accepted finding = is_accepted finding
 fits Hub finding = is_hub finding
 fits Waiting finding = is_waiting finding
 

@@ -15,13 +15,15 @@ pub mod Transfers
 pub use Controls.{ControlledAt, MadeOrRefused, ReadIf, ReadLeft, ReadLeftIf, ReadMade, TableReads}
 pub use Controls.{TransferIf, TransferIs, TransferLeaves, TransferMade, control_most}
 pub use Controls.{control_target, target_asked, without_bytes}
+pub use Controls.{TableWrites, WriteIf, WriteLeft, WriteLeftIf, WriteMade, unreserved, write_asked}
+pub use Controls.{write_target}
 pub use Deliveries.{ChangesAt, Collected, Delivered, GaveBy, GaveBytes, HaltCleared, HaltClearedBy}
 pub use Deliveries.{HaltsCleared, JoinsSink, Restarted, TookBytes, TransfersAt, bytes_in, pipe_in}
 pub use Deliveries.{pipe_out}
 pub use TableEntries.{Entries, Replaced, Rises, has_at, is_at_or_below, without}
 pub use Findings.{HasDevice, HasNewAddress, HasNoDevice, IsSoundDevice, IsSoundFinding}
 pub use Findings.{accepted_device_at, accepted_device_of, address_found, at_full_speed, in_endpoint}
-pub use Findings.{is_hub, is_no_address, is_waiting, out_endpoint}
+pub use Findings.{is_accepted, is_hub, is_no_address, is_waiting, out_endpoint}
 unfoldable pub use Findings.{has_address}
 pub use Keys.{AddressKeys, AreIndexes, ArePiped, Enters, IsPiped, PathKeys, Slots, TableSlots}
 pub use Keys.{UpdatesAddress, address_in, entries_of, finding_under, findings, key_of_address}
@@ -49,7 +51,7 @@ pub use declared.entry.Entry.{Entry}
 pub use declared.fault.TableFault.{TableFault}
 pub use declared.fault.TableFault.TheVariants.{Transfer}
 pub use declared.fault.TransferFault.{TransferFault}
-pub use declared.fault.TransferFault.TheVariants.{NoDevice, NoEndpoint}
+pub use declared.fault.TransferFault.TheVariants.{NoDevice, NoEndpoint, NoPort, Reserved}
 pub use declared.indexes.Indexes.{Indexes}
 pub use declared.known.KnownPort.{KnownPort}
 pub use declared.pipes.BulkPipes.{BulkPipes}

@@ -12,6 +12,12 @@ pub enum TransferFault {
     /// No device that was accepted is at the path.
     #[error("no device")]
     NoDevice,
+    /// The path is no root port, and no port of a listed hub.
+    #[error("no port")]
+    NoPort,
+    /// The host alone may send this request.
+    #[error("reserved")]
+    Reserved,
     /// The device is a hub, or has no such bulk endpoint.
     #[error("no endpoint")]
     NoEndpoint,

@@ -1,6 +1,6 @@
 //! What findings are told apart by.
 ghost use Rattle.std.specs.Prelude.{◌≡◌};
-ghost use Rattle.usb_table.specs.Findings.{address_found, is_hub, is_waiting};
+ghost use Rattle.usb_table.specs.Findings.{address_found, is_accepted, is_hub, is_waiting};
 
 use usb_enum::{Cause, Finding};
 use usb_resources::Address;
@@ -22,6 +22,16 @@ pub(crate) fn address_number(finding: &Finding) -> Option<u8>
     match address_of(finding) {
         Some(address) => Some(address.number()),
         None => None,
+    }
+}
+
+/// Whether it is an accepted device, hubs too.
+pub(crate) fn is_accepted(finding: &Finding) -> bool
+    ensures { result ≡ is_accepted finding.now }
+{
+    match finding {
+        Finding::Device(_) => true,
+        Finding::Refused(_) => false,
     }
 }
 

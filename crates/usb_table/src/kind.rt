@@ -2,7 +2,7 @@
 ghost use Rattle.std.specs.Prelude.{◌≡◌, option_copied};
 ghost use Rattle.usb_table.specs.Kinds.{fits, start_after};
 
-use crate::found::{is_hub, is_waiting};
+use crate::found::{is_accepted, is_hub, is_waiting};
 use std::ops::Bound;
 use usb_enum::Finding;
 use usb_port::PortPath;
@@ -10,6 +10,8 @@ use usb_port::PortPath;
 /// A kind of entry.
 #[derive(Clone, Copy, Debug, PartialEq, Eq)]
 pub(crate) enum Kind {
+    /// An accepted device, hubs too.
+    Accepted,
     /// An accepted hub.
     Hub,
     /// A device that was refused because no address was free.
@@ -21,6 +23,7 @@ pub(crate) fn fits(kind: Kind, finding: &Finding) -> bool
     ensures { result ≡ fits kind finding.now }
 {
     match kind {
+        Kind::Accepted => is_accepted(finding),
         Kind::Hub => is_hub(finding),
         Kind::Waiting => is_waiting(finding),
     }

@@ -5,7 +5,7 @@ ghost use Rattle.std.specs.BTreeMap.{is_at};
 ghost use Rattle.std.specs.Map.{lookup};
 ghost use Rattle.usb_port.specs.Order.{path_cmp};
 ghost use Rattle.usb_table.specs.TableEntries.{Rises, has_at};
-ghost use Rattle.usb_table.specs.Findings.{IsSoundFinding, is_hub, is_waiting};
+ghost use Rattle.usb_table.specs.Findings.{IsSoundFinding, is_accepted, is_hub, is_waiting};
 ghost use Rattle.usb_table.specs.Findings.{HasNewAddress, HasDevice, HasNoDevice};
 ghost use Rattle.usb_table.specs.Kinds.{fits};
 ghost use Rattle.usb_table.specs.KnownPorts.{IsAskable, known_port};
@@ -149,6 +149,16 @@ impl DeviceTable {
         };
         let finding = self.get(&hub)?;
         port_of_finding(finding, is_below_hub(&hub), path.port())
+    }
+
+    /// The least path of an accepted device after the last one, or of all.
+    pub fn next_accepted(&self, last: Option<&PortPath>) -> Option<PortPath>
+        ensures some { IfSome result
+            (IsNext is_accepted (option_copied last.entry) self.now.entries) }
+        ensures none { IfNone result
+            (IsLast is_accepted (option_copied last.entry) self.now.entries) }
+    {
+        self.next_of(Kind::Accepted, last)
     }
 
     /// The least path of an accepted hub after the last one, or of all.

@@ -1,6 +1,7 @@
 -- What each call through pipes leaves of the device at their other ends: it is as far as the pipes.
 use Rattle.usb_device.specs.{Location, EndpointState, Registers, advanced, bulk_at, tells_changes}
-use Rattle.usb_device.specs.{SourceAt, PollAt, NeverTold, OnlyStage, OnlySink, OnlySource, State}
+use Rattle.usb_device.specs.{SourceAt, PollAt, NeverTold, OnlyStage, OnlySink, OnlySource}
+use Rattle.usb_device.specs.{OnlyWrite, State}
 use Rattle.usb_device.specs.{Spec}
 use Rattle.std.proofs.Common.{◌≡◌, ◌∙◌, refl, sym, ap, subst, Bool, true, false, ℕ, ◌+◌, ◌==◌, ◌<◌}
 use Rattle.std.proofs.Common.{◌&&◌, List, [], length, Option, None, Some, Result, Ok, Err, IsOk}
@@ -93,22 +94,47 @@ still_status pipe s v k e held f = record {
   runs = ap (λ (x : EndpointState). x.halted) e ∙ f.runs;
 }
 
+-- no setting changed, nor where an endpoint stands but endpoint 0
+record StillEnds (s v : State) : Type 0 where
+  settings : SameSettings root s v
+  changes : v.changes ≡ s.changes
+  held : v.held ≡ s.held
+  out : v.bulk_out ≡ s.bulk_out
+  into : v.bulk_in ≡ s.bulk_in
+  place : v.place ≡ s.place
+
+still_ends : (pipes : Pipes) (s v : State) → StillEnds s v → PipesInSync pipes s
+    → PipesInSync pipes v
+still_ends (Hub pipe) s v x f = still_status pipe s v x.settings x.changes x.held f
+still_ends (Function pipes) s v x f = (
+  still_out pipes.out s v x.settings x.out f.0,
+  fits_in-same pipes.into s v x.settings x.place x.into f.1,
+)
+still_ends Absent s v x f = tt
+
 -- where nothing changed but where the device's transfer stands
 pub still_level : (pipes : Pipes) (s v : State) → OnlyStage s v → PipesInSync pipes s
     → PipesInSync pipes v
-still_level (Hub pipe) s v frame f =
-    still_status pipe s v (ap (λ (d : State). d.spec) frame, ap (λ (d : State). d.registers) frame)
-    (ap (λ (d : State). d.changes) frame) (ap (λ (d : State). d.held) frame) f
-still_level (Function pipes) s v frame f =
-    let k : SameSettings root s v = (
-      ap (λ (d : State). d.spec) frame,
-      ap (λ (d : State). d.registers) frame,
-    ) in (
-      still_out pipes.out s v k (ap (λ (d : State). d.bulk_out) frame) f.0,
-      fits_in-same pipes.into s v k (ap (λ (d : State). d.place) frame)
-          (ap (λ (d : State). d.bulk_in) frame) f.1,
-    )
-still_level Absent s v frame f = tt
+still_level pipes s v frame = still_ends pipes s v (record {
+  settings = (ap (λ (d : State). d.spec) frame, ap (λ (d : State). d.registers) frame);
+  changes = ap (λ (d : State). d.changes) frame;
+  held = ap (λ (d : State). d.held) frame;
+  out = ap (λ (d : State). d.bulk_out) frame;
+  into = ap (λ (d : State). d.bulk_in) frame;
+  place = ap (λ (d : State). d.place) frame;
+})
+
+-- and the data that control transfers brought
+pub written_level : (pipes : Pipes) (s v : State) → OnlyWrite s v → PipesInSync pipes s
+    → PipesInSync pipes v
+written_level pipes s v frame = still_ends pipes s v (record {
+  settings = (ap (λ (d : State). d.spec) frame, ap (λ (d : State). d.registers) frame);
+  changes = ap (λ (d : State). d.changes) frame;
+  held = ap (λ (d : State). d.held) frame;
+  out = ap (λ (d : State). d.bulk_out) frame;
+  into = ap (λ (d : State). d.bulk_in) frame;
+  place = ap (λ (d : State). d.place) frame;
+})
 
 -- A call through the pipes to the device of an address
 

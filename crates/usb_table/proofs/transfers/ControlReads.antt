@@ -1,6 +1,7 @@
 -- What a read of the device at a path tells of the table.
 use Rattle.std.specs.Result.{IsErr, IsErrAnd}
-use Rattle.std.proofs.Common.{◌≡◌, ◌==◌, subst, ap, ℕ, List, Bool, true, false, Option, Some, Result, Ok}
+use Rattle.std.proofs.Common.{◌≡◌, ◌==◌, subst, ap, ℕ, List, Bool, true, false, Option, Some}
+use Rattle.std.proofs.Common.{Result, Ok}
 use Rattle.std.proofs.Common.{Err, is_some}
 use Rattle.std.specs.Global.{Vec}
 use Rattle.usb_request.specs.{IsToHost, Setup}
@@ -28,7 +29,8 @@ pub asked_pipes : (path : List ℕ) (table : Table) (t : Target)
     → (x : IsAsked (is_below_hub path) (accepted_device_at path table.entries) t)
     → ArePipesTo x.device (is_below_hub path) (pipes_at path table)
 asked_pipes path table t fits x =
-    subst (λ (d : Option Accepted). ArePipesIf d (is_below_hub path) (pipes_at path table)) x.is fits
+    subst (λ (d : Option Accepted). ArePipesIf d (is_below_hub path) (pipes_at path table)) x.is
+    fits
 
 module _ (path : List ℕ) (request : Setup) (host : IsToHost request) (table : Table)
     (fits : ArePipesAt path table) {old : World} {text : Option (List ℕ)}
@@ -36,18 +38,20 @@ module _ (path : List ℕ) (request : Setup) (host : IsToHost request) (table : 
     (asks : control_target path table.entries ≡ Ok t)
     (answer : Result (Vec ℕ) PipeFault) (told : result ≡ table_answer answer)
     (went : StepRun (control_most request.length) old text new now) where
+  asked : IsAsked (is_below_hub path) (accepted_device_at path table.entries) t
+  asked = asked_of (is_below_hub path) (accepted_device_at path table.entries) t asks
+
   reads_by : (b : Bool) → ReadIf b request t old answer new
-      → ControlledAt (ReadIf b request) (ReadLeftIf b request) path request table old text result
-      new now
+      → ControlledAt (ReadIf b request) (ReadLeftIf b request) path
+      (control_target path table.entries) request table old text result new now
   reads_by true x =
-      let asked = asked_of (is_below_hub path) (accepted_device_at path table.entries) t asks in
-      made_controls (ReadLeftIf true request) path request table fits t asks answer
+      made_controls (ReadLeftIf true request) path request table fits t asked _ asks answer
       (none_is_plain path table t request asked.device
       (asked_pipes path table t fits asked)
       (read_is_free (is_some asked.device.hub) request host) old answer new x.0)
       (ReadIf true request) result went x told
   reads_by false x =
-      made_controls (ReadLeftIf false request) path request table fits t asks answer
+      made_controls (ReadLeftIf false request) path request table fits t asked _ asks answer
       (read_is_plain path table t request old answer new host x) (ReadIf false request) result went
       x told
 

@@ -1,18 +1,25 @@
 -- What a request asks of a device that changes no address, no configuration, no toggle and no port.
-use Rattle.std.proofs.Common.{◌≡◌, ◌⊎◌, inl, inr, refl, ◌∙◌, ap, ℕ, ◌/◌, ◌==◌, ◌≤◌, nat_lt, Bool, true}
-use Rattle.std.proofs.Common.{sym, false, arith, not, ◌&&◌, ◌||◌, if◌then◌else◌, List, Option, None, Some}
+use Rattle.std.proofs.Common.{◌≡◌, ◌⊎◌, inl, inr, refl, ◌∙◌, ap, ℕ, ◌/◌, ◌==◌, ◌≤◌, nat_lt, Bool}
+use Rattle.std.proofs.Common.{true}
+use Rattle.std.proofs.Common.{sym, false, arith, not, ◌&&◌, ◌||◌, if◌then◌else◌, List, Option, None}
+use Rattle.std.proofs.Common.{Some}
 use Rattle.std.proofs.Common.{slice_get}
+use Rattle.std.proofs.lemmas.Bool.{lt-ltb}
 use Rattle.std.proofs.lemmas.Bool.Decides.{nat_tests}
+use Rattle.usb_tree.proofs.Interface.{neither}
 use Rattle.usb_request.specs.{CLEAR_FEATURE, SET_FEATURE, SET_ADDRESS, SET_CONFIGURATION}
 use Rattle.usb_request.specs.{DEVICE_OUT, ENDPOINT_OUT, PORT_OUT}
 use Rattle.usb_request.specs.{ENDPOINT_HALT, DEVICE_IN, HUB_IN, PORT_IN, GET_DESCRIPTOR, GET_STATUS}
 use Rattle.usb_request.specs.{GET_CONFIGURATION, CONFIGURATION, DEVICE, STRING, HUB}
-use Rattle.usb_request.specs.{IsToHost, Setup, descriptor_value}
+use Rattle.usb_request.specs.{IsToDevice, IsToHost, Setup, changes_kept, descriptor_value}
+use Rattle.usb_request.specs.{DIRECTION_IN, INTERFACE_OUT, SET_INTERFACE, is_coded, is_reserved}
 use Rattle.usb_port.specs.{PortState}
 use Rattle.usb_device.specs.{Is, Outcome, Registers, Spec, stalled, halts, unhalts, tells_port}
 use Rattle.usb_device.specs.Request.{answers}
 use Rattle.usb_device.specs.{outcome, on_endpoint, endpoint_of, ServedEndpoint, told_port}
-use Rattle.usb_device.specs.{asked_descriptor, asked_hub_descriptor, port_named}
+use Rattle.usb_device.specs.{asked_descriptor, asked_hub_descriptor, port_named, answers_taken}
+use Rattle.usb_device.specs.{takes}
+use Rattle.usb_device.proofs.Interface.{asked_own-any}
 use Rattle.usb_world.specs.{asks_no_port, is_harmless}
 
 request_type-other : (n type : ℕ) (b : Bool) → 128 ≤ n → nat_lt type 128 ≡ true
@@ -40,6 +47,34 @@ read_is_free to_hub r host = record {
   sets_port = request_type-other r.request_type PORT_OUT (r.request == SET_FEATURE) host refl;
 }
 
+other_half : (a b : Bool) → a ≡ true → (a && b) ≡ false → b ≡ false
+other_half true b on none = none
+other_half false b on none = absurd (cc on)
+
+-- what the host alone may not send
+pub unreserved_is_free : (to_hub : Bool) (r : Setup) → IsToDevice r → is_reserved to_hub r ≡ false
+    → IsFree to_hub r
+unfolding is_reserved
+unreserved_is_free to_hub r writes none =
+    let kept = other_half (nat_lt r.request_type DIRECTION_IN) (to_hub || changes_kept r)
+    (lt-ltb r.request_type DIRECTION_IN writes) none in
+    let both = neither to_hub (changes_kept r) kept in
+    let sets = neither _ (is_coded PORT_OUT SET_FEATURE r) both.1 in
+    let clears = neither _ (is_coded PORT_OUT CLEAR_FEATURE r) sets.0 in
+    let halt = neither _ (is_coded ENDPOINT_OUT CLEAR_FEATURE r && r.value == ENDPOINT_HALT)
+    clears.0 in
+    let interface = neither _ (is_coded INTERFACE_OUT SET_INTERFACE r) halt.0 in
+    let address = neither (is_coded DEVICE_OUT SET_ADDRESS r)
+    (is_coded DEVICE_OUT SET_CONFIGURATION r) interface.0 in
+    record {
+      reads = inr both.0;
+      address = address.0;
+      configuration = address.1;
+      halt = halt.1;
+      clears_port = clears.1;
+      sets_port = sets.1;
+    }
+
 module _ {to_hub : Bool} (r : Setup) (free : IsFree to_hub r) where
   pub free_is_harmless : is_harmless r ≡ true
   free_is_harmless = rw free.sets_port refl
@@ -49,12 +84,14 @@ module _ {to_hub : Bool} (r : Setup) (free : IsFree to_hub r) where
 
 -- What it asks
 
--- bytes, a refusal, or, of a function, that an endpoint halts
+-- bytes, the host's data, a refusal, or, of a function, that an endpoint halts
 abbrev pub IsAllowed : Bool → Outcome → Type 0
 IsAllowed to_hub stalled = Unit {0}
 IsAllowed to_hub (answers bytes) = Unit {0}
 IsAllowed to_hub (tells_port i) = Unit {0}
 IsAllowed to_hub (halts which) = to_hub ≡ false
+IsAllowed to_hub answers_taken = Unit {0}
+IsAllowed to_hub (takes kept) = Unit {0}
 IsAllowed to_hub o = ⊥
 
 module _ (to_hub : Bool) where
@@ -131,4 +168,5 @@ module _ (to_hub : Bool) where
       (either_fine s.stalls.hub _ _ tt (hub_fine s r))
       (either_fine (Is r PORT_IN GET_STATUS) _ _ (port_fine _)
       (not_asked (Is r PORT_OUT SET_FEATURE) _ _ free.sets_port
-      (not_asked (Is r PORT_OUT CLEAR_FEATURE) _ _ free.clears_port tt))))))))))
+      (not_asked (Is r PORT_OUT CLEAR_FEATURE) _ _ free.clears_port
+      (asked_own-any Fine tt s.requests g r (λ bytes. tt) tt (λ kept. tt))))))))))))

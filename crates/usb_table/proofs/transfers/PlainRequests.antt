@@ -1,33 +1,39 @@
 -- Control transfers of a driver's own are plain: reads, and what has no data.
-use Rattle.std.proofs.Common.{◌≡◌, ◌∙◌, refl, sym, ap, subst, ℕ, ◌==◌, true, false, Bool, List, None}
+use Rattle.std.proofs.Common.{◌≡◌, ◌∙◌, refl, sym, ap, subst, ℕ, ◌==◌, true, false, Bool, List}
+use Rattle.std.proofs.Common.{None}
 use Rattle.std.proofs.Common.{Option, Some, Result, Ok, Err, is_ok, is_some, OnOk, ◌≢◌, ◌<◌, ◌&&◌}
-use Rattle.std.proofs.Common.{length}
+use Rattle.std.proofs.Common.{length, ◌+◌, ◌*◌}
+use Rattle.std.specs.Int.{div_ceil}
 use Rattle.std.specs.Global.{Vec}
 use Rattle.usb_request.specs.{IsToHost, Setup}
 use Rattle.usb_packet.specs.{Toggle}
 use Rattle.usb_port.specs.{PortState}
 use Rattle.usb_device.specs.{accepted, advanced, begun, BulkIn, BulkOut, Changes, EndpointState}
 use Rattle.usb_device.specs.{ending, first_stage, OnlyControl, OnlyStage, Outcome}
-use Rattle.usb_device.specs.{outcome, Spec, State}
+use Rattle.usb_device.specs.{outcome, Spec, State, Stage, answers_taken, takes}
 use Rattle.usb_device.specs.{halts, Location, SourceAt, stalled, tells_port}
 use Rattle.usb_device.specs.Request.{answers}
 use Rattle.usb_world.specs.{BusFault, HasFault, is_harmless, World}
 use Rattle.usb_transaction.specs.{Answerer, Target}
 use Rattle.usb_transaction.proofs.Interface.{spared_all}
-use Rattle.usb_pipe.specs.{Bulk, ControlRead, ControlWrite, FaultAfter, IsNoBusFault, PipeFault}
+use Rattle.usb_pipe.specs.{DataWrite, DataWriteLeaves}
+use Rattle.usb_pipe.specs.{Bulk, ControlRead, ControlWrite, FaultAfter, InPipeInSync, IsNoBusFault}
+use Rattle.usb_pipe.specs.{PipeFault}
 use Rattle.usb_pipe.specs.{ReadLeaves, WriteLeaves}
 use Rattle.usb_pipe.specs.declared.fault.PipeFault.TheVariants as pipe_fault
 use Rattle.usb_pipe.proofs.Interface.{first_stage-address, given_registers, host_harmless}
-use Rattle.usb_address.proofs.Interface.{read_keeps, reads_other, same_setup, write_keeps}
+use Rattle.usb_address.proofs.Interface.{put_keeps, read_keeps, reads_other, same_setup}
+use Rattle.usb_address.proofs.Interface.{write_keeps}
 use Rattle.usb_hub.specs.{EndsAfter}
-use Rattle.usb_hub.proofs.Interface.{reads_backlog, reads_rests, write_backlog, write_rests}
+use Rattle.usb_hub.proofs.Interface.{put_backlog, put_rests, reads_backlog, reads_rests}
+use Rattle.usb_hub.proofs.Interface.{write_backlog, write_rests}
 use Rattle.usb_hub.proofs.Interface.{write_so}
 use Rattle.usb_enum.specs.{Accepted}
 use Rattle.usb_enum.proofs.Interface.{ends_without_fault}
 use Rattle.usb_table.specs.{Absent, ArePipesTo, FitsIn, FitsOut, Function, Hub, is_below_hub}
 use Rattle.usb_table.specs.{Pipes, pipes_at, PipesInSync, SameSettings, Table, without_bytes}
 use Rattle.usb_table.proofs.levels.FittingPipes.{root, same_end, same_tells, still_level}
-use Rattle.usb_table.proofs.levels.FittingPipes.{still_status}
+use Rattle.usb_table.proofs.levels.FittingPipes.{still_status, written_level}
 use Rattle.usb_table.proofs.transfers.FreeRequests.{IsAllowed, IsFree, free_asks_no_port}
 use Rattle.usb_table.proofs.transfers.FreeRequests.{free_is_harmless, outcome_fine}
 use Rattle.usb_table.proofs.transfers.PlainTransfers.{IsPlain}
@@ -69,29 +75,38 @@ read_is_plain path table t request old answer new host x = record {
 -- A device that accepted what is allowed
 
 -- an endpoint keeps its toggle, and its halt
-abbrev MayHalt : EndpointState → EndpointState → Type 0
+abbrev pub MayHalt : EndpointState → EndpointState → Type 0
 MayHalt before after = (after.toggle ≡ before.toggle) × (before.halted ≡ true
     → after.halted ≡ true)
 
-same_halts : (before after : EndpointState) → after ≡ before → MayHalt before after
+pub same_halts : (before after : EndpointState) → after ≡ before → MayHalt before after
 same_halts before after e = (
   ap (λ (x : EndpointState). x.toggle) e,
   λ h. ap (λ (x : EndpointState). x.halted) e ∙ h,
 )
 
 -- settings and toggles are as they were, and so is what is left of the source
-record KeepsEnds (s v : State) : Type 0 where
-  settings : SameSettings root s v
-  place : v.place ≡ s.place
-  out : MayHalt s.bulk_out v.bulk_out
-  into : MayHalt s.bulk_in v.bulk_in
+pub record KeepsEnds (s v : State) : Type 0 where
+  pub settings : SameSettings root s v
+  pub place : v.place ≡ s.place
+  pub out : MayHalt s.bulk_out v.bulk_out
+  pub into : MayHalt s.bulk_in v.bulk_in
 
 record KeepsChanges (s v : State) : Type 0 where
   changes : v.changes ≡ s.changes
   held : v.held ≡ s.held
 
 module _ (s : State) (row : List PortState) (n : ℕ) where
-  began_ends : (to_hub : Bool) (o : Outcome) → IsAllowed to_hub o → KeepsEnds s (begun s row n o)
+  ends_kept : (stage : Stage) → KeepsEnds s (record s { naks = s.spec.naks; stage = stage })
+  ends_kept stage = record {
+    settings = (refl, refl);
+    place = refl;
+    out = (refl, λ h. h);
+    into = (refl, λ h. h);
+  }
+
+  pub began_ends : (to_hub : Bool) (o : Outcome) → IsAllowed to_hub o → KeepsEnds s (begun s row n
+      o)
   began_ends to_hub (halts BulkOut) fine = record {
     settings = (refl, refl);
     place = refl;
@@ -110,42 +125,31 @@ module _ (s : State) (row : List PortState) (n : ℕ) where
     out = (refl, λ h. h);
     into = (refl, λ h. h);
   }
-  began_ends to_hub stalled fine = record {
-    settings = (refl, refl);
-    place = refl;
-    out = (refl, λ h. h);
-    into = (refl, λ h. h);
-  }
-  began_ends to_hub (answers bytes) fine = record {
-    settings = (refl, refl);
-    place = refl;
-    out = (refl, λ h. h);
-    into = (refl, λ h. h);
-  }
-  began_ends to_hub (tells_port i) fine = record {
-    settings = (refl, refl);
-    place = refl;
-    out = (refl, λ h. h);
-    into = (refl, λ h. h);
-  }
+  began_ends to_hub stalled fine = ends_kept _
+  began_ends to_hub (answers bytes) fine = ends_kept _
+  began_ends to_hub (tells_port i) fine = ends_kept _
+  began_ends to_hub answers_taken fine = ends_kept _
+  began_ends to_hub (takes kept) fine = ends_kept _
   began_ends to_hub _ fine = absurd fine
 
   began_changes : (o : Outcome) → IsAllowed true o → KeepsChanges s (begun s row n o)
   began_changes stalled fine = record { changes = refl; held = refl }
   began_changes (answers bytes) fine = record { changes = refl; held = refl }
   began_changes (tells_port i) fine = record { changes = refl; held = refl }
+  began_changes answers_taken fine = record { changes = refl; held = refl }
+  began_changes (takes kept) fine = record { changes = refl; held = refl }
   began_changes (halts which) fine = absurd (cc fine)
   began_changes _ fine = absurd fine
 
-  allowed_address : (to_hub : Bool) (o : Outcome) (address : Option ℕ) → IsAllowed to_hub o
-      → first_stage row n o ≡ ending address → address ≡ None
+  pub allowed_address : (to_hub : Bool) (o : Outcome) (address : Option ℕ) → IsAllowed to_hub o
+      → first_stage row s.taken n o ≡ ending address → address ≡ None
   allowed_address to_hub o None fine e = refl
   allowed_address to_hub o (Some a) fine e =
-      absurd (subst (IsAllowed to_hub) (first_stage-address row n o a e) fine)
+      absurd (subst (IsAllowed to_hub) (first_stage-address row s.taken n o a e) fine)
 
 -- behind it, where nothing but its own transfer moved
 
-ends_on : (s u v : State) → KeepsEnds s u → OnlyControl u v → v.registers ≡ u.registers
+pub ends_on : (s u v : State) → KeepsEnds s u → OnlyControl u v → v.registers ≡ u.registers
     → KeepsEnds s v
 ends_on s u v x frame same = record {
   settings = (ap (λ (d : State). d.spec) frame ∙ x.settings.0, same ∙ x.settings.1);
@@ -190,20 +194,21 @@ source_kept most got t s v x (SourceAt.ahead a b c) =
     (subst (λ n. n < length s.spec.source) (sym x.place) b))
     (x.into.0 ∙ c)
 
+pub into_kept : (pipe : Bulk) (got : ℕ) (s v : State) → KeepsEnds s v → InPipeInSync pipe got s
+    → InPipeInSync pipe got v
+into_kept pipe got s v x f = record {
+  endpoint = record {
+    endpoint = same_end true s v x.settings ∙ f.endpoint.endpoint;
+    not_zero = f.endpoint.not_zero;
+    alone = ap (λ b. pipe.ep == 1 && b) (same_tells s v x.settings) ∙ f.endpoint.alone;
+  };
+  level = λ ready. source_kept pipe.max got pipe.toggle s v x (f.level ready);
+  halted = λ halts. x.into.1 (f.halted halts);
+}
+
 in_kept : (into : Option Bulk) (s v : State) → KeepsEnds s v → FitsIn into s → FitsIn into v
 in_kept None s v x f = tt
-in_kept (Some pipe) s v x (got, f) = (
-  got,
-  record {
-    endpoint = record {
-      endpoint = same_end true s v x.settings ∙ f.endpoint.endpoint;
-      not_zero = f.endpoint.not_zero;
-      alone = ap (λ b. pipe.ep == 1 && b) (same_tells s v x.settings) ∙ f.endpoint.alone;
-    };
-    level = λ ready. source_kept pipe.max got pipe.toggle s v x (f.level ready);
-    halted = λ halts. x.into.1 (f.halted halts);
-  },
-)
+in_kept (Some pipe) s v x (got, f) = (got, into_kept pipe got s v x f)
 
 pub allowed_level : (device : Accepted) (below_hub : Bool) (pipes : Pipes)
     → ArePipesTo device below_hub pipes → (s : State) (row : List PortState) (n : ℕ) (o : Outcome)
@@ -307,3 +312,34 @@ module _ {A : Type 0} (path : List ℕ) (table : Table) (t : Target) (request : 
       who_back (Ok bytes) who done =
           who (λ harm. absurd (cc (free_is_harmless request free, harm)))
       who_back (Err why) who done = absurd (cc done)
+
+-- What has data to the device
+
+module _ (path : List ℕ) (table : Table) (t : Target) (request : Setup) (bytes : List ℕ)
+    {to_hub : Bool} (free : IsFree to_hub request) (old : World)
+    (answer : Result (Unit {0}) PipeFault) (new : World) where
+  pub put_is_plain : DataWrite t request bytes old answer new
+      → IsPlain path table t answer (DataWriteLeaves t request bytes answer old new) old new
+  put_is_plain x = record {
+    addresses = put_keeps t request (same_setup request) (free_is_harmless request free)
+        free.address (div_ceil (length bytes) t.max + 2) 1 old new bytes answer x.ends x.stages;
+    each = λ single. spared_all t request (DataWriteLeaves t request bytes answer old new) old new
+        (free_is_harmless request free) (x.what single);
+    others = λ j s v y. y.others;
+    settings = λ j s v y.
+        (ap (λ (d : State). d.spec) y.frame, ap (λ (d : State). d.registers) y.frame);
+    level = λ j s v y. written_level (pipes_at path table) s v y.frame;
+    sound = ends_without_fault (div_ceil (length bytes) t.max + 2) answer old new x.ends;
+    told = bus_told (div_ceil (length bytes) t.max + 2) answer old new x.ends;
+    rests = put_rests t request (free_asks_no_port request free) bytes answer old new x.settled
+        x.stages;
+    backlog = put_backlog t request bytes answer old new x.settled x.stages free.sets_port;
+    who = answered answer x.who;
+  }
+    where
+      answered : (r : Result (Unit {0}) PipeFault) → OnOk r
+          ((is_harmless request ≡ false → t.addr ≢ 0) → new.shared ≡ false → Answerer t old new)
+          → is_ok r ≡ true → new.shared ≡ false → Answerer t old new
+      answered (Ok bytes) who done =
+          who (λ harm. absurd (cc (free_is_harmless request free, harm)))
+      answered (Err why) who done = absurd (cc done)

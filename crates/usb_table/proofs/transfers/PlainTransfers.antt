@@ -1,6 +1,7 @@
 -- A control transfer to the device at a path that changes no description, no register and no
 -- toggle: what it leaves of all devices and pipes.
-use Rattle.std.proofs.Common.{◌≡◌, ◌∙◌, refl, sym, ap, subst, arith, true, false, ℕ, ◌==◌, List, None}
+use Rattle.std.proofs.Common.{◌≡◌, ◌∙◌, refl, sym, ap, subst, arith, true, false, ℕ, ◌==◌, List}
+use Rattle.std.proofs.Common.{None}
 use Rattle.std.proofs.Common.{Option, Some, Result, Ok, Err, is_ok, is_some, Bool, if◌then◌else◌}
 use Rattle.usb_request.specs.{Setup}
 use Rattle.usb_device.specs.{Location, Registers, State}
@@ -16,7 +17,8 @@ use Rattle.usb_address.specs.{KeepsAddresses}
 use Rattle.usb_backlog.specs.{KeepsAll}
 use Rattle.usb_hub.specs.{TouchesNoPort}
 use Rattle.usb_enum.specs.{Accepted, target_of}
-use Rattle.usb_table.specs.{accepted_device_at, ArePipesAt, ControlledAt, control_most, control_target}
+use Rattle.usb_table.specs.{accepted_device_at, ArePipesAt, ControlledAt, control_most}
+use Rattle.usb_table.specs.{control_target}
 use Rattle.usb_table.specs.{GoesThrough, is_below_hub, KeepsMoved, OnlyTransfers, pipes_at}
 use Rattle.usb_table.specs.{PipesInSync, SameSettings, Table, TableFault, target_asked, Transfer}
 use Rattle.usb_table.specs.{TransferFault, TransferIf, TransferIs, TransferLeaves, TransferMade}
@@ -64,11 +66,9 @@ pub record IsPlain {A : Type 0} (path : List ℕ) (table : Table) (t : Target)
 
 module _ {A : Type 0} (Leaves : TransferLeaves A) (path : List ℕ) (request : Setup) (table : Table)
     (fits : ArePipesAt path table) {old new : World} (t : Target)
-    (asks : control_target path table.entries ≡ Ok t) (answer : Result A PipeFault)
+    (asked : IsAsked (is_below_hub path) (accepted_device_at path table.entries) t)
+    (target : Result Target TransferFault) (asks : target ≡ Ok t) (answer : Result A PipeFault)
     (x : IsPlain path table t answer (Leaves t answer old new) old new) where
-  asked : IsAsked (is_below_hub path) (accepted_device_at path table.entries) t
-  asked = asked_of (is_below_hub path) (accepted_device_at path table.entries) t asks
-
   addressed : t.addr ≡ asked.device.address
   addressed = ap (λ (y : Target). y.addr) asked.target
 
@@ -114,10 +114,11 @@ module _ {A : Type 0} (Leaves : TransferLeaves A) (path : List ℕ) (request : S
   }
 
   -- it was made
-  pub made_controls : (Is : TransferIs A) {text now : Option (List ℕ)} (result : Result A TableFault)
+  pub made_controls : (Is : TransferIs A) {text now : Option (List ℕ)} (result : Result A
+      TableFault)
       → StepRun (control_most request.length) old text new now → Is t old answer new
       → result ≡ table_answer answer
-      → ControlledAt Is Leaves path request table old text result new now
+      → ControlledAt Is Leaves path target request table old text result new now
   made_controls Is result went is e = record {
     went = went;
     told = told_through old answer result new e
@@ -129,13 +130,13 @@ module _ {A : Type 0} (Leaves : TransferLeaves A) (path : List ℕ) (request : S
 
 -- it was not
 pub refused_controls : {A : Type 0} (Is : TransferIs A) (Leaves : TransferLeaves A) (path : List ℕ)
-    (request : Setup) (table : Table) → ArePipesAt path table → {old : World}
-    {text : Option (List ℕ)} {result : Result A TableFault} {new : World} {now : Option (List ℕ)}
-    (fault : TransferFault) → control_target path table.entries ≡ Err fault
+    (target : Result Target TransferFault) (request : Setup) (table : Table)
+    → ArePipesAt path table → {old : World} {text : Option (List ℕ)} {result : Result A TableFault}
+    {new : World} {now : Option (List ℕ)} (fault : TransferFault) → target ≡ Err fault
     → result ≡ Err (Transfer fault) → new ≡ old → StepRun 0 old text new now
-    → ControlledAt Is Leaves path request table old text result new now
-refused_controls Is Leaves path request table fits {old} {result = result} {new} fault asks e same
-    went = record {
+    → ControlledAt Is Leaves path target request table old text result new now
+refused_controls Is Leaves path target request table fits {old} {result = result} {new} fault asks e
+    same went = record {
       went = went_wider 0 (control_most request.length) went (omega arith);
       told = rw e tt;
       did = subst (λ r. TransferIf Is Leaves path table r old result new) (sym asks) (e, same);
