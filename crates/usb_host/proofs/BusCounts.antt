@@ -1,5 +1,5 @@
 -- What a bus counts and reports, as its host has it.
-use Rattle.std.proofs.Common.{◌≡◌, ◌+◌, ◌≤◌, ap, arith, ℕ, Bool, true, false, Option, None, Some}
+use Rattle.std.proofs.Common.{◌≡◌, ◌+◌, ◌≤◌, ap, arith, ℕ, Bool, true, false, Option, Some}
 use Rattle.std.proofs.Common.{refl, List, Result, Ok, Err, IfErr}
 use Rattle.usb_world.specs.{BusFault}
 use Rattle.usb_enum.specs.{EnumFault, IsReported}

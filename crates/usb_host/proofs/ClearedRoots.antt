@@ -1,5 +1,5 @@
 -- A root port of a world tells of no change right behind its clearing.
-use Rattle.std.proofs.Common.{◌≡◌, ◌∙◌, ◌-◌, ◌≤◌, ap, arith, length, false, true, refl, subst, sym}
+use Rattle.std.proofs.Common.{◌≡◌, ◌∙◌, ◌-◌, ◌≤◌, ap, arith, length, false, refl}
 use Rattle.std.proofs.Common.{Ok, Result, ℕ}
 use Rattle.std.proofs.lemmas.List.{get_or-set_same}
 use Rattle.usb_request.specs.{C_PORT_CONNECTION, PORT_ENABLE}

@@ -1,16 +1,16 @@
 -- After which control transfers of a driver's own the bus still works.
-use Rattle.std.proofs.Common.{◌≡◌, ℕ, ◌==◌, Bool, true, false, List, Result, Ok, Err}
-use Rattle.std.proofs.Common.{MatchResult, ap, refl, sym, ◌∙◌}
+use Rattle.std.proofs.Common.{◌≡◌, ℕ, ◌+◌, ◌==◌, length, Bool, true, false, List, Result, Ok, Err}
+use Rattle.std.proofs.Common.{ap, sym, ◌∙◌}
 use Rattle.std.specs.Global.{Vec}
+use Rattle.std.specs.Int.{div_ceil}
 use Rattle.usb_request.specs.{Setup}
 use Rattle.usb_world.specs.{World}
-use Rattle.usb_transaction.specs.{AttemptsMade, Target}
-use Rattle.usb_pipe.specs.{PipeFault, FaultAfter}
-use Rattle.usb_hub.specs.{StillWorks, WorksAfter}
+use Rattle.usb_transaction.specs.{Target}
+use Rattle.usb_pipe.specs.{PipeFault}
+use Rattle.usb_hub.specs.{WorksAfter}
 use Rattle.usb_table.specs.{MadeOrRefused, ReadIf, ReadLeft, ReadMade, Table, TableFault}
-use Rattle.usb_table.specs.{TransferFault, TransferIf, TransferIs, TransferLeaves, table_answer}
-use Rattle.usb_table.specs.{without_bytes}
-use Rattle.usb_table.specs.declared.fault.TableFault.TheVariants as table
+use Rattle.usb_table.specs.{TransferFault, TransferIf, TransferIs, TransferLeaves}
+use Rattle.usb_table.specs.{WriteIf, WriteLeft, WriteMade, without_bytes}
 use Rattle.usb_host.specs.{AsksOrRefuses, HostFault, HostState, host_told, is_final}
 use Rattle.usb_host.specs.declared.fault.HostFault.TheVariants as host
 use Rattle.usb_host.proofs.WorkingBuses.{TableWorks, ToldWorks, host_works, made_works, same_works}
@@ -46,6 +46,24 @@ pub read_told_works : (request : Setup) (path : List ℕ) (tab : Table)
 read_told_works request path tab target old new answer result is did =
     host_works result answer old new is (transfer_works (ReadMade request) (ReadLeft request)
     (read_works (request.length == 0) request) path tab target old answer new did)
+
+write_works : (none : Bool) (request : Setup) (bytes : List ℕ) (t : Target) (old : World)
+    (answer : Result (Unit {0}) PipeFault) (new : World)
+    → WriteIf none request bytes t old answer new
+    → WorksAfter answer old new
+write_works true request bytes t old answer new x = made_works 2 1 answer old new x.ends
+write_works false request bytes t old answer new x =
+    made_works (div_ceil (length bytes) t.max + 2) 1 answer old new x.ends
+
+pub write_told_works : (request : Setup) (bytes path : List ℕ) (tab : Table)
+    (target : Result Target TransferFault) (old new : World) (answer : Result (Unit {0}) TableFault)
+    (result : Result (Unit {0}) HostFault) → result ≡ host_told answer
+    → TransferIf (WriteMade request bytes) (WriteLeft request bytes) path tab target old answer new
+    → ToldWorks old result new
+write_told_works request bytes path tab target old new answer result is did =
+    host_works result answer old new is (transfer_works (WriteMade request bytes)
+    (WriteLeft request bytes) (write_works (request.length == 0) request bytes) path tab target old
+    answer new did)
 
 -- Over any bus
 

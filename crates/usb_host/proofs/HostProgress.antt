@@ -6,8 +6,8 @@ use Rattle.usb_port.specs.{path_cmp}
 use Rattle.usb_world.proofs.Interface.{way_itself}
 use Rattle.usb_resources.specs.{IsFull}
 use Rattle.usb_enum.specs.declared.cause.Cause.TheVariants as cause
-use Rattle.usb_enum.specs.{EnumFault, ParentLost, Bus, Memory, Finding}
-use Rattle.usb_enum.specs.declared.finding.Finding.TheVariants.{Device, Refused}
+use Rattle.usb_enum.specs.{EnumFault, Bus, Memory, Finding}
+use Rattle.usb_enum.specs.declared.finding.Finding.TheVariants.{Refused}
 use Rattle.usb_table.specs.{Entries, Replaced, without, is_waiting}
 use Rattle.usb_host.specs.{HostState, work, HostFault, Waits, Gained, ProgressOrLost, EndsAs}
 use Rattle.usb_host.specs.{EntersOne, HostRuns, OnlyBusSteps, AddsNoWork, HostProgress, waiting}

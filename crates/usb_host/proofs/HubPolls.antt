@@ -18,7 +18,7 @@ use Rattle.usb_host.proofs.payments.HubPayments.{tells_shows, told_fails, told_p
 use Rattle.usb_host.proofs.services.CutPorts.{on_errors}
 use Rattle.usb_host.proofs.services.HubServices.{hub_tells, polls_cut, polls_failed, polls_lost}
 use Rattle.usb_host.proofs.services.HubServices.{polls_quiet, polls_told, polls_undropped}
-use Rattle.usb_host.proofs.services.HubServices.{told_of_ports}
+use Rattle.usb_host.proofs.services.HubServices.{LeavesRest, told_of_ports}
 use Rattle.usb_host.proofs.StepSums.{host_goes_then, goes_wider}
 use Rattle.usb_host.proofs.devices.Owners.{single_then, stays_kept}
 use Rattle.usb_host.proofs.RoundParts.{hub_bulk, hub_droppable, hub_fails, hub_gone, hub_listed}
@@ -29,7 +29,7 @@ use Rattle.usb_host.proofs.knowledge.Soundness.{sound_kept}
 
 module _ {hub : List ℕ} (a b : HostState) (agrees : Agrees a.entries a.addresses)
     (same : b.entries ≡ a.entries) (pool : b.addresses ≡ a.addresses)
-    (stopped : b.stopped ≡ a.stopped) (went : HostSteps 768 a b)
+    (stopped : b.stopped ≡ a.stopped) (rest : LeavesRest a b) (went : HostSteps 768 a b)
     (through : GoesThrough hub (table_in a) (table_in b))
     (listed : IsSome (hub_facts_at hub a.entries)) where
   poll_goes : HostRuns 768 a b
@@ -49,7 +49,7 @@ module _ {hub : List ℕ} (a b : HostState) (agrees : Agrees a.entries a.address
       sound = tt;
     });
     polls = tt;
-    fails = λ i before. polls_failed hub a b same pool stopped went listed why asks
+    fails = λ i before. polls_failed hub a b same pool rest went listed why asks
         (hub_stays a b agrees same pool stopped went keeps through asks i before);
     pays = poll_fails hub a b agrees same pool went (Err fault) refl;
   }
@@ -67,10 +67,10 @@ module _ {hub : List ℕ} (a b : HostState) (agrees : Agrees a.entries a.address
       keeps = hub_quiet a b agrees same pool stopped went keeps through asks
           (pipes_at hub (table_in a)) (pipes_at hub (table_in b)) refl through.fits
           (rw none at asks);
-      polls = polls_quiet hub a b same pool stopped went listed asks keeps none;
+      polls = polls_quiet hub a b same pool rest went listed asks keeps none;
       fails = tt;
       pays = poll_none hub a b agrees same pool went keeps
-          (hub_tells hub a b same pool stopped went listed asks keeps);
+          (hub_tells hub a b same pool rest went listed asks keeps);
     }
 
     -- it told of changes, which were served
@@ -82,7 +82,7 @@ module _ {hub : List ℕ} (a b : HostState) (agrees : Agrees a.entries a.address
 
       of_ports : HostInvariant a → byte ≢ 1
       of_ports s =
-          told_of_ports hub a b same pool stopped went listed asks keeps packet is read
+          told_of_ports hub a b same pool rest went listed asks keeps packet is read
           still s
 
       pub poll_served : a.world.attempts + 1 ≤ b.world.attempts → ServesTold hub byte b (Ok tt) d
@@ -90,14 +90,14 @@ module _ {hub : List ℕ} (a b : HostState) (agrees : Agrees a.entries a.address
       poll_served more y = record {
         keeps = hub_told a b agrees same pool stopped went keeps through asks d refl y.goes y.owned
             (λ s. (y.ports (of_ports s)).part.sound);
-        polls = polls_told hub a b same pool stopped went listed asks keeps packet byte d is read
+        polls = polls_told hub a b same pool rest went listed asks keeps packet byte d is read
             y.goes more y.holds y.order
             (λ s. (y.ports (of_ports s)).served (told_sound s));
         fails = tt;
         pays = pays_where (HubPaid hub)
             (λ s. told_pays hub a b agrees same pool went d told_bound y.goes.went byte (Ok got)
             refl keeps (y.ports (of_ports s)).pays
-            (tells_shows hub a b agrees same pool stopped went listed got asks keeps packet byte is
+            (tells_shows hub a b agrees same pool rest went listed got asks keeps packet byte is
             read));
       }
 
@@ -113,7 +113,7 @@ module _ {hub : List ℕ} (a b : HostState) (agrees : Agrees a.entries a.address
             }) e (omega arith));
         polls = is_err-if_ok other _ e;
         fails = on_errors other (HostInvariant a → a.world.fault ≡ None → HubFails hub a d)
-            (λ s before. polls_cut hub a b same pool stopped went listed asks keeps packet byte is
+            (λ s before. polls_cut hub a b same pool rest went listed asks keeps packet byte is
             read still (hub_bulk a b agrees same pool stopped went keeps through asks s still)
             ((y.ports (of_ports s)).fails (told_sound s) still) s);
         pays = pays_where (HubPaid hub)
@@ -137,7 +137,7 @@ module _ {hub : List ℕ} (a b : HostState) (agrees : Agrees a.entries a.address
     poll_lost more y = record {
       keeps = hub_gone a b agrees same pool stopped went keeps through asks d not_served listed
           y.goes y.owned y.sound;
-      polls = polls_lost hub a b same pool stopped went listed why asks keeps d not_served y.goes
+      polls = polls_lost hub a b same pool rest went listed why asks keeps d not_served y.goes
           more y.holds y.owned.lost;
       fails = tt;
       pays = drop_pays hub a b agrees same pool went d y.goes.went keeps listed y.sound y.hubs;
@@ -158,7 +158,7 @@ module _ {hub : List ℕ} (a b : HostState) (agrees : Agrees a.entries a.address
               }) e (omega arith));
           polls = is_err-if_ok other _ e;
           fails = on_errors other (HostInvariant a → a.world.fault ≡ None → HubFails hub a d)
-              (λ i none. polls_undropped hub a b same pool stopped went listed why asks
+              (λ i none. polls_undropped hub a b same pool rest went listed why asks
               (hub_bulk a b agrees same pool stopped went keeps through asks i (works none))
               (record {
                 entries = y.cut;

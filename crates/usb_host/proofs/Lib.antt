@@ -1,6 +1,8 @@
 pub mod devices
 pub mod entries
 pub mod knowledge
+pub mod looks
+pub mod arrivals
 pub mod parts
 pub mod payments
 pub mod rests

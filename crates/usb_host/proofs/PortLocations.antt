@@ -7,7 +7,7 @@ use Rattle.std.specs.Map.{lookup}
 use Rattle.std.specs.BTreeMap.{is_at}
 use Rattle.usb_port.specs.{path_cmp, parent_of, port_on_hub, IsPath}
 use Rattle.usb_port.proofs.Interface.{is_path, rejoined}
-use Rattle.usb_device.specs.{Ports, ended, vacant, taken, row_of, reach, reach_at}
+use Rattle.usb_device.specs.{Ports, vacant, taken, row_of, reach, reach_at}
 use Rattle.usb_tree.specs.{is_way}
 use Rattle.usb_world.specs.{World}
 use Rattle.usb_world.proofs.Interface.{way_rest}

@@ -20,6 +20,8 @@ use Rattle.usb_host.specs.{HostSteps, OnlyBusSteps, waiting, ClearsError, Clears
 use Rattle.usb_host.specs.{LookedOrLost, LooksAfterError, LooksAt, RenewsPort, HostInvariant}
 use Rattle.usb_host.specs.{Agrees, EntersFound, FindsAnew, first_failed, next_done, table_in}
 use Rattle.usb_world.specs.{World}
+use Rattle.usb_backlog.specs.{KeepsAll, KeepsFound}
+use Rattle.usb_backlog.proofs.Interface.{anew_owed, found_all, found_then}
 use Rattle.usb_host.proofs.devices.BulkPipes.{bulk_stays, bulk_then, stays_where, where_joined}
 use Rattle.usb_host.proofs.devices.Causes.{cleared_caused, entered_finds, forgot_caused}
 use Rattle.usb_host.proofs.devices.Causes.{fault_none_back, unentered_finds, unfound_finds}
@@ -28,7 +30,7 @@ use Rattle.usb_host.proofs.devices.Fairness.{fair_after, fair_before}
 use Rattle.usb_host.proofs.OwnedPorts.{found_ends, found_fails, found_lost, rests_keeps_port}
 use Rattle.usb_host.proofs.OwnedPorts.{stays_keeps_port, port_then, stays_bare}
 use Rattle.usb_host.proofs.entries.HubCounts.{hubs-found, hubs-gone, hubs-rest, none_rests}
-use Rattle.usb_host.proofs.StepSums.{goes_forgotten, host_goes_none, goes_wider}
+use Rattle.usb_host.proofs.StepSums.{goes_forgotten, host_goes_none}
 use Rattle.usb_host.proofs.payments.LookPayments.{look_bare, look_lost, look_pays, plan_within-went}
 use Rattle.usb_host.proofs.HostProgress.{enters_few, enters_other, without_rests, looks, renews}
 use Rattle.usb_host.proofs.HostProgress.{served_any}
@@ -211,6 +213,9 @@ look_fails {path = path} port {a = a} {b = b} {fault = fault} s r x =
         pays = λ i still before status ports at changed.
             look_lost a b s went i before status ports at (none_rests a went r) fault x.keeps;
         few = λ i most plan. omega (arith, went.spends.most);
+        anew = λ i ports on still. anew_owed path ports (found_all path
+            (x.keeps.backlog (claims a.entries) path (stands_at-claim s) i.owned
+            (goes_as (Unit {0}) PortStatus fault on)));
       };
       hubs = omega (arith, hubs-rest a r);
       looked = λ o. cleared_failed s r went o fault;
@@ -246,12 +251,18 @@ module _ {path : List ℕ} {port : KnownPort} {a b c : HostState} (s : StandsAt 
         (fault_none_back b c f.others fair.still) caused;
   }
 
+  cleared_keeps : HostInvariant a → KeepsFound path a.world c.world
+  cleared_keeps i = found_all path (subst (KeepsAll a.world)
+      (ap (λ (h : HostState). h.world) (sym f.others))
+      (x.keeps.backlog (claims a.entries) path (stands_at-claim s) i.owned tt))
+
   bare_pays : PaysAtLook path a (Ok tt) c
   bare_pays = record {
     pays = λ i still before told ports at changed.
         look_bare a b s look_went i before told ports at changed status x.paid c f.others
         (record { went = look_goes.went; hubs = hubs-gone path a b c r f.rest }) still;
     few = λ i most plan. omega (arith, look_goes.went.spends.most);
+    anew = λ i ports on still. anew_owed path ports (cleared_keeps i);
   }
 
   bare_looked : status.connected ≡ false → IsOwned a → LookedOrLost path a (Ok tt) c
@@ -357,6 +368,8 @@ module _ {path : List ℕ} {port : KnownPort} {a b c : HostState} (s : StandsAt 
               look_goes.went.spends.most,
               z.sound.few (look_opens i) most (plan_within-went most a c look_goes.went plan),
             );
+        anew = λ i ports on still. anew_owed path ports (found_then path (cleared_keeps i)
+            (z.sound.backlog (look_opens i) still));
       }
 
 pub look_done : {path : List ℕ} {port : KnownPort} {a b d : HostState}

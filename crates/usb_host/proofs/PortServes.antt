@@ -1,6 +1,6 @@
 -- What the serving and the handling of a port leave.
-use Rattle.std.proofs.Common.{◌≡◌, ◌∙◌, ◌+◌, ◌*◌, ◌≤◌, arith, inr, refl, true, false, ℕ, List}
-use Rattle.std.proofs.Common.{[], ◌∷◌, ◌++◌, None, Some, Result, Ok, Err, IsErr, OnOk}
+use Rattle.std.proofs.Common.{◌≡◌, ◌∙◌, ◌+◌, ◌*◌, ◌≤◌, arith, refl, true, false, ℕ, List}
+use Rattle.std.proofs.Common.{[], ◌∷◌, ◌++◌, None, Some, Result, Ok, Err, OnOk}
 use Rattle.usb_port.specs.{PortStatus}
 use Rattle.usb_address.proofs.Interface.{keeps_then}
 use Rattle.usb_pipe.specs.{write_bound}
@@ -12,7 +12,7 @@ use Rattle.usb_host.specs.{KeepsPort, PortOwned, ServesSound, Watches, EndsAs, I
 use Rattle.usb_host.specs.{StandsNowhere, Waits, HostSteps, OnlyBusSteps, ClearsOwn, SettlesPort}
 use Rattle.usb_host.specs.{ShowsPort, TidiesPort, EndsAt, FinishesAt, HandlesPort, LooksAfterError}
 use Rattle.usb_host.specs.{LooksAt, LooksOnceMore, ServesOwn, ServesPort, HostInvariant, Part}
-use Rattle.usb_host.specs.{HostFault, DoneAt, OwnHandled, OwnServed, Round, Quiet, Worked, all_done}
+use Rattle.usb_host.specs.{HostFault, DoneAt, OwnHandled, OwnServed, Quiet, all_done}
 use Rattle.usb_host.specs.{at_connection, at_error, at_others, first_failed, hub_failed, next_done}
 use Rattle.usb_host.specs.{by_both, own_known}
 use Rattle.usb_host.proofs.devices.BulkPipes.{bulk_stays, bulk_then, stay_joined, stay_none}
@@ -23,14 +23,13 @@ use Rattle.usb_host.proofs.knowledge.FinishedPorts.{finished_sound}
 use Rattle.usb_host.proofs.payments.HandlingPayments.{handling_pays}
 use Rattle.usb_host.proofs.OwnedPorts.{port_finished, rests_keeps_port, port_then, stays_rests}
 use Rattle.usb_host.proofs.entries.HubCounts.{hubs-rest, none_rests}
-use Rattle.usb_host.proofs.StepSums.{advances_then, host_goes_none, host_goes_then, no_work_then}
+use Rattle.usb_host.proofs.StepSums.{host_goes_none, host_goes_then, no_work_then}
 use Rattle.usb_host.proofs.StepSums.{host_rests_then}
 use Rattle.usb_host.proofs.payments.LookPayments.{plan_within-went}
-use Rattle.usb_host.proofs.HostProgress.{handled, served_on}
+use Rattle.usb_host.proofs.HostProgress.{handled}
 use Rattle.usb_host.proofs.rests.OtherChanges.{failed_served, none_failed, watched_plain}
 use Rattle.usb_host.proofs.devices.Plugs.{plugs_rests, plugs_then}
-use Rattle.usb_host.proofs.RoundParts.{part-fails, part-none, part-wider}
-use Rattle.usb_host.proofs.payments.Payments.{is_err-if_ok}
+use Rattle.usb_host.proofs.RoundParts.{part-none}
 use Rattle.usb_host.proofs.entries.Roots.{waits_somewhere}
 use Rattle.usb_host.proofs.PortRequests.{goes_as, requested-fails, requested-then, shows_shown}
 use Rattle.usb_host.proofs.PortRequests.{shows_watches}
@@ -39,9 +38,9 @@ use Rattle.usb_host.proofs.knowledge.ServedPorts.{rests_stands, tidied_port, tid
 use Rattle.usb_host.proofs.knowledge.ServedPorts.{watched_lost, watched_sound, watched_stay}
 use Rattle.usb_host.proofs.services.ServedWork.{looked_on, rests_holds, status_lost_on, tidied_on}
 use Rattle.usb_host.proofs.payments.ServePayments.{after_look, after_tidy, status_lost, told_there}
-use Rattle.usb_host.proofs.services.CutPorts.{cut_after, looked_left, on_errors, port_cut}
+use Rattle.usb_host.proofs.services.CutPorts.{cut_after, on_errors, port_cut}
 use Rattle.usb_host.proofs.services.CutPorts.{served_left}
-use Rattle.usb_host.proofs.services.Services.{handled_at, handled_once, handles_at, serves_looked}
+use Rattle.usb_host.proofs.services.Services.{handled_at, handles_at, serves_looked}
 use Rattle.usb_host.proofs.services.Services.{serves_tidied, status_failed}
 
 -- A port is served
@@ -226,7 +225,7 @@ module _ {path : List ℕ} {port : KnownPort} {a b : HostState} (s : StandsAt pa
 
 -- Where its hub was lost, that was dropped
 
-done_by : (Does : KnownPort → HostState → Result (Unit {0}) EnumFault → HostState → Type 0)
+pub done_by : (Does : KnownPort → HostState → Result (Unit {0}) EnumFault → HostState → Type 0)
     (path : List ℕ) {port : KnownPort} (served : Result (Unit {0}) EnumFault)
     (result : Result (Unit {0}) HostFault) (a b d : HostState)
     → known_port path a.entries ≡ Some port → EndsAs served result
@@ -333,31 +332,3 @@ look_nowhere {path = path} {h = h} none waits = record {
   order = (none, refl);
   cut = tt;
 }
-
-module _ {path : List ℕ} {port : KnownPort} {a b d : HostState} (s : StandsAt path port a)
-    {served : Result (Unit {0}) EnumFault} where
-  pub look_once_fails : {fault : HostFault} (ends : EndsAs served (Err fault))
-      → FinishesAt path served b (Err fault) d → LooksAt path port a served b
-      → {other : Result Round HostFault} → IsErr other → LooksOnceMore path a other d
-  look_once_fails {fault = fault} ends y x {other = other} e = record {
-    part = part-fails other (look_finished s ends y x) e (omega arith);
-    did = is_err-if_ok other _ e;
-    looked = is_err-if_ok other _ e;
-    order = is_err-if_ok other _ e;
-    cut = on_errors other _ (port_cut path served (Err fault) a b d y.goes.went ends y.left
-        (λ i. looked_left path served a b (x.looked i.owned)) x.sound.cut
-        (λ i. y.drops.cut (x.sound.sound i)));
-  }
-
-  pub look_once : EndsAs served (Ok tt) → FinishesAt path served b (Ok tt) d → Waits path a
-      → LooksAt path port a served b → LooksOnceMore path a (Ok Worked) d
-  look_once ends y waits x = record {
-    part = part-wider Round (look_finished s ends y x) (omega arith);
-    did = record {
-      did = advances_then a b d (served_on served tt a b ends (x.on (inr waits))) y.holds;
-      some = λ r is. cc is;
-    };
-    looked = λ i. (refl, handled_once path served a b d ends y.left (x.looked i.owned));
-    order = done_by _ path served (Ok tt) a b d s.known ends y.left x.order;
-    cut = tt;
-  }

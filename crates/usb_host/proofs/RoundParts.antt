@@ -6,7 +6,6 @@ use Rattle.usb_tree.specs.{pending}
 use Rattle.usb_world.specs.{World}
 use Rattle.usb_transaction.specs.{NoThreeDamaged}
 use Rattle.usb_pipe.specs.{PipeFault}
-use Rattle.usb_pipe.specs.declared.fault.PipeFault.TheVariants.{Stalled, Busy, NoAnswer, Broken}
 use Rattle.usb_pipe.specs.declared.fault.PipeFault.TheVariants.{Bus, Memory}
 use Rattle.usb_hub.specs.{NoHubFailed}
 use Rattle.usb_enum.proofs.Interface.{went_sound}

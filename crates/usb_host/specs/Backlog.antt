@@ -6,12 +6,13 @@ use Rattle.usb_port.specs.{PortState, is_attached, PortStatus}
 use Rattle.usb_device.specs.{empty, place, port_there, state_there}
 use Rattle.usb_world.specs.{AtPorts, World}
 use Rattle.usb_address.specs.{AddressMap, MapHolds, WhileBusWorks}
-use Rattle.usb_backlog.specs.{KeepsAll, KeepsPlain, PaysBare, PaysLook, PaysStray}
+use Rattle.usb_backlog.specs.{KeepsAll, KeepsPlain, OwesAnew, PaysBare, PaysLook, PaysStray}
 use Rattle.usb_hub.specs.{HubPort, IsAt, PortStatusAt}
 use Rattle.usb_enum.specs.{EnumFault, ParentLost, Bus, Memory, read_bound, IsOrderly, HasPlanWithin}
 use Rattle.usb_table.specs.{Entries, is_hub}
 use Rattle.usb_host.specs.Bounds.{clearing_bound, deciding_bound}
 use Rattle.usb_host.specs.HostStates.{HostState}
+use Rattle.usb_host.specs.PortHandling.{LetsGoOn}
 use Rattle.usb_host.specs.Progress.{HostSteps}
 use Rattle.usb_host.specs.Soundness.{HostInvariant}
 
@@ -86,6 +87,9 @@ pub record PaysAtLook (path : List ℕ) (old : HostState) (result : Result (Unit
   -- the answer is
   pub few : HostInvariant old → (most : ℕ) → (old.world.fault ≡ None → HasPlanWithin most old.world)
       → new.world.attempts ≤ old.world.attempts + (clearing_bound + 250000 + 100 * most)
+  -- nothing need have been told: a look is owed again for each device at most
+  pub anew : HostInvariant old → AtPorts old.world.left → LetsGoOn result → new.world.fault ≡ None
+      → OwesAnew old.world new.world
 
 -- Ports that are served
 

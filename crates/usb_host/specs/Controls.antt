@@ -5,8 +5,10 @@ use Rattle.std.specs.Global.{Vec}
 use Rattle.usb_request.specs.{Setup}
 use Rattle.usb_transaction.specs.{Target}
 use Rattle.usb_pipe.specs.{PipeFault}
-use Rattle.usb_table.specs.{control_most, control_target, KeepsMoved, ReadLeft, ReadMade, TableFault}
+use Rattle.usb_table.specs.{control_most, control_target, KeepsMoved, ReadLeft, ReadMade}
+use Rattle.usb_table.specs.{TableFault}
 use Rattle.usb_table.specs.{TransferFault, TransferIf, TransferIs, TransferLeaves, table_answer}
+use Rattle.usb_table.specs.{WriteLeft, WriteMade, write_target}
 use Rattle.usb_host.specs.declared.fault.HostFault.{HostFault}
 use Rattle.usb_host.specs.declared.fault.HostFault.TheVariants.{Transfer}
 use Rattle.usb_host.specs.HostCalls.{TransferTells, TransfersAnyBus}
@@ -23,32 +25,45 @@ AsksOrRefuses {A} (Ok target) old result new =
 AsksOrRefuses (Err fault) old result new = (result ≡ Err (Transfer fault)) × (new ≡ old)
 
 -- unless the host had stopped
-abbrev pub ControlsOrRefuses : {A : Type 0} → List ℕ → HostState → Result A HostFault → HostState
-    → Type 0
-ControlsOrRefuses path old result new = old.stopped ≡ false
-    → AsksOrRefuses (control_target path old.entries) old result new
+abbrev pub ControlsOrRefuses : {A : Type 0} → Result Target TransferFault → HostState
+    → Result A HostFault → HostState → Type 0
+ControlsOrRefuses target old result new = old.stopped ≡ false
+    → AsksOrRefuses target old result new
 
-pub record ControlsAnyBus {A : Type 0} (modelled : Bool) (path : List ℕ) (request : Setup)
-    (old : HostState) (result : Result A HostFault) (new : HostState) : Type 0 where
-  pub calls : TransfersAnyBus modelled (control_most request.length) old result new
-  pub refuses : ControlsOrRefuses path old result new
+pub record ControlsAnyBus {A : Type 0} (modelled : Bool) (target : Result Target TransferFault)
+    (request : Setup) (old : HostState) (result : Result A HostFault) (new : HostState) : Type 0
+  where
+    pub calls : TransfersAnyBus modelled (control_most request.length) old result new
+    pub refuses : ControlsOrRefuses target old result new
 
 -- the transfer was made as the table says, and its answer is the host's; no pipe changes
 pub record ControlsAt {A : Type 0} (Is : TransferIs A) (Leaves : TransferLeaves A) (path : List ℕ)
-    (request : Setup) (old : HostState) (result : Result A HostFault) (new : HostState) : Type 0
-  where
-    pub answer : Result A TableFault
-    pub told : result ≡ host_told answer
-    pub same : table_in new ≡ table_in old
-    pub did : TransferIf Is Leaves path (table_in old) (control_target path old.entries)
-        old.world answer new.world
-    pub keeps : KeepsMoved path (table_in old) old.world (table_in new) new.world
+    (target : Result Target TransferFault) (old : HostState) (result : Result A HostFault)
+    (new : HostState) : Type 0 where
+  pub answer : Result A TableFault
+  pub told : result ≡ host_told answer
+  pub same : table_in new ≡ table_in old
+  pub did : TransferIf Is Leaves path (table_in old) target old.world answer new.world
+  pub keeps : KeepsMoved path (table_in old) old.world (table_in new) new.world
 
 -- unless the host had stopped
 abbrev pub ReadAt : List ℕ → Setup → HostState → Result (Vec ℕ) HostFault → HostState → Type 0
 ReadAt path request old result new = old.stopped ≡ false
-    → ControlsAt (ReadMade request) (ReadLeft request) path request old result new
+    → ControlsAt (ReadMade request) (ReadLeft request) path (control_target path old.entries) old
+    result new
+
+abbrev pub WrittenAt : List ℕ → Setup → List ℕ → HostState → Result (Unit {0}) HostFault
+    → HostState → Type 0
+WrittenAt path request bytes old result new = old.stopped ≡ false
+    → ControlsAt (WriteMade request bytes) (WriteLeft request bytes) path
+    (write_target path request old.entries) old result new
 
 -- `control_in`
 abbrev pub ReadTells : List ℕ → Setup → HostState → Result (Vec ℕ) HostFault → HostState → Type 0
 ReadTells path request = TransferTells (control_most request.length) (ReadAt path request)
+
+-- `control_out`
+abbrev pub WriteTells : List ℕ → Setup → List ℕ → HostState → Result (Unit {0}) HostFault
+    → HostState → Type 0
+WriteTells path request bytes =
+    TransferTells (control_most request.length) (WrittenAt path request bytes)

@@ -9,7 +9,7 @@ use Rattle.usb_host.specs.Bounds.{clear_bound, round_bound}
 use Rattle.usb_host.specs.Budget.{RoundKeeps}
 use Rattle.usb_host.specs.HostStates.{HostState, opening_host}
 use Rattle.usb_host.specs.Ownership.{HostMapHolds}
-use Rattle.usb_host.specs.Progress.{HostSpends, HostSteps, QuietKeeps}
+use Rattle.usb_host.specs.Progress.{HostSpends, HostSteps, KeepsNumbers, QuietKeeps}
 use Rattle.usb_host.specs.Service.{DidParts, PartsFail}
 use Rattle.usb_host.specs.Soundness.{HostInvariant, TransferKeeps}
 use Rattle.usb_host.specs.ToldFaults.{IsReportedLast, RoundFaultAllowed, StopsAsRound}
@@ -20,11 +20,12 @@ use Rattle.usb_host.specs.declared.fault.HostFault.{HostFault}
 use Rattle.usb_host.specs.declared.host.Round.{Round}
 
 -- over any bus: at most so many attempts were made, and a fault of the bus is the one that it
--- reported last. Of a modelled bus its world says both
+-- reported last. Of a modelled bus its world says both. Devices keep their numbers
 pub record CallsAnyBus {A : Type 0} (modelled : Bool) (most : ℕ) (old : HostState)
     (result : Result A HostFault) (new : HostState) : Type 0 where
   pub spends : HostSpends most old new
   pub told : modelled ≡ false → IfErr result (λ fault. IsReportedLast fault new.counts.failed)
+  pub numbers : KeepsNumbers old new
 
 -- so it is of a round; a quiet one changed no entry, and left no more root ports alone
 pub record RoundsAnyBus (modelled : Bool) (old : HostState) (result : Result Round HostFault)

@@ -9,6 +9,8 @@ use Rattle.usb_enum.specs.{Finding}
 use Rattle.usb_enum.specs.declared.finding.Finding.TheVariants.{Device, Refused}
 use Rattle.usb_table.specs.{Pipes, Entries}
 use Rattle.usb_host.specs.LeftPorts.{LeftStatuses, none_left}
+use Rattle.usb_host.specs.Numbers.{DeviceNumbers, first_numbers}
+use Rattle.usb_host.specs.Reported.{ReportedDevices}
 
 -- what a bus counted and reported, and what its root ports showed that are left alone, where it is
 -- not modelled: of a modelled one its world says so, and no port of it is left alone
@@ -36,6 +38,8 @@ pub record HostState : Type 0 where
   pub entries : Entries
   pub pipes : List (List ℕ × Pipes)  -- to what was found, by path
   pub addresses : Addresses  -- those that are taken
+  pub numbers : DeviceNumbers
+  pub reported : ReportedDevices  -- to the caller, by `next_news`
   pub stopped : Bool
 
 -- each port of a row lost power and has it again, and what is on it stays
@@ -54,6 +58,8 @@ opening_host w t = record {
       [];
   pipes = [];
   addresses = set.empty;
+  numbers = first_numbers;
+  reported = [];
   stopped = false;
 }
 

@@ -11,6 +11,10 @@ pub mod PortHandling
 pub mod HostCalls
 pub mod HostStates
 pub mod LeftPorts
+pub mod Looks
+pub mod NearPorts
+pub mod NewsReports
+pub mod Numbers
 pub mod Ownership
 pub mod Plugs
 pub mod Ports
@@ -20,6 +24,7 @@ pub mod Soundness
 pub mod ToldFaults
 pub mod Transfers
 pub mod Changes
+pub mod Reported
 pub mod Requests
 -- the words of this crate, wherever one stands
 pub use Agreement.{Agrees, AreFound, IsFoundAt, Nested}
@@ -34,6 +39,7 @@ pub use Budget.{RootsPaid, RoundKeeps, RoundPaid, ShowsChange, ShowsTold, Stops,
 pub use Budget.{ToldPaid, Weights, WorksOn, debt, event_weight, handling_most, hub_weight}
 pub use Budget.{hubs_most, idle, look_weight, paid, poll_most, stray_weight, told_most}
 pub use Controls.{AsksOrRefuses, ControlsAnyBus, ControlsAt, ControlsOrRefuses, ReadAt, ReadTells}
+pub use Controls.{WriteTells, WrittenAt}
 pub use Discoveries.{EntersFound, FindsAnew}
 pub use BulkPipes.{EndpointsBegan, EndpointsStayed, KeepsBulk, RenewedAt, SameBulk, StayedAt}
 pub use BulkPipes.{NamedEndpointsStayed}
@@ -55,7 +61,22 @@ pub use Ownership.{root_of}
 pub use Plugs.{HasPlugs, KeepsPlugs, PlugsAt, WasPlugged, is_plug, plug_events}
 pub use Ports.{Broke, EndsAs, Entered, EntersOne, Forgets, Gained, IsDue, IsPortAt, Looked}
 pub use Ports.{ProgressOnOk, ProgressOrLost, Requested, Shown, StandsAt, StandsNowhere, Waits}
+pub use NearPorts.{ChangesNear, DropsNear, EntriesStay, IsOnWay, PortEnds}
+pub use Looks.{HasNoPort, LookCosts, LookDid, LookIs, LookKeeps, LookMade}
+pub use Looks.{LookTells, LookedThere, LooksAnyBus, LooksOver, PaysLookOver, RefusesUnknown}
+pub use Looks.{Reports, ReportsPort, look_cost}
 pub use Progress.{AddsNoWork, Did, DidRound, HostProgress, HostRuns, HostSpends, HostSteps}
+pub use Progress.{HostGoes, KeepsNumbers, known_in}
+pub use NewsReports.{HasArrived, HasLeft, IsLeast, IsLeftAt, ReportsArrived, ReportsLeft}
+pub use NewsReports.{ReportsNews}
+pub use NewsReports.{IsFirstLeft, IsNextUnreported, NoneLeft}
+pub use NewsReports.{NoNews, ReportsNone, is_there, news_left, number_in}
+pub use NewsReports.{path_of_news, some_left}
+pub use Numbers.{AreNumbers, DeviceNumbers, KeepsKnown, Known, KnownDevice, device_in}
+pub use Numbers.{NumbersFit, known_device, with_number}
+unfoldable pub use Numbers.{first_numbers}
+pub use Reported.{IsPlaceOf, TakesReported}
+pub use Reported.{ReportedDevices, ReportedRise, reported_at}
 pub use LeftPorts.{LeavesNoMore, LeftStatuses, none_left}
 pub use Progress.{OnlyBusSteps, OnlyLeaves, QuietKeeps, StaysQuiet}
 pub use Progress.{Remains, either, idle_work, waiting}
@@ -87,7 +108,8 @@ pub use Soundness.{KeepsInvariant, KnownBut, LooksKeep, NoneWait, NoneWaiting, P
 pub use Soundness.{PartKeepsInvariant, PartStays, PartsKeep, PortsListed, RefusalsJustified}
 pub use Soundness.{RootsRest, RoundsSound, TransferKeeps, TruthfulBut, known_supply}
 pub use ToldFaults.{HostReported, IsReportedLast, PartFaultAllowed, RoundFaultAllowed, StopsAsRound}
-pub use ToldFaults.{StopsAsTransfer, TransferFaultAllowed, host_fault, host_told, is_final}
+pub use ToldFaults.{StopsAsLook, StopsAsTransfer, TransferFaultAllowed, host_fault, host_told}
+pub use ToldFaults.{is_final}
 pub use ToldFaults.{is_last_fault, HostNotOfBus, HostWorks}
 pub use Transfers.{ClearedAt, MovesThrough, ReceivedAt, SentAt, table_in}
 pub use Changes.{HasOnlyWorldChanges, IsCleared, KeepsEach, is_stuck, was_disabled}
@@ -98,5 +120,9 @@ pub use Requests.{ClearsPort, ClearsReported, ClearsTold, ClearsWhere, DoneWhere
 pub use Requests.{SettlesPort, ShowsPort, TidiesPort, TidiesTold, first_failed, next_done}
 pub use declared.fault.HostFault.{HostFault}
 pub use declared.fault.HostFault.TheVariants.{Bus}
+pub use declared.news.News.{News}
+pub use declared.news.News.TheVariants.{Arrived, Left}
 pub use declared.host.Round.{Round}
+pub use declared.look.Look.{Look}
+pub use declared.look.Look.TheVariants.{Empty, Found}
 pub use declared.host.Round.TheVariants.{Quiet, Worked}

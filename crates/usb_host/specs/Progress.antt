@@ -6,6 +6,7 @@ use Rattle.usb_bus.specs.{StepRun}
 use Rattle.usb_table.specs.{Entries, is_waiting}
 use Rattle.usb_host.specs.HostStates.{HostState, work}
 use Rattle.usb_host.specs.LeftPorts.{LeavesNoMore}
+use Rattle.usb_host.specs.Numbers.{KeepsKnown, Known}
 use Rattle.usb_host.specs.Ownership.{IsRooted}
 use Rattle.usb_host.specs.declared.fault.HostFault.{HostFault}
 use Rattle.usb_host.specs.declared.host.Round.{Round}
@@ -48,9 +49,22 @@ Remains old new = new ≡ record old {
   pipes = new.pipes;
 }
 
+-- what a driver may know of the accepted devices
+abbrev pub known_in : HostState → Known
+known_in h = record { entries = h.entries; numbers = h.numbers; reported = h.reported }
+
+-- over any bus: each device that is still listed keeps its number, and no number is given twice
+abbrev pub KeepsNumbers : HostState → HostState → Type 0
+KeepsNumbers old new = KeepsKnown (known_in old) (known_in new)
+
 -- over any bus that is not modelled: at most so many attempts were made
 abbrev pub HostSpends : ℕ → HostState → HostState → Type 0
 HostSpends most old new = new.counts.spent ≤ old.counts.spent + most
+
+-- over any bus: so it is, and devices keep their numbers
+pub record HostGoes (most : ℕ) (old new : HostState) : Type 0 where
+  pub spends : HostSpends most old new
+  pub numbers : KeepsNumbers old new
 
 -- at most so many attempts were made, and what was written is the text of the bus's steps
 abbrev pub HostSteps : ℕ → HostState → HostState → Type 0

@@ -1,24 +1,23 @@
 -- What a round does, part by part (11.12): how each port was served, how each hub was polled, and
 -- in which order.
-use Rattle.std.specs.Prelude.{◌≡◌, ◌≢◌, ◌⊎◌, ◌≤◌, ◌+◌, ⊤, ℕ, List, [], ◌∷◌, ◌++◌, Bool, true, false}
+use Rattle.std.specs.Prelude.{◌≡◌, ◌≢◌, ◌⊎◌, ◌≤◌, ◌+◌, ℕ, List, [], ◌∷◌, ◌++◌, Bool, true, false}
 use Rattle.std.specs.Prelude.{Option, None, Some, Result, Ok, Err, OnOk, OnErr, IfOk, MatchResult}
 use Rattle.std.specs.Prelude.{IsSome, IsSomeAnd}
 use Rattle.std.specs.BTreeMap.{insert_entry}
 use Rattle.arrayvec.specs.ArrayVec.{ArrayVec}
-use Rattle.usb_port.specs.{path_cmp, parent_of, IsPath, has_bit, PortCall, ClearEnable}
-use Rattle.usb_port.specs.{ClearConnectionChange, ClearEnableChange, ClearResetChange, PortStatus}
+use Rattle.usb_port.specs.{path_cmp, parent_of, IsPath, has_bit}
+use Rattle.usb_port.specs.{PortStatus}
 use Rattle.usb_world.specs.{BusFault, PlanData, World, changes, root_port_at, root_row, roots_of}
-use Rattle.usb_address.specs.{AddressMap, MapHolds, WhileBusWorks}
 use Rattle.usb_transaction.specs.{NoThreeDamaged}
 use Rattle.usb_pipe.specs.{PipeFault, ByteTold}
 use Rattle.usb_pipe.specs.declared.fault.PipeFault.TheVariants as pipe
-use Rattle.usb_hub.specs.{HubPort, IsAt, PortCallDone, PortStatusAt}
+use Rattle.usb_hub.specs.{PortStatusAt}
 use Rattle.usb_enum.specs.{widest_enumeration, CanFail, EnumFault, ParentLost, Accepted, Finding}
 use Rattle.usb_table.specs.{Entries, Replaced, without, is_hub, is_waiting, accepted_device_at}
 use Rattle.usb_table.specs.{KnownPort, known_port, BitsOf, IsListening, ComesAfter, IsNext, IsLast}
 use Rattle.usb_table.specs.{hub_facts_at, pipes_at, PipesPolled}
 use Rattle.usb_resources.specs.{IsFull}
-use Rattle.usb_host.specs.Backlog.{hubs, ClearsReset, PaysAtLook, PaysAtServe, RestsCalm}
+use Rattle.usb_host.specs.Backlog.{hubs, PaysAtLook, PaysAtServe}
 use Rattle.usb_host.specs.Bounds.{drop_bound, handling_bound, look_bound, roots_bound}
 use Rattle.usb_host.specs.Bounds.{serving_bound, told_bound}
 use Rattle.usb_host.specs.Changes.{was_disabled}

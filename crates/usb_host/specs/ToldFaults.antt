@@ -84,6 +84,13 @@ pub record StopsAsRound {A : Type 0} (old : HostState) (result : Result A HostFa
   pub nothing : IsTrue old.stopped → new ≡ old
   pub stops : IsTrue new.stopped ↔ IsErr result
 
+-- so of a look; another stops at a fault of the bus and for want of memory
+pub record StopsAsLook {A : Type 0} (old : HostState) (result : Result A HostFault)
+    (new : HostState) : Type 0 where
+  pub said : IsErrOf result Stopped ↔ IsTrue old.stopped
+  pub nothing : IsTrue old.stopped → new ≡ old
+  pub stops : old.stopped ≡ false → new.stopped ≡ is_final result
+
 -- a stopped host changes nothing and says so; another stops at a fault of the bus and for want of
 -- memory. No entry changes
 pub record StopsAsTransfer {A : Type 0} (old : HostState) (result : Result A HostFault)

@@ -7,8 +7,9 @@ use usb_port::PortPath;
 
 impl<B: Bus> Host<B> {
     ghost use Rattle.std.specs.Prelude.{◌≡◌, ◌≤◌, length, true, IfOk};
-    ghost use Rattle.usb_request.specs.Layout.{IsToHost};
-    ghost use Rattle.usb_host.specs.Controls.{ControlsAnyBus, ReadTells};
+    ghost use Rattle.usb_request.specs.Layout.{IsToDevice, IsToHost};
+    ghost use Rattle.usb_table.specs.Controls.{control_target, write_target};
+    ghost use Rattle.usb_host.specs.Controls.{ControlsAnyBus, ReadTells, WriteTells};
     ghost use Rattle.usb_host.specs.ToldFaults.{StopsAsTransfer};
 
     /// Reads from endpoint 0 of the device at a path, hubs too: what it answers a request with
@@ -22,7 +23,8 @@ impl<B: Bus> Host<B> {
     /// row. `Memory` if the bytes find no room and `Bus` if the bus has failed; the host then stops.
     pub fn control_in(&mut self, path: &PortPath, setup: Setup) -> Result<Vec<u8>, HostFault>
         requires reads { IsToHost setup }
-        ensures any_bus { ControlsAnyBus B.modelled path.now setup self.old result self.new }
+        ensures any_bus { ControlsAnyBus B.modelled (control_target path.now self.old.entries) setup
+            self.old result self.new }
         ensures most { IfOk result (λ bytes. length bytes.items ≤ setup.length) }
         ensures stopped { StopsAsTransfer self.old result self.new }
         ensures tells { B.modelled ≡ true → ReadTells path.now setup self.old result self.new }
@@ -36,5 +38,41 @@ impl<B: Bus> Host<B> {
         );
         self.stopped = is_final(&read);
         read
+    }
+
+    /// Writes to endpoint 0 of the device at a path: what the request asks for, with these bytes
+    /// (9.3). The request's length is their number. If it is 0, there is no data stage.
+    ///
+    /// If it is done, the device has the bytes once. If it failed, it has all of them or none, and
+    /// nobody knows which: only the device can say. A request without bytes may be done more than
+    /// once, if its SETUP goes again.
+    ///
+    /// # Errors
+    ///
+    /// `Stopped` if an earlier call failed. `Transfer` with `NoDevice` if no accepted device is at
+    /// the path, and then with `Reserved` if the host alone may send the request
+    /// (`Setup::is_reserved`); nothing is attempted then. `Transfer` with `Stalled` if the device
+    /// refuses the request or its data, `Busy` if it answers with NAKs for too long, and `NoAnswer`
+    /// after three errors in a row. `Bus` if the bus has failed; the host then stops.
+    pub fn control_out(
+        &mut self,
+        path: &PortPath,
+        setup: Setup,
+        bytes: &[u8],
+    ) -> Result<(), HostFault>
+        requires writes { IsToDevice setup }
+        requires all { setup.length ≡ length bytes.now }
+        ensures any_bus { ControlsAnyBus B.modelled (write_target path.now setup self.old.entries)
+            setup self.old result self.new }
+        ensures stopped { StopsAsTransfer self.old result self.new }
+        ensures tells { B.modelled ≡ true
+            → WriteTells path.now setup bytes.now self.old result self.new }
+    {
+        if self.stopped {
+            return Err(HostFault::Stopped);
+        }
+        let written = as_host_fault(self.table.control_out(&mut self.bus, path, setup, bytes));
+        self.stopped = is_final(&written);
+        written
     }
 }

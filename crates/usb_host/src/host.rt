@@ -7,9 +7,12 @@ ghost use Rattle.usb_transaction.specs.Transactions.{transaction_bound};
 ghost use Rattle.usb_host.specs.Bounds.{clear_bound};
 ghost use Rattle.usb_host.specs.HostStates.{counts_after, counts_of};
 ghost use Rattle.usb_host.specs.LeftPorts.{none_left};
+ghost use Rattle.usb_host.specs.Numbers.{first_numbers};
 ghost use Rattle.usb_host.specs.ToldFaults.{StopsAsRound, StopsAsTransfer, host_told, is_final};
 
 use crate::left::LeftPorts;
+use crate::numbers::Numbers;
+use crate::reported::Reported;
 use crate::{HostFault, Tree};
 use std::alloc::Global;
 use std::marker::Model;
@@ -37,6 +40,8 @@ pub struct Host<B: Bus> {
     pub(crate) pool: AddressPool,
     pub(crate) table: DeviceTable,
     pub(crate) left: LeftPorts<B>,
+    pub(crate) numbers: Numbers,
+    pub(crate) reported: Reported,
     pub(crate) stopped: bool,
 }
 
@@ -59,6 +64,8 @@ impl<B: Bus> Model for Host<B> {
       entries = h.table.entries;
       pipes = h.table.pipes;
       addresses = h.pool;
+      numbers = h.numbers;
+      reported = h.reported;
       stopped = h.stopped;
     } };
 
@@ -74,6 +81,7 @@ impl<B: Bus> Host<B> {
     pub fn new(alloc: Global, bus: B) -> Host<B>
         ensures any_bus { (result.entries ≡ []) × ((result.stopped ≡ false)
             × (result.counts.left ≡ none_left)) }
+        ensures known { (result.numbers ≡ first_numbers) × (result.reported ≡ []) }
         ensures tells { B.modelled ≡ true → NewTells (B.world bus) (B.trace bus) result }
     {
         let mut bus = bus;
@@ -88,6 +96,8 @@ impl<B: Bus> Host<B> {
             pool: AddressPool::new(),
             table: DeviceTable::new(alloc),
             left: LeftPorts::new(),
+            numbers: Numbers::new(),
+            reported: Reported::new(),
             stopped: false,
         }
     }
@@ -133,6 +143,8 @@ impl<B: Bus> Host<B> {
             pool: _,
             table: _,
             left: _,
+            numbers: _,
+            reported: _,
             stopped: _,
         } = self;
         bus
@@ -142,7 +154,7 @@ impl<B: Bus> Host<B> {
     ///
     /// # Errors
     ///
-    /// `Memory` where memory was refused; the host goes on.
+    /// `Memory` if memory was refused; the host goes on.
     pub fn tree(&self) -> Result<Tree, HostFault>
         ensures entries { IfOk result (λ tree. tree ≡ self.now.entries) }
         ensures memory { IfErr result (λ fault. fault ≡ HostFault.Memory) }
@@ -166,10 +178,11 @@ impl<B: Bus> Host<B> {
     ///
     /// # Errors
     ///
-    /// `Stopped` where an earlier call failed, and nothing happens. `Bus` where the bus makes no
-    /// more steps and `Memory` where memory was refused; the host then stops. The parts of the round
-    /// up to one port or hub were done. Nothing is entered there, and at most what was known there, or
-    /// at a hub on its way, and below it is forgotten.
+    /// `Stopped` if an earlier call failed, and nothing happens. `Bus` if the bus has failed.
+    /// `Memory` if memory was refused, or if no number is left for a device, as after 2^64 of them.
+    /// After these two the host stops. The parts of the round up to one port or hub were done.
+    /// Nothing is entered there, and at most what was known there, or at a hub on its way, and below
+    /// it is forgotten.
     pub fn round(&mut self) -> Result<Round, HostFault>
         ensures any_bus { RoundsAnyBus B.modelled self.old result self.new }
         ensures stopped { StopsAsRound self.old result self.new }
@@ -188,9 +201,11 @@ impl<B: Bus> Host<B> {
     ///
     /// # Errors
     ///
-    /// `Stopped` where an earlier call failed. `Transfer` with `NoDevice` where no device that was
-    /// accepted is at the path, with `NoEndpoint` where it has no such endpoint or is a hub, else as
-    /// `BulkPipe::send` tells it. `Bus` where the bus makes no more steps; the host then stops.
+    /// `Stopped` if an earlier call failed. `Transfer` with `NoDevice` if no accepted device is at the
+    /// path, `NoEndpoint` if it is a hub or has no such endpoint, and `Broken` if the pipe must be
+    /// cleared first; then nothing is attempted. `Transfer` with `Stalled` if the endpoint answers
+    /// STALL, `Busy` if NAKs and repeats of one transaction reach 256, and `NoAnswer` after three
+    /// errors in a row. `Bus` if the bus has failed; the host then stops.
     pub fn send(&mut self, path: &PortPath, bytes: &[u8]) -> Result<(), HostFault>
         ensures any_bus { TransfersAnyBus B.modelled (transaction_bound * length bytes.now)
             self.old result self.new }
@@ -210,7 +225,7 @@ impl<B: Bus> Host<B> {
     ///
     /// # Errors
     ///
-    /// As those of `send`, and `Memory` where the bytes find no room; the host then stops.
+    /// Those of `send`, and `Memory` if the bytes find no room; the host then stops.
     pub fn receive(&mut self, path: &PortPath, packets: u16) -> Result<Vec<u8>, HostFault>
         ensures any_bus { TransfersAnyBus B.modelled (transaction_bound * packets)
             self.old result self.new }
@@ -230,7 +245,8 @@ impl<B: Bus> Host<B> {
     ///
     /// # Errors
     ///
-    /// As those of `send`; `NoEndpoint` where the device has neither endpoint.
+    /// Those of `send` but `Broken`. `NoEndpoint` if the device has neither endpoint, `Stalled` if it
+    /// refuses the request.
     pub fn clear_halt(&mut self, path: &PortPath) -> Result<(), HostFault>
         ensures any_bus { TransfersAnyBus B.modelled clear_bound self.old result self.new }
         ensures stopped { StopsAsTransfer self.old result self.new }

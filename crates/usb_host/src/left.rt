@@ -88,6 +88,15 @@ impl<B: Bus> LeftPorts<B> {
         }
     }
 
+    /// Forgets which status of a port did not fit what was found there, before that is found anew.
+    pub(crate) fn begin_afresh(&mut self, number: u8)
+        ensures { self.new ≡ self.old }
+    {
+        if number < 8 {
+            self.tried[usize::from(number)] = None;
+        }
+    }
+
     /// Leaves a port alone no longer, which shows this status.
     pub(crate) fn shows(&mut self, number: u8, status: [u8; 4])
         ensures value { self.new ≡ slice_set self.old number None }

@@ -1,21 +1,25 @@
-//! The table and the pool of addresses, changed together.
+//! The table, the pool of addresses and the numbers, changed together.
 ghost use Rattle.std.specs.Prelude.{◌≡◌, false, OnOk, OnErr};
 ghost use Rattle.usb_table.specs.TableEntries.{has_at};
 ghost use Rattle.usb_table.specs.Tables.{entered};
 ghost use Rattle.usb_table.specs.Findings.{IsSoundFinding, HasNewAddress, address_found};
 ghost use Rattle.usb_enum.specs.declared.finding.Finding.{Finding};
 ghost use Rattle.usb_host.specs.HostStates.{Frees};
+ghost use Rattle.usb_host.specs.Numbers.{AreNumbers, with_number};
 
+use crate::numbers::Numbers;
 use std::alloc::AllocError;
 use usb_enum::Finding;
 use usb_port::PortPath;
 use usb_resources::{Address, AddressPool};
 use usb_table::{DeviceTable, address_of};
 
-/// Enters a finding. Where memory is refused, its address is released.
+/// Enters a finding, and gives an accepted device its number. If memory is refused or no number is
+/// left, its address is released.
 pub(crate) fn enter(
     table: &mut DeviceTable,
     pool: &mut AddressPool,
+    numbers: &mut Numbers,
     path: PortPath,
     finding: Finding,
 ) -> Result<(), AllocError>
@@ -25,10 +29,19 @@ pub(crate) fn enter(
     ensures ok { OnOk result
         ((table.new ≡ entered path finding table.old) × (pool.new ≡ pool.old)) }
     ensures err { OnErr result ((table.new ≡ table.old) × Frees finding pool.old pool.new) }
+    ensures given { OnOk result (numbers.new ≡ with_number finding numbers.old) }
+    ensures kept { OnErr result (numbers.new ≡ numbers.old) }
+    ensures numbers { AreNumbers numbers.old }
 {
     let address = address_of(&finding);
+    if !numbers.has_next() {
+        release(pool, address);
+        return Err(AllocError);
+    }
     let entered = table.insert(path, finding);
-    if entered.is_err() {
+    if entered.is_ok() {
+        numbers.give(address);
+    } else {
         release(pool, address);
     }
     entered

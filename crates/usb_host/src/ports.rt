@@ -1,6 +1,7 @@
 //! What the host does at a port.
 ghost use Rattle.std.specs.Prelude.{◌≡◌, ◌≤◌, ◌+◌, ◌*◌, [], ◌∷◌, true, false, IsTrue, Ok, IfErr, IfOk, IfSome, IfNone, IsSome, MatchResult, is_some};
 ghost use Rattle.usb_port.specs.Calls.{IsClearFeature};
+ghost use Rattle.usb_port.specs.Order.{parent_of};
 ghost use Rattle.usb_port.specs.Path.{IsPath, IsPortNumber};
 ghost use Rattle.usb_world.specs.Worlds.{IsRootPort, root_port_at};
 ghost use Rattle.usb_hub.specs.Port.{IsAsked};
@@ -13,11 +14,12 @@ ghost use Rattle.usb_pipe.specs.Control.{write_bound};
 ghost use Rattle.usb_host.specs.Backlog.{hubs};
 ghost use Rattle.usb_host.specs.Changes.{HasOnlyWorldChanges, IsCleared, is_stuck, was_disabled};
 ghost use Rattle.usb_host.specs.LeftPorts.{LeavesNoMore};
+ghost use Rattle.usb_host.specs.NearPorts.{DropsNear, EntriesStay, IsOnWay, PortEnds};
 ghost use Rattle.usb_host.specs.PortHandling.{DisablesOnWay, Climbs};
-ghost use Rattle.usb_host.specs.Ports.{IsPortAt, StandsNowhere, IsDue, Waits, Broke, EndsAs, Entered, Forgets};
+ghost use Rattle.usb_host.specs.Ports.{IsPortAt, StandsNowhere, IsDue, Waits, Broke, Entered, Forgets};
 ghost use Rattle.usb_enum.specs.Bounds.{read_bound, widest_enumeration};
 ghost use Rattle.usb_host.specs.Bounds.{clearing_bound, drop_bound, handling_bound, look_bound, serving_bound};
-ghost use Rattle.usb_host.specs.Progress.{HostSpends, OnlyBusSteps, OnlyLeaves, QuietKeeps};
+ghost use Rattle.usb_host.specs.Progress.{HostGoes, HostSpends, KeepsNumbers, OnlyBusSteps, OnlyLeaves, QuietKeeps};
 ghost use Rattle.usb_host.specs.Requests.{ClearsBoth, ClearsError, ClearsFeature, ClearsOthers, ClearsOwn, ClearsPort, ClearsReported, ClearsWhere, SettlesPort, ShowsPort, TidiesPort};
 ghost use Rattle.usb_host.specs.Service.{Discovers, DropsOne, FinishesAt, HandlesNumber, HandlesPort, LooksAfterError, LooksAt, LooksOnceMore, OwnHandled, OwnServed, RenewsPort, ServesOwn, ServesPort};
 ghost use Rattle.usb_host.specs.ToldFaults.{HostReported, PartFaultAllowed, HostWorks};
@@ -114,6 +116,7 @@ impl<B: Bus> Host<B> {
         requires port { B.modelled ≡ true → IsRootPort self.old.world number }
         requires number { IsPortNumber number }
         ensures spends { HostSpends handling_bound self.old self.new }
+        ensures numbers { KeepsNumbers self.old self.new }
         ensures told { IfErr result (λ fault. PartFaultAllowed B.modelled fault self.new) }
         ensures handles { B.modelled ≡ true → HandlesPort (number ∷ [])
             ((root_port_at self.old.world number).connection_changed ≡ true)
@@ -133,6 +136,7 @@ impl<B: Bus> Host<B> {
     pub(crate) fn handle_below(&mut self, hub: &PortPath, number: u8) -> Result<Round, HostFault>
         requires { IsPath hub.now }
         ensures spends { HostSpends handling_bound self.old self.new }
+        ensures numbers { KeepsNumbers self.old self.new }
         ensures told { IfErr result (λ fault. PartFaultAllowed B.modelled fault self.new) }
         ensures handles { B.modelled ≡ true
             → HandlesNumber hub.now number self.old result self.new }
@@ -153,6 +157,7 @@ impl<B: Bus> Host<B> {
     pub(crate) fn serve_own(&mut self, hub: &PortPath) -> Result<(), HostFault>
         requires { IsPath hub.now }
         ensures spends { HostSpends handling_bound self.old self.new }
+        ensures numbers { KeepsNumbers self.old self.new }
         ensures told { IfErr result (λ fault. PartFaultAllowed B.modelled fault self.new) }
         ensures serves { B.modelled ≡ true
             → ServesOwn (OwnServed hub.now) self.old result self.new }
@@ -172,6 +177,7 @@ impl<B: Bus> Host<B> {
     fn handle_own(&mut self, path: &PortPath, port: KnownPort) -> Result<(), HostFault>
         requires { IsPortAt B.modelled path.now port self.old }
         ensures spends { HostSpends handling_bound self.old self.new }
+        ensures numbers { KeepsNumbers self.old self.new }
         ensures told { IfErr result (λ fault. PartFaultAllowed B.modelled fault self.new) }
         ensures serves { B.modelled ≡ true
             → ServesOwn (OwnHandled path.now) self.old result self.new }
@@ -201,7 +207,7 @@ impl<B: Bus> Host<B> {
     /// Looks again at a device that waits for an address.
     pub(crate) fn retry_one(&mut self, path: &PortPath) -> Result<Round, HostFault>
         requires { Waits path.now self.old }
-        ensures spends { HostSpends handling_bound self.old self.new }
+        ensures goes { HostGoes handling_bound self.old self.new }
         ensures quiet { QuietKeeps result self.old self.new }
         ensures told { IfErr result (λ fault. PartFaultAllowed B.modelled fault self.new) }
         ensures looks { B.modelled ≡ true → LooksOnceMore path.now self.old result self.new }
@@ -212,15 +218,16 @@ impl<B: Bus> Host<B> {
         let Some(port) = self.port_at(path) else {
             return Ok(Round::Quiet);
         };
-        let looked = self.enumerate_again(path, port);
-        self.drop_lost_parent(path, looked)?;
+        self.look_over(path, port)?;
         Ok(Round::Worked)
     }
 
     /// The port at a path, where it is one of the root or of a hub that is known.
-    fn port_at(&self, path: &PortPath) -> Option<KnownPort>
+    pub(crate) fn port_at(&self, path: &PortPath) -> Option<KnownPort>
         ensures some { IfSome result (λ port. IsPortAt B.modelled path.now port self.now) }
         ensures none { B.modelled ≡ true → IfNone result (StandsNowhere path.now self.now) }
+        ensures unknown { IfNone result
+            (IsSome (parent_of path.now) → known_port path.now self.now.entries ≡ None) }
     {
         // for the checker: a path has one to seven numbers
         let _numbers = path.numbers();
@@ -235,6 +242,7 @@ impl<B: Bus> Host<B> {
     fn service_port(&mut self, path: &PortPath, port: KnownPort) -> Result<(), HostFault>
         requires { IsPortAt B.modelled path.now port self.old }
         ensures spends { HostSpends handling_bound self.old self.new }
+        ensures numbers { KeepsNumbers self.old self.new }
         ensures told { IfErr result (λ fault. PartFaultAllowed B.modelled fault self.new) }
         ensures handles { B.modelled ≡ true
             → HandlesPort path.now (IsDue self.old.world port.port) self.old result self.new }
@@ -245,7 +253,7 @@ impl<B: Bus> Host<B> {
     }
 
     /// Drops the hub of a port, where a request to it failed.
-    fn drop_lost_parent(
+    pub(crate) fn drop_lost_parent(
         &mut self,
         path: &PortPath,
         served: Result<(), EnumFault>,
@@ -253,9 +261,9 @@ impl<B: Bus> Host<B> {
         requires broke { B.modelled ≡ true
             → IfErr served (λ fault. Broke path.now fault self.old.world) }
         requires told { HostReported B.modelled served self.old }
-        ensures spends { HostSpends drop_bound self.old self.new }
+        ensures goes { HostGoes drop_bound self.old self.new }
         ensures told { IfErr result (λ fault. PartFaultAllowed B.modelled fault self.new) }
-        ensures ends { EndsAs served result }
+        ensures ends { PortEnds path.now served result self.old.entries self.new.entries }
         ensures finishes { B.modelled ≡ true → FinishesAt path.now served self.old result self.new }
         ensures works { B.modelled ≡ true → HostWorks self.old result self.new }
     {
@@ -276,6 +284,7 @@ impl<B: Bus> Host<B> {
     fn serve(&mut self, path: &PortPath, port: KnownPort) -> Result<(), EnumFault>
         requires { IsPortAt B.modelled path.now port self.old }
         ensures spends { HostSpends serving_bound self.old self.new }
+        ensures numbers { KeepsNumbers self.old self.new }
         ensures told { HostReported B.modelled result self.new }
         ensures serves { B.modelled ≡ true → ServesPort path.now port self.old result self.new }
     {
@@ -410,10 +419,16 @@ impl<B: Bus> Host<B> {
 
     /// Forgets what was found at a port, and finds what is there now. The change is cleared before
     /// the status is read, so that no later change is lost.
-    fn enumerate_again(&mut self, path: &PortPath, port: KnownPort) -> Result<(), EnumFault>
+    pub(crate) fn enumerate_again(
+        &mut self,
+        path: &PortPath,
+        port: KnownPort,
+    ) -> Result<(), EnumFault>
         requires { IsPortAt B.modelled path.now port self.old }
         ensures spends { HostSpends look_bound self.old self.new }
+        ensures numbers { KeepsNumbers self.old self.new }
         ensures told { HostReported B.modelled result self.new }
+        ensures stay { EntriesStay path.now self.old.entries self.new.entries }
         ensures looks { B.modelled ≡ true → LooksAt path.now port self.old result self.new }
     {
         let status = self.clear_change(port.port)?;
@@ -427,6 +442,7 @@ impl<B: Bus> Host<B> {
     fn look_after_error(&mut self, path: &PortPath, port: KnownPort) -> Result<(), EnumFault>
         requires { IsPortAt B.modelled path.now port self.old }
         ensures spends { HostSpends look_bound self.old self.new }
+        ensures numbers { KeepsNumbers self.old self.new }
         ensures told { HostReported B.modelled result self.new }
         ensures hubs { hubs self.new.entries ≤ hubs self.old.entries + 1 }
         ensures looks { B.modelled ≡ true
@@ -478,9 +494,10 @@ impl<B: Bus> Host<B> {
         status: PortStatus,
     ) -> Result<(), EnumFault>
         requires { IsPortAt B.modelled path.now port self.old }
-        ensures spends { HostSpends widest_enumeration self.old self.new }
+        ensures goes { HostGoes widest_enumeration self.old self.new }
         ensures told { HostReported B.modelled result self.new }
         ensures hubs { hubs self.new.entries ≤ hubs self.old.entries + 1 }
+        ensures stay { EntriesStay path.now self.old.entries self.new.entries }
         ensures renews { B.modelled ≡ true
             → RenewsPort path.now port status.connected self.old result self.new }
     {
@@ -497,6 +514,7 @@ impl<B: Bus> Host<B> {
         requires port { IsPortAt B.modelled path.now port self.old }
         requires away { has_at path.now self.old.entries ≡ false }
         ensures spends { HostSpends widest_enumeration self.old self.new }
+        ensures numbers { KeepsNumbers self.old self.new }
         ensures told { HostReported B.modelled result self.new }
         ensures entered { Entered path.now self.old result self.new }
         ensures finds { B.modelled ≡ true → Discovers path.now port self.old result self.new }
@@ -509,14 +527,21 @@ impl<B: Bus> Host<B> {
             tier(path),
             port.supply,
         )?;
-        Ok(enter(&mut self.table, &mut self.pool, path.duplicate(), finding)?)
+        Ok(enter(
+            &mut self.table,
+            &mut self.pool,
+            &mut self.numbers,
+            path.duplicate(),
+            finding,
+        )?)
     }
 
     /// Drops a hub that failed: its port is disabled, what stood there and below is forgotten, and
     /// it is listed as lost. Where its port cannot be disabled, its own hub is dropped in its place.
     pub(crate) fn drop_hub(&mut self, hub: PortPath) -> Result<(), HostFault>
-        ensures spends { HostSpends drop_bound self.old self.new }
+        ensures goes { HostGoes drop_bound self.old self.new }
         ensures told { IfErr result (λ fault. PartFaultAllowed B.modelled fault self.new) }
+        ensures near { DropsNear hub result self.old.entries self.new.entries }
         ensures drops { B.modelled ≡ true → DropsOne hub self.old result self.new }
         ensures works { B.modelled ≡ true → HostWorks self.old result self.new }
     {
@@ -532,7 +557,7 @@ impl<B: Bus> Host<B> {
     fn disable_upward(&mut self, first: PortPath) -> Result<PortPath, HostFault>
         ensures spends { HostSpends drop_bound self.old self.new }
         ensures ends { MatchResult result
-            (λ path. IsSome (known_port path self.old.entries))
+            (λ path. IsOnWay first path self.old.entries)
             (λ fault. PartFaultAllowed B.modelled fault self.new) }
         ensures rests { OnlyBusSteps self.old self.new }
         ensures climbs { B.modelled ≡ true → Climbs first self.old result self.new }
@@ -547,7 +572,7 @@ impl<B: Bus> Host<B> {
     fn climb(&mut self, first: PortPath) -> Result<PortPath, HostFault>
         ensures spends { HostSpends drop_bound self.old self.new }
         ensures ends { MatchResult result
-            (λ path. IsSome (known_port path self.old.entries))
+            (λ path. IsOnWay first path self.old.entries)
             (λ fault. PartFaultAllowed B.modelled fault self.new) }
         ensures rests { OnlyBusSteps self.old self.new }
         ensures climbs { B.modelled ≡ true → Climbs first self.old result self.new }

@@ -8,7 +8,7 @@ ghost use Rattle.usb_resources.specs.Pool.{IsFull};
 ghost use Rattle.usb_host.specs.Agreement.{Agrees};
 ghost use Rattle.usb_host.specs.Ports.{Waits};
 ghost use Rattle.usb_host.specs.Bounds.{hub_poll_bound, hubs_bound, looks_bound, roots_bound, round_bound, told_bound};
-ghost use Rattle.usb_host.specs.Progress.{HostSpends, QuietKeeps, either};
+ghost use Rattle.usb_host.specs.Progress.{HostGoes, HostSpends, KeepsNumbers, QuietKeeps, either};
 ghost use Rattle.usb_host.specs.Service.{LooksAgain, ServesEach, ServesHub, ServesHubs, ServesPorts, ServesTold, WentByParts, first_byte};
 ghost use Rattle.usb_host.specs.ToldFaults.{HostWorks, PartFaultAllowed};
 
@@ -33,7 +33,7 @@ impl Round {
 impl<B: Bus> Host<B> {
     /// The root ports, the hubs, and the devices that wait.
     pub(crate) fn run_round(&mut self) -> Result<Round, HostFault>
-        ensures spends { HostSpends round_bound self.old self.new }
+        ensures goes { HostGoes round_bound self.old self.new }
         ensures quiet { QuietKeeps result self.old self.new }
         ensures told { IfErr result (λ fault. PartFaultAllowed B.modelled fault self.new) }
         ensures parts { B.modelled ≡ true → WentByParts self.old result self.new }
@@ -47,7 +47,7 @@ impl<B: Bus> Host<B> {
 
     /// Handles each root port whose connection has changed, by rising number.
     fn serve_roots(&mut self) -> Result<Round, HostFault>
-        ensures spends { HostSpends roots_bound self.old self.new }
+        ensures goes { HostGoes roots_bound self.old self.new }
         ensures quiet { QuietKeeps result self.old self.new }
         ensures told { IfErr result (λ fault. PartFaultAllowed B.modelled fault self.new) }
         ensures roots { B.modelled ≡ true → ServesEach self.old result self.new }
@@ -66,7 +66,7 @@ impl<B: Bus> Host<B> {
 
     /// Polls each hub that is known, by rising path, and handles the ports of which it tells.
     fn serve_hubs(&mut self) -> Result<Round, HostFault>
-        ensures spends { HostSpends hubs_bound self.old self.new }
+        ensures goes { HostGoes hubs_bound self.old self.new }
         ensures quiet { QuietKeeps result self.old self.new }
         ensures told { IfErr result (λ fault. PartFaultAllowed B.modelled fault self.new) }
         ensures hubs { B.modelled ≡ true → ServesHubs self.old result self.new }
@@ -86,7 +86,7 @@ impl<B: Bus> Host<B> {
     /// Polls a hub, and handles the ports of which it tells; where it does not answer, it is dropped.
     fn serve_hub(&mut self, hub: &PortPath) -> Result<Round, HostFault>
         requires { IsSome (hub_facts_at hub.now self.old.entries) }
-        ensures spends { HostSpends hub_poll_bound self.old self.new }
+        ensures goes { HostGoes hub_poll_bound self.old self.new }
         ensures quiet { QuietKeeps result self.old self.new }
         ensures told { IfErr result (λ fault. PartFaultAllowed B.modelled fault self.new) }
         ensures polls { B.modelled ≡ true → ServesHub hub.now self.old result self.new }
@@ -112,6 +112,7 @@ impl<B: Bus> Host<B> {
     fn service_reported(&mut self, hub: &PortPath, bits: u8) -> Result<(), HostFault>
         requires { IsPath hub.now }
         ensures spends { HostSpends told_bound self.old self.new }
+        ensures numbers { KeepsNumbers self.old self.new }
         ensures told { IfErr result (λ fault. PartFaultAllowed B.modelled fault self.new) }
         ensures serves { B.modelled ≡ true → ServesTold hub.now bits self.old result self.new }
         ensures works { B.modelled ≡ true → HostWorks self.old result self.new }
@@ -127,6 +128,7 @@ impl<B: Bus> Host<B> {
     fn serve_ports(&mut self, hub: &PortPath, bits: u8) -> Result<(), HostFault>
         requires { IsPath hub.now }
         ensures spends { HostSpends told_bound self.old self.new }
+        ensures numbers { KeepsNumbers self.old self.new }
         ensures told { IfErr result (λ fault. PartFaultAllowed B.modelled fault self.new) }
         ensures serves { B.modelled ≡ true → ServesPorts hub.now bits self.old result self.new }
         ensures works { B.modelled ≡ true → HostWorks self.old result self.new }
@@ -141,7 +143,7 @@ impl<B: Bus> Host<B> {
 
     /// Looks again at each device that waits for an address, by rising path, while one is free.
     fn retry_waiting(&mut self) -> Result<Round, HostFault>
-        ensures spends { HostSpends looks_bound self.old self.new }
+        ensures goes { HostGoes looks_bound self.old self.new }
         ensures quiet { QuietKeeps result self.old self.new }
         ensures told { IfErr result (λ fault. PartFaultAllowed B.modelled fault self.new) }
         ensures looks { B.modelled ≡ true → LooksAgain self.old result self.new }

@@ -6,6 +6,8 @@ mod enumeration;
 mod external;
 mod host;
 mod hub;
+mod look;
+mod news;
 mod polls;
 mod quirks;
 mod second;

@@ -17,7 +17,7 @@ use Rattle.usb_hub.specs.{TouchesNoPort}
 use Rattle.usb_enum.specs.{Cause, Accepted, Finding}
 use Rattle.usb_enum.specs.declared.finding.Finding.TheVariants.{Device, Refused}
 use Rattle.usb_enum.proofs.Interface.{went_course, went_sound}
-use Rattle.usb_table.specs.{Pipes, Hub, Function, Absent, pipe_out, pipe_in, Entries, has_at}
+use Rattle.usb_table.specs.{Pipes, Hub, pipe_out, pipe_in, Entries, has_at}
 use Rattle.usb_table.specs.{without, accepted_device_of, accepted_device_at, address_in}
 use Rattle.usb_table.specs.{is_below_hub, SparesBulk, finding_at, new_pipes, Table, GoesThrough}
 use Rattle.usb_table.specs.{entered, pipes_at, PipesPolled}

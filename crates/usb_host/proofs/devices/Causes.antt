@@ -19,7 +19,7 @@ use Rattle.usb_hub.specs.{NoHubFailed, HubPort, Root, External, IsAt, KeepsDevic
 use Rattle.usb_hub.specs.{PortCleared, TouchesNoPort}
 use Rattle.usb_transaction.specs.{Target}
 use Rattle.usb_resources.specs.{IsFull}
-use Rattle.usb_enum.specs.{Lost, EnumFault, ParentLost, Bus, Memory, Finding, IsRight, HasServer}
+use Rattle.usb_enum.specs.{Lost, EnumFault, ParentLost, Memory, Finding, IsRight, HasServer}
 use Rattle.usb_enum.specs.{ServesAt, Enumerates, IsFair, IsKnownAs, FaultAllowedAt}
 use Rattle.usb_enum.specs.declared.finding.Finding.TheVariants.{Refused}
 use Rattle.usb_enum.proofs.Interface.{pends_there, went_sound}

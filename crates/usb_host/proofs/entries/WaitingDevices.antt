@@ -1,5 +1,5 @@
 -- How many devices wait, as entries go and come.
-use Rattle.std.proofs.Common.{◌≡◌, ap, arith, false, ℕ, ◌≤◌, List, not}
+use Rattle.std.proofs.Common.{◌≡◌, ap, arith, false, ℕ, ◌≤◌, List}
 use Rattle.std.specs.BTreeMap.{insert_entry}
 use Rattle.usb_port.specs.{path_cmp}
 use Rattle.usb_enum.specs.{Finding}

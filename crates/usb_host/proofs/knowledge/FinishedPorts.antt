@@ -1,6 +1,6 @@
 -- A port was served, and where its hub is lost, that was dropped: what is known stays so.
 use Rattle.std.proofs.Common.{ℕ, List, Result, Ok, Err}
-use Rattle.usb_enum.specs.{EnumFault, ParentLost, Bus, Memory}
+use Rattle.usb_enum.specs.{EnumFault, Bus, Memory}
 use Rattle.usb_enum.proofs.Interface.{went_sound}
 use Rattle.usb_host.specs.{LetsGoOn, ServesSound, DropsLost, HostState, EndsAs, HostSteps}
 use Rattle.usb_host.specs.{PartKeepsInvariant, HostFault}

@@ -9,7 +9,7 @@ use Rattle.usb_tree.specs.{is_way}
 use Rattle.usb_world.specs.{World, WorldInvariant}
 use Rattle.usb_tree.proofs.Interface.{decided}
 use Rattle.usb_resources.specs.{Addresses, IsTaken}
-use Rattle.usb_enum.specs.{EnumFault, ParentLost, Bus, Memory, Accepted, Finding, HubFacts, Begins}
+use Rattle.usb_enum.specs.{EnumFault, ParentLost, Accepted, Finding, HubFacts, Begins}
 use Rattle.usb_enum.specs.{Enumerates, IsOwn, OnlyAt, IsPlaced, FaultAllowedAt}
 use Rattle.usb_enum.specs.declared.finding.Finding.TheVariants.{Device, Refused}
 use Rattle.usb_enum.proofs.Interface.{regular_order, went_in_order, went_sound}

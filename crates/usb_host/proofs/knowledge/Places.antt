@@ -56,7 +56,7 @@ untied_by first path away true tie =
     false_true (sym (rw (path_tied path first tie) at away) ∙ way_itself first)
 untied_by first path away false tie = refl
 
-untied : (first path : List ℕ) → is_way first path ≡ false → is_at (path_cmp path) first ≡ false
+pub untied : (first path : List ℕ) → is_way first path ≡ false → is_at (path_cmp path) first ≡ false
 untied first path away = untied_by first path away (is_at (path_cmp path) first) refl
 
 is_way-parent : (first path hub : List ℕ) → parent_of path ≡ Some hub → is_way first path ≡ false

@@ -7,7 +7,7 @@ use Rattle.std.proofs.lemmas.Bool.{le-leb}
 use Rattle.std.proofs.lemmas.List.Elements.{All-get_or}
 use Rattle.usb_port.specs.{parent_of, port_on_hub, IsPath, IsPortNumber}
 use Rattle.usb_resources.specs.{Addresses, IsAddress, supply_of}
-use Rattle.usb_device.specs.{State, Spec, Ports, ended, vacant, taken, reach, reach_at, state_at}
+use Rattle.usb_device.specs.{State, Spec, Ports, vacant, taken, reach, reach_at, state_at}
 use Rattle.usb_device.specs.{state_there}
 use Rattle.usb_tree.specs.{pending}
 use Rattle.usb_world.specs.{spec_of, hub_ports, World, roots_of}

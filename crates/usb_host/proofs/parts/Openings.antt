@@ -3,11 +3,11 @@ use Rattle.usb_bus.specs.{Traced}
 use Rattle.usb_enum.specs.{IsInOrder}
 use Rattle.usb_enum.proofs.Interface.{traced_in_order}
 use Rattle.std.proofs.Common.{◌≡◌, ◌⊎◌, ◌∙◌, ◌<◌, inl, inr, refl, sym, ap, arith, zero, suc, ℕ}
-use Rattle.std.proofs.Common.{List, Option, None, ◌∷◌, Bool, true, ◌&&◌, ◌||◌, if◌then◌else◌, []}
-use Rattle.std.proofs.Common.{false, All, length, nat_lt}
+use Rattle.std.proofs.Common.{List, Option, None, ◌∷◌, Bool, true, []}
+use Rattle.std.proofs.Common.{false, length, nat_lt}
 use Rattle.std.specs.FinSet as set
 use Rattle.std.proofs.lemmas.Bool.{lt-ltb}
-use Rattle.usb_port.specs.{parent_of, port_on_hub, PortState, powered_off, powered_on, is_attached}
+use Rattle.usb_port.specs.{parent_of, port_on_hub, PortState, powered_off, powered_on}
 use Rattle.usb_port.specs.{speed_of}
 use Rattle.usb_device.specs.{forgotten, Ports, ended, vacant, taken, row_of, reach, reach_at}
 use Rattle.usb_device.specs.{state_at, all_forgotten}
@@ -16,18 +16,22 @@ use Rattle.usb_world.specs.{Consistent, World}
 use Rattle.usb_tree.proofs.Interface.{false_true}
 use Rattle.usb_resources.specs.{Addresses}
 use Rattle.usb_table.specs.{Table, empty}
+use Rattle.usb_host.specs.{DeviceNumbers, ReportedDevices, first_numbers}
 use Rattle.usb_host.specs.{BusCounts, HostState, no_counts, opening_host, repowered, HostMapHolds}
 use Rattle.usb_host.specs.{HostInvariant, PortsListed}
 use Rattle.usb_host.proofs.entries.Roots.{rooted_opening}
 
-abbrev going : World → Option (List ℕ) → BusCounts → Table → Addresses → HostState
-going w t counts table addresses = record {
+abbrev going : World → Option (List ℕ) → BusCounts → Table → Addresses → DeviceNumbers
+    → ReportedDevices → HostState
+going w t counts table addresses numbers reported = record {
   world = w;
   trace = t;
   counts = counts;
   entries = table.entries;
   pipes = table.pipes;
   addresses = addresses;
+  numbers = numbers;
+  reported = reported;
   stopped = false;
 }
 
@@ -36,15 +40,19 @@ world_powered w = record w { roots = repowered w.roots }
 
 -- power is taken and given in silence
 pub powered_is_opening : (w0 w : World) (t0 t : Option (List ℕ)) (counts : BusCounts)
-    (table : Table) (addresses : Addresses) → w ≡ world_powered w0 → t ≡ t0 → counts ≡ no_counts
-    → table ≡ empty → addresses ≡ set.empty
-    → going w t counts table addresses ≡ opening_host w0 t0
-powered_is_opening w0 w t0 t counts table addresses e silent none f h =
-    ap (λ v. going v t counts table addresses) e
-    ∙ ap (λ s. going (world_powered w0) s counts table addresses) silent
-    ∙ ap (λ s. going (world_powered w0) t0 s table addresses) none
-    ∙ ap (λ x. going (world_powered w0) t0 no_counts x addresses) f
-    ∙ ap (λ s. going (world_powered w0) t0 no_counts empty s) h
+    (table : Table) (addresses : Addresses) (numbers : DeviceNumbers) (reported : ReportedDevices)
+    → w ≡ world_powered w0 → t ≡ t0 → counts ≡ no_counts → table ≡ empty → addresses ≡ set.empty
+    → numbers ≡ first_numbers → reported ≡ []
+    → going w t counts table addresses numbers reported ≡ opening_host w0 t0
+powered_is_opening w0 w t0 t counts table addresses numbers reported e silent none f h n r =
+    let new = going (world_powered w0) in
+    ap (λ v. going v t counts table addresses numbers reported) e
+    ∙ ap (λ s. new s counts table addresses numbers reported) silent
+    ∙ ap (λ s. new t0 s table addresses numbers reported) none
+    ∙ ap (λ x. new t0 no_counts x addresses numbers reported) f
+    ∙ ap (λ s. new t0 no_counts empty s numbers reported) h
+    ∙ ap (λ m. new t0 no_counts empty set.empty m reported) n
+    ∙ ap (λ s. new t0 no_counts empty set.empty first_numbers s) r
 
 -- A port that lost power is disabled, so no device is reached
 

@@ -9,7 +9,7 @@ use Rattle.usb_world.specs.{AtPorts, PlanData}
 use Rattle.usb_world.proofs.Interface.{way_shorter}
 use Rattle.usb_backlog.specs.{KeepsAll, KeepsBy, unmarked, KeepsPlain, PaysBare, PaysLook}
 use Rattle.usb_backlog.proofs.Interface.{few-none}
-use Rattle.usb_enum.specs.{FaultAllowedAt, EnumFault, ParentLost, Bus, Memory}
+use Rattle.usb_enum.specs.{FaultAllowedAt, EnumFault, ParentLost}
 use Rattle.usb_enum.proofs.Interface.{went_sound}
 use Rattle.usb_table.specs.{KnownPort, Entries, without, is_below_hub, known_port, port_below}
 use Rattle.usb_table.specs.{finding_at, hub_facts_at, hub_facts_in}
@@ -33,7 +33,7 @@ use Rattle.usb_host.proofs.services.CutPorts.{on_errors}
 
 -- The hub of a port
 
-has_by : (path : List ℕ) (es : Entries) (port : KnownPort) (above : Option (List ℕ))
+pub has_by : (path : List ℕ) (es : Entries) (port : KnownPort) (above : Option (List ℕ))
     → port_below above (port_on_hub path) es ≡ Some port → IsSome above
     → IsSomeAnd above (λ hub. IsSome (hub_facts_at hub es))
 has_by path es port None known some = absurd (cc some)
@@ -52,7 +52,7 @@ hub_facts-without path es (Some hub) is h =
     rw (finding-kept path hub es away) h
 
 -- it is listed yet where the port was forgotten
-has_hub : (path : List ℕ) (old new : Entries) → StaysOrForgets path old new → HasHub path old
+pub has_hub : (path : List ℕ) (old new : Entries) → StaysOrForgets path old new → HasHub path old
     → HasHub path new
 has_hub path old new (inl same) h = rw same h
 has_hub path old new (inr gone) h = rw gone (hub_facts-without path old (parent_of path) refl h)

@@ -7,8 +7,8 @@ use Rattle.std.proofs.lemmas.Bool.{le-ltb, lt-ltb, ltb-true}
 use Rattle.std.proofs.lemmas.List.Sums.{count_by-le-length, sum_by-cons}
 use Rattle.arrayvec.specs.ArrayVec.{ArrayVec}
 use Rattle.usb_port.specs.{rank_of}
-use Rattle.usb_world.specs.{Action, Plug, Unplug, Event, PlanData, World}
-use Rattle.usb_world.specs.declared.event.Action.TheVariants.{Change, Ask}
+use Rattle.usb_world.specs.{Action, Plug, Event, PlanData, World}
+use Rattle.usb_world.specs.declared.event.Action.TheVariants.{Change}
 use Rattle.usb_world.proofs.Interface.{course_joined}
 use Rattle.usb_bus.specs.{StepRun}
 use Rattle.usb_backlog.specs.{KeepsAll, KeepsBy, unmarked}
@@ -23,7 +23,7 @@ use Rattle.usb_host.specs.{ShowsTold, StopsWithin, ToldPaid, Weights, WorksOn, d
 use Rattle.usb_host.specs.{hubs_most, poll_most, told_most, HostState, PlugsAt, WasPlugged}
 use Rattle.usb_host.specs.{HostSteps, either, first_byte, DropsSound, IsDroppable, HostInvariant}
 use Rattle.usb_host.specs.{PartStays, KeepsInvariant, table_in, HostFault, Round, Worked, Quiet}
-use Rattle.usb_host.proofs.services.HubServices.{hub_tells}
+use Rattle.usb_host.proofs.services.HubServices.{LeavesRest, hub_tells}
 use Rattle.usb_host.proofs.RoundParts.{hub_listed}
 use Rattle.usb_host.proofs.payments.Payments.{costs_more, costs_pays, few_stop, is_err-if_ok}
 use Rattle.usb_host.proofs.payments.Payments.{pays_costs, plain_costs, plain_pays, ports_after}
@@ -198,7 +198,7 @@ module _ (hub : List ℕ) (a b : HostState) (agrees : Agrees a.entries a.address
 -- the ports of which it told show their changes, or an event came
 module _ (hub : List ℕ) (a b : HostState) (agrees : Agrees a.entries a.addresses)
     (same : b.entries ≡ a.entries) (pool : b.addresses ≡ a.addresses)
-    (stopped : b.stopped ≡ a.stopped) (went : HostSteps 768 a b)
+    (rest : LeavesRest a b) (went : HostSteps 768 a b)
     (listed : IsSome (hub_facts_at hub a.entries)) (got : Option (ArrayVec ℕ))
     (polled : PipesPolled (pipes_at hub (table_in a)) a.world (Ok got) (pipes_at hub (table_in b))
     b.world)
@@ -208,7 +208,7 @@ module _ (hub : List ℕ) (a b : HostState) (agrees : Agrees a.entries a.address
       → ShowsTold hub byte b ⊎ (a.world.taken + 1 ≤ b.world.taken)
   tells_shows packet byte is read s t still =
       let tells : HubTold hub a.world (Ok got) b.world =
-      hub_tells hub a b same pool stopped went listed polled keeps s still in
+      hub_tells hub a b same pool rest went listed polled keeps s still in
       let told : ByteTold (BitsOf hub a.world b.world) packet.items =
       rw is at tells.tells in
       let facts : _ = some_facts (hub_facts_at hub b.entries) (rw same listed) in

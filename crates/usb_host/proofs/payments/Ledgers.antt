@@ -49,3 +49,19 @@ sums_costs w z n a a' k k' s s' h h' t t' few looks strays hubs on =
       mul-le-mul_left (31168 + z) hubs,
       mul-le-mul_left (344272 + 100 * w + 4 * z) on,
     )
+
+-- nothing is paid: a look is owed again for each of some devices, and one other change and one hub
+-- more
+pub sums_anew : (w z n d v a a' k k' s s' h h' t t' : ℕ) → a' ≤ a + n → k' + 7 * t ≤ k + d + 7 * t'
+    → d ≤ v → s' + t ≤ s + 1 + t' → h' ≤ h + 1 → t ≤ t'
+    → a' + work_owed w z k' s' h' + came_cost w z t ≤ a + work_owed w z k s h + came_cost w z t' +
+    (n + (31168 + z) + (19968 + z) + (321104 + 100 * w + 3 * z) * v)
+sums_anew w z n d v a a' k k' s s' h h' t t' few looks most strays hubs on =
+    let x = mul-le-mul_left (321104 + 100 * w + 3 * z) looks in
+    omega (
+      arith,
+      mul-le-mul_left (321104 + 100 * w + 3 * z) most,
+      mul-le-mul_left (19968 + z) strays,
+      mul-le-mul_left (31168 + z) hubs,
+      mul-le-mul_left (344272 + 100 * w + 4 * z) on,
+    )

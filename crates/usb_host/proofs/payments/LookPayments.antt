@@ -4,7 +4,7 @@ use Rattle.usb_port.specs.{PortStatus}
 use Rattle.usb_world.specs.{AtPorts, World}
 use Rattle.usb_backlog.specs.{KeepsFound, PaysLook}
 use Rattle.usb_hub.specs.{PortStatusAt}
-use Rattle.usb_enum.specs.{EnumFault, ParentLost, Bus, Memory, IsOrderly, HasPlanWithin}
+use Rattle.usb_enum.specs.{EnumFault, ParentLost, IsOrderly, HasPlanWithin}
 use Rattle.usb_enum.proofs.Interface.{went_course, went_sound}
 use Rattle.usb_world.proofs.Interface.{course_joined, course_wider}
 use Rattle.usb_table.specs.{KnownPort}

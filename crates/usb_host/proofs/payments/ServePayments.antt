@@ -7,7 +7,7 @@ use Rattle.usb_tree.proofs.Interface.{decided}
 use Rattle.usb_bus.proofs.Interface.{went_then, went_wider}
 use Rattle.usb_pipe.specs.{write_bound}
 use Rattle.usb_hub.specs.{PortStatusAt}
-use Rattle.usb_enum.specs.{read_bound, IsOrderly, EnumFault, ParentLost, Bus, Memory}
+use Rattle.usb_enum.specs.{read_bound, IsOrderly, EnumFault, ParentLost}
 use Rattle.usb_table.specs.{KnownPort}
 use Rattle.usb_host.specs.{ClearsReset, FindsNone, LookPaid, LookPays, ServePaid, ServePays, seen}
 use Rattle.usb_host.specs.{unseen, found, bare, tidied, calm, clearing_bound, deciding_bound}

@@ -24,7 +24,7 @@ use Rattle.usb_resources.specs.{Addresses, supply_of}
 use Rattle.usb_pipe.specs.{Interrupt}
 use Rattle.usb_enum.specs.{Accepted, Finding, HubFacts, facts_of, is_hub_device, configuration_of}
 use Rattle.usb_enum.specs.{IsKnownAs}
-use Rattle.usb_enum.specs.declared.finding.Finding.TheVariants.{Device, Refused}
+use Rattle.usb_enum.specs.declared.finding.Finding.TheVariants.{Device}
 use Rattle.usb_table.specs.{Pipes, Hub as HubPipe, Function, Absent, Entries, accepted_device_of}
 use Rattle.usb_table.specs.{accepted_device_at, is_below_hub, IsListening, finding_at, hub_facts_in}
 use Rattle.usb_table.specs.{hub_facts_at, tier_of, IsStatusPipe, ArePipesTo, ArePipesIf}

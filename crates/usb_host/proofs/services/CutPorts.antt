@@ -1,5 +1,5 @@
 -- What is left at a port where the host stopped.
-use Rattle.std.proofs.Common.{◌≡◌, ◌∙◌, inl, inr, ap, ℕ, List, None, Result, Ok, Err, OnErr, IsErr}
+use Rattle.std.proofs.Common.{◌≡◌, ◌∙◌, inl, inr, ap, ℕ, List, None, Result, Ok, Err, OnErr}
 use Rattle.usb_world.proofs.Interface.{way_itself}
 use Rattle.usb_enum.specs.{EnumFault, ParentLost, Bus, Memory}
 use Rattle.usb_enum.proofs.Interface.{went_sound}

@@ -1,5 +1,5 @@
 -- How a poll of a hub, and what follows it, make up what was done at the hub.
-use Rattle.std.proofs.Common.{◌≡◌, ◌∙◌, refl, sym, ap, arith, Bool, true, false, ℕ, ◌+◌, ◌≤◌, ◌/◌}
+use Rattle.std.proofs.Common.{◌≡◌, ◌∙◌, refl, sym, ap, arith, true, false, ℕ, ◌+◌, ◌≤◌, ◌/◌}
 use Rattle.std.proofs.Common.{◌%◌, ◌^◌, ◌≢◌, bit_and, List, Option, None, Some, is_some, Ok, Err}
 use Rattle.std.proofs.Common.{IsSome, OnOk, Result}
 use Rattle.std.proofs.lemmas.Bool.{eq-eqb, ne_eqb}
@@ -9,8 +9,8 @@ use Rattle.arrayvec.specs.ArrayVec.{ArrayVec}
 use Rattle.usb_device.specs.{row_of}
 use Rattle.usb_world.specs.{BusFault, World}
 use Rattle.usb_pipe.specs.{FaultAfter, ByteTold, PipeFault}
-use Rattle.usb_pipe.specs.declared.fault.PipeFault.TheVariants.{Stalled, Busy, NoAnswer, Broken}
-use Rattle.usb_pipe.specs.declared.fault.PipeFault.TheVariants.{Bus, Memory}
+use Rattle.usb_pipe.specs.declared.fault.PipeFault.TheVariants.{Broken}
+use Rattle.usb_pipe.specs.declared.fault.PipeFault.TheVariants.{Bus}
 use Rattle.usb_hub.specs.{NoHubFailed}
 use Rattle.usb_enum.proofs.Interface.{went_sound}
 use Rattle.usb_enum.specs.{Accepted, HubFacts}
@@ -38,13 +38,28 @@ bit_not bits n not = ne_eqb (bits / 2 ^ n % 2) 1 (λ is. not (and_mask (bits / 2
 
 -- A poll changes no entry
 
+-- a poll leaves the numbers, the news and whether the host goes on
+abbrev pub LeavesRest : HostState → HostState → Type 0
+LeavesRest a b =
+    b ≡ record b { numbers = a.numbers; reported = a.reported; stopped = a.stopped }
+
 remains_by : (a b : HostState) → b.entries ≡ a.entries → b.addresses ≡ a.addresses
-    → b.stopped ≡ a.stopped → Remains a b
-remains_by a b same pool stopped =
-    ap (λ es. record b { entries = es }) same ∙ ap
-    (λ ps. record b { entries = a.entries; addresses = ps }) pool ∙ ap
-    (λ (x : Bool). record b { entries = a.entries; addresses = a.addresses; stopped = x })
-    stopped
+    → LeavesRest a b → Remains a b
+remains_by a b same pool rest =
+    rest ∙ ap (λ es. record a {
+      world = b.world;
+      trace = b.trace;
+      counts = b.counts;
+      pipes = b.pipes;
+      entries = es;
+      addresses = b.addresses;
+    }) same ∙ ap (λ ps. record a {
+      world = b.world;
+      trace = b.trace;
+      counts = b.counts;
+      pipes = b.pipes;
+      addresses = ps;
+    }) pool
 
 -- an attempt was made, and what came after it took nothing back
 polled_on : (a b c : HostState) → Remains a b → HostSteps 768 a b
@@ -64,10 +79,10 @@ failed_more old new _ other x = omega (arith, x.least)
 -- What it tells
 
 module _ (hub : List ℕ) (a b : HostState) (same : b.entries ≡ a.entries)
-    (pool : b.addresses ≡ a.addresses) (stopped : b.stopped ≡ a.stopped) (went : HostSteps 768 a b)
+    (pool : b.addresses ≡ a.addresses) (rest : LeavesRest a b) (went : HostSteps 768 a b)
     (listed : IsSome (hub_facts_at hub a.entries)) where
   r : Remains a b
-  r = remains_by a b same pool stopped
+  r = remains_by a b same pool rest
 
   is_hub_at : (device : Accepted) → accepted_device_at hub a.entries ≡ Some device
       → is_some device.hub ≡ true

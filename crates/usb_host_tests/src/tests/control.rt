@@ -1,4 +1,4 @@
-//! Reads of a driver's own from the device at a path, hubs too.
+//! Reads of a driver's own from the device at a path, hubs too, and its writes to it.
 use std::alloc::Global;
 use std::test::Fail;
 use usb_host::{Host, HostFault, Setup};
@@ -145,6 +145,21 @@ const ROWS: &[Row] = &[
 
 type TestHost = Host<SimBus<Tracer<Vec<u8>>>>;
 
+/// A host that has found both devices, in 64 attempts.
+fn settled(alloc: Global) -> Result<TestHost, Fail> {
+    let plan = plan_text(alloc, 10_000, &[PLAN])?;
+    let mut bus = bus_of(alloc, plan.as_str())?;
+    bus.apply_next_event()?;
+    bus.apply_next_event()?;
+    let mut host = Host::new(alloc, bus);
+    for _ in 0..10 {
+        if host.bus().attempts() < 64 {
+            host.round()?;
+        }
+    }
+    Ok(host)
+}
+
 /// What a read tells: its bytes in hexadecimal digits, or its fault.
 fn told(alloc: Global, host: &mut TestHost, row: &Row) -> Result<String, Fail> {
     let setup = Setup::from_bytes(row.setup);
@@ -163,18 +178,105 @@ fn told(alloc: Global, host: &mut TestHost, row: &Row) -> Result<String, Fail> {
 
 #[test]
 fn reads_by_path(rt: HostRuntime) -> Result<(), Fail> {
-    let plan = plan_text(rt.alloc(), 10_000, &[PLAN])?;
-    let mut bus = bus_of(rt.alloc(), plan.as_str())?;
-    bus.apply_next_event()?;
-    bus.apply_next_event()?;
-    let mut host = Host::new(rt.alloc(), bus);
-    for _ in 0..10 {
-        if host.bus().attempts() < 64 {
-            host.round()?;
-        }
-    }
+    let mut host = settled(rt.alloc())?;
     for row in ROWS {
         let told = told(rt.alloc(), &mut host, row)?;
+        assert_eq!(rt; told.as_str(), row.told, "{}", row.about);
+        assert_eq!(rt; host.bus().attempts(), row.attempts, "{}", row.about);
+    }
+    Ok(())
+}
+
+/// A write, what it reports, and the attempts made so far.
+struct Write {
+    about: &'static str,
+    path: &'static str,
+    setup: [u8; 8],
+    bytes: &'static [u8],
+    told: &'static str,
+    attempts: u64,
+}
+
+const WRITES: &[Write] = &[
+    Write {
+        about: "a request of a vendor that the device does not know",
+        path: "1.1",
+        setup: [0x40, 1, 0, 0, 0, 0, 3, 0],
+        bytes: &[1, 2, 3],
+        told: "stalled",
+        attempts: 66,
+    },
+    Write {
+        about: "the same without data",
+        path: "1.1",
+        setup: [0x40, 1, 0, 0, 0, 0, 0, 0],
+        bytes: &[],
+        told: "stalled",
+        attempts: 68,
+    },
+    Write {
+        about: "an address",
+        path: "1.1",
+        setup: [0, 5, 9, 0, 0, 0, 0, 0],
+        bytes: &[],
+        told: "reserved",
+        attempts: 68,
+    },
+    Write {
+        about: "a configuration",
+        path: "1.1",
+        setup: [0, 9, 1, 0, 0, 0, 0, 0],
+        bytes: &[],
+        told: "reserved",
+        attempts: 68,
+    },
+    Write {
+        about: "a setting of an interface",
+        path: "1.1",
+        setup: [1, 11, 0, 0, 0, 0, 0, 0],
+        bytes: &[],
+        told: "reserved",
+        attempts: 68,
+    },
+    Write {
+        about: "any request to a hub",
+        path: "1",
+        setup: [0x40, 1, 0, 0, 0, 0, 2, 0],
+        bytes: &[1, 2],
+        told: "reserved",
+        attempts: 68,
+    },
+    Write {
+        about: "a port without a device",
+        path: "1.2",
+        setup: [0, 5, 9, 0, 0, 0, 0, 0],
+        bytes: &[],
+        told: "no device",
+        attempts: 68,
+    },
+];
+
+/// What a write reports.
+fn written(alloc: Global, host: &mut TestHost, row: &Write) -> Result<String, Fail> {
+    let setup = Setup::from_bytes(row.setup);
+    let Some(path) = PortPath::from_text(row.path) else {
+        return Ok(String::new(alloc));
+    };
+    if setup.request_type >= 128 || usize::from(setup.length) != row.bytes.len() {
+        return Ok(String::new(alloc));
+    }
+    match host.control_out(&path, setup, row.bytes) {
+        Ok(()) => Ok(format!(in alloc; "done")?),
+        Err(HostFault::Transfer(fault)) => Ok(format!(in alloc; "{fault}")?),
+        Err(fault) => Ok(format!(in alloc; "{fault:?}")?),
+    }
+}
+
+#[test]
+fn writes_by_path(rt: HostRuntime) -> Result<(), Fail> {
+    let mut host = settled(rt.alloc())?;
+    for row in WRITES {
+        let told = written(rt.alloc(), &mut host, row)?;
         assert_eq!(rt; told.as_str(), row.told, "{}", row.about);
         assert_eq!(rt; host.bus().attempts(), row.attempts, "{}", row.about);
     }

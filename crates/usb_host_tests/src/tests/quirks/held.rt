@@ -5,6 +5,7 @@ use super::{PLAN, TestHost, put_settled};
 use std::alloc::Global;
 use std::test::Fail;
 use usb_host::Host;
+use usb_port::PortPath;
 use usb_testbus::bus_of;
 
 /// What comes at root port 2 behind the two devices at port 1, if anything.
@@ -18,6 +19,8 @@ struct Row {
     dark: bool,
     /// What the hub tells before the last event comes.
     tells: Option<Told>,
+    /// The port that is looked at after that, if any.
+    look: &'static str,
     told: &'static str,
 }
 
@@ -29,6 +32,7 @@ const ROWS: &[Row] = &[
         stuck: 2,
         dark: false,
         tells: None,
+        look: "",
         told: "quiet, 1 device, 1.1 device; quiet, 1 device, 1.1 device; tries 1",
     },
     Row {
@@ -38,6 +42,7 @@ const ROWS: &[Row] = &[
         stuck: 2,
         dark: false,
         tells: None,
+        look: "",
         told: "quiet, 1 device, 1.1 device; \
                quiet, 1 device, 1.1 device, 2 device; \
                quiet, 1 device, 1.1 device, 2 device; tries 2",
@@ -51,6 +56,7 @@ const ROWS: &[Row] = &[
         stuck: 2,
         dark: false,
         tells: None,
+        look: "",
         told: "quiet, 1 device, 1.1 device; \
                quiet, 1 device, 1.1 device, 2 device; \
                quiet, 1 device, 1.1 device; \
@@ -65,6 +71,7 @@ const ROWS: &[Row] = &[
         stuck: 1,
         dark: false,
         tells: None,
+        look: "",
         told: "quiet, 1 device, 1.1 device; \
                quiet, 1 device, 1.1 device, 1.2 device; \
                quiet, 1 device, 1.2 device; \
@@ -77,7 +84,18 @@ const ROWS: &[Row] = &[
         stuck: 1,
         dark: true,
         tells: None,
+        look: "",
         told: "quiet, 1 device, 1.1 device; quiet, 1 device, 1.1 device; tries 2",
+    },
+    Row {
+        about: "a look at it begins afresh: it is looked at once more again",
+        events: "",
+        count: 0,
+        stuck: 1,
+        dark: true,
+        tells: None,
+        look: "1",
+        told: "quiet, 1 device, 1.1 device; Ok(Found); quiet, 1 device, 1.1 device; tries 4",
     },
     Row {
         about: "the hub there is dropped, and stays so",
@@ -86,6 +104,7 @@ const ROWS: &[Row] = &[
         stuck: 1,
         dark: false,
         tells: Some(Told::Stuck),
+        look: "",
         told: "quiet, 1 device, 1.1 device; quiet, 1 lost; tries 1",
     },
 ];
@@ -108,6 +127,9 @@ fn told(alloc: Global, row: &Row) -> Result<String, Fail> {
     }
     if let Some(told) = row.tells {
         host.bus_mut().tell(told);
+    }
+    if let Some(path) = PortPath::from_text(row.look) {
+        write!(text, "{:?}; ", host.look(&path))?;
     }
     put_settled(&mut text, &mut host)?;
     write!(text, "tries {}", host.into_bus().tries())?;

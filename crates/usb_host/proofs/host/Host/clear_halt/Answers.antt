@@ -1,4 +1,4 @@
-use Rattle.std.proofs.Common.{arith, rules, ap, sym, ◌∙◌}
+use Rattle.std.proofs.Common.{arith, refl, rules, ap, sym, ◌∙◌}
 use Rattle.usb_host.specs.{clear_bound, HostState}
 use Rattle.std.proofs.lemmas.Bool.{false≢true}
 use Rattle.std.proofs.lemmas.Grind.{common_steps}
@@ -6,6 +6,7 @@ use Rattle.usb_host.proofs.StepSums.{host_goes_none}
 use Rattle.usb_host.proofs.knowledge.Soundness.{transfer_kept, transfer_none}
 use Rattle.usb_host.proofs.BusCounts.{counts_spend, counts_transfer, left_same}
 use Rattle.usb_host.proofs.WorkingBuses.{cleared_works}
+use Rattle.usb_host.proofs.arrivals.KeptNumbers.{keeps_by, keeps_none}
 use Rattle.usb_host.proofs.host.Host.clear_halt.Goals as goal
 
 pub returns-then-self-clause-tells : goal.returns-then-self-clause-tells
@@ -44,8 +45,15 @@ returns-clause-any_bus g c = record {
         (g.B.Bus.spent c.clear_halt.new.bus) (g.B.Bus.failed c.clear_halt.new.bus)
         c.self.inside.left g.B.Bus.modelled
         c.clear_halt.result c.clear_halt.ensures.any_bus.1 off);
+    numbers = rw (← c.self.view_is) (keeps_by c.clear_halt.ensures.through.entries refl refl);
   };
   left = rw (← c.self.view_is) (left_same g.B.Bus.modelled (g.B.Bus.spent c.self.inside.bus)
       (g.B.Bus.spent c.clear_halt.new.bus) (g.B.Bus.failed c.self.inside.bus)
       (g.B.Bus.failed c.clear_halt.new.bus) c.self.inside.left);
+}
+
+pub returns-then-self-clause-any_bus : goal.returns-then-self-clause-any_bus
+returns-then-self-clause-any_bus g c = record {
+  calls = record { spends = omega arith; told = λ off. tt; numbers = keeps_none _ };
+  left = refl;
 }

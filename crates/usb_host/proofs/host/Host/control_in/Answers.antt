@@ -1,4 +1,4 @@
-use Rattle.std.proofs.Common.{arith, rules, ◌+◌, ◌*◌, ap, refl, sym, ◌∙◌}
+use Rattle.std.proofs.Common.{arith, rules, ap, refl, sym, ◌∙◌}
 use Rattle.std.proofs.lemmas.Bool.{false≢true}
 use Rattle.std.proofs.lemmas.Grind.{common_steps}
 use Rattle.usb_table.specs.{control_most, control_target}
@@ -7,6 +7,7 @@ use Rattle.usb_host.proofs.StepSums.{host_goes_none}
 use Rattle.usb_host.proofs.knowledge.Soundness.{transfer_kept, transfer_none}
 use Rattle.usb_host.proofs.BusCounts.{counts_spend, counts_transfer, left_same}
 use Rattle.usb_host.proofs.ControlWorks.{asks_or_refuses, read_told_works}
+use Rattle.usb_host.proofs.arrivals.KeptNumbers.{keeps_none}
 use Rattle.usb_host.proofs.host.Host.control_in.Goals as goal
 
 pub returns-then-self-clause-tells : goal.returns-then-self-clause-tells
@@ -51,6 +52,7 @@ returns-clause-any_bus g c = record {
           (g.B.Bus.spent c.control_in.new.bus) (g.B.Bus.failed c.control_in.new.bus)
           c.self.inside.left g.B.Bus.modelled c.control_in.result
           c.control_in.ensures.any_bus.1 off);
+      numbers = rw (← c.self.view_is) (keeps_none _);
     };
     left = rw (← c.self.view_is) (left_same g.B.Bus.modelled (g.B.Bus.spent c.self.inside.bus)
         (g.B.Bus.spent c.control_in.new.bus) (g.B.Bus.failed c.self.inside.bus)
@@ -66,8 +68,20 @@ returns-clause-any_bus g c = record {
         entries = c.self.inside.table.entries;
         pipes = c.self.inside.table.pipes;
         addresses = c.self.inside.pool;
+        numbers = c.self.inside.numbers;
+        reported = c.self.inside.reported;
         stopped = stopped;
       }) c.self.inside.bus c.control_in.new.bus c.control_in.result c.as_host_fault-read.result
       c.self.inside.stopped c.is_final-self-inside.result c.control_in.ensures.any_bus.2
       c.as_host_fault-read.ensures c.if-self.false c.is_final-self-inside.ensures);
+}
+
+pub returns-then-self-clause-any_bus : goal.returns-then-self-clause-any_bus
+returns-then-self-clause-any_bus g c = record {
+  calls = record {
+    calls = record { spends = omega arith; told = λ off. tt; numbers = keeps_none _ };
+    left = refl;
+  };
+  refuses = λ running. absurd (false≢true (sym running ∙ ap (λ (h : HostState). h.stopped)
+      (sym c.self.view_is) ∙ c.if-self.true));
 }

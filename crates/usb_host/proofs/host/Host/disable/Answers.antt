@@ -1,6 +1,6 @@
 use Rattle.usb_host.proofs.PortLocations.{placed}
 use Rattle.std.proofs.Common.{refl}
-use Rattle.usb_host.specs.{Bus, HostState, counts_of}
+use Rattle.usb_host.specs.{HostState, counts_of}
 use Rattle.usb_hub.proofs.Interface.{keeps_devices_none}
 use Rattle.usb_host.proofs.OwnedPorts.{none_disabled, cleared_enable_disabled, port_failed}
 use Rattle.usb_host.proofs.devices.Causes.{told_caused, untold_caused}
@@ -47,6 +47,8 @@ returns-clause-disables g c known =
       entries = c.self.inside.table.entries;
       pipes = c.self.inside.table.pipes;
       addresses = c.self.inside.pool;
+      numbers = c.self.inside.numbers;
+      reported = c.self.inside.reported;
       stopped = c.self.inside.stopped;
     } in
     let went = c.clear_port.ensures.uses.steps known in

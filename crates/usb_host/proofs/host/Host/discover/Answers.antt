@@ -12,6 +12,7 @@ use Rattle.usb_host.proofs.BusCounts.{counts_spend, counts_told}
 use Rattle.usb_enum.proofs.Interface.{enumeration_most}
 use Rattle.usb_host.proofs.devices.Enumerations.{askable_wide}
 use Rattle.usb_host.proofs.entries.FoundEntries.{found_entered}
+use Rattle.usb_host.proofs.arrivals.KeptNumbers.{keeps_by, keeps_entered, keeps_none}
 use Rattle.usb_host.proofs.host.Host.discover.Goals as goal
 
 pub invariant_of-self-2 : goal.invariant_of-self-2
@@ -100,3 +101,19 @@ returns-in_err-finding-clause-told g c =
     rw (told.1, told.2) (counts_told (g.B.Bus.spent c.enumerate.new.bus)
     (g.B.Bus.failed c.enumerate.new.bus) c.self.inside.left {A = Unit {0}} g.B.Bus.modelled
     (Err c.in_err-finding.field-0.0) c.in_err-finding.ensures.uses.told)
+
+pub returns-in_err-finding-clause-numbers : goal.returns-in_err-finding-clause-numbers
+returns-in_err-finding-clause-numbers g c = rw (← c.self.view_is) (keeps_none _)
+
+pub returns-in_err-enter-clause-numbers : goal.returns-in_err-enter-clause-numbers
+returns-in_err-enter-clause-numbers g c =
+    rw (← c.self.view_is) (keeps_by (ap (λ (t : Table). t.entries) c.in_err-enter.ensures.err.0)
+    c.in_err-enter.ensures.kept refl)
+
+pub returns-clause-numbers : goal.returns-clause-numbers
+returns-clause-numbers g c =
+    let t = ap (λ (t : Table). t.entries) c.in_ok-enter.ensures.ok.0 in
+    rw (← c.self.view_is, t, c.duplicate.ensures, c.in_ok-enter.ensures.given) (keeps_entered
+    c.args.path.now c.self.inside.table.entries c.in_ok-finding.finding c.enumerate.new.pool
+    c.self.inside.numbers
+    c.in_ok-enter.ensures.numbers.long c.self.invariant.accounts c.in_ok-finding.ensures.pool)

@@ -1,8 +1,10 @@
-use Rattle.std.proofs.Common.{◌≡◌, ◌∙◌, ap, refl, sym, Err}
+use Rattle.std.proofs.Common.{◌≡◌, ◌∙◌, inl, inr, ap, refl, sym, Err}
 use Rattle.usb_port.specs.{parent_of}
 use Rattle.usb_enum.specs.{EnumFault, Bus, Memory, ParentLost}
 use Rattle.usb_host.proofs.PortDrops.{finish_done, finish_lost, no_parent}
 use Rattle.usb_host.proofs.PortServes.{finish_fails}
+use Rattle.usb_host.proofs.looks.NearEntries.{drops_above}
+use Rattle.usb_host.proofs.arrivals.KeptNumbers.{goes_none}
 use Rattle.usb_host.proofs.host.Host.drop_lost_parent.Goals as goal
 
 pub returns-in-Ok-clause-finishes : goal.returns-in-Ok-clause-finishes
@@ -38,3 +40,56 @@ returns-in-None-clause-finishes g c known =
     c.in-Err-ParentLost.is ∙ ap (λ (f : EnumFault). Err f) fault in
     let broke = rw lost at (c.requires.broke known) in
     no_parent (parent_of c.args.path.now) (sym c.in-None.ensures) broke
+
+-- Which entries changed
+
+pub returns-in-Ok-clause-ends : goal.returns-in-Ok-clause-ends
+returns-in-Ok-clause-ends g c = record {
+  ends = rw c.in-Ok.is refl;
+  near = inl (λ other away. refl);
+}
+
+pub returns-in-Err-Bus-clause-ends : goal.returns-in-Err-Bus-clause-ends
+returns-in-Err-Bus-clause-ends g c =
+    let fault : c.in-Err-Bus.field-0 ≡ Bus c.in-Err-Bus.fault =
+    rw c.in-Err-Bus.is at c.in-Err-Bus.field-0-is in
+    record { ends = rw (c.in-Err-Bus.is, fault) refl; near = inl (λ other away. refl) }
+
+pub returns-in-Err-Memory-clause-ends : goal.returns-in-Err-Memory-clause-ends
+returns-in-Err-Memory-clause-ends g c =
+    let fault : c.in-Err-Memory.field-0 ≡ Memory =
+    rw c.in-Err-Memory.is at c.in-Err-Memory.field-0-is in
+    record { ends = rw (c.in-Err-Memory.is, fault) refl; near = inl (λ other away. refl) }
+
+pub returns-in-Some-clause-ends : goal.returns-in-Some-clause-ends
+returns-in-Some-clause-ends g c =
+    let fault : c.in-Err-ParentLost.field-0 ≡ ParentLost =
+    rw c.in-Err-ParentLost.is at c.in-Err-ParentLost.field-0-is in
+    record {
+      ends = rw (c.in-Err-ParentLost.is, fault) tt;
+      near = inr (drops_above _ (sym c.in-Some.ensures) c.drop_hub.ensures.near);
+    }
+
+pub returns-in-None-clause-ends : goal.returns-in-None-clause-ends
+returns-in-None-clause-ends g c =
+    let fault : c.in-Err-ParentLost.field-0 ≡ ParentLost =
+    rw c.in-Err-ParentLost.is at c.in-Err-ParentLost.field-0-is in
+    record { ends = rw (c.in-Err-ParentLost.is, fault) tt; near = inl (λ other away. refl) }
+
+pub returns-in-Ok-clause-goes : goal.returns-in-Ok-clause-goes
+returns-in-Ok-clause-goes g c = goes_none
+
+pub returns-in-Err-Bus-clause-goes : goal.returns-in-Err-Bus-clause-goes
+returns-in-Err-Bus-clause-goes g c = goes_none
+
+pub returns-in-Err-Memory-clause-goes : goal.returns-in-Err-Memory-clause-goes
+returns-in-Err-Memory-clause-goes g c = goes_none
+
+pub returns-in-None-clause-goes : goal.returns-in-None-clause-goes
+returns-in-None-clause-goes g c = goes_none
+
+pub returns-in-Some-clause-goes : goal.returns-in-Some-clause-goes
+returns-in-Some-clause-goes g c = record {
+  spends = c.drop_hub.ensures.goes.spends;
+  numbers = c.drop_hub.ensures.goes.numbers;
+}

@@ -4,6 +4,7 @@ use Rattle.usb_table.specs.{known_port}
 use Rattle.usb_host.proofs.payments.HandlingPayments.{number_handled, number_stops, number_unknown}
 use Rattle.usb_host.proofs.knowledge.Hubs.{below_due}
 use Rattle.usb_host.proofs.services.Services.{pushed_part}
+use Rattle.usb_host.proofs.arrivals.KeptNumbers.{keeps_none}
 use Rattle.usb_host.proofs.host.Host.handle_below.Goals as goal
 
 pub returns-then-not-push-clause-handles : goal.returns-then-not-push-clause-handles
@@ -38,3 +39,9 @@ returns-in_err-service_port-clause-handles g c known =
     c.duplicate-path.ensures in
     number_stops c.args.number _
     c.from_residual.ensures.0 path (c.in_err-service_port.ensures.handles known)
+
+pub returns-then-not-push-clause-numbers : goal.returns-then-not-push-clause-numbers
+returns-then-not-push-clause-numbers g c = keeps_none _
+
+pub returns-in_default-clause-numbers : goal.returns-in_default-clause-numbers
+returns-in_default-clause-numbers g c = keeps_none _

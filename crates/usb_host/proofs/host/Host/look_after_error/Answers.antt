@@ -4,6 +4,7 @@ use Rattle.usb_host.specs.{clearing_bound}
 use Rattle.usb_host.proofs.entries.HubCounts.{hubs-rest}
 use Rattle.usb_host.proofs.PortLooks.{error_look_done, error_look_fails}
 use Rattle.usb_host.proofs.PortLocations.{placed, placed_on}
+use Rattle.usb_host.proofs.arrivals.KeptNumbers.{keeps_rests, keeps_then}
 use Rattle.usb_host.proofs.host.Host.look_after_error.Goals as goal
 
 pub renew-requires : goal.renew-requires
@@ -30,3 +31,11 @@ returns-in_err-status-clause-hubs g c =
 pub returns-clause-hubs : goal.returns-clause-hubs
 returns-clause-hubs g c =
     omega (arith, hubs-rest c.args.self.now c.in_ok-status.ensures.rests, c.renew.ensures.hubs)
+
+pub returns-in_err-status-clause-numbers : goal.returns-in_err-status-clause-numbers
+returns-in_err-status-clause-numbers g c = keeps_rests c.args.self.now c.in_err-status.ensures.rests
+
+pub returns-clause-numbers : goal.returns-clause-numbers
+returns-clause-numbers g c =
+    keeps_then (keeps_rests c.args.self.now c.in_ok-status.ensures.rests)
+    c.renew.ensures.goes.numbers

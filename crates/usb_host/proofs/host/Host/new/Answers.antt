@@ -77,11 +77,11 @@ returns-clause-tells g c known =
       c.root_ports-roots.ensures.count known,
       c.root_ports-roots.ensures.least,
     ) in
-    let opens = powered_is_opening w0 _ _ _ _ _ _
+    let opens = powered_is_opening w0 _ _ _ _ _ _ _ _
     (powered_all w0 _ all (c.ports.invariant.powered known)) (c.ports.invariant.silent known)
     (counts_known g.B.Bus.modelled (g.B.Bus.spent c.ports.bus) (g.B.Bus.failed c.ports.bus) _
     known)
-    c.new-2.ensures c.new.ensures.empty in
+    c.new-2.ensures c.new.ensures.empty c.new-4.ensures c.new-5.ensures in
     record {
       opens = opens;
       traced = c.ports.invariant.traced known;

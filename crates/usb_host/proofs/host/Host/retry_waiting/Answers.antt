@@ -5,12 +5,14 @@ use Rattle.usb_host.proofs.payments.RoundPayments.{one_waits}
 use Rattle.usb_host.proofs.StepSums.{either_quiet}
 use Rattle.std.proofs.Common.{◌∙◌, sym}
 use Rattle.usb_host.proofs.LeftRoots.{quiet_none, quiet_then}
+use Rattle.usb_host.proofs.arrivals.KeptNumbers.{keeps_none, keeps_then}
 use Rattle.usb_host.proofs.host.Host.retry_waiting.Goals as goal
 
 pub waiting-init : goal.waiting-init
 waiting-init g c = record {
   quiet = λ is. quiet_none _;
   spends = omega arith;
+  numbers = keeps_none _;
   so = λ known. waiting_begin _;
   idle = λ none. (refl, refl);
   path = tt;
@@ -38,8 +40,9 @@ waiting-preserved g c =
         i.spends,
         rises,
         rank_most c.in-Some.path c.numbers-numbers.ensures.path,
-        c.retry_one.ensures.spends,
+        c.retry_one.ensures.goes.spends,
       );
+      numbers = keeps_then i.numbers c.retry_one.ensures.goes.numbers;
       so = λ known. rw c.and-round.ensures (waiting_handled (i.so known) i.path
           c.numbers-numbers.ensures.path some.0 some.1 (c.in_ok-retry_one.ensures.looks known));
       idle = λ none. absurd (one_waits (i.idle none).1 some.0 none);
@@ -60,22 +63,26 @@ returns-clause-looks g c known =
     waiting_end (i.so known) i.path
     c.in_default.ensures.agree c.in_default.ensures.none i.idle
 
-pub returns-in_err-retry_one-clause-spends : goal.returns-in_err-retry_one-clause-spends
-returns-in_err-retry_one-clause-spends g c =
-    let rises = rank_rises c.waiting.last c.in-Some.path c.waiting.invariant.path
-    c.numbers-numbers.ensures.path
-    c.in-Some.ensures.some.1 in
-    omega (
-      arith,
-      c.waiting.invariant.spends,
-      rises,
-      rank_most c.in-Some.path c.numbers-numbers.ensures.path,
-      c.retry_one.ensures.spends,
-    )
+pub returns-in_err-retry_one-clause-goes : goal.returns-in_err-retry_one-clause-goes
+returns-in_err-retry_one-clause-goes g c = record {
+  spends = let rises = rank_rises c.waiting.last c.in-Some.path c.waiting.invariant.path
+      c.numbers-numbers.ensures.path
+      c.in-Some.ensures.some.1 in
+      omega (
+        arith,
+        c.waiting.invariant.spends,
+        rises,
+        rank_most c.in-Some.path c.numbers-numbers.ensures.path,
+        c.retry_one.ensures.goes.spends,
+      );
+  numbers = keeps_then c.waiting.invariant.numbers c.retry_one.ensures.goes.numbers;
+}
 
-pub returns-clause-spends : goal.returns-clause-spends
-returns-clause-spends g c =
-    omega (arith, c.waiting.invariant.spends)
+pub returns-clause-goes : goal.returns-clause-goes
+returns-clause-goes g c = record {
+  spends = omega (arith, c.waiting.invariant.spends);
+  numbers = c.waiting.invariant.numbers;
+}
 
 pub returns-clause-quiet : goal.returns-clause-quiet
 returns-clause-quiet g c is =

@@ -1,6 +1,6 @@
 use Rattle.std.proofs.Common.{◌≡◌, ◌+◌, ◌-◌, ◌*◌, ◌≤◌, true, IfSome}
 use Rattle.usb_port.specs.{IsPath}
-use Rattle.usb_host.specs.{handling_bound, looks_bound, NoneWait, Quiet, StaysQuiet}
+use Rattle.usb_host.specs.{KeepsNumbers, handling_bound, looks_bound, NoneWait, Quiet, StaysQuiet}
 use Rattle.usb_hub.specs.{StillWorks}
 use Rattle.usb_host.proofs.entries.Ranks.{rank_after}
 use Rattle.usb_host.proofs.RoundLoops.{WaitingHandled}
@@ -11,6 +11,7 @@ invariant-waiting g l = record {
   quiet : l.round ≡ Quiet → StaysQuiet l.initial.self l.self;
   spends : l.self.counts.spent + handling_bound * (2097152 - rank_after l.last)
       ≤ l.initial.self.counts.spent + looks_bound;
+  numbers : KeepsNumbers l.initial.self l.self;
   so : g.B.Bus.modelled ≡ true → WaitingHandled l.last l.round l.initial.self l.self;
   idle : NoneWait l.initial.self.entries → (l.round ≡ Quiet) × (l.self ≡ l.initial.self);
   path : IfSome l.last IsPath;

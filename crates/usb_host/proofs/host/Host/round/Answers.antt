@@ -2,7 +2,7 @@ use Rattle.std.proofs.Common.{arith, rules, ◌≡◌, ap, refl, sym, subst, ◌
 use Rattle.std.proofs.Common.{None, true, false}
 use Rattle.std.proofs.lemmas.Grind.{common_steps}
 use Rattle.usb_host.specs.{round_bound, HostInvariant, HostState, RoundsSound, PaysRound, HostSteps}
-use Rattle.usb_host.specs.{DidParts, HostWorks, QuietKeeps, StopsIn}
+use Rattle.usb_host.specs.{DidParts, HostWorks, KeepsNumbers, QuietKeeps, StopsIn}
 use Rattle.usb_host.proofs.LeftRoots.{quiet_stopped}
 use Rattle.usb_host.proofs.payments.RoundPayments.{pays_stopped, stopped_pays}
 use Rattle.usb_host.proofs.rests.IdleRounds.{round_rests}
@@ -11,6 +11,7 @@ use Rattle.usb_host.proofs.devices.Owners.{round_owning}
 use Rattle.usb_host.proofs.services.RoundServices.{parts_done, parts_stopped}
 use Rattle.usb_host.proofs.knowledge.Soundness.{rounds_stopped}
 use Rattle.usb_host.proofs.BusCounts.{part_reported}
+use Rattle.usb_host.proofs.arrivals.KeptNumbers.{keeps_none}
 use Rattle.usb_host.proofs.host.Host.round.Goals as goal
 
 no_stop : (b : Bool) {P : Type 0} → b ≡ true → b ≡ false → P
@@ -88,12 +89,21 @@ returns-clause-any_bus g c =
     let stopped = c.is_err-self-inside.result in
     record {
       calls = record {
-        spends = rw same c.run_round-round.ensures.spends;
+        spends = rw same c.run_round-round.ensures.goes.spends;
         told = λ off. rw same (part_reported g.B.Bus.modelled c.run_round-round.result
             c.run_round-round.new.self c.run_round-round.ensures.told off);
+        numbers = subst (λ (h : HostState). KeepsNumbers c.args.self.now (record h {
+          stopped = stopped;
+        })) (sym c.self-2.view_is) c.run_round-round.ensures.goes.numbers;
       };
       quiet = subst (λ (h : HostState). QuietKeeps c.run_round-round.result c.args.self.now
           (record h { stopped = stopped })) (sym c.self-2.view_is)
           (quiet_stopped c.run_round-round.result c.args.self.now c.run_round-round.new.self stopped
           c.run_round-round.ensures.quiet);
     }
+
+pub returns-then-self-clause-any_bus : goal.returns-then-self-clause-any_bus
+returns-then-self-clause-any_bus g c = record {
+  calls = record { spends = omega arith; told = λ off. tt; numbers = keeps_none _ };
+  quiet = tt;
+}

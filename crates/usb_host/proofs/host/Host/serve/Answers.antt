@@ -3,6 +3,7 @@ use Rattle.std.proofs.lemmas.Result.{err_from_is_err_and}
 use Rattle.usb_enum.specs.{read_bound}
 use Rattle.usb_host.proofs.PortServes.{serve_failed, serve_fails, serve_looked, serve_settled}
 use Rattle.usb_host.proofs.PortLocations.{placed, placed_on}
+use Rattle.usb_host.proofs.arrivals.KeptNumbers.{keeps_rests, keeps_then}
 use Rattle.usb_host.proofs.host.Host.serve.Goals as goal
 
 pub enumerate_again-requires : goal.enumerate_again-requires
@@ -42,3 +43,21 @@ returns-else-has_failed-clause-serves g c known =
     (c.in_ok-status.ensures.shows known) c.if-status.false
     c.settle.ensures.rests (c.settle.ensures.settles known)
     (sym c.has_failed.ensures ∙ c.if-has_failed.false)
+
+pub returns-in_err-status-clause-numbers : goal.returns-in_err-status-clause-numbers
+returns-in_err-status-clause-numbers g c = keeps_rests c.args.self.now c.in_err-status.ensures.rests
+
+pub returns-then-status-clause-numbers : goal.returns-then-status-clause-numbers
+returns-then-status-clause-numbers g c =
+    keeps_then (keeps_rests c.args.self.now c.in_ok-status.ensures.rests)
+    c.enumerate_again.ensures.numbers
+
+pub returns-then-has_failed-clause-numbers : goal.returns-then-has_failed-clause-numbers
+returns-then-has_failed-clause-numbers g c =
+    keeps_then (keeps_rests c.args.self.now c.in_ok-status.ensures.rests)
+    c.look_after_error.ensures.numbers
+
+pub returns-else-has_failed-clause-numbers : goal.returns-else-has_failed-clause-numbers
+returns-else-has_failed-clause-numbers g c =
+    keeps_then (keeps_rests c.args.self.now c.in_ok-status.ensures.rests) (keeps_rests
+    c.status.new.self c.settle.ensures.rests)

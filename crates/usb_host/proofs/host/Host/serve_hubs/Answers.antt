@@ -6,12 +6,14 @@ use Rattle.usb_host.proofs.RoundLoops.{hubs_begin, hubs_cut, hubs_all_handled, h
 use Rattle.usb_host.proofs.StepSums.{either_quiet}
 use Rattle.std.proofs.Common.{◌∙◌, sym}
 use Rattle.usb_host.proofs.LeftRoots.{quiet_none, quiet_then}
+use Rattle.usb_host.proofs.arrivals.KeptNumbers.{keeps_none, keeps_then}
 use Rattle.usb_host.proofs.host.Host.serve_hubs.Goals as goal
 
 pub hubs-init : goal.hubs-init
 hubs-init g c = record {
   quiet = λ is. quiet_none _;
   spends = omega arith;
+  numbers = keeps_none _;
   so = λ known. hubs_begin _;
   idle = λ none. (refl, refl);
   path = tt;
@@ -43,8 +45,9 @@ hubs-preserved g c =
         i.spends,
         rises,
         rank_most c.in-Some.hub c.numbers-numbers.ensures.path,
-        c.serve_hub.ensures.spends,
+        c.serve_hub.ensures.goes.spends,
       );
+      numbers = keeps_then i.numbers c.serve_hub.ensures.goes.numbers;
       so = λ known. rw c.and-round.ensures (hubs_handled (i.so known) i.path
           c.numbers-numbers.ensures.path next (c.in_ok-serve_hub.ensures.polls known));
       idle = λ none. absurd (none_next (i.idle none).1 none next);
@@ -65,22 +68,26 @@ returns-clause-hubs g c known =
     hubs_all_handled c.hubs.last c.hubs.round (i.so known) i.path
     c.in_default.ensures.none c.in_default.ensures.agree i.idle
 
-pub returns-in_err-serve_hub-clause-spends : goal.returns-in_err-serve_hub-clause-spends
-returns-in_err-serve_hub-clause-spends g c =
-    let rises = rank_rises c.hubs.last c.in-Some.hub c.hubs.invariant.path
-    c.numbers-numbers.ensures.path
-    c.in-Some.ensures.some.stands.after in
-    omega (
-      arith,
-      c.hubs.invariant.spends,
-      rises,
-      rank_most c.in-Some.hub c.numbers-numbers.ensures.path,
-      c.serve_hub.ensures.spends,
-    )
+pub returns-in_err-serve_hub-clause-goes : goal.returns-in_err-serve_hub-clause-goes
+returns-in_err-serve_hub-clause-goes g c = record {
+  spends = let rises = rank_rises c.hubs.last c.in-Some.hub c.hubs.invariant.path
+      c.numbers-numbers.ensures.path
+      c.in-Some.ensures.some.stands.after in
+      omega (
+        arith,
+        c.hubs.invariant.spends,
+        rises,
+        rank_most c.in-Some.hub c.numbers-numbers.ensures.path,
+        c.serve_hub.ensures.goes.spends,
+      );
+  numbers = keeps_then c.hubs.invariant.numbers c.serve_hub.ensures.goes.numbers;
+}
 
-pub returns-clause-spends : goal.returns-clause-spends
-returns-clause-spends g c =
-    omega (arith, c.hubs.invariant.spends)
+pub returns-clause-goes : goal.returns-clause-goes
+returns-clause-goes g c = record {
+  spends = omega (arith, c.hubs.invariant.spends);
+  numbers = c.hubs.invariant.numbers;
+}
 
 pub returns-clause-quiet : goal.returns-clause-quiet
 returns-clause-quiet g c is =

@@ -7,6 +7,7 @@ use Rattle.usb_host.proofs.StepSums.{host_goes_none}
 use Rattle.usb_host.proofs.devices.Owners.{stays_owned_none}
 use Rattle.usb_host.proofs.PortServes.{own_at}
 use Rattle.usb_host.proofs.services.Services.{pushed_part}
+use Rattle.usb_host.proofs.arrivals.KeptNumbers.{keeps_none}
 use Rattle.usb_host.proofs.host.Host.serve_own.Goals as goal
 
 pub returns-then-not-push-clause-serves : goal.returns-then-not-push-clause-serves
@@ -40,3 +41,9 @@ returns-clause-serves g c known =
     let path = c.push.ensures.yes c.if-not-push.false ∙ ap (λ hub. hub ++ 1 ∷ [])
     c.duplicate-path.ensures in
     own_at c.args.hub.now (rw path at (c.handle_own.ensures.serves known))
+
+pub returns-then-not-push-clause-numbers : goal.returns-then-not-push-clause-numbers
+returns-then-not-push-clause-numbers g c = keeps_none _
+
+pub returns-in_default-clause-numbers : goal.returns-in_default-clause-numbers
+returns-in_default-clause-numbers g c = keeps_none _

@@ -2,6 +2,7 @@ use Rattle.std.proofs.Common.{arith}
 use Rattle.usb_host.proofs.services.HubServices.{bit_not, bit_so}
 use Rattle.usb_host.proofs.RoundLoops.{ports_begin, ports_clear, ports_cut, ports_end}
 use Rattle.usb_host.proofs.RoundLoops.{ports_handled}
+use Rattle.usb_host.proofs.arrivals.KeptNumbers.{keeps_none, keeps_then}
 use Rattle.usb_host.proofs.host.Host.serve_ports.Goals as goal
 use Rattle.usb_host.proofs.host.Host.serve_ports.Goals.{then-bits-number-eq1+in_ok-handle_below}
 use Rattle.usb_host.proofs.host.Host.serve_ports.Goals.{else-bits-number-eq1}
@@ -9,6 +10,7 @@ use Rattle.usb_host.proofs.host.Host.serve_ports.Goals.{else-bits-number-eq1}
 pub ports-init : goal.ports-init
 ports-init g c = record {
   spends = omega arith;
+  numbers = keeps_none _;
   so = λ known. ports_begin _;
   works = λ known none. none;
 }
@@ -19,6 +21,7 @@ ports-preserved g c =
     elim c.if-bits-number-eq1.branch [
       | then-bits-number-eq1+in_ok-handle_below w ↦ rw w.self-is (record {
         spends = omega (arith, i.spends, w.handle_below.ensures.spends, c.ports.auto.number);
+        numbers = keeps_then i.numbers w.handle_below.ensures.numbers;
         so = λ known.
             ports_handled (i.so known) (omega (arith, c.ports.auto.number))
             (omega (arith, c.ports-test.true))
@@ -28,6 +31,7 @@ ports-preserved g c =
       })
       | else-bits-number-eq1 w ↦ rw w.self-is (record {
         spends = omega (arith, i.spends, c.ports.auto.number);
+        numbers = i.numbers;
         so = λ known.
             ports_clear (i.so known) (omega (arith, c.ports.auto.number))
             (bit_not c.args.bits c.ports.number w.if-bits-number-eq1.false);
@@ -60,3 +64,10 @@ returns-in_err-handle_below-clause-spends g c =
 pub returns-clause-spends : goal.returns-clause-spends
 returns-clause-spends g c =
     omega (arith, c.ports.invariant.spends, c.ports.auto.number, c.ports.auto.number-end)
+
+pub returns-in_err-handle_below-clause-numbers : goal.returns-in_err-handle_below-clause-numbers
+returns-in_err-handle_below-clause-numbers g c =
+    keeps_then c.ports.invariant.numbers c.handle_below.ensures.numbers
+
+pub returns-clause-numbers : goal.returns-clause-numbers
+returns-clause-numbers g c = c.ports.invariant.numbers

@@ -1,9 +1,10 @@
-use Rattle.std.proofs.Common.{◌∙◌, ap, arith, refl, sym}
+use Rattle.std.proofs.Common.{◌∙◌, ap, arith, sym}
 use Rattle.usb_world.specs.{roots_of}
 use Rattle.usb_host.specs.{HostState}
 use Rattle.usb_host.proofs.LeftRoots.{leaves_spent, quiet_leaves, quiet_none, quiet_then}
 use Rattle.usb_host.proofs.RoundLoops.{roots_begin, roots_cut, roots_end, roots_handled}
 use Rattle.usb_host.proofs.RoundLoops.{roots_steady}
+use Rattle.usb_host.proofs.arrivals.KeptNumbers.{keeps_leaves, keeps_none, keeps_then}
 use Rattle.usb_host.proofs.host.Host.serve_roots.Goals as goal
 use Rattle.usb_host.proofs.host.Host.serve_roots.Goals.{then-has_changed+in_ok-handle_root}
 use Rattle.usb_host.proofs.host.Host.serve_roots.Goals.{else-has_changed}
@@ -12,6 +13,7 @@ pub ports-init : goal.ports-init
 ports-init g c = record {
   quiet = λ is. quiet_none _;
   spends = omega arith;
+  numbers = keeps_none _;
   so = λ known. roots_begin _;
   works = λ known none. none;
 }
@@ -25,6 +27,8 @@ ports-preserved g c =
       | then-has_changed+in_ok-handle_root w ↦ rw (w.self-is, w.round-is) (record {
         quiet = λ is. absurd (cc is);
         spends = omega (arith, i.spends, spent, w.handle_root.ensures.spends, c.ports.auto.number);
+        numbers = keeps_then i.numbers (keeps_then (keeps_leaves rests)
+            w.handle_root.ensures.numbers);
         so = λ known.
             roots_handled {round = c.ports.round} (rw (rests.none known) (i.so known))
             (omega (arith, c.ports.auto.number))
@@ -44,6 +48,7 @@ ports-preserved g c =
       | else-has_changed w ↦ rw (w.self-is, w.round-is) (record {
         quiet = λ is. quiet_then (i.quiet is) (quiet_leaves rests c.has_changed.ensures.fewer);
         spends = omega (arith, i.spends, spent, c.ports.auto.number);
+        numbers = keeps_then i.numbers (keeps_leaves rests);
         so = λ known.
             rw (rests.none known) (roots_steady (i.so known) (omega (arith, c.ports.auto.number))
             (sym (c.has_changed.ensures.changed known) ∙ w.if-has_changed.false));
@@ -74,28 +79,33 @@ returns-clause-roots g c known =
       ap (λ (h : HostState). roots_of h.world) c.self.view_is,
     ))
 
-pub returns-in_err-handle_root-clause-spends : goal.returns-in_err-handle_root-clause-spends
-returns-in_err-handle_root-clause-spends g c =
-    omega (
-      arith,
-      c.ports.invariant.spends,
-      leaves_spent c.has_changed.ensures.rests,
-      c.handle_root.ensures.spends,
-      c.ports-test.true,
-      c.ports.auto.number,
-      c.root_ports-roots.ensures.most,
-    )
+pub returns-in_err-handle_root-clause-goes : goal.returns-in_err-handle_root-clause-goes
+returns-in_err-handle_root-clause-goes g c = record {
+  spends = omega (
+    arith,
+    c.ports.invariant.spends,
+    leaves_spent c.has_changed.ensures.rests,
+    c.handle_root.ensures.spends,
+    c.ports-test.true,
+    c.ports.auto.number,
+    c.root_ports-roots.ensures.most,
+  );
+  numbers = keeps_then c.ports.invariant.numbers (keeps_then (keeps_leaves
+      c.has_changed.ensures.rests) c.handle_root.ensures.numbers);
+}
 
-pub returns-clause-spends : goal.returns-clause-spends
-returns-clause-spends g c =
-    omega (
-      arith,
-      c.ports.invariant.spends,
-      c.ports.auto.number,
-      c.ports.auto.number-end,
-      c.root_ports-roots.ensures.least,
-      c.root_ports-roots.ensures.most,
-    )
+pub returns-clause-goes : goal.returns-clause-goes
+returns-clause-goes g c = record {
+  spends = omega (
+    arith,
+    c.ports.invariant.spends,
+    c.ports.auto.number,
+    c.ports.auto.number-end,
+    c.root_ports-roots.ensures.least,
+    c.root_ports-roots.ensures.most,
+  );
+  numbers = c.ports.invariant.numbers;
+}
 
 pub returns-clause-quiet : goal.returns-clause-quiet
 returns-clause-quiet g c is =

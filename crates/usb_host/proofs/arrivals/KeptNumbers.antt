@@ -1,0 +1,173 @@
+-- Devices keep their numbers.
+use Rattle.std.proofs.Common.{◌≡◌, ◌≢◌, ◌⊎◌, ◌∙◌, ap, arith, inl, inr, refl, subst, sym, ℕ, ◌<◌}
+use Rattle.std.proofs.Common.{◌≤◌}
+use Rattle.std.proofs.Common.{List, Ok, Bool, true, false, not, Option, Some, None, length}
+use Rattle.std.proofs.Common.{get_or-set_other, get_or-set_same}
+use Rattle.std.specs.BTreeMap.{insert_entry, is_at}
+use Rattle.std.specs.Map.{lookup}
+use Rattle.usb_port.specs.{path_cmp}
+use Rattle.usb_resources.specs.{Addresses, IsTaken}
+use Rattle.usb_enum.specs.{Accepted, Cause, Finding, TakesFor}
+use Rattle.usb_enum.specs.declared.finding.Finding.TheVariants.{Device, Refused}
+use Rattle.usb_table.specs.{Entries, accepted_device_at, accepted_device_of, address_in}
+use Rattle.usb_table.specs.{is_at_or_below, without}
+use Rattle.usb_table.proofs.Interface.{path_tied}
+use Rattle.usb_host.specs.Accounts.{Accounts}
+use Rattle.usb_host.specs.{DeviceNumbers, Forgets, HostGoes, HostState, KeepsKnown}
+use Rattle.usb_host.specs.{KeepsNumbers, Known, KnownDevice, OnlyBusSteps, OnlyLeaves, device_in}
+use Rattle.usb_host.specs.{known_device, known_in, claims, with_number}
+use Rattle.usb_host.proofs.entries.Agreements.{lookup-insert_entry_elsewhere, lookup-without}
+use Rattle.usb_host.proofs.entries.EntryClaims.{claims_taken, lookup-insert_entry_here}
+
+pub keeps_none : (a : Known) → KeepsKnown a a
+keeps_none a = record { rising = omega arith; each = λ p d at. inl at; reported = refl }
+
+pub keeps_same : {a b : Known} → b ≡ a → KeepsKnown a b
+keeps_same {a} e = subst (KeepsKnown a) (sym e) (keeps_none a)
+
+pub keeps_then : {a b c : Known} → KeepsKnown a b → KeepsKnown b c → KeepsKnown a c
+keeps_then {a} {b} {c} x y = record {
+  rising = omega (arith, x.rising, y.rising);
+  each = λ p d at. by p d (y.each p d at);
+  reported = y.reported ∙ x.reported;
+}
+  where
+    by : (p : List ℕ) (d : KnownDevice)
+        → (device_in p b ≡ Some d) ⊎ (b.numbers.next ≤ d.number)
+        → (device_in p a ≡ Some d) ⊎ (a.numbers.next ≤ d.number)
+    by p d (inl at) = x.each p d at
+    by p d (inr new) = inr (omega (arith, x.rising, new))
+
+-- what a driver may know does not change at first
+pub keeps_from : {a b c : Known} → KeepsKnown b c → b.entries ≡ a.entries
+    → b.numbers ≡ a.numbers → b.reported ≡ a.reported → KeepsKnown a c
+keeps_from {a} {b} {c} x e n r = record {
+  rising = let next = ap (λ (m : DeviceNumbers). m.next) n in omega (arith, x.rising, next);
+  each = λ p d at. subst (λ (m : DeviceNumbers). (known_device (accepted_device_at p a.entries) m
+      ≡ Some d) ⊎ (m.next ≤ d.number)) n (subst (λ (es : Entries). (known_device
+      (accepted_device_at p es) b.numbers ≡ Some d) ⊎ (b.numbers.next ≤ d.number)) e
+      (x.each p d at));
+  reported = x.reported ∙ r;
+}
+
+pub keeps_by : {a b : Known} → b.entries ≡ a.entries → b.numbers ≡ a.numbers
+    → b.reported ≡ a.reported → KeepsKnown a b
+keeps_by {a} {b} e n r = keeps_from (keeps_none b) e n r
+
+pub keeps_rests : (a : HostState) {b : HostState} → OnlyBusSteps a b → KeepsNumbers a b
+keeps_rests a r = keeps_same (ap known_in r)
+
+pub keeps_leaves : {m : Bool} {a b : HostState} → OnlyLeaves m a b → KeepsNumbers a b
+keeps_leaves x = keeps_same (ap known_in x.only)
+
+pub goes_none : {n : ℕ} {h : HostState} → HostGoes n h h
+goes_none {h = h} = record { spends = omega arith; numbers = keeps_none (known_in h) }
+
+-- Entries are forgotten
+
+left_device : (p path : List ℕ) (es : Entries) (numbers : DeviceNumbers) (d : KnownDevice)
+    → (b : Bool) → not (is_at_or_below p path) ≡ b
+    → known_device (accepted_device_at p (without path es)) numbers ≡ Some d
+    → known_device (accepted_device_at p es) numbers ≡ Some d
+left_device p path es numbers d true is at =
+    rw (lookup-without p path es is) at at
+left_device p path es numbers d false is at =
+    absurd (cc (rw (lookup-without p path es is) at at))
+
+pub keeps_forgets : {path : List ℕ} {a b : HostState} → Forgets path a b → KeepsNumbers a b
+keeps_forgets {path} {a} {b} f =
+    let numbers : b.numbers ≡ a.numbers = ap (λ (h : HostState). h.numbers) f.others in
+    record {
+      rising = let next = ap (λ (m : DeviceNumbers). m.next) numbers in omega arith;
+      each = λ p d at. inl (left_device p path a.entries a.numbers d
+          (not (is_at_or_below p path)) refl (rw (f.rest, numbers) at at));
+      reported = ap (λ (h : HostState). h.reported) f.others;
+    }
+
+-- A finding is entered
+
+module _ (path : List ℕ) (es : Entries) where
+  refused_device : (cause : Cause) (numbers : DeviceNumbers) (p : List ℕ) (d : KnownDevice)
+      → (b : Bool) → is_at (path_cmp p) path ≡ b
+      → known_device (accepted_device_at p (insert_entry path_cmp es path (Refused cause))) numbers
+      ≡ Some d → known_device (accepted_device_at p es) numbers ≡ Some d
+  refused_device cause numbers p d true tie at =
+      let same : p ≡ path = path_tied p path tie in
+      absurd (cc (rw (same, lookup-insert_entry_here path (Refused cause) es) at at))
+  refused_device cause numbers p d false apart at =
+      rw (lookup-insert_entry_elsewhere p path (Refused cause) es apart) at at
+
+  pub keeps_refused : (cause : Cause) {a b : Known} → a.entries ≡ es
+      → b.entries ≡ insert_entry path_cmp es path (Refused cause) → b.numbers ≡ a.numbers
+      → b.reported ≡ a.reported → KeepsKnown a b
+  keeps_refused cause {a} {b} before entered numbers reported = record {
+    rising = let next = ap (λ (m : DeviceNumbers). m.next) numbers in omega arith;
+    each = λ p d at. inl (rw before (refused_device cause a.numbers p d (is_at (path_cmp p) path)
+        refl (rw (entered, numbers) at at)));
+    reported = reported;
+  }
+
+  -- a device that is listed elsewhere has another address
+  other_device : (device : Accepted) (numbers : DeviceNumbers) (free : (p : List ℕ) (e : Accepted)
+      → accepted_device_at p es ≡ Some e → e.address ≢ device.address) (p : List ℕ)
+      (o : Option Accepted) → accepted_device_at p es ≡ o → (d : KnownDevice)
+      → known_device o (with_number (Device device) numbers) ≡ Some d
+      → known_device o numbers ≡ Some d
+  other_device device numbers free p None at d is = is
+  other_device device numbers free p (Some e) at d is =
+      rw (get_or-set_other numbers.of device.address e.address numbers.next 0 (free p e at)) at is
+
+  accepted_device : (device : Accepted) (numbers : DeviceNumbers)
+      → device.address < length numbers.of → (free : (p : List ℕ) (e : Accepted)
+      → accepted_device_at p es ≡ Some e → e.address ≢ device.address) (p : List ℕ)
+      (d : KnownDevice) → (b : Bool) → is_at (path_cmp p) path ≡ b
+      → known_device (accepted_device_at p (insert_entry path_cmp es path (Device device)))
+      (with_number (Device device) numbers) ≡ Some d
+      → (known_device (accepted_device_at p es) numbers ≡ Some d) ⊎ (numbers.next ≤ d.number)
+  accepted_device device numbers lt free p d true tie at =
+      let same : p ≡ path = path_tied p path tie in
+      let is = rw (same, lookup-insert_entry_here path (Device device) es) at at in
+      let given = get_or-set_same numbers.of device.address numbers.next 0 lt in
+      inr (omega (arith, given, ap (λ (o : Option KnownDevice). number_of o) is))
+    where
+      number_of : Option KnownDevice → ℕ
+      number_of None = 0
+      number_of (Some k) = k.number
+  accepted_device device numbers lt free p d false apart at =
+      inl (other_device device numbers free p (accepted_device_at p es) refl d
+      (rw (lookup-insert_entry_elsewhere p path (Device device) es apart) at at))
+
+  pub keeps_entered : (finding : Finding) {pool : Addresses} (after : Addresses)
+      (numbers : DeviceNumbers) {reported : List (List ℕ × ℕ)} → length numbers.of ≡ 128 → Accounts
+      es pool
+      → TakesFor (Ok finding) pool after
+      → KeepsKnown (record { entries = es; numbers = numbers; reported = reported })
+      (record {
+        entries = insert_entry path_cmp es path finding;
+        numbers = with_number finding numbers;
+        reported = reported;
+      })
+  keeps_entered (Refused cause) after numbers long accounts takes =
+      keeps_refused cause refl refl refl refl
+  keeps_entered (Device device) {pool} after numbers long accounts takes = record {
+    rising = omega arith;
+    each = λ p d at. accepted_device device numbers (omega (arith, long, takes.free.0.1)) free p d
+        (is_at (path_cmp p) path) refl at;
+    reported = refl;
+  }
+    where
+      taken : (p : List ℕ) (e : Accepted) (o : Option Finding)
+          → lookup (is_at (path_cmp p)) es ≡ o → accepted_device_of o ≡ Some e
+          → claims es p ≡ Some e.address
+      taken p e None at is = absurd (cc is)
+      taken p e (Some (Refused cause)) at is = absurd (cc is)
+      taken p e (Some (Device other)) at is =
+          let same : other ≡ e = cc is in
+          ap address_in at ∙ ap (λ (x : Accepted). Some x.address) same
+
+      free : (p : List ℕ) (e : Accepted) → accepted_device_at p es ≡ Some e
+          → e.address ≢ device.address
+      free p e at same =
+          let is = claims_taken accounts p e.address
+          (taken p e (lookup (is_at (path_cmp p)) es) refl at) in
+          absurd (cc (subst (IsTaken pool) same is, takes.free.1))

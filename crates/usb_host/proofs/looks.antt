@@ -1,0 +1,5 @@
+-- Looks at ports.
+pub mod LookCalls
+pub mod LookPayments
+pub mod NearEntries
+pub mod OverPorts

@@ -1,0 +1,61 @@
+//! An accepted device with its number.
+ghost use Rattle.std.specs.Prelude.{◌≡◌};
+
+use crate::Host;
+use std::marker::Model;
+use usb_bus::Bus;
+use usb_enum::{Accepted, Finding};
+use usb_port::PortPath;
+
+/// A device that a host has accepted, with its number.
+#[derive(Debug, Drop)]
+pub struct Device<'a> {
+    accepted: &'a Accepted,
+    number: u64,
+}
+
+impl<'a> Model for Device<'a> {
+    ghost use Rattle.usb_host.specs.Numbers.{KnownDevice};
+
+    ghost Value = { KnownDevice };
+
+    ghost view = { λ d. record { accepted = d.accepted.now; number = d.number } };
+}
+
+impl<'a> Device<'a> {
+    /// What was found of the device.
+    pub fn accepted(&self) -> &'a Accepted
+        ensures { result.now ≡ self.now.accepted }
+    {
+        self.accepted
+    }
+
+    /// The device's number. A host gives no number twice, also to devices that are alike.
+    pub fn number(&self) -> u64
+        ensures { result ≡ self.now.number }
+    {
+        self.number
+    }
+}
+
+impl<B: Bus> Host<B> {
+    ghost use Rattle.std.specs.Prelude.{◌≡◌};
+    ghost use Rattle.usb_host.specs.Numbers.{NumbersFit, device_in};
+    ghost use Rattle.usb_host.specs.Progress.{known_in};
+
+    /// The accepted device at a path, hubs too; `None` if none is listed there.
+    pub fn device(&self, path: &PortPath) -> Option<Device<'_>>
+        ensures value { result ≡ device_in path.now (known_in self.now) }
+        ensures numbers { NumbersFit (known_in self.now) }
+    {
+        // for the checker: no number was given twice
+        let _more = self.numbers.has_next();
+        match self.table.get(path) {
+            Some(Finding::Device(accepted)) => Some(Device {
+                accepted,
+                number: self.numbers.at(accepted.address),
+            }),
+            _ => None,
+        }
+    }
+}
