@@ -188,8 +188,9 @@ fn checked_text(alloc: Global, file: &str, text: &str) -> Result<Checked, AllocE
     }
 }
 
-/// What a text is, and the lines that tell it. Those of a plan tell how many devices, events and damages it has, and
-/// its bound; those of any other text begin with the file, the line and `read_plan`'s fault.
+/// What a text is, and the lines that say so. Those of a plan give the numbers of its devices,
+/// events and damages, and its bound. Those of any other text begin with the file, the line and
+/// `read_plan`'s fault.
 ///
 /// # Errors
 ///
@@ -211,7 +212,8 @@ pub fn check_text(alloc: Global, file: &str, text: &[u8]) -> Result<Checked, All
 ///
 /// # Errors
 ///
-/// Write where the writer failed, Memory where memory was refused.
+/// - `Write`: the writer failed. A prefix of the lines is written.
+/// - `Memory`: memory was refused. Nothing is written.
 pub fn check<W: Write>(
     alloc: Global,
     file: &str,

@@ -1,4 +1,5 @@
-//! What is told of an entry behind the first line: which key, what stands there, what is allowed, and what was meant.
+//! The lines on an entry after the first one: which key, what stands there, what is allowed, and
+//! what was meant.
 
 ghost use Rattle.std.specs.Prelude.{◌≡◌, IfSome};
 ghost use Rattle.usb_diagnosis.specs.Place.{IsLineIn, IsSpotIn, spot_on};
@@ -65,7 +66,8 @@ pub(crate) fn spot_of(layout: &Layout<'_>, place: Place, trouble: Option<Trouble
     }
 }
 
-/// Adds two blanks, the words for an entry, its name and its line: `  device 2 "keyboard", line 9: `.
+/// Adds two blanks, the words for an entry, its name and its line:
+/// `  device 2 "keyboard", line 9: `.
 fn push_head(
     alloc: Global,
     out: &mut String,

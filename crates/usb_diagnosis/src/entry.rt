@@ -124,10 +124,23 @@ impl<'a> Entry<'a> {
         text_at(self.table, key.name())
     }
 
+    /// Whether `setup` is that of a request that writes bytes: bit 7 of its first byte is clear, and
+    /// wLength, its last two, is not 0 (9.3).
+    fn writes_bytes(&self) -> bool {
+        match self.text(PlanKey::Setup) {
+            None => false,
+            Some(digits) => {
+                let writes = matches!(digits.as_bytes().first(), Some(b'0'..=b'7'));
+                writes && digits.as_bytes().get(12..16) != Some(b"0000".as_slice())
+            }
+        }
+    }
+
     /// Whether the entry has to have the key.
     pub(crate) fn needs(&self, key: PlanKey) -> bool {
         match key {
             PlanKey::Bit => self.text(PlanKey::How) == Some("flip"),
+            PlanKey::Bytes if self.text(PlanKey::Do) == Some("control") => self.writes_bytes(),
             _ => key.example().is_some(),
         }
     }

@@ -26,12 +26,14 @@ pub(crate) enum PlanKey {
     Stalls,
     Source,
     HaltAfter,
+    Requests,
     Do,
     After,
     Path,
     Device,
     Bytes,
     Packets,
+    Setup,
     Attempt,
     Packet,
     How,
@@ -48,7 +50,7 @@ pub(crate) const TOP_KEYS: [PlanKey; 5] = [
 ];
 
 /// The keys of a device.
-pub(crate) const DEVICE_KEYS: [PlanKey; 14] = [
+pub(crate) const DEVICE_KEYS: [PlanKey; 15] = [
     PlanKey::Name,
     PlanKey::Speed,
     PlanKey::Descriptor,
@@ -63,6 +65,7 @@ pub(crate) const DEVICE_KEYS: [PlanKey; 14] = [
     PlanKey::Stalls,
     PlanKey::Source,
     PlanKey::HaltAfter,
+    PlanKey::Requests,
 ];
 
 /// The keys of a damage.
@@ -80,11 +83,19 @@ const PLUG_KEYS: [PlanKey; 4] = [PlanKey::Do, PlanKey::After, PlanKey::Path, Pla
 
 const PATH_KEYS: [PlanKey; 3] = [PlanKey::Do, PlanKey::After, PlanKey::Path];
 
-const SHOW_KEYS: [PlanKey; 2] = [PlanKey::Do, PlanKey::After];
+const ALONE_KEYS: [PlanKey; 2] = [PlanKey::Do, PlanKey::After];
 
 const SEND_KEYS: [PlanKey; 4] = [PlanKey::Do, PlanKey::After, PlanKey::Path, PlanKey::Bytes];
 
 const RECEIVE_KEYS: [PlanKey; 4] = [PlanKey::Do, PlanKey::After, PlanKey::Path, PlanKey::Packets];
+
+const CONTROL_KEYS: [PlanKey; 5] = [
+    PlanKey::Do,
+    PlanKey::After,
+    PlanKey::Path,
+    PlanKey::Bytes,
+    PlanKey::Setup,
+];
 
 /// The words of `speed`.
 const SPEEDS: [&str; 2] = ["full", "low"];
@@ -101,7 +112,9 @@ const STALLS: [&str; 7] = [
 ];
 
 /// The words of `do`.
-const VERBS: [&str; 6] = ["plug", "unplug", "show", "send", "receive", "clear"];
+const VERBS: [&str; 9] = [
+    "plug", "unplug", "show", "send", "receive", "clear", "control", "look", "news",
+];
 
 /// The words of `how`.
 const WAYS: [&str; 3] = ["lose", "pre", "flip"];
@@ -121,6 +134,10 @@ pub(crate) enum Kind {
     Words,
     /// The hexadecimal digits of at most so many bytes.
     Hex(usize),
+    /// The hexadecimal digits of eight bytes.
+    Setup,
+    /// An array of at most 64 tables, each a request of the device's own.
+    Requests,
     /// An array of at most so many texts, each with the digits of at most so many bytes.
     Hexes(usize, usize),
     /// An array of tables.
@@ -152,12 +169,14 @@ impl PlanKey {
             PlanKey::Stalls => "stalls",
             PlanKey::Source => "source",
             PlanKey::HaltAfter => "halt_after",
+            PlanKey::Requests => "request",
             PlanKey::Do => "do",
             PlanKey::After => "after",
             PlanKey::Path => "path",
             PlanKey::Device => "device",
             PlanKey::Bytes => "bytes",
             PlanKey::Packets => "packets",
+            PlanKey::Setup => "setup",
             PlanKey::Attempt => "attempt",
             PlanKey::Packet => "packet",
             PlanKey::How => "how",
@@ -182,8 +201,10 @@ impl PlanKey {
             PlanKey::SelfPowered | PlanKey::Busy | PlanKey::Silent => Kind::Flag,
             PlanKey::Naks => Kind::Number(0, 200),
             PlanKey::HaltAfter => Kind::Number(1, 65535),
+            PlanKey::Requests => Kind::Requests,
             PlanKey::After => Kind::Number(0, 1_000_000_000),
             PlanKey::Packets => Kind::Number(0, 1000),
+            PlanKey::Setup => Kind::Setup,
             PlanKey::Attempt => Kind::Number(1, (1 << 63) - 1),
             PlanKey::Packet => Kind::Number(1, 3),
             PlanKey::Bit => Kind::Number(0, 535),
@@ -226,12 +247,16 @@ impl PlanKey {
                 "an array of \"device\", \"address\", \"config\", \"set_config\", \"status\", \"hub\", \"string\"",
             PlanKey::Source => "two hexadecimal digits for each of at most 65535 bytes",
             PlanKey::HaltAfter => "a number from 1 to 65535",
-            PlanKey::Do => "\"plug\", \"unplug\", \"show\", \"send\", \"receive\" or \"clear\"",
+            PlanKey::Requests =>
+                "at most 64 tables, each with `type`, `request`, and what the device does about it",
+            PlanKey::Do =>
+                "\"plug\", \"unplug\", \"show\", \"send\", \"receive\", \"clear\", \"control\", \"look\" or \"news\"",
             PlanKey::After => "a number from 0 to 1000000000",
             PlanKey::Path => "the numbers of ports from a root port on, joined by dots",
             PlanKey::Device => "the name of a device of the plan",
             PlanKey::Bytes => "two hexadecimal digits for each byte",
             PlanKey::Packets => "a number from 0 to 1000",
+            PlanKey::Setup => "two hexadecimal digits for each of 8 bytes",
             PlanKey::Attempt => "a number above 0 and above that of the damage before it",
             PlanKey::Packet => "1, 2 or 3",
             PlanKey::How => "\"lose\", \"pre\" or \"flip\"",
@@ -253,6 +278,7 @@ impl PlanKey {
             PlanKey::Device => Some("device = \"keyboard\""),
             PlanKey::Bytes => Some("bytes = \"0102\""),
             PlanKey::Packets => Some("packets = 1"),
+            PlanKey::Setup => Some("setup = \"8006000100001200\""),
             PlanKey::Attempt => Some("attempt = 1"),
             PlanKey::Packet => Some("packet = 1"),
             PlanKey::How => Some("how = \"lose\""),
@@ -269,11 +295,11 @@ fn verb_keys(verb: &str) -> &'static [PlanKey]
 {
     match verb {
         "plug" => &PLUG_KEYS,
-        "unplug" => &PATH_KEYS,
-        "show" => &SHOW_KEYS,
+        "unplug" | "clear" | "look" => &PATH_KEYS,
+        "show" | "news" => &ALONE_KEYS,
         "send" => &SEND_KEYS,
         "receive" => &RECEIVE_KEYS,
-        "clear" => &PATH_KEYS,
+        "control" => &CONTROL_KEYS,
         _ => &NO_VERB_KEYS,
     }
 }

@@ -1,16 +1,17 @@
-//! What a plan's text holds, or what is wrong with it, told for a person.
-//!
-//! `check_text` makes the lines, `check` writes them.
+//! What a plan's text holds, or what is wrong with it, in words for a person.
 //!
 //! # What is proved
 //!
-//! `check_text` tells a plan exactly where `read_plan` takes the text, with its counts and its bound, and else
-//! `read_plan`'s own fault: the first line is the file, a line (and column) that the text has, and the fault; a text
-//! that is no TOML gets a column. `check` writes just that, or a front of it. Within: a key that is told missing is
-//! absent, one that is told unknown is none of those that `read_plan` takes there (and just those are told as allowed),
-//! a value that is told wrong stands at its key, a name that is proposed is the nearest within two edits, the first of
-//! equally near ones; of a text 60 characters are shown, control characters escaped. *Only tested*: that the line and
-//! the key are those at fault, and the words on what is allowed (a row for each fault of a plan).
+//! - *The verdict* (`check_text`, `TellsVerdict` of `specs/Checking.antt`): a text is a plan if and
+//!   only if `read_plan` takes it, and its lines are its counts and its bound. Else the first line has
+//!   the file, a line of the text, and `read_plan`'s own fault. A text that is no TOML gets a column.
+//! - *What is written* (`check`): exactly these lines, or a prefix of them if the writer failed.
+//! - *The key of a fault* (`trouble_of`, `IsTroubleOf` of `specs/Trouble.antt`): a missing key is
+//!   absent, an unknown one is none that `read_plan` takes there, and a wrong value is at its key. A
+//!   proposed name is a nearest one (`nearest`).
+//!
+//! *Only tested*: that the line and the key are those at fault, and the words on what is allowed.
+//! `docs/PROVED.md` has the place of these theorems among the others.
 #![tactic(auto)]
 
 mod checking;

@@ -1,6 +1,7 @@
 //! On which lines the entries of a document and their keys stand.
 //!
-//! The document's values know nothing of that, so its text is walked once more, statement by statement.
+//! The document's values know nothing of that, so its text is walked once more, statement by
+//! statement.
 
 ghost use Rattle.std.specs.Prelude.{◌≡◌, ◌≤◌, length, IfOk, IfSome};
 ghost use Rattle.usb_diagnosis.specs.Place.{IsLineIn};

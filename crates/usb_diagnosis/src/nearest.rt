@@ -12,7 +12,8 @@ const MOST_EDITS: usize = 2;
 /// The longest text that is taken for a misspelled name, in bytes.
 const LONGEST_NAME: usize = 64;
 
-/// How many letters have to be put in, taken out or exchanged, or 3 where one of the two is longer than any name.
+/// How many letters have to be put in, taken out or exchanged, or 3 if one of the two is longer than
+/// any name.
 #[tactic(auto, unfolding(crate::specs::Nearest::edits_between))]
 fn edits_between(alloc: Global, from: &str, to: &str) -> Result<usize, AllocError>
     ensures { IfOk result (λ n. n ≡ edits_between from.now to.now) }

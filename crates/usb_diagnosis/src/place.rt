@@ -17,7 +17,8 @@ pub(crate) enum Spot {
     Column(usize, usize),
 }
 
-/// The line and the column behind one more byte of a text. Of a character's bytes the first alone counts.
+/// The line and the column after one more byte of a text. Of a character's bytes only the first
+/// counts.
 fn behind(at: (usize, usize), byte: u8) -> (usize, usize)
     requires line { at.0 < 2 ^ 64 - 1 }
     requires column { at.1 < 2 ^ 64 - 1 }

@@ -83,7 +83,39 @@ fn hex_flaw(value: &Value, most: usize) -> Option<Flaw> {
     }
 }
 
-/// How an array fails to be so many texts of digits at most. A flaw of value is told before one of digits.
+/// How a value fails to be the digits of eight bytes.
+fn setup_flaw(value: &Value) -> Option<Flaw> {
+    match value.as_str() {
+        None => Some(Flaw::Value),
+        Some(digits) if !are_hex_digits(digits) => Some(Flaw::Digits),
+        Some(digits) => flaw_if(digits.len() != 16, Flaw::Value),
+    }
+}
+
+/// Whether the bytes that a request gives are no digits.
+fn gives_no_digits(request: &Value) -> bool {
+    match request.as_table() {
+        None => false,
+        Some(table) => match table.get("answer") {
+            None => false,
+            Some(value) => hex_flaw(value, 65535) == Some(Flaw::Digits),
+        },
+    }
+}
+
+/// How a value fails to be at most 64 tables, each with digits of the bytes that it gives.
+fn requests_flaw(value: &Value) -> Option<Flaw> {
+    let Some(requests) = value.as_array() else {
+        return Some(Flaw::Value);
+    };
+    if requests.len() > 64 || !are_tables(value) {
+        return Some(Flaw::Value);
+    }
+    flaw_if(requests.iter().any(|it| gives_no_digits(it)), Flaw::Digits)
+}
+
+/// How an array fails to be so many texts of digits at most. A flaw of value comes before one of
+/// digits.
 fn hexes_flaw(value: &Value, count: usize, most: usize) -> Option<Flaw> {
     let Some(values) = value.as_array() else {
         return Some(Flaw::Value);
@@ -117,6 +149,8 @@ fn flaw_of(key: PlanKey, value: &Value) -> Option<Flaw> {
         Kind::Words => are_words(value, key.words()),
         Kind::Tables => are_tables(value),
         Kind::Hex(most) => return hex_flaw(value, most),
+        Kind::Setup => return setup_flaw(value),
+        Kind::Requests => return requests_flaw(value),
         Kind::Hexes(count, most) => return hexes_flaw(value, count, most),
     };
     flaw_if(!fits, Flaw::Value)
@@ -265,6 +299,17 @@ fn damage_trouble<'a>(entry: &Entry<'a>) -> Option<Trouble<'a>>
     None
 }
 
+/// What is wrong with an event whose keys each have a value that they allow by themselves: the bytes
+/// of a request are not those that its setup data want.
+fn event_trouble<'a>(entry: &Entry<'a>) -> Option<Trouble<'a>>
+    ensures { IfSome result (IsTroubleOf entry.now.place (table_view entry.now.table.now)) }
+{
+    if entry.text(PlanKey::Do) == Some("control") && !entry.is_one_too_many() {
+        return wrong_at(entry, PlanKey::Bytes);
+    }
+    None
+}
+
 /// What is wrong with values that their keys allow by themselves, beside the rest of the plan.
 fn trouble_beside_others<'a>(entry: &Entry<'a>) -> Option<Trouble<'a>>
     ensures { IfSome result (IsTroubleOf entry.now.place (table_view entry.now.table.now)) }
@@ -272,11 +317,23 @@ fn trouble_beside_others<'a>(entry: &Entry<'a>) -> Option<Trouble<'a>>
     match entry.place() {
         Place::Device(_) => device_trouble(entry),
         Place::Damage(_) => damage_trouble(entry),
-        Place::Top | Place::Event(_) => None,
+        Place::Event(_) => event_trouble(entry),
+        Place::Top => None,
     }
 }
 
-/// Why an entry has a bad value. Where nothing else is wrong, a hub's descriptor tells of other ports than it has.
+/// What is wrong with a hub's descriptor, which has another number of ports, or with a request of
+/// the device's own.
+fn inner_trouble<'a>(entry: &Entry<'a>) -> Option<Trouble<'a>>
+    ensures { IfSome result (IsTroubleOf entry.now.place (table_view entry.now.table.now)) }
+{
+    match wrong_at(entry, PlanKey::HubDescriptor) {
+        None => wrong_at(entry, PlanKey::Requests),
+        trouble => trouble,
+    }
+}
+
+/// Why an entry has a bad value.
 fn bad_value<'a>(entry: &Entry<'a>) -> Option<Trouble<'a>>
     ensures { IfSome result (IsTroubleOf entry.now.place (table_view entry.now.table.now)) }
 {
@@ -292,7 +349,7 @@ fn bad_value<'a>(entry: &Entry<'a>) -> Option<Trouble<'a>>
     if entry.is_one_too_many() {
         return Some(Trouble::OneTooMany);
     }
-    wrong_at(entry, PlanKey::HubDescriptor)
+    inner_trouble(entry)
 }
 
 /// What of the entry makes the fault that is told of it.
@@ -301,7 +358,7 @@ pub(crate) fn trouble_of<'a>(entry: &Entry<'a>, fault: PlanFault) -> Option<Trou
 {
     match fault {
         PlanFault::MissingKey(_) => match missing_key(entry) {
-            None => None,
+            None => wrong_at(entry, PlanKey::Requests),
             Some(key) => Some(Trouble::Missing(key)),
         },
         PlanFault::BadValue(_) => bad_value(entry),

@@ -7,7 +7,8 @@ use Rattle.std.specs.List.{list_any}
 use Rattle.toml.specs.Data.{Data, Members, no_members, member, get_member}
 use Rattle.usb_plan.specs.declared.entry_fault.EntryFault.{EntryFault}
 use Rattle.usb_plan.specs.{BadValue, OtherKeys, Alone, PathDevice, PathBytes, PathPackets}
-use Rattle.usb_plan.specs.{only_named, keys_at, EventValues, event_values, all_event_keys, verb_at}
+use Rattle.usb_plan.specs.{PathSetup}
+use Rattle.usb_plan.specs.{only_named, keys_at, EventValues, event_values, verb_at}
 use Rattle.usb_plan.specs.{action_of, other_keys, SceneData, keys_of, event_keys, verb_fits}
 use Rattle.usb_plan.specs.{keys_given, after_at, event_room, event_with, event_given, event_of}
 use Rattle.usb_plan.specs.{event_in}
@@ -63,75 +64,81 @@ narrowed front back k no_members none = refl
 narrowed front back k (member l d ms) none =
     narrowed_step front back k l d ms none (narrowed front back k ms none) _ refl
 
+-- the keys of one table, and nothing at one key more
+less_named : (front back : List (List ℕ)) (k : List ℕ) (ms : Members) (others : Bool)
+    → list_any (bytes_eq k) (front ++ back) ≡ false → only_named (front ++ k ∷ back) ms ≡ others
+    → only_named (front ++ back) ms ≡ others && is_none (get_member k ms)
+less_named front back k ms others none rest = narrowed front back k ms none
+    ∙ ap (λ b. b && is_none (get_member k ms)) rest
+
+to_path : List (List ℕ)
+to_path = codes "do" ∷ codes "after" ∷ codes "path" ∷ []
+
+to_device : List (List ℕ)
+to_device = to_path ++ codes "device" ∷ []
+
+to_bytes : List (List ℕ)
+to_bytes = to_device ++ codes "bytes" ∷ []
+
 -- the keys of one table
-without_packets : (ms : Members) → only_named (codes "do" ∷ codes "after" ∷ codes "path" ∷
-    codes "device" ∷ codes "bytes" ∷ []) ms ≡ not (event_values ms).has_others &&
+without_setup : (ms : Members) → only_named (to_bytes ++ codes "packets" ∷ []) ms
+    ≡ not (event_values ms).has_others && is_none (event_values ms).setup
+unfolding event_values to_bytes to_device to_path
+without_setup ms =
+    less_named (to_bytes ++ codes "packets" ∷ []) [] (codes "setup") ms _ refl (not_not _)
+
+without_packets : (ms : Members) → only_named to_bytes ms
+    ≡ not (event_values ms).has_others && is_none (event_values ms).setup &&
     is_none (event_values ms).packets
-unfolding event_values
-without_packets ms =
-    narrowed (codes "do" ∷ codes "after" ∷ codes "path" ∷ codes "device" ∷ codes "bytes" ∷ []) []
-    (codes "packets") ms refl
-    ∙ ap (λ b. b && is_none (get_member (codes "packets") ms))
-    (not_not (only_named all_event_keys ms))
+unfolding event_values to_bytes to_device to_path
+without_packets ms = less_named to_bytes [] (codes "packets") ms _ refl (without_setup ms)
 
-without_bytes : (ms : Members) → only_named (codes "do" ∷ codes "after" ∷ codes "path" ∷
-    codes "device" ∷ codes "packets" ∷ []) ms ≡ not (event_values ms).has_others &&
-    is_none (event_values ms).bytes
-unfolding event_values
-without_bytes ms =
-    narrowed (codes "do" ∷ codes "after" ∷ codes "path" ∷ codes "device" ∷ [])
-    (codes "packets" ∷ []) (codes "bytes") ms refl
-    ∙ ap (λ b. b && is_none (get_member (codes "bytes") ms))
-    (not_not (only_named all_event_keys ms))
-
-path_device_keys : (ms : Members) → only_named (event_keys (codes "path" ∷ codes "device" ∷ [])) ms
+path_device_fits : (ms : Members) → only_named to_device ms
     ≡ verb_fits PathDevice (event_values ms)
-unfolding event_values verb_fits
-path_device_keys ms =
-    narrowed (codes "do" ∷ codes "after" ∷ codes "path" ∷ codes "device" ∷ []) [] (codes "bytes") ms
-    refl
-    ∙ ap (λ b. b && is_none (get_member (codes "bytes") ms)) (without_packets ms)
+unfolding event_values verb_fits to_bytes to_device to_path
+path_device_fits ms = less_named to_device [] (codes "bytes") ms _ refl (without_packets ms)
 
-path_fits : (ms : Members) → only_named (event_keys (codes "path" ∷ [])) ms
-    ≡ verb_fits Path (event_values ms)
-unfolding event_values verb_fits
-path_fits ms =
-    narrowed (codes "do" ∷ codes "after" ∷ codes "path" ∷ []) [] (codes "device") ms refl
-    ∙ ap (λ b. b && is_none (get_member (codes "device") ms)) (path_device_keys ms)
+path_fits : (ms : Members) → only_named to_path ms ≡ verb_fits Path (event_values ms)
+unfolding event_values verb_fits to_device to_path
+path_fits ms = less_named to_path [] (codes "device") ms _ refl (path_device_fits ms)
 
 alone_fits : (ms : Members) → only_named (event_keys []) ms ≡ verb_fits Alone (event_values ms)
-unfolding event_values verb_fits
-alone_fits ms =
-    narrowed (codes "do" ∷ codes "after" ∷ []) [] (codes "path") ms refl
-    ∙ ap (λ b. b && is_none (get_member (codes "path") ms)) (path_fits ms)
+unfolding event_values verb_fits to_path
+alone_fits ms = less_named (event_keys []) [] (codes "path") ms _ refl (path_fits ms)
 
-bytes_fits : (ms : Members) → only_named (event_keys (codes "path" ∷ codes "bytes" ∷ [])) ms
+bytes_fits : (ms : Members) → only_named (to_path ++ codes "bytes" ∷ []) ms
     ≡ verb_fits PathBytes (event_values ms)
-unfolding event_values verb_fits
-bytes_fits ms =
-    narrowed (codes "do" ∷ codes "after" ∷ codes "path" ∷ []) (codes "bytes" ∷ []) (codes "device")
-    ms refl
-    ∙ ap (λ b. b && is_none (get_member (codes "device") ms)) (without_packets ms)
+unfolding event_values verb_fits to_bytes to_device to_path
+bytes_fits ms = less_named to_path (codes "bytes" ∷ []) (codes "device") ms _ refl
+    (without_packets ms)
 
-packets_fits : (ms : Members) → only_named (event_keys (codes "path" ∷ codes "packets" ∷ [])) ms
+packets_fits : (ms : Members) → only_named (to_path ++ codes "packets" ∷ []) ms
     ≡ verb_fits PathPackets (event_values ms)
-unfolding event_values verb_fits
+unfolding event_values verb_fits to_bytes to_device to_path
 packets_fits ms =
-    narrowed (codes "do" ∷ codes "after" ∷ codes "path" ∷ []) (codes "packets" ∷ [])
-    (codes "device") ms refl
-    ∙ ap (λ b. b && is_none (get_member (codes "device") ms)) (without_bytes ms)
+    let back : List (List ℕ) = codes "packets" ∷ [] in
+    less_named to_path back (codes "device") ms _ refl
+    (less_named to_device back (codes "bytes") ms _ refl (without_setup ms))
+
+setup_fits : (ms : Members) → only_named (to_path ++ codes "bytes" ∷ codes "setup" ∷ []) ms
+    ≡ verb_fits PathSetup (event_values ms)
+unfolding event_values verb_fits to_bytes to_device to_path
+setup_fits ms =
+    less_named to_path (codes "bytes" ∷ codes "setup" ∷ []) (codes "device") ms _ refl
+    (less_named to_bytes (codes "setup" ∷ []) (codes "packets") ms _ refl (not_not _))
 
 answer : Bool → Result (Unit {0}) EntryFault
 answer b = if b then Ok tt else Err BadValue
 
 pub keys_given-event_values : (keys : OtherKeys) (ms : Members) → keys_given keys (event_values ms)
     ≡ keys_of keys ms
-unfolding keys_given keys_of keys_at answer
+unfolding keys_given keys_of keys_at answer to_device to_path
 keys_given-event_values Alone ms = ap answer (sym (alone_fits ms))
 keys_given-event_values Path ms = ap answer (sym (path_fits ms))
-keys_given-event_values PathDevice ms = ap answer (sym (path_device_keys ms))
+keys_given-event_values PathDevice ms = ap answer (sym (path_device_fits ms))
 keys_given-event_values PathBytes ms = ap answer (sym (bytes_fits ms))
 keys_given-event_values PathPackets ms = ap answer (sym (packets_fits ms))
+keys_given-event_values PathSetup ms = ap answer (sym (setup_fits ms))
 
 -- an event by the values of its table
 pub event_in_refused : (scene : SceneData) (count : ℕ) (ms : Members) (v : EventValues)

@@ -4,13 +4,19 @@ use Rattle.std.proofs.Common.{Ok, Err, refl, ap, sym, ◌∙◌, IsErrAnd}
 use Rattle.usb_device.specs.{Hub}
 use Rattle.usb_plan.specs.declared.entry_fault.EntryFault.{EntryFault}
 use Rattle.usb_plan.specs.{Memory, PlanFault, Identity, DeviceTexts, fault_in_part, sooner}
-use Rattle.usb_plan.specs.{least_fault, least, at, entry_at, ◌>>=◌, EqualUnless, send, event_with}
-use Rattle.usb_plan.specs.{bulk_with, class_at, hub_with, with_text, identity_with}
+use Rattle.usb_plan.specs.{least_fault, least, at, entry_at, ◌>>=◌, EqualUnless, send, control}
+use Rattle.usb_plan.specs.{event_with}
+use Rattle.usb_plan.specs.{bulk_with, class_at, hub_with, with_item, identity_with}
 use Rattle.usb_plan.specs.{device_texts_with, device_with}
 use Rattle.usb_plan.specs.declared.fault.Place.{Place}
 use Rattle.usb_plan.specs.declared.fault.PlanFault.TheVariants as fault
 use Rattle.usb_plan.specs.declared.quirks.Quirks.{Quirks}
 use Rattle.usb_plan.specs.declared.bulk.Bulk.{Bulk}
+use Rattle.usb_device.specs.{OwnAnswer, OwnRequest}
+use Rattle.usb_plan.specs.{row_with}
+use Rattle.usb_plan.specs.declared.action.Request.{Request}
+use Rattle.usb_plan.specs.declared.own_requests.Codes.{Codes}
+use Rattle.usb_plan.specs.declared.own_requests.Fields.{Fields}
 use Rattle.usb_world.specs.{Action}
 use Rattle.toml.specs.Data.{Data}
 use Rattle.usb_plan.specs.Device.{Texts}
@@ -91,6 +97,18 @@ unfolding send fault_in_part
 send_unless path bytes b h = unless_through Memory Memory (send path) bytes b
     (bind_err _ _ Memory (least_fault-memory (_ ∷ []) _)) h
 
+pub control_unless : (path : Result (List ℕ) EntryFault) (request r : Result Request EntryFault)
+    (bytes b : Result (Unit {0}) EntryFault) → EqualUnless Memory request r
+    → EqualUnless Memory bytes b
+    → EqualUnless Memory (control path request bytes) (control path r b)
+unfolding control fault_in_part
+control_unless path request r bytes b h g =
+    unless_then Memory _ (control path r bytes) _
+    (unless_through Memory Memory (λ x. control path x bytes) request r
+    (bind_err _ _ Memory (least_fault-memory (_ ∷ []) _)) h)
+    (unless_through Memory Memory (control path r) bytes b
+    (bind_err _ _ Memory (least_fault-memory (_ ∷ _ ∷ []) _)) g)
+
 pub event_unless : (action a : Result Action EntryFault) (after : Result ℕ EntryFault)
     (keys room : Result (Unit {0}) EntryFault) → EqualUnless Memory action a
     → EqualUnless Memory (event_with action after keys room) (event_with a after keys room)
@@ -98,6 +116,15 @@ unfolding event_with fault_in_part
 event_unless action a after keys room h =
     unless_through Memory Memory (λ x. event_with x after keys room) action a
     (bind_err _ _ Memory (least_fault-memory [] _)) h
+
+pub row_unless : (numbers : Result Codes EntryFault) (fields : Result Fields EntryFault)
+    (answer a : Result OwnAnswer EntryFault) (keys : Result (Unit {0}) EntryFault)
+    → EqualUnless Memory answer a
+    → EqualUnless Memory (row_with numbers fields answer keys) (row_with numbers fields a keys)
+unfolding row_with fault_in_part
+row_unless numbers fields answer a keys h =
+    unless_through Memory Memory (λ x. row_with numbers fields x keys) answer a
+    (bind_err _ _ Memory (least_fault-memory (_ ∷ _ ∷ []) _)) h
 
 pub bulk_unless : (source s : Result (List ℕ) EntryFault)
     (halt_after : Result (Option ℕ) EntryFault) → EqualUnless Memory source s
@@ -138,47 +165,55 @@ identity_unless name n low descriptor d ports hub h name_is descriptor_is hub_is
 
 pub device_unless : (identity i : Result Identity EntryFault)
     (texts c : Result DeviceTexts EntryFault) (quirks : Result Quirks EntryFault)
-    (bulk b : Result Bulk EntryFault) (keys room : Result (Unit {0}) EntryFault)
+    (bulk b : Result Bulk EntryFault) (requests r : Result (List OwnRequest) EntryFault)
+    (keys room : Result (Unit {0}) EntryFault)
     → EqualUnless Memory identity i → EqualUnless Memory texts c → EqualUnless Memory bulk b
-    → EqualUnless Memory (device_with identity texts quirks bulk keys room)
-    (device_with i c quirks b keys room)
+    → EqualUnless Memory requests r
+    → EqualUnless Memory (device_with identity texts quirks bulk requests keys room)
+    (device_with i c quirks b r keys room)
 unfolding device_with fault_in_part
-device_unless identity i texts c quirks bulk b keys room identity_is texts_is bulk_is =
-    unless_then Memory _ (device_with i texts quirks bulk keys room) _
-    (unless_through Memory Memory (λ x. device_with x texts quirks bulk keys room) identity i
-    (bind_err _ _ Memory (least_fault-memory [] _)) identity_is)
-    (unless_then Memory _ (device_with i c quirks bulk keys room) _
-    (unless_through Memory Memory (λ x. device_with i x quirks bulk keys room) texts c
+device_unless identity i texts c quirks bulk b requests r keys room identity_is texts_is bulk_is
+    requests_is =
+    unless_then Memory _ (device_with i texts quirks bulk requests keys room) _
+    (unless_through Memory Memory (λ x. device_with x texts quirks bulk requests keys room)
+    identity i (bind_err _ _ Memory (least_fault-memory [] _)) identity_is)
+    (unless_then Memory _ (device_with i c quirks bulk requests keys room) _
+    (unless_through Memory Memory (λ x. device_with i x quirks bulk requests keys room) texts c
     (bind_err _ _ Memory (least_fault-memory (_ ∷ []) _)) texts_is)
-    (unless_through Memory Memory (λ x. device_with i c quirks x keys room) bulk b
-    (bind_err _ _ Memory (least_fault-memory (_ ∷ _ ∷ _ ∷ []) _)) bulk_is))
+    (unless_then Memory _ (device_with i c quirks b requests keys room) _
+    (unless_through Memory Memory (λ x. device_with i c quirks x requests keys room) bulk b
+    (bind_err _ _ Memory (least_fault-memory (_ ∷ _ ∷ _ ∷ []) _)) bulk_is)
+    (unless_through Memory Memory (λ x. device_with i c quirks b x keys room) requests r
+    (bind_err _ _ Memory (least_fault-memory (_ ∷ _ ∷ _ ∷ _ ∷ []) _)) requests_is)))
 
-texts-memory : (text : Result (List ℕ) EntryFault) → with_text (Err Memory) text ≡ Err Memory
-unfolding with_text fault_in_part
-texts-memory text = bind_err _ _ Memory (least_fault-memory [] (fault_in_part text ∷ []))
+items-memory : {A : Type 0} (item : Result A EntryFault)
+    → with_item {A = A} (Err Memory) item ≡ Err Memory
+unfolding with_item fault_in_part
+items-memory item = bind_err _ _ Memory (least_fault-memory [] (fault_in_part item ∷ []))
 
-text-memory : (texts : Result Texts EntryFault) → with_text texts (Err Memory) ≡ Err Memory
-unfolding with_text fault_in_part
-text-memory texts = bind_err _ _ Memory (least_fault-memory (fault_in_part texts ∷ []) [])
+item-memory : {A : Type 0} (items : Result (List A) EntryFault)
+    → with_item items (Err Memory) ≡ Err Memory
+unfolding with_item fault_in_part
+item-memory items = bind_err _ _ Memory (least_fault-memory (fault_in_part items ∷ []) [])
 
--- one text more, where neither was refused memory
-pub record WithTextIs (texts read : Result Texts EntryFault) (text t : Result (List ℕ) EntryFault) :
-    Type 0 where
-  pub with_text_is : read ≡ with_text texts t
-  pub text_is : text ≡ t
-  pub texts_read : texts ≢ Err Memory
+-- one item more, where neither was refused memory
+pub record WithItemIs {A : Type 0} (items read : Result (List A) EntryFault)
+    (item i : Result A EntryFault) : Type 0 where
+  pub with_item_is : read ≡ with_item items i
+  pub item_is : item ≡ i
+  pub items_read : items ≢ Err Memory
 
-pub with_text_is : (texts read : Result Texts EntryFault) (text t : Result (List ℕ) EntryFault)
-    → EqualUnless Memory read (with_text texts text) → EqualUnless Memory text t → read ≢ Err Memory
-    → WithTextIs texts read text t
-with_text_is texts read text t h g ne =
-    let same = equal_unless Memory read (with_text texts text) h ne in
-    let is = equal_unless Memory text t g
-    (λ e. ne (same ∙ (ap (with_text texts) e ∙ text-memory texts))) in
+pub with_item_is : {A : Type 0} (items read : Result (List A) EntryFault)
+    (item i : Result A EntryFault) → EqualUnless Memory read (with_item items item)
+    → EqualUnless Memory item i → read ≢ Err Memory → WithItemIs items read item i
+with_item_is items read item i h g ne =
+    let same = equal_unless Memory read (with_item items item) h ne in
+    let is = equal_unless Memory item i g
+    (λ e. ne (same ∙ (ap (with_item items) e ∙ item-memory items))) in
     record {
-      with_text_is = same ∙ ap (with_text texts) is;
-      text_is = is;
-      texts_read = λ e. ne (same ∙ (ap (λ x. with_text x text) e ∙ texts-memory text));
+      with_item_is = same ∙ ap (with_item items) is;
+      item_is = is;
+      items_read = λ e. ne (same ∙ (ap (λ x. with_item x item) e ∙ items-memory item));
     }
 
 -- a place is told of faults alone

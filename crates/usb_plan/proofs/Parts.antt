@@ -1,5 +1,5 @@
 -- What follows where the parts of an entry are good.
-use Rattle.std.proofs.Common.{◌≡◌, ◌+◌, ◌-◌, ◌^◌, ℕ, ℤ, pos, negsuc, ◌<◌, ◌≤◌, List, [], ◌∷◌}
+use Rattle.std.proofs.Common.{◌≡◌, ◌+◌, ◌-◌, ◌^◌, ℕ, ℤ, pos, ◌<◌, ◌≤◌, List, [], ◌∷◌}
 use Rattle.std.proofs.Common.{length, Bool, true, false, ◌&&◌, ◌||◌, cond, Option, Some, None}
 use Rattle.std.proofs.Common.{ok_or, Result, Ok, Err, refl, ap, sym, subst, ◌∙◌, not, IfOk, IfSome}
 use Rattle.std.proofs.Common.{arith, codes, nat_le, nat_lt, ◌==◌, slice_get, zero, suc}
@@ -19,7 +19,10 @@ use Rattle.usb_plan.specs.{with_halt, with_hub, named_device, HubFits, FewNaks, 
 use Rattle.usb_plan.specs.{identity_with, identity_of, device_of_parts, device_with, read_device}
 use Rattle.usb_plan.specs.{device_in, read_path, free_path, taken_path, verb_at, action_of}
 use Rattle.usb_plan.specs.{EventValues, event_values, device_index_at, bytes_at, packets_at}
-use Rattle.usb_plan.specs.{plug_of, unplug_of, send_of, receive_of, clear_of, after_at, event_room}
+use Rattle.usb_plan.specs.{plug_of, unplug_of, send_of, receive_of, clear_of, control_of, look_of}
+use Rattle.usb_plan.specs.{asked, request_at, after_at, event_room}
+use Rattle.usb_plan.specs.declared.action.Request.{Request}
+use Rattle.usb_plan.specs.declared.action.Request.TheVariants.{Read, Write}
 use Rattle.usb_plan.specs.{event_with, event_of, event_in, attempt_at, packet_number, way_at}
 use Rattle.usb_plan.specs.{no_bit, flip_at, harm_of, harm_by, damage_with, read_damage}
 use Rattle.usb_plan.specs.{damage_entry, limit_at, roots_at, top_with, top_of, TopFits}
@@ -27,14 +30,14 @@ use Rattle.usb_plan.specs.declared.plan.Top.{Top}
 use Rattle.usb_plan.specs.declared.quirks.Quirks.{Quirks}
 use Rattle.usb_plan.specs.declared.bulk.Bulk.{Bulk}
 use Rattle.usb_plan.specs.declared.fault.Place.{Place}
-use Rattle.usb_world.specs.{Event, Action, Plug, Unplug, Send, Receive, Clear, Damage, Harm, Lose}
-use Rattle.usb_world.specs.{LosePre, Flip, is_rooted, has_port, is_taken, action_fits, event_fits}
-use Rattle.usb_world.specs.{harm_fits, damage_fits}
+use Rattle.usb_world.specs.{Event, Action, Plug, Unplug, Send, Receive, Clear, Look}
+use Rattle.usb_world.specs.{Damage, Harm, Lose, LosePre, Flip, is_rooted, has_port, is_taken}
+use Rattle.usb_world.specs.{action_fits, event_fits, harm_fits, damage_fits}
 use Rattle.usb_world.specs.declared.event.Action.TheVariants.{Change, Ask}
 use Rattle.usb_plan.specs.declared.verb.Verb.{Verb}
 use Rattle.usb_plan.specs.declared.verb.Verb.TheVariants as verb
 use Rattle.usb_plan.specs.declared.damage.Way.TheVariants as way
-use Rattle.usb_device.specs.{Spec, Hub, hub_fits, has_hub_class, function, is_named}
+use Rattle.usb_device.specs.{Spec, Hub, OwnRequest, hub_fits, has_hub_class, function, is_named}
 use Rattle.usb_plan.specs.Device as device
 use Rattle.usb_plan.specs.Action as action
 use Rattle.usb_plan.specs.Damage as damage
@@ -146,9 +149,9 @@ halt_name None s = refl
 halt_name (Some packets) s = refl
 
 device_of_parts_name : (i : Identity) (c : DeviceTexts) (q : Quirks) (b : Bulk)
-    → (device_of_parts i c q b).name ≡ i.name
+    (rows : List OwnRequest) → (device_of_parts i c q b rows).name ≡ i.name
 unfolding device_of_parts with_quirks
-device_of_parts_name i c q b = halt_name b.halt_after _ ∙ hub_name i.hub (named_device i c)
+device_of_parts_name i c q b rows = halt_name b.halt_after _ ∙ hub_name i.hub (named_device i c)
 
 -- the device may stand after the earlier ones
 pub record Joins (earlier : List Spec) (s : Spec) : Type 0 where
@@ -263,20 +266,24 @@ identity_of_ok earlier ms i h =
 
 device_with_ok : (earlier : List Spec) (ms : Members) (i : Result Identity EntryFault)
     (c : Result DeviceTexts EntryFault) (q : Result Quirks EntryFault) (b : Result Bulk EntryFault)
-    (keys left : Result (Unit {0}) EntryFault) (s : Spec) → i ≡ identity_of earlier ms
-    → left ≡ device.device_room earlier → device_with i c q b keys left ≡ Ok s → Joins earlier s
+    (rows : Result (List OwnRequest) EntryFault) (keys left : Result (Unit {0}) EntryFault)
+    (s : Spec) → i ≡ identity_of earlier ms
+    → left ≡ device.device_room earlier → device_with i c q b rows keys left ≡ Ok s
+    → Joins earlier s
 unfolding device_with
-device_with_ok earlier ms i c q b keys left s i_is room_is h =
+device_with_ok earlier ms i c q b rows keys left s i_is room_is h =
     let e0 = bind_good (least_fault _) _ s h in
     let e1 = bind_good i _ s e0.rest in
     let e2 = bind_good c _ s e1.rest in
     let e3 = bind_good q _ s e2.rest in
     let e4 = bind_good b _ s e3.rest in
-    let left_good = good_part _ e0.value 5 left e0.good refl in
+    let e5 = bind_good rows _ s e4.rest in
+    let left_good = good_part _ e0.value 6 left e0.good refl in
     let is = identity_is earlier ms e1.value (sym i_is ∙ e1.good) in
-    let same : device_of_parts e1.value e2.value e3.value e4.value ≡ s = cc e4.rest in
+    let same : device_of_parts e1.value e2.value e3.value e4.value e5.value ≡ s = cc e5.rest in
     let name : e1.value.name ≡ s.name =
-    sym (device_of_parts_name e1.value e2.value e3.value e4.value) ∙ ap (λ t. t.name) same in
+    sym (device_of_parts_name e1.value e2.value e3.value e4.value e5.value)
+    ∙ ap (λ t. t.name) same in
     record {
       room = device_room_ok earlier left_good.0 (sym room_is ∙ left_good.1);
       new = rw (← name) (name_at_ok earlier (get_member (codes "name") ms) e1.value.name
@@ -286,7 +293,7 @@ device_with_ok earlier ms i c q b keys left s i_is room_is h =
 read_device_ok : (earlier : List Spec) (ms : Members) (s : Spec) → read_device earlier ms ≡ Ok s
     → Joins earlier s
 unfolding read_device
-read_device_ok earlier ms s h = device_with_ok earlier ms _ _ _ _ _ _ s refl refl h
+read_device_ok earlier ms s h = device_with_ok earlier ms _ _ _ _ _ _ _ s refl refl h
 
 pub device_in_ok : (earlier : List Spec) (o : Option Members) (s : Spec)
     → device_in earlier o ≡ Ok s → Joins earlier s
@@ -411,6 +418,30 @@ clear_of_ok scene v a h =
     let same : Ask (Clear path.value) ≡ a = cc path.rest in
     rw (← same) (read_path_ok scene v.path path.value path.good)
 
+asked_fits : (scene : SceneData) (p : List ℕ) (r : Request) → is_rooted scene.roots p ≡ true
+    → FitsScene scene (Ask (asked p r))
+unfolding asked
+asked_fits scene p (Read setup) rooted = rooted
+asked_fits scene p (Write write) rooted = rooted
+
+control_of_ok : (scene : SceneData) (v : EventValues) (a : Action) → control_of scene v ≡ Ok a
+    → FitsScene scene a
+unfolding control_of action.control
+control_of_ok scene v a h =
+    let e0 = bind_good (least_fault _) _ a h in
+    let e1 = bind_good (read_path scene v.path) _ a e0.rest in
+    let e2 = bind_good (request_at v) _ a e1.rest in
+    let same : Ask (asked e1.value e2.value) ≡ a = cc e2.rest in
+    rw (← same) (asked_fits scene e1.value e2.value (read_path_ok scene v.path e1.value e1.good))
+
+look_of_ok : (scene : SceneData) (v : EventValues) (a : Action) → look_of scene v ≡ Ok a
+    → FitsScene scene a
+unfolding look_of
+look_of_ok scene v a h =
+    let path = bind_good (read_path scene v.path) _ a h in
+    let same : Ask (Look path.value) ≡ a = cc path.rest in
+    rw (← same) (read_path_ok scene v.path path.value path.good)
+
 action_of_ok : (verb : Verb) (scene : SceneData) (v : EventValues) (a : Action)
     → action_of verb scene v ≡ Ok a → FitsScene scene a
 unfolding action_of
@@ -419,6 +450,8 @@ action_of_ok verb.Unplug scene v a h = unplug_of_ok scene v a h
 action_of_ok verb.Send scene v a h = send_of_ok scene v a h
 action_of_ok verb.Receive scene v a h = receive_of_ok scene v a h
 action_of_ok verb.Clear scene v a h = clear_of_ok scene v a h
+action_of_ok verb.Control scene v a h = control_of_ok scene v a h
+action_of_ok verb.Look scene v a h = look_of_ok scene v a h
 action_of_ok _ scene v a h = subst (λ r. IfOk r (FitsScene scene)) h refl
 
 -- the event may come where so much is plugged, and there is room for it

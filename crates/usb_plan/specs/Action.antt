@@ -1,6 +1,6 @@
 -- What an event does, by the keys that go with its `do`.
-use Rattle.std.specs.Prelude.{ℕ, codes, List, [], ◌∷◌, Bool, not, ◌&&◌, Option, is_none, ok_or}
-use Rattle.std.specs.Prelude.{Result, Ok, Err, position, if◌then◌else◌}
+use Rattle.std.specs.Prelude.{ℕ, codes, List, [], ◌∷◌, Bool, not, ◌&&◌, Option, Some, None, is_none}
+use Rattle.std.specs.Prelude.{ok_or, Result, Ok, Err, position, if◌then◌else◌, length, ◌==◌, nat_le}
 use Rattle.std.specs.Str.{bytes_eq}
 use Rattle.toml.specs.Data.{Data, Members}
 use Rattle.usb_plan.specs.declared.entry_fault.EntryFault.{EntryFault}
@@ -8,14 +8,19 @@ use Rattle.usb_plan.specs.declared.entry_fault.EntryFault.TheVariants.{MissingKe
 use Rattle.usb_plan.specs.declared.entry_fault.EntryFault.TheVariants.{UnknownDevice}
 use Rattle.usb_plan.specs.declared.action.OtherKeys.{OtherKeys}
 use Rattle.usb_plan.specs.declared.action.OtherKeys.TheVariants.{Alone, Path, PathDevice, PathBytes}
-use Rattle.usb_plan.specs.declared.action.OtherKeys.TheVariants.{PathPackets}
+use Rattle.usb_plan.specs.declared.action.OtherKeys.TheVariants.{PathPackets, PathSetup}
 use Rattle.usb_plan.specs.EntryFault.{fault_in_part, least_fault, ◌>>=◌}
 use Rattle.usb_plan.specs.EventMembers.{EventValues}
 use Rattle.usb_plan.specs.Keys.{keys_at}
 use Rattle.usb_plan.specs.Value.{read_text, number_at, hex_bytes}
 use Rattle.usb_plan.specs.Path.{read_path, free_path, taken_path}
 use Rattle.usb_plan.specs.Scene.{SceneData}
-use Rattle.usb_world.specs.{Action, Plug, Unplug, Send, Receive, Clear}
+use Rattle.usb_request.specs.{Setup, DIRECTION_IN, setup_of}
+use Rattle.usb_world.specs.{Action, Plug, Unplug, Send, Receive, Clear, ControlIn, ControlOut}
+use Rattle.usb_world.specs.{Look, Write as Written}
+use Rattle.usb_world.specs.declared.event.Ask.{Ask as Asked}
+use Rattle.usb_plan.specs.declared.action.Request.{Request}
+use Rattle.usb_plan.specs.declared.action.Request.TheVariants.{Read, Write}
 use Rattle.usb_world.specs.declared.event.Action.TheVariants.{Change, Ask}
 
 -- the key `device`: the index of the device of that name
@@ -30,6 +35,47 @@ bytes_at d = ok_or d MissingKey >>= hex_bytes
 -- the key `packets`
 unfoldable pub packets_at : Option Data → Result ℕ EntryFault
 packets_at d = number_at 0 1000 d
+
+-- the key `setup`: eight bytes
+unfoldable pub setup_in : List ℕ → Result Setup EntryFault
+setup_in bytes = if length bytes == 8 then Ok (setup_of bytes) else Err BadValue
+
+unfoldable pub setup_at : Option Data → Result Setup EntryFault
+setup_at d = bytes_at d >>= setup_in
+
+-- the key `bytes`, if it must be absent
+unfoldable pub no_bytes : Option Data → Result (Unit {0}) EntryFault
+no_bytes None = Ok tt
+no_bytes (Some d) = Err BadValue
+
+-- the key `bytes` by itself, which may be absent
+unfoldable pub given : Option Data → Result (Unit {0}) EntryFault
+given None = Ok tt
+given (Some d) = hex_bytes d >>= λ bytes. Ok tt
+
+-- the key `bytes` of a request that writes so many bytes
+unfoldable pub write_bytes : ℕ → Option Data → Result (List ℕ) EntryFault
+write_bytes length d = if length == 0 then no_bytes d >>= (λ u. Ok []) else bytes_at d
+
+-- a request that writes has wLength bytes
+unfoldable pub write_with : Setup → List ℕ → Result Written EntryFault
+write_with setup bytes =
+    if setup.length == length bytes then Ok (record { setup = setup; bytes = bytes })
+    else Err BadValue
+
+-- a request reads if bit 7 of bmRequestType is set, and then has no bytes (9.3.1)
+unfoldable pub request_with : Setup → Option Data → Result Request EntryFault
+request_with setup d =
+    if nat_le DIRECTION_IN setup.request_type then no_bytes d >>= (λ u. Ok (Read setup))
+    else write_bytes setup.length d >>= write_with setup >>= λ write. Ok (Write write)
+
+-- the keys `setup` and `bytes`
+unfoldable pub request_at : EventValues → Result Request EntryFault
+request_at v = setup_at v.setup >>= λ setup. request_with setup v.bytes
+
+unfoldable pub asked : List ℕ → Request → Asked
+asked path (Read setup) = ControlIn path setup
+asked path (Write write) = ControlOut path write
 
 unfoldable pub plug : Result (List ℕ) EntryFault → Result ℕ EntryFault → Result Action EntryFault
 plug path device = do
@@ -53,6 +99,14 @@ receive path packets = do
   n ← packets
   Ok (Ask (Receive p n))
 
+unfoldable pub control : Result (List ℕ) EntryFault → Result Request EntryFault
+    → Result (Unit {0}) EntryFault → Result Action EntryFault
+control path request bytes = do
+  u ← least_fault (fault_in_part path ∷ fault_in_part request ∷ fault_in_part bytes ∷ [])
+  p ← path
+  r ← request
+  Ok (Ask (asked p r))
+
 unfoldable pub plug_of : SceneData → EventValues → Result Action EntryFault
 plug_of scene v = plug (free_path scene (read_path scene v.path)) (device_index_at scene v.device)
 
@@ -68,6 +122,12 @@ receive_of scene v = receive (read_path scene v.path) (packets_at v.packets)
 unfoldable pub clear_of : SceneData → EventValues → Result Action EntryFault
 clear_of scene v = read_path scene v.path >>= λ path. Ok (Ask (Clear path))
 
+unfoldable pub control_of : SceneData → EventValues → Result Action EntryFault
+control_of scene v = control (read_path scene v.path) (request_at v) (given v.bytes)
+
+unfoldable pub look_of : SceneData → EventValues → Result Action EntryFault
+look_of scene v = read_path scene v.path >>= λ path. Ok (Ask (Look path))
+
 abbrev pub event_keys : List (List ℕ) → List (List ℕ)
 event_keys others = codes "do" ∷ codes "after" ∷ others
 
@@ -77,6 +137,7 @@ other_names Path = codes "path" ∷ []
 other_names PathDevice = codes "path" ∷ codes "device" ∷ []
 other_names PathBytes = codes "path" ∷ codes "bytes" ∷ []
 other_names PathPackets = codes "path" ∷ codes "packets" ∷ []
+other_names PathSetup = codes "path" ∷ codes "bytes" ∷ codes "setup" ∷ []
 
 -- no key but these, `do` and `after`
 unfoldable pub keys_of : OtherKeys → Members → Result (Unit {0}) EntryFault
@@ -85,11 +146,17 @@ keys_of keys ms = keys_at (event_keys (other_names keys)) ms
 -- the same by what stands at the keys: no other key, and nothing at those that do not go with `do`
 unfoldable pub verb_fits : OtherKeys → EventValues → Bool
 verb_fits Alone v =
-    not v.has_others && is_none v.packets && is_none v.bytes && is_none v.device && is_none v.path
-verb_fits Path v = not v.has_others && is_none v.packets && is_none v.bytes && is_none v.device
-verb_fits PathDevice v = not v.has_others && is_none v.packets && is_none v.bytes
-verb_fits PathBytes v = not v.has_others && is_none v.packets && is_none v.device
-verb_fits PathPackets v = not v.has_others && is_none v.bytes && is_none v.device
+    not v.has_others && is_none v.setup && is_none v.packets && is_none v.bytes && is_none v.device
+    && is_none v.path
+verb_fits Path v =
+    not v.has_others && is_none v.setup && is_none v.packets && is_none v.bytes && is_none v.device
+verb_fits PathDevice v =
+    not v.has_others && is_none v.setup && is_none v.packets && is_none v.bytes
+verb_fits PathBytes v =
+    not v.has_others && is_none v.setup && is_none v.packets && is_none v.device
+verb_fits PathPackets v =
+    not v.has_others && is_none v.setup && is_none v.bytes && is_none v.device
+verb_fits PathSetup v = not v.has_others && is_none v.packets && is_none v.device
 
 unfoldable pub keys_given : OtherKeys → EventValues → Result (Unit {0}) EntryFault
 keys_given keys v = if verb_fits keys v then Ok tt else Err BadValue

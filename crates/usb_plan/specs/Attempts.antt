@@ -1,8 +1,9 @@
 -- How many attempts are enough for a plan.
 use Rattle.std.specs.Prelude.{ℕ, ◌+◌, ◌*◌, List, [], ◌∷◌, length, Option, Some, None, slice_get}
-use Rattle.std.specs.Prelude.{max, min, ◌^◌, ◌-◌}
-use Rattle.std.specs.List.{sum_by}
-use Rattle.usb_world.specs.{Action, Plug, Unplug, Send, Receive, Event, PlanData}
+use Rattle.std.specs.Prelude.{max, min, ◌^◌, ◌-◌, Bool, true, false}
+use Rattle.std.specs.List.{sum_by, count_by}
+use Rattle.usb_world.specs.{Action, Plug, Unplug, Send, Receive, ControlIn, ControlOut, Look, Event}
+use Rattle.usb_world.specs.{PlanData}
 use Rattle.usb_world.specs.declared.event.Action.TheVariants.{Change, Ask}
 use Rattle.usb_device.specs.{said_lengths, Spec}
 
@@ -27,18 +28,34 @@ greatest_total devices (e ∷ events) = max (plugged_total devices e) (greatest_
 abbrev pub moved_in : Action → ℕ
 moved_in (Ask (Send path bytes)) = length bytes
 moved_in (Ask (Receive path packets)) = packets
+moved_in (Ask (ControlIn path request)) = request.length
+moved_in (Ask (ControlOut path request)) = request.setup.length
 moved_in _ = 0
 
--- the bytes that an event sends, or the packets that it receives
+-- the bytes that an event sends, the packets that it receives, or wLength of its request (9.3.5)
 unfoldable pub moved : Event → ℕ
 moved e = moved_in e.action
 
--- enough attempts for v events, where no plugged device has more than w bytes of configurations,
--- and m bytes and packets are moved
-abbrev pub enough_for : ℕ → ℕ → ℕ → ℕ
-enough_for v w m = 200 * v * (30000 + 10 * w) + 50000 * v * v + 1000 * m + 2
+abbrev pub is_look_at : Action → Bool
+is_look_at (Ask (Look path)) = true
+is_look_at _ = false
+
+-- the event has the host look once more at a port
+abbrev pub is_look : Event → Bool
+is_look e = is_look_at e.action
+
+-- the events that look at a port
+abbrev pub looks_in : List Event → ℕ
+looks_in events = count_by is_look events
+
+-- enough attempts for v events, l of them looks, if no plugged device has more than w bytes of
+-- configurations, and m bytes and packets are moved; each look may make the host handle again all
+-- that the events plugged
+abbrev pub enough_for : ℕ → ℕ → ℕ → ℕ → ℕ
+enough_for v l w m =
+    200 * (v * (1 + l)) * (30000 + 10 * w) + 50000 * (v * (1 + l)) * v + 1000 * m + 2
 
 -- the greatest number of 64 bits where it is more
 unfoldable pub bound_of : PlanData → ℕ
-bound_of p = min (enough_for (length p.events) (greatest_total p.devices p.events)
-    (sum_by moved p.events)) (2 ^ 64 - 1)
+bound_of p = min (enough_for (length p.events) (looks_in p.events)
+    (greatest_total p.devices p.events) (sum_by moved p.events)) (2 ^ 64 - 1)

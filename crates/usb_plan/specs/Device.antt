@@ -19,7 +19,8 @@ use Rattle.usb_plan.specs.Texts.{texts_in}
 use Rattle.usb_plan.specs.Hub.{class_at, hub_at}
 use Rattle.usb_plan.specs.Quirks.{quirks_of}
 use Rattle.usb_plan.specs.Bulk.{read_bulk}
-use Rattle.usb_device.specs.{Spec, Hub, hub_fits, function, is_named}
+use Rattle.usb_plan.specs.OwnRequests.{requests_of}
+use Rattle.usb_device.specs.{Spec, Hub, OwnRequest, hub_fits, function, is_named}
 
 unfoldable pub name_in : List Spec → List ℕ → Result (List ℕ) EntryFault
 name_in earlier text = if length text == 0 || is_named earlier text then Err BadValue else Ok text
@@ -54,7 +55,7 @@ device_keys =
     codes "name" ∷ codes "speed" ∷ codes "descriptor" ∷ codes "configs" ∷ codes "strings" ∷
     codes "ports" ∷ codes "hub_descriptor"
     ∷ codes "self_powered" ∷ codes "busy" ∷ codes "silent" ∷ codes "naks" ∷ codes "stalls" ∷
-    codes "source" ∷ codes "halt_after" ∷ []
+    codes "source" ∷ codes "halt_after" ∷ codes "request" ∷ []
 
 -- at most 127 devices
 unfoldable pub device_room : List Spec → Result (Unit {0}) EntryFault
@@ -130,33 +131,35 @@ device_texts_of ms =
 abbrev pub named_device : Identity → DeviceTexts → Spec
 named_device i c = record (function i.name i.descriptor c.configs) { low = i.low }
 
-abbrev pub outer_of : Texts → List ℕ → Spec → Spec
-outer_of strings source s = record s { strings = strings; source = source }
+abbrev pub outer_of : Texts → List ℕ → List OwnRequest → Spec → Spec
+outer_of strings source requests s =
+    record s { strings = strings; source = source; requests = requests }
 
-unfoldable pub device_of_parts : Identity → DeviceTexts → Quirks → Bulk → Spec
-device_of_parts identity texts quirks bulk =
-    with_halt bulk.halt_after (with_quirks quirks
-    (outer_of texts.strings bulk.source (with_hub identity.hub (named_device identity texts))))
+unfoldable pub device_of_parts : Identity → DeviceTexts → Quirks → Bulk → List OwnRequest → Spec
+device_of_parts identity texts quirks bulk requests =
+    with_halt bulk.halt_after (with_quirks quirks (outer_of texts.strings bulk.source requests
+    (with_hub identity.hub (named_device identity texts))))
 
 unfoldable pub device_with :
     Result Identity EntryFault → Result DeviceTexts EntryFault → Result Quirks EntryFault
-    → Result Bulk EntryFault
+    → Result Bulk EntryFault → Result (List OwnRequest) EntryFault
     → Result (Unit {0}) EntryFault → Result (Unit {0}) EntryFault → Result Spec EntryFault
-device_with identity texts quirks bulk keys room = do
+device_with identity texts quirks bulk requests keys room = do
   u ← least_fault (fault_in_part identity ∷ fault_in_part texts ∷ fault_in_part quirks ∷
-      fault_in_part bulk
+      fault_in_part bulk ∷ fault_in_part requests
       ∷ fault_in_part keys ∷ fault_in_part room ∷ [])
   i ← identity
   c ← texts
   q ← quirks
   b ← bulk
-  Ok (device_of_parts i c q b)
+  rows ← requests
+  Ok (device_of_parts i c q b rows)
 
 -- the device that a table describes, beside the earlier ones
 unfoldable pub read_device : List Spec → Members → Result Spec EntryFault
 read_device earlier ms =
     device_with (identity_of earlier ms) (device_texts_of ms) (quirks_of ms) (read_bulk ms)
-    (keys_at device_keys ms) (device_room earlier)
+    (requests_of ms) (keys_at device_keys ms) (device_room earlier)
 
 unfoldable pub device_in : List Spec → Option Members → Result Spec EntryFault
 device_in earlier table = ok_or table BadValue >>= read_device earlier

@@ -15,12 +15,13 @@ pub record EventValues : Type 0 where
   pub device : Option Data
   pub bytes : Option Data
   pub packets : Option Data
+  pub setup : Option Data
   pub has_others : Bool
 
 abbrev pub all_event_keys : List (List ℕ)
 all_event_keys =
     codes "do" ∷ codes "after" ∷ codes "path" ∷ codes "device" ∷ codes "bytes" ∷ codes "packets" ∷
-    []
+    codes "setup" ∷ []
 
 -- those of a table
 unfoldable pub event_values : Members → EventValues
@@ -31,6 +32,7 @@ event_values ms = record {
   device = get_member (codes "device") ms;
   bytes = get_member (codes "bytes") ms;
   packets = get_member (codes "packets") ms;
+  setup = get_member (codes "setup") ms;
   has_others = not (only_named all_event_keys ms);
 }
 
@@ -43,6 +45,7 @@ found m = record {
   device = option_map (λ v. view v.now) m.device;
   bytes = option_map (λ v. view v.now) m.bytes;
   packets = option_map (λ v. view v.now) m.packets;
+  setup = option_map (λ v. view v.now) m.setup;
   has_others = m.has_others;
 }
 
@@ -55,4 +58,5 @@ with_value key d v =
     else if bytes_eq key (codes "device") then record v { device = Some d }
     else if bytes_eq key (codes "bytes") then record v { bytes = Some d }
     else if bytes_eq key (codes "packets") then record v { packets = Some d }
+    else if bytes_eq key (codes "setup") then record v { setup = Some d }
     else record v { has_others = true }

@@ -6,6 +6,7 @@ pub mod Texts
 pub mod Hub
 pub mod Quirks
 pub mod Bulk
+pub mod OwnRequests
 pub mod Device
 pub mod Scene
 pub mod Path
@@ -25,11 +26,16 @@ pub use Value.{data_list, hex_read}
 unfoldable pub use Value.{hex_bytes, hex_in, number_at, number_in, number_or, read_items, read_text}
 unfoldable pub use Value.{text_in}
 unfoldable pub use Keys.{keys_at, only_named}
-unfoldable pub use Texts.{texts_from, texts_in, with_text}
+unfoldable pub use Texts.{items_from, texts_in, with_item}
 unfoldable pub use Hub.{class_at, hub_at, hub_in, hub_of, hub_with, is_low_speed, is_other, no_hub}
 unfoldable pub use Quirks.{flag_at, is_stall, is_word, naks_at, names, quirks_of, quirks_with}
 unfoldable pub use Quirks.{stalls_at, stalls_in, stalls_named}
 unfoldable pub use Bulk.{bulk_with, halt_at, halt_in, read_bulk, source_at}
+pub use OwnRequests.{request_keys}
+unfoldable pub use OwnRequests.{answer_of, answer_with, byte_at, codes_of, codes_with, fields_of}
+unfoldable pub use OwnRequests.{fields_with, given_by, is_own, own_at, read_answer, refusal_at}
+unfoldable pub use OwnRequests.{refusal_named, requests_at, requests_in, requests_of, row_in}
+unfoldable pub use OwnRequests.{row_of, row_with, word_at, word_in, write_answer}
 pub use Device.{FewNaks, HaltsLater, HubFits, device_keys, named_device, outer_of}
 unfoldable pub use Device.{configs_at, descriptor_at, device_in, device_of_parts, device_room}
 unfoldable pub use Device.{device_texts_of, device_texts_with, device_with, devices_from}
@@ -41,8 +47,10 @@ unfoldable pub use Plugged.{first_through}
 pub use EventMembers.{EventValues, all_event_keys, found}
 unfoldable pub use EventMembers.{event_values, with_value}
 pub use Action.{event_keys, other_names}
-unfoldable pub use Action.{bytes_at, clear_of, device_index_at, keys_given, keys_of, packets_at}
-unfoldable pub use Action.{plug, plug_of, receive, receive_of, send, send_of, unplug_of, verb_fits}
+unfoldable pub use Action.{asked, bytes_at, clear_of, control, control_of, device_index_at, given}
+unfoldable pub use Action.{keys_given, keys_of, look_of, no_bytes, packets_at, plug, plug_of}
+unfoldable pub use Action.{receive, receive_of, request_at, request_with, send, send_of, setup_at}
+unfoldable pub use Action.{setup_in, unplug_of, verb_fits, write_bytes, write_with}
 unfoldable pub use Verb.{action_of, other_keys, verb_at, verb_named}
 unfoldable pub use Event.{after_at, event_given, event_in, event_of, event_room, event_with}
 unfoldable pub use Event.{events_from}
@@ -53,10 +61,11 @@ unfoldable pub use Damage.{way_at, way_named}
 pub use Plan.{TopFits, is_table, top_keys, values_in}
 unfoldable pub use Plan.{entries_at, entries_in, limit_at, plan_of, plan_with, read, roots_at}
 unfoldable pub use Plan.{spelled_plan, top_of, top_with, values_at}
-pub use Attempts.{enough_for, moved_in, total_after, total_at}
+pub use Attempts.{enough_for, is_look, is_look_at, looks_in, moved_in, total_after, total_at}
 unfoldable pub use Attempts.{bound_of, greatest_total, moved, plugged_total}
 pub use declared.action.OtherKeys.{OtherKeys}
 pub use declared.action.OtherKeys.TheVariants.{Alone, PathBytes, PathDevice, PathPackets}
+pub use declared.action.OtherKeys.TheVariants.{PathSetup}
 pub use declared.damage.Way.{Way}
 pub use declared.device.DeviceTexts.{DeviceTexts}
 pub use declared.device.Identity.{Identity}

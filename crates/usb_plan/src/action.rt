@@ -2,8 +2,9 @@
 
 ghost use Rattle.std.specs.Prelude.{◌≡◌, ◌≤◌, option_map};
 ghost use Rattle.toml.specs.View.{view};
-ghost use Rattle.usb_plan.specs.Action.{device_index_at, bytes_at, packets_at, plug, send, receive, plug_of, unplug_of, send_of, receive_of, clear_of, verb_fits, keys_given};
+ghost use Rattle.usb_plan.specs.Action.{device_index_at, bytes_at, packets_at, setup_in, setup_at, no_bytes, given, write_bytes, write_with, request_with, request_at, asked, plug, send, receive, control, plug_of, unplug_of, send_of, receive_of, clear_of, control_of, look_of, verb_fits, keys_given};
 ghost use Rattle.usb_plan.specs.EventMembers.{found};
+ghost use Rattle.usb_request.specs.Layout.{IsToDevice};
 ghost use Rattle.usb_plan.specs.EntryFault.{EqualUnless};
 ghost use Rattle.usb_plan.specs.declared.entry_fault.EntryFault.TheVariants.{Memory};
 
@@ -15,7 +16,8 @@ use crate::value::{hex_bytes, number_at, read_text};
 use std::alloc::Global;
 use toml::Value;
 use usb_port::PortPath;
-use usb_world::{Action, Ask, Change, SentBytes};
+use usb_request::{ReadRequest, Setup};
+use usb_world::{Action, Ask, Change, SentBytes, WriteRequest};
 
 /// The key `device`.
 #[tactic(auto, unfolding(crate::specs::Action::device_index_at))]
@@ -42,6 +44,116 @@ fn packets_at(value: Option<&Value>) -> Result<u16, EntryFault>
 {
     let packets = number_at(0, 1000, value)?;
     Ok(packets as u16)
+}
+
+/// Setup data, of their eight bytes (9.3).
+#[tactic(auto, unfolding(crate::specs::Action::setup_in))]
+fn setup_in(bytes: &[u8]) -> Result<Setup, EntryFault>
+    ensures { result ≡ setup_in bytes.now }
+{
+    match <[u8; 8]>::try_from(bytes) {
+        Ok(bytes) => Ok(Setup::from_bytes(bytes)),
+        Err(_) => Err(EntryFault::BadValue),
+    }
+}
+
+/// The key `setup`.
+#[tactic(auto, unfolding(crate::specs::Action::setup_at))]
+fn setup_at(alloc: Global, value: Option<&Value>) -> Result<Setup, EntryFault>
+    ensures { EqualUnless Memory result (setup_at (option_map (λ v. view v.now) value.entry)) }
+{
+    let bytes = bytes_at(alloc, value)?;
+    setup_in(bytes.as_slice())
+}
+
+/// A request of endpoint 0.
+#[derive(Drop)]
+enum Request {
+    /// It reads.
+    Read(ReadRequest),
+    /// It writes.
+    Write(WriteRequest),
+}
+
+/// The key `bytes`, if it must be absent.
+#[tactic(auto, unfolding(crate::specs::Action::no_bytes))]
+fn no_bytes(value: Option<&Value>) -> Result<(), EntryFault>
+    ensures { result ≡ no_bytes (option_map (λ v. view v.now) value.entry) }
+{
+    match value {
+        None => Ok(()),
+        Some(_) => Err(EntryFault::BadValue),
+    }
+}
+
+/// The key `bytes` by itself, which may be absent.
+#[tactic(auto, unfolding(crate::specs::Action::given))]
+fn given(alloc: Global, value: Option<&Value>) -> Result<(), EntryFault>
+    ensures { EqualUnless Memory result (given (option_map (λ v. view v.now) value.entry)) }
+{
+    if let Some(value) = value {
+        hex_bytes(alloc, value)?;
+    }
+    Ok(())
+}
+
+/// The key `bytes` of a request that writes, which is absent if there are none.
+#[tactic(auto, unfolding(crate::specs::Action::write_bytes))]
+fn write_bytes(alloc: Global, length: u16, value: Option<&Value>) -> Result<SentBytes, EntryFault>
+    ensures { EqualUnless Memory result
+        (write_bytes length (option_map (λ v. view v.now) value.entry)) }
+{
+    if length == 0 {
+        no_bytes(value)?;
+        return Ok(SentBytes::new(Vec::new(alloc)));
+    }
+    bytes_at(alloc, value)
+}
+
+/// A request that writes: it has wLength bytes.
+#[tactic(auto, unfolding(crate::specs::Action::write_with))]
+fn write_with(setup: Setup, bytes: SentBytes) -> Result<WriteRequest, EntryFault>
+    requires { IsToDevice setup }
+    ensures { result ≡ write_with setup bytes }
+{
+    WriteRequest::new(setup, bytes).ok_or(EntryFault::BadValue)
+}
+
+/// A request of these setup data, with the bytes of a key if it writes any.
+#[tactic(auto, unfolding(crate::specs::Action::request_with, crate::specs::Action::write_with))]
+fn request_with(alloc: Global, setup: Setup, value: Option<&Value>) -> Result<Request, EntryFault>
+    ensures { EqualUnless Memory result
+        (request_with setup (option_map (λ v. view v.now) value.entry)) }
+{
+    match ReadRequest::new(setup) {
+        Some(read) => {
+            no_bytes(value)?;
+            Ok(Request::Read(read))
+        }
+        None => {
+            let bytes = write_bytes(alloc, setup.length, value)?;
+            Ok(Request::Write(write_with(setup, bytes)?))
+        }
+    }
+}
+
+/// The keys `setup` and `bytes`.
+#[tactic(auto, unfolding(crate::specs::Action::request_at))]
+fn request_at(alloc: Global, members: &EventMembers<'_>) -> Result<Request, EntryFault>
+    ensures { EqualUnless Memory result (request_at (found members.now)) }
+{
+    let setup = setup_at(alloc, members.setup)?;
+    request_with(alloc, setup, members.bytes)
+}
+
+#[tactic(auto, unfolding(crate::specs::Action::asked))]
+fn asked(path: PortPath, request: Request) -> Ask
+    ensures { result ≡ asked path request }
+{
+    match request {
+        Request::Read(read) => Ask::ControlIn(path, read),
+        Request::Write(write) => Ask::ControlOut(path, write),
+    }
 }
 
 #[tactic(auto, unfolding(crate::specs::Action::plug))]
@@ -75,6 +187,22 @@ fn receive(
 {
     least_fault(&[fault_in_part(&path), fault_in_part(&packets)])?;
     Ok(Action::Ask(Ask::Receive(path?, packets?)))
+}
+
+#[tactic(auto, unfolding(crate::specs::Action::control))]
+fn control(
+    path: Result<PortPath, EntryFault>,
+    request: Result<Request, EntryFault>,
+    bytes: Result<(), EntryFault>,
+) -> Result<Action, EntryFault>
+    ensures { result ≡ control path request bytes }
+{
+    least_fault(&[
+        fault_in_part(&path),
+        fault_in_part(&request),
+        fault_in_part(&bytes),
+    ])?;
+    Ok(Action::Ask(asked(path?, request?)))
 }
 
 /// Plugs a device.
@@ -132,6 +260,29 @@ pub(crate) fn clear_of(scene: &Scene<'_>, members: &EventMembers<'_>) -> Result<
     Ok(Action::Ask(Ask::Clear(path)))
 }
 
+/// Makes a request of endpoint 0.
+#[tactic(auto, using(crate::proofs::MemoryRefusals::control_unless), unfolding(crate::specs::Action::control_of))]
+pub(crate) fn control_of(
+    alloc: Global,
+    scene: &Scene<'_>,
+    members: &EventMembers<'_>,
+) -> Result<Action, EntryFault>
+    ensures { EqualUnless Memory result (control_of scene.now (found members.now)) }
+{
+    let path = read_path(scene, members.path);
+    let request = request_at(alloc, members);
+    control(path, request, given(alloc, members.bytes))
+}
+
+/// Looks once more at a port.
+#[tactic(auto, unfolding(crate::specs::Action::look_of))]
+pub(crate) fn look_of(scene: &Scene<'_>, members: &EventMembers<'_>) -> Result<Action, EntryFault>
+    ensures { result ≡ look_of scene.now (found members.now) }
+{
+    let path = read_path(scene, members.path)?;
+    Ok(Action::Ask(Ask::Look(path)))
+}
+
 /// The keys that go with an event's `do` and `after`.
 #[derive(Clone, Copy)]
 pub(crate) enum OtherKeys {
@@ -145,6 +296,8 @@ pub(crate) enum OtherKeys {
     PathBytes,
     /// `path` and `packets`.
     PathPackets,
+    /// `path`, `setup` and maybe `bytes`.
+    PathSetup,
 }
 
 /// Whether each key that is there is one of those, `do` or `after`.
@@ -156,14 +309,16 @@ fn fits(keys: OtherKeys, members: &EventMembers<'_>) -> bool
     let no_device = members.device.is_none();
     let no_bytes = members.bytes.is_none();
     let no_packets = members.packets.is_none();
+    let no_setup = members.setup.is_none();
     match keys {
         OtherKeys::Alone => {
-            known && no_packets && no_bytes && no_device && members.path.is_none()
+            known && no_setup && no_packets && no_bytes && no_device && members.path.is_none()
         }
-        OtherKeys::Path => known && no_packets && no_bytes && no_device,
-        OtherKeys::PathDevice => known && no_packets && no_bytes,
-        OtherKeys::PathBytes => known && no_packets && no_device,
-        OtherKeys::PathPackets => known && no_bytes && no_device,
+        OtherKeys::Path => known && no_setup && no_packets && no_bytes && no_device,
+        OtherKeys::PathDevice => known && no_setup && no_packets && no_bytes,
+        OtherKeys::PathBytes => known && no_setup && no_packets && no_device,
+        OtherKeys::PathPackets => known && no_setup && no_bytes && no_device,
+        OtherKeys::PathSetup => known && no_packets && no_device,
     }
 }
 

@@ -3,7 +3,7 @@
 ghost use Rattle.std.specs.Prelude.{◌≡◌, ◌≤◌, ◌<◌, ◌-◌, ◌^◌, length, map, sum, take, min};
 ghost use Rattle.std.specs.List.{sum_by};
 ghost use Rattle.usb_device.specs.SaidLengths.{said_length, said_lengths};
-ghost use Rattle.usb_plan.specs.Attempts.{plugged_total, greatest_total, moved, bound_of};
+ghost use Rattle.usb_plan.specs.Attempts.{plugged_total, greatest_total, moved, is_look, looks_in, bound_of};
 
 use usb_descriptor::config_head;
 use usb_device::DeviceSpec;
@@ -66,7 +66,7 @@ fn greatest_total(devices: &[DeviceSpec], events: &[Event]) -> u64
     greatest
 }
 
-/// The bytes that the event sends, or the packets that it receives.
+/// The bytes that the event sends, the packets that it receives, or wLength of its request.
 #[tactic(auto, unfolding(crate::specs::Attempts::moved))]
 fn moved(event: &Event) -> u64
     ensures { result ≡ moved event.now }
@@ -74,6 +74,8 @@ fn moved(event: &Event) -> u64
     match &event.action {
         Action::Ask(Ask::Send(_, bytes)) => bytes.as_slice().len() as u64,
         Action::Ask(Ask::Receive(_, packets)) => u64::from(*packets),
+        Action::Ask(Ask::ControlIn(_, request)) => u64::from(request.setup().length),
+        Action::Ask(Ask::ControlOut(_, request)) => u64::from(request.setup().length),
         _ => 0,
     }
 }
@@ -89,20 +91,42 @@ fn all_moved(events: &[Event]) -> u64
     sum
 }
 
-/// How many attempts to allow for a run of the plan, on the safe side.
+/// Whether the event looks once more at a port.
+fn is_look(event: &Event) -> bool
+    ensures { result ≡ is_look event.now }
+{
+    matches!(&event.action, Action::Ask(Ask::Look(_)))
+}
+
+/// The number of events that look once more at a port.
+fn looks_in(events: &[Event]) -> u64
+    ensures value { result ≡ looks_in events.now }
+    ensures most { result ≤ length events.now }
+{
+    events.iter().filter(|event| is_look(event)).count() as u64
+}
+
+/// How many attempts are enough for any run of the plan.
 ///
-/// With V events, W the greatest number of bytes that the configurations of one plugged device have
-/// together (wTotalLength, 9.6.3, of those texts that begin with a configuration descriptor), S the
-/// bytes that all events send, and Q the packets that all receive, it is
-/// 200 * V * (30,000 + 10 * W) + 50,000 * V * V + 1,000 * (S + Q) + 2, and the greatest `u64` where
-/// that is more. It takes no memory.
+/// It is 200 * U * (30,000 + 10 * W) + 50,000 * U * V + 1,000 * M + 2, or the greatest `u64` if
+/// that is more:
+///
+/// - V is the number of events, L the number of those that look once more at a port, and U is
+///   V * (1 + L);
+/// - W is the greatest number of bytes that the configurations of one plugged device have together
+///   (wTotalLength, 9.6.3, of those texts that begin with a configuration descriptor);
+/// - M is the sum of the bytes that events send, the packets that they receive, and wLength of
+///   their requests (9.3.5).
+///
+/// It takes no memory.
 #[tactic(auto, using(crate::proofs::Totals::saturated), unfolding(crate::specs::Attempts::bound_of))]
 pub fn bound(plan: &Plan) -> u64
     ensures { result ≡ bound_of plan.now }
 {
     let events = plan.events();
     let count = events.len() as u64;
+    let units = count * (1 + looks_in(events));
     let greatest = greatest_total(plan.devices(), events);
-    let found = 200 * count * (30_000 + 10 * greatest) + 50_000 * count * count + 2;
+    let found = 200 * units * (30_000 + 10 * greatest) + 50_000 * units * count + 2;
     found.saturating_add(all_moved(events).saturating_mul(1000))
 }

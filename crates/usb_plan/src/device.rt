@@ -15,12 +15,15 @@ use crate::entry_fault::{EntryFault, entry_at, fault_in_part, least_fault};
 use crate::fault::{Place, PlanFault};
 use crate::hub::{class_at, hub_at};
 use crate::keys::keys_at;
+use crate::own_requests::requests_of;
 use crate::quirks::{Quirks, quirks_of};
 use crate::texts::texts_in;
 use crate::value::{hex_in, read_text, value_at};
 use std::alloc::Global;
 use toml::{Table, Value};
-use usb_device::{Bytes, ConfigTexts, DeviceSpec, Devices, HubSpec, Name, StringTexts};
+use usb_device::{
+    Bytes, ConfigTexts, DeviceSpec, Devices, HubSpec, Name, OwnRequests, StringTexts,
+};
 
 /// The most devices of a plan.
 const MOST_DEVICES: usize = 127;
@@ -213,11 +216,17 @@ fn device_texts_of(alloc: Global, table: &Table) -> Result<DeviceTexts, EntryFau
 }
 
 #[tactic(auto, unfolding(crate::specs::Device::device_of_parts))]
-fn device_of_parts(identity: Identity, texts: DeviceTexts, quirks: Quirks, bulk: Bulk) -> DeviceSpec
+fn device_of_parts(
+    identity: Identity,
+    texts: DeviceTexts,
+    quirks: Quirks,
+    bulk: Bulk,
+    requests: OwnRequests,
+) -> DeviceSpec
     requires hub { HubFits identity }
     requires naks { FewNaks quirks }
     requires halt { HaltsLater bulk }
-    ensures { result ≡ device_of_parts identity texts quirks bulk }
+    ensures { result ≡ device_of_parts identity texts quirks bulk requests }
 {
     let device = DeviceSpec::function(
         identity.name,
@@ -226,7 +235,8 @@ fn device_of_parts(identity: Identity, texts: DeviceTexts, quirks: Quirks, bulk:
     ).with_low_speed(identity.low);
     let device = with_hub(device, identity.hub)
         .with_strings(texts.strings)
-        .with_source(bulk.source);
+        .with_source(bulk.source)
+        .with_requests(requests);
     with_halt(with_quirks(device, quirks), bulk.halt_after)
 }
 
@@ -236,26 +246,28 @@ fn device_with(
     texts: Result<DeviceTexts, EntryFault>,
     quirks: Result<Quirks, EntryFault>,
     bulk: Result<Bulk, EntryFault>,
+    requests: Result<OwnRequests, EntryFault>,
     keys: Result<(), EntryFault>,
     room: Result<(), EntryFault>,
 ) -> Result<DeviceSpec, EntryFault>
     requires hub { ForOk identity HubFits }
     requires naks { ForOk quirks FewNaks }
     requires halt { ForOk bulk HaltsLater }
-    ensures { result ≡ device_with identity texts quirks bulk keys room }
+    ensures { result ≡ device_with identity texts quirks bulk requests keys room }
 {
     least_fault(&[
         fault_in_part(&identity),
         fault_in_part(&texts),
         fault_in_part(&quirks),
         fault_in_part(&bulk),
+        fault_in_part(&requests),
         fault_in_part(&keys),
         fault_in_part(&room),
     ])?;
-    Ok(device_of_parts(identity?, texts?, quirks?, bulk?))
+    Ok(device_of_parts(identity?, texts?, quirks?, bulk?, requests?))
 }
 
-const KEYS: [&str; 14] = [
+const KEYS: [&str; 15] = [
     "name",
     "speed",
     "descriptor",
@@ -270,6 +282,7 @@ const KEYS: [&str; 14] = [
     "stalls",
     "source",
     "halt_after",
+    "request",
 ];
 
 /// The device that a table describes, beside the earlier ones.
@@ -281,8 +294,10 @@ fn read_device(alloc: Global, earlier: &Devices, table: &Table) -> Result<Device
     let texts = device_texts_of(alloc, table);
     let quirks = quirks_of(table);
     let bulk = read_bulk(alloc, table);
+    let requests = requests_of(alloc, table);
     let keys = keys_at(table, &KEYS);
-    device_with(identity, texts, quirks, bulk, keys, device_room(earlier))
+    let room = device_room(earlier);
+    device_with(identity, texts, quirks, bulk, requests, keys, room)
 }
 
 #[tactic(auto, unfolding(crate::specs::Device::device_in))]

@@ -8,7 +8,8 @@ use crate::fault::{Place, PlanFault};
 use hex::FromHexError;
 use std::alloc::AllocError;
 
-/// What is wrong with an entry, in the order of telling. Where memory was refused, nothing else is told.
+/// What is wrong with an entry, in the order in which faults are reported. If memory was refused,
+/// nothing else is.
 #[derive(Clone, Copy, Debug, PartialEq, Eq, PartialOrd, Ord)]
 pub(crate) enum EntryFault {
     Memory,

@@ -1,11 +1,14 @@
-//! The plan of a run, read from a TOML text, and how many attempts to allow for it.
-//!
-//! `read_plan` gives the plan that the text spells, or the text's first fault.
+//! The plan of a run, read from a TOML text, and how many attempts are enough for it.
 //!
 //! # What is proved
 //!
-//! `read_plan` answers the plan that the text *spells*, or its first fault, exactly, over the document that `toml`
-//! reads; `bound` is its formula. *Only tested*: the words of the faults.
+//! - *The plan* (`read_plan`): it is the plan that the text spells, or the error is the text's first
+//!   fault (`spelled_plan`, `specs/Plan.antt`), over the document that `toml` reads.
+//! - *The bound* (`bound`): it is its formula (`bound_of`, `specs/Attempts.antt`). That a run needs
+//!   no more attempts is a theorem of usb_run.
+//!
+//! *Only tested*: the words of the faults. `docs/PROVED.md` has the place of these theorems among
+//! the others.
 #![tactic(auto)]
 
 mod action;
@@ -20,6 +23,7 @@ mod fault;
 mod hub;
 mod keys;
 mod members;
+mod own_requests;
 mod path;
 mod plan;
 mod plugged;

@@ -16,6 +16,7 @@ pub(crate) struct EventMembers<'a> {
     pub device: Option<&'a Value>,
     pub bytes: Option<&'a Value>,
     pub packets: Option<&'a Value>,
+    pub setup: Option<&'a Value>,
     /// Whether there is any other key.
     pub has_others: bool,
 }
@@ -32,6 +33,7 @@ impl<'a> EventMembers<'a> {
             device: None,
             bytes: None,
             packets: None,
+            setup: None,
             has_others: false,
         };
         'entries: for (key, value) in table.iter() {
@@ -52,6 +54,7 @@ impl<'a> EventMembers<'a> {
             "device" => self.device = Some(value),
             "bytes" => self.bytes = Some(value),
             "packets" => self.packets = Some(value),
+            "setup" => self.setup = Some(value),
             _ => self.has_others = true,
         }
     }

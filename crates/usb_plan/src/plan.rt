@@ -170,10 +170,11 @@ fn plan_of(alloc: Global, table: &Table) -> Result<Plan, PlanFault>
 ///
 /// # Errors
 ///
-/// The first fault of the text: `Syntax`, or that of the first entry with one, in the order
-/// top, devices, events, damages, and in one entry the first in the order of `PlanFault`. Of an event whose
-/// `do` is absent or unknown nothing else is looked at. `Memory` says that memory was refused, and
-/// nothing of the text.
+/// - `Syntax`: the text is no TOML document.
+/// - The fault of the first entry with one, in the order top, devices, events, damages. In one entry
+///   it is the first in the order of `PlanFault`. If the `do` of an event is absent or unknown, its
+///   other keys are not read.
+/// - `Memory`: memory was refused. It says nothing of the text.
 #[tactic(auto, unfolding(crate::specs::Plan::read, crate::specs::Plan::spelled_plan))]
 pub fn read_plan(alloc: Global, text: &str) -> Result<Plan, PlanFault>
     ensures plan { IfOk result (λ p. spelled_plan text.now ≡ Ok p) }

@@ -56,8 +56,8 @@ impl Plugged {
         }
     }
 
-    /// Unplugs the device at the path and all below it. It takes time for what is unplugged alone, however much is
-    /// plugged.
+    /// Unplugs the device at the path and all below it. The time that it takes depends on what is
+    /// unplugged, and hardly on how much is plugged.
     #[tactic(auto, using(crate::proofs::Places::none_unplugged, crate::proofs::Places::one_unplugged, crate::proofs::Places::one_there))]
     fn unplug(&mut self, path: &PortPath)
         ensures { self.new ≡ plugged_without path.now self.old }

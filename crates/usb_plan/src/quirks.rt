@@ -12,7 +12,7 @@ use usb_device::Stalls;
 
 /// A key that is true or false; absent it is false.
 #[tactic(auto, unfolding(crate::specs::Quirks::flag_at))]
-fn flag_at(value: Option<&Value>) -> Result<bool, EntryFault>
+pub(crate) fn flag_at(value: Option<&Value>) -> Result<bool, EntryFault>
     ensures { result ≡ flag_at (option_map (λ v. view v.now) value.entry) }
 {
     match value {

@@ -4,7 +4,8 @@ ghost use Rattle.std.specs.Prelude.{◌≡◌, ◌<◌, ◌≤◌, [], Ok, map, 
 ghost use Rattle.std.specs.Result.{ForOk};
 ghost use Rattle.toml.specs.View.{view};
 ghost use Rattle.usb_plan.specs.EntryFault.{EqualUnless};
-ghost use Rattle.usb_plan.specs.Texts.{with_text, texts_from, texts_in};
+ghost use Rattle.usb_plan.specs.Texts.{with_item, items_from, texts_in};
+ghost use Rattle.usb_plan.specs.Value.{hex_in};
 ghost use Rattle.usb_plan.specs.declared.entry_fault.EntryFault.TheVariants.{Memory};
 
 use crate::entry_fault::{EntryFault, fault_in_part, least_fault};
@@ -14,13 +15,13 @@ use toml::Value;
 use usb_device::{Bytes, Texts};
 
 /// The texts with one more at their end.
-#[tactic(auto, unfolding(crate::specs::Texts::with_text))]
+#[tactic(auto, unfolding(crate::specs::Texts::with_item))]
 fn with_text<const COUNT: usize, const MAX: usize>(
     texts: Result<Texts<COUNT, MAX>, EntryFault>,
     text: Result<Bytes<MAX>, EntryFault>,
 ) -> Result<Texts<COUNT, MAX>, EntryFault>
     requires { ForOk texts (λ x. length x < COUNT) }
-    ensures { EqualUnless Memory result (with_text texts.entry text.entry) }
+    ensures { EqualUnless Memory result (with_item texts.entry text.entry) }
 {
     least_fault(&[fault_in_part(&texts), fault_in_part(&text)])?;
     let mut texts = texts?;
@@ -34,7 +35,8 @@ fn texts_of<const COUNT: usize, const MAX: usize>(
     values: &[Value],
 ) -> Result<Texts<COUNT, MAX>, EntryFault>
     requires { length values.now ≤ COUNT }
-    ensures { EqualUnless Memory result (texts_from MAX (Ok []) (map view values.now)) }
+    ensures { EqualUnless Memory result
+        (items_from (hex_in MAX) (Ok []) (map view values.now)) }
 {
     let mut texts = Ok(Texts::new(alloc));
     for value in values {

@@ -24,7 +24,7 @@ pub(crate) fn value_at<'a>(table: &'a Table, key: &str) -> Option<&'a Value>
 
 /// The text that a value is.
 #[tactic(auto, unfolding(crate::specs::Value::text_in))]
-fn text_in(value: &Value) -> Result<&str, EntryFault>
+pub(crate) fn text_in(value: &Value) -> Result<&str, EntryFault>
     ensures { result_map_both (λ t. t.now) (λ k. k) result ≡ text_in (view value.now) }
 {
     value.as_str().ok_or(EntryFault::BadValue)

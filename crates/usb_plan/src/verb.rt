@@ -7,7 +7,9 @@ ghost use Rattle.usb_plan.specs.EventMembers.{found};
 ghost use Rattle.usb_plan.specs.Verb.{verb_named, verb_at, other_keys, action_of};
 ghost use Rattle.usb_plan.specs.declared.entry_fault.EntryFault.TheVariants.{Memory};
 
-use crate::action::{OtherKeys, clear_of, plug_of, receive_of, send_of, unplug_of};
+use crate::action::{
+    OtherKeys, clear_of, control_of, look_of, plug_of, receive_of, send_of, unplug_of,
+};
 use crate::entry_fault::EntryFault;
 use crate::members::EventMembers;
 use crate::scene::Scene;
@@ -25,6 +27,9 @@ pub(crate) enum Verb {
     Send,
     Receive,
     Clear,
+    Control,
+    Look,
+    News,
 }
 
 #[tactic(auto, unfolding(crate::specs::Verb::verb_named))]
@@ -38,6 +43,9 @@ fn verb_named(text: &str) -> Result<Verb, EntryFault>
         "send" => Ok(Verb::Send),
         "receive" => Ok(Verb::Receive),
         "clear" => Ok(Verb::Clear),
+        "control" => Ok(Verb::Control),
+        "look" => Ok(Verb::Look),
+        "news" => Ok(Verb::News),
         _ => Err(EntryFault::BadValue),
     }
 }
@@ -62,6 +70,9 @@ pub(crate) fn other_keys(verb: Verb) -> OtherKeys
         Verb::Send => OtherKeys::PathBytes,
         Verb::Receive => OtherKeys::PathPackets,
         Verb::Clear => OtherKeys::Path,
+        Verb::Control => OtherKeys::PathSetup,
+        Verb::Look => OtherKeys::Path,
+        Verb::News => OtherKeys::Alone,
     }
 }
 
@@ -82,5 +93,8 @@ pub(crate) fn action_of(
         Verb::Send => send_of(alloc, scene, members),
         Verb::Receive => receive_of(scene, members),
         Verb::Clear => clear_of(scene, members),
+        Verb::Control => control_of(alloc, scene, members),
+        Verb::Look => look_of(scene, members),
+        Verb::News => Ok(Action::Ask(Ask::News)),
     }
 }

@@ -22,7 +22,8 @@ returns c = rw (
   c.device_with.ensures,
   c.quirks_of-quirks.ensures,
   c.keys_at-keys.ensures,
-  c.device_room.ensures,
+  c.device_room-room.ensures,
 ) (device_unless c.identity_of-identity.result _
-    c.device_texts_of-texts.result _ _ c.read_bulk-bulk.result _ _ _
-    c.identity_of-identity.ensures c.device_texts_of-texts.ensures c.read_bulk-bulk.ensures)
+    c.device_texts_of-texts.result _ _ c.read_bulk-bulk.result _ c.requests_of-requests.result _ _ _
+    c.identity_of-identity.ensures c.device_texts_of-texts.ensures c.read_bulk-bulk.ensures
+    c.requests_of-requests.ensures)

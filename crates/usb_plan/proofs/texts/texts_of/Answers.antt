@@ -1,8 +1,8 @@
 use Rattle.std.proofs.Common.{◌+◌, ◌∙◌, sym, refl, arith}
 use Rattle.toml.specs.View.{view}
 use Rattle.usb_plan.specs.{Memory, hex_in}
-use Rattle.usb_plan.proofs.Steps.{AtMost-with_text, AtMost-unless, texts_from-step, texts_from-end}
-use Rattle.usb_plan.proofs.MemoryRefusals.{with_text_is, unless_equal}
+use Rattle.usb_plan.proofs.Steps.{AtMost-with_item, AtMost-unless, items_from-step, items_from-end}
+use Rattle.usb_plan.proofs.MemoryRefusals.{with_item_is, unless_equal}
 use Rattle.usb_plan.proofs.texts.texts_of.Goals as goal
 
 pub loop-value-init : goal.loop-value-init
@@ -16,17 +16,17 @@ loop-value-preserved g c =
     let text = hex_in g.row.MAX (view c.value-item.result) in
     record {
       so_far = λ ne.
-          let is = with_text_is c.loop-value.texts c.with_text-texts.result c.hex_in.result text
+          let is = with_item_is c.loop-value.texts c.with_text-texts.result c.hex_in.result text
           c.with_text-texts.ensures c.hex_in.ensures ne in
-          rw is.with_text_is (texts_from-step g.row.MAX c.loop-value.texts c.args.values.now
+          rw is.with_item_is (items_from-step (hex_in g.row.MAX) c.loop-value.texts c.args.values.now
           c.loop-value.value-index c.value-item.result text _ c.loop-value-test.true
-          c.value-item.is refl (c.loop-value.invariant.so_far is.texts_read));
+          c.value-item.is refl (c.loop-value.invariant.so_far is.items_read));
       few = AtMost-unless (c.loop-value.value-index + 1) c.with_text-texts.result _
-          c.with_text-texts.ensures (AtMost-with_text c.loop-value.value-index c.loop-value.texts
+          c.with_text-texts.ensures (AtMost-with_item c.loop-value.value-index c.loop-value.texts
           c.hex_in.result c.loop-value.invariant.few);
     }
 
 pub returns : goal.returns
 returns g c = unless_equal Memory _ _
-    (λ ne. sym (texts_from-end g.row.MAX c.loop-value.texts c.args.values.now
+    (λ ne. sym (items_from-end (hex_in g.row.MAX) c.loop-value.texts c.args.values.now
     c.loop-value.value-index c.loop-value-test.false) ∙ c.loop-value.invariant.so_far ne)

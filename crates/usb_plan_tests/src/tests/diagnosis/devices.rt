@@ -42,11 +42,11 @@ const NAMES: [Row; 5] = [
     },
     Row {
         text: "[[device]]\nname = \"k\"\nspeed = \"full\"\ndescriptor = \"\"\nconfigs = [\n  # none: ]\n]\nstrngs = [\"\"\"\n\"\"\"]\n",
-        told: "p.toml:15: plan: device 2: bad value\n  device 2 \"k\", line 8: unknown key `strngs`\n  allowed: `name`, `speed`, `descriptor`, `configs`, `strings`, `ports`, `hub_descriptor`, `self_powered`, `busy`, `silent`, `naks`, `stalls`, `source`, `halt_after`\n  did you mean `strings`?\n",
+        told: "p.toml:15: plan: device 2: bad value\n  device 2 \"k\", line 8: unknown key `strngs`\n  allowed: `name`, `speed`, `descriptor`, `configs`, `strings`, `ports`, `hub_descriptor`, `self_powered`, `busy`, `silent`, `naks`, `stalls`, `source`, `halt_after`, `request`\n  did you mean `strings`?\n",
     },
     Row {
         text: "[[device]]\nname = \"k\"\nspeed = \"full\"\ndescriptor = \"\"\nconfigs = []\n[device.extra]\nb = 1\n",
-        told: "p.toml:13: plan: device 2: bad value\n  device 2 \"k\", line 8: unknown key `extra`\n  allowed: `name`, `speed`, `descriptor`, `configs`, `strings`, `ports`, `hub_descriptor`, `self_powered`, `busy`, `silent`, `naks`, `stalls`, `source`, `halt_after`\n",
+        told: "p.toml:13: plan: device 2: bad value\n  device 2 \"k\", line 8: unknown key `extra`\n  allowed: `name`, `speed`, `descriptor`, `configs`, `strings`, `ports`, `hub_descriptor`, `self_powered`, `busy`, `silent`, `naks`, `stalls`, `source`, `halt_after`, `request`\n",
     },
 ];
 

@@ -6,11 +6,11 @@ use std::alloc::AllocError;
 const EVENTS: [Row; 25] = [
     Row {
         text: "[[event]]\npath = \"1\"\n",
-        told: "p.toml:8: plan: event 1: missing key\n  event 1, line 8: no key `do`\n  allowed: \"plug\", \"unplug\", \"show\", \"send\", \"receive\" or \"clear\"\n  such as: do = \"plug\"\n",
+        told: "p.toml:8: plan: event 1: missing key\n  event 1, line 8: no key `do`\n  allowed: \"plug\", \"unplug\", \"show\", \"send\", \"receive\", \"clear\", \"control\", \"look\" or \"news\"\n  such as: do = \"plug\"\n",
     },
     Row {
         text: "[[event]]\ndo = \"plgu\"\n",
-        told: "p.toml:9: plan: event 1: bad value\n  event 1, line 8: `do` is \"plgu\"\n  allowed: \"plug\", \"unplug\", \"show\", \"send\", \"receive\" or \"clear\"\n  did you mean \"plug\"?\n",
+        told: "p.toml:9: plan: event 1: bad value\n  event 1, line 8: `do` is \"plgu\"\n  allowed: \"plug\", \"unplug\", \"show\", \"send\", \"receive\", \"clear\", \"control\", \"look\" or \"news\"\n  did you mean \"plug\"?\n",
     },
     Row {
         text: "[[event]]\ndo = \"plug\"\ndevice = \"fn\"\n",
@@ -66,7 +66,7 @@ const EVENTS: [Row; 25] = [
     },
     Row {
         text: "[[event]]\ndo = 5\n",
-        told: "p.toml:9: plan: event 1: bad value\n  event 1, line 8: `do` is 5\n  allowed: \"plug\", \"unplug\", \"show\", \"send\", \"receive\" or \"clear\"\n",
+        told: "p.toml:9: plan: event 1: bad value\n  event 1, line 8: `do` is 5\n  allowed: \"plug\", \"unplug\", \"show\", \"send\", \"receive\", \"clear\", \"control\", \"look\" or \"news\"\n",
     },
     Row {
         text: "[[event]]\ndo = \"unplug\"\n",
@@ -106,9 +106,78 @@ const EVENTS: [Row; 25] = [
     },
 ];
 
+/// An event of a read, a look or news that begins on line 8.
+const ASKING: [Row; 16] = [
+    Row {
+        text: "[[event]]\ndo = \"control\"\npath = \"1\"\n",
+        told: "p.toml:8: plan: event 1: missing key\n  event 1, line 8: no key `setup`\n  allowed: two hexadecimal digits for each of 8 bytes\n  such as: setup = \"8006000100001200\"\n",
+    },
+    Row {
+        text: "[[event]]\ndo = \"control\"\npath = \"1\"\nset_up = \"\"\n",
+        told: "p.toml:8: plan: event 1: missing key\n  event 1, line 8: no key `setup`\n  allowed: two hexadecimal digits for each of 8 bytes\n  such as: setup = \"8006000100001200\"\n  unknown key `set_up`: did you mean `setup`?\n",
+    },
+    Row {
+        text: "[[event]]\ndo = \"control\"\npath = \"1\"\nsetup = \"80060001000012\"\n",
+        told: "p.toml:11: plan: event 1: bad value\n  event 1, line 8: `setup` is \"80060001000012\"\n  allowed: two hexadecimal digits for each of 8 bytes\n",
+    },
+    Row {
+        text: "[[event]]\ndo = \"control\"\npath = \"1\"\nsetup = \"2109000200000200\"\n",
+        told: "p.toml:8: plan: event 1: missing key\n  event 1, line 8: no key `bytes`\n  allowed: two hexadecimal digits for each byte\n  such as: bytes = \"0102\"\n",
+    },
+    Row {
+        text: "[[event]]\ndo = \"control\"\npath = \"1\"\nsetup = \"2109000200000200\"\nbytes = \"01\"\n",
+        told: "p.toml:12: plan: event 1: bad value\n  event 1, line 8: `bytes` is \"01\"\n  allowed: two hexadecimal digits for each byte\n",
+    },
+    Row {
+        text: "[[event]]\ndo = \"control\"\npath = \"1\"\nsetup = \"2109000200000200\"\nbytes = \"0\"\n",
+        told: "p.toml:12: plan: event 1: bad hex\n  event 1, line 8: `bytes` is \"0\"\n  allowed: two hexadecimal digits for each byte\n",
+    },
+    Row {
+        text: "[[event]]\ndo = \"control\"\npath = \"1\"\nsetup = \"800600010000120\"\n",
+        told: "p.toml:11: plan: event 1: bad hex\n  event 1, line 8: `setup` is \"800600010000120\"\n  allowed: two hexadecimal digits for each of 8 bytes\n",
+    },
+    Row {
+        text: "[[event]]\ndo = \"control\"\npath = \"1\"\nsetup = 80\n",
+        told: "p.toml:11: plan: event 1: bad value\n  event 1, line 8: `setup` is 80\n  allowed: two hexadecimal digits for each of 8 bytes\n",
+    },
+    Row {
+        text: "[[event]]\ndo = \"control\"\npath = \"1\"\nsetup = \"a006000100001200\"\nbytes = \"\"\n",
+        told: "p.toml:12: plan: event 1: bad value\n  event 1, line 8: `bytes` is \"\"\n  allowed: two hexadecimal digits for each byte\n",
+    },
+    Row {
+        text: "[[event]]\ndo = \"control\"\npath = \"1\"\nsetup = \"a006000100001200\"\npackets = 1\n",
+        told: "p.toml:12: plan: event 1: bad value\n  event 1, line 8: unknown key `packets`\n  allowed: `do`, `after`, `path`, `bytes`, `setup`\n",
+    },
+    Row {
+        text: "[[event]]\ndo = \"contrl\"\n",
+        told: "p.toml:9: plan: event 1: bad value\n  event 1, line 8: `do` is \"contrl\"\n  allowed: \"plug\", \"unplug\", \"show\", \"send\", \"receive\", \"clear\", \"control\", \"look\" or \"news\"\n  did you mean \"control\"?\n",
+    },
+    Row {
+        text: "[[event]]\ndo = \"loo\"\n",
+        told: "p.toml:9: plan: event 1: bad value\n  event 1, line 8: `do` is \"loo\"\n  allowed: \"plug\", \"unplug\", \"show\", \"send\", \"receive\", \"clear\", \"control\", \"look\" or \"news\"\n  did you mean \"look\"?\n",
+    },
+    Row {
+        text: "[[event]]\ndo = \"look\"\npath = \"1\"\nsetup = \"\"\n",
+        told: "p.toml:11: plan: event 1: bad value\n  event 1, line 8: unknown key `setup`\n  allowed: `do`, `after`, `path`\n",
+    },
+    Row {
+        text: "[[event]]\ndo = \"look\"\npath = \"2\"\n",
+        told: "p.toml:10: plan: event 1: bad path\n  event 1, line 8: `path` is \"2\"\n  allowed: the numbers of ports from a root port on, joined by dots\n",
+    },
+    Row {
+        text: "[[event]]\ndo = \"look\"\n",
+        told: "p.toml:8: plan: event 1: missing key\n  event 1, line 8: no key `path`\n  allowed: the numbers of ports from a root port on, joined by dots\n  such as: path = \"1\"\n",
+    },
+    Row {
+        text: "[[event]]\ndo = \"news\"\npath = \"1\"\n",
+        told: "p.toml:10: plan: event 1: bad value\n  event 1, line 8: unknown key `path`\n  allowed: `do`, `after`\n",
+    },
+];
+
 #[test]
 fn a_fault_of_an_event(rt: HostRuntime) -> Result<(), AllocError> {
-    check_rows(&rt, rt.alloc(), FUNCTION, &EVENTS)
+    check_rows(&rt, rt.alloc(), FUNCTION, &EVENTS)?;
+    check_rows(&rt, rt.alloc(), FUNCTION, &ASKING)
 }
 
 /// A damage that begins on line 8.

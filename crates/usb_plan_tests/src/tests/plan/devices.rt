@@ -133,6 +133,76 @@ const PORTS: [Cases; 3] = [
     },
 ];
 
+/// The requests of a second device's own.
+const REQUESTS: [Cases; 4] = [
+    Cases {
+        told: "plan",
+        texts: &[
+            "request = []",
+            "request = [{ type = 0x21, request = 0 }]",
+            "request = [{ type = 0x40, request = 255, value = 65535, index = 0, length = 65535 }]",
+            "request = [{ type = 0x21, request = 1, refuse = \"data\" }, { type = 0x21, request = 1, refuse = \"status\" }]",
+            "request = [{ type = 0xA1, request = 1, answer = \"\" }]",
+            "request = [{ type = 0xC0, request = 1, kept = true, value = 1 }]",
+            "request = [{ type = 0xC0, request = 1, kept = false, answer = \"0A\" }]",
+            "request = [{ type = 0xC0, request = 1, refuse = \"data\", kept = false }]",
+            "request = [{ type = 0x81, request = 6, answer = \"0A\", index = 1 }]",
+        ],
+    },
+    Cases {
+        told: "plan: device 2: missing key",
+        texts: &[
+            "request = [{}]",
+            "request = [{ request = 1 }]",
+            "request = [{ type = 0x21 }]",
+            "request = [{ type = 0xA1, request = 1 }]",
+            "request = [{ type = 0xA1, request = 1, kept = false, value = -1 }]",
+            "request = [{ type = 0x80, request = 1 }]",
+            "request = [{ type = 0x21, request = 1 }, { type = 0x21, answer = \"0\" }]",
+        ],
+    },
+    Cases {
+        told: "plan: device 2: bad value",
+        texts: &[
+            "request = 1",
+            "request = { type = 0x21, request = 1 }",
+            "request = [1]",
+            "request = [{ type = 256, request = 1 }]",
+            "request = [{ type = -1, request = 1 }]",
+            "request = [{ type = \"21\", request = 1 }]",
+            "request = [{ type = 0x21, request = 256 }]",
+            "request = [{ type = 0x21, request = 1, value = 65536 }]",
+            "request = [{ type = 0x21, request = 1, index = -1 }]",
+            "request = [{ type = 0x21, request = 1, length = \"2\" }]",
+            "request = [{ type = 0x21, request = 1, answer = \"00\" }]",
+            "request = [{ type = 0x21, request = 1, answer = \"0\" }]",
+            "request = [{ type = 0x21, request = 1, kept = true }]",
+            "request = [{ type = 0xA1, request = 1, length = 2, answer = \"00\" }]",
+            "request = [{ type = 0xA1, request = 1, length = 2 }]",
+            "request = [{ type = 0xA1, request = 1, refuse = \"status\" }]",
+            "request = [{ type = 0xA1, request = 1, refuse = \"data\", answer = \"00\" }]",
+            "request = [{ type = 0xA1, request = 1, refuse = \"data\", kept = true }]",
+            "request = [{ type = 0xA1, request = 1, answer = \"00\", kept = true }]",
+            "request = [{ type = 0x21, request = 1, refuse = \"setup\" }]",
+            "request = [{ type = 0x21, request = 1, refuse = 1 }]",
+            "request = [{ type = 0xA1, request = 1, kept = 1 }]",
+            "request = [{ type = 0xA1, request = 1, answer = 0 }]",
+            "request = [{ type = 0x00, request = 9 }]",
+            "request = [{ type = 0x80, request = 6, answer = \"00\" }]",
+            "request = [{ type = 0x81, request = 7, answer = \"00\" }]",
+            "request = [{ type = 0x61, request = 7 }]",
+            "request = [{ type = 0x21, request = 1, other = 1 }]",
+        ],
+    },
+    Cases {
+        told: "plan: device 2: bad hex",
+        texts: &[
+            "request = [{ type = 0xA1, request = 1, answer = \"0\" }]",
+            "request = [{ type = 0x21, request = 1 }, { type = 0xC1, request = 1, answer = \"0g\" }]",
+        ],
+    },
+];
+
 #[test]
 fn devices(rt: HostRuntime) -> Result<(), AllocError> {
     check(&rt, rt.alloc(), &[FUNCTION, "[[device]]\n"], &DEVICES)
@@ -141,6 +211,11 @@ fn devices(rt: HostRuntime) -> Result<(), AllocError> {
 #[test]
 fn keys_of_a_device(rt: HostRuntime) -> Result<(), AllocError> {
     check(&rt, rt.alloc(), &[FUNCTION, HUB], &KEYS)
+}
+
+#[test]
+fn requests_of_a_device(rt: HostRuntime) -> Result<(), AllocError> {
+    check(&rt, rt.alloc(), &[FUNCTION, HUB], &REQUESTS)
 }
 
 #[test]

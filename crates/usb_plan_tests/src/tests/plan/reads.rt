@@ -1,7 +1,7 @@
 //! What is read of a text.
 use super::FUNCTION;
 use std::alloc::{AllocError, Global};
-use usb_device::DeviceSpec;
+use usb_device::{DeviceSpec, OwnAnswer, OwnRequest};
 use usb_plan::{bound, read_plan};
 use usb_sim::{Action, Ask, Change, Plan};
 
@@ -13,6 +13,29 @@ fn put_bytes(text: &mut String, bytes: &[u8]) -> Result<(), AllocError> {
     Ok(())
 }
 
+/// Adds a number, or a dash for any.
+fn put_field(text: &mut String, field: Option<u16>) -> Result<(), AllocError> {
+    match field {
+        Some(number) => write!(text, " {number}"),
+        None => text.push_str(" -"),
+    }
+}
+
+/// Adds a request of a device's own.
+fn put_request(text: &mut String, row: &OwnRequest) -> Result<(), AllocError> {
+    write!(text, ", {} {}", row.request_type, row.request)?;
+    put_field(text, row.value)?;
+    put_field(text, row.index)?;
+    put_field(text, row.length)?;
+    match &row.answer {
+        OwnAnswer::RefuseData => text.push_str(" refused"),
+        OwnAnswer::RefuseStatus => text.push_str(" refused at status"),
+        OwnAnswer::Give(bytes) => put_bytes(text, bytes.as_slice()),
+        OwnAnswer::GiveTaken => text.push_str(" kept"),
+        OwnAnswer::Take => text.push_str(" taken"),
+    }
+}
+
 /// Adds the device and what it holds.
 fn put_device(text: &mut String, device: &DeviceSpec) -> Result<(), AllocError> {
     write!(text, "; {}", device.name())?;
@@ -20,6 +43,9 @@ fn put_device(text: &mut String, device: &DeviceSpec) -> Result<(), AllocError> 
     for config in device.configs() {
         text.push_str(",")?;
         put_bytes(text, config.as_slice())?;
+    }
+    for request in device.requests().as_slice() {
+        put_request(text, request)?;
     }
     Ok(())
 }
@@ -37,6 +63,18 @@ fn put_action(text: &mut String, action: &Action) -> Result<(), AllocError> {
             write!(text, "send {}", path.text())?;
             put_bytes(text, bytes.as_slice())
         }
+        Action::Ask(Ask::ControlIn(path, request)) => {
+            write!(text, "control {}", path.text())?;
+            put_bytes(text, &request.setup().to_bytes())
+        }
+        Action::Ask(Ask::ControlOut(path, request)) => {
+            write!(text, "control {}", path.text())?;
+            put_bytes(text, &request.setup().to_bytes())?;
+            text.push_str(",")?;
+            put_bytes(text, request.bytes())
+        }
+        Action::Ask(Ask::Look(path)) => write!(text, "look {}", path.text()),
+        Action::Ask(Ask::News) => text.push_str("news"),
         _ => text.push_str("other"),
     }
 }
@@ -84,7 +122,7 @@ struct Example {
     read: &'static str,
 }
 
-const EXAMPLES: [Example; 3] = [
+const EXAMPLES: [Example; 9] = [
     Example {
         text: &["limit = 0\nroots = 1\n"],
         read: "limit 0, roots 1, bound 2",
@@ -102,6 +140,44 @@ const EXAMPLES: [Example; 3] = [
             "[[damage]]\nattempt = 3\npacket = 2\nhow = \"flip\"\nbit = 9\n",
         ],
         read: "limit 1, roots 1, bound 12209002; 0 send 1.2 10 255; 0 receive 1 7; Damage { attempt: 3, packet: 2, harm: Flip(9) }",
+    },
+    Example {
+        text: &[
+            "limit = 1\nroots = 1\n[[event]]\ndo = \"control\"\npath = \"1.2\"\nsetup = \"80060001000012ff\"\n",
+        ],
+        read: "limit 1, roots 1, bound 71348002; 0 control 1.2 128 6 0 1 0 0 18 255",
+    },
+    Example {
+        text: &["limit = 1\nroots = 1\n[[event]]\ndo = \"news\"\n"],
+        read: "limit 1, roots 1, bound 6050002; 0 news",
+    },
+    Example {
+        text: &[
+            "limit = 1\nroots = 1\n[[event]]\ndo = \"control\"\npath = \"1\"\nsetup = \"2109000200000200\"\nbytes = \"00fF\"\n",
+        ],
+        read: "limit 1, roots 1, bound 6052002; 0 control 1 33 9 0 2 0 0 2 0, 0 255",
+    },
+    Example {
+        text: &[
+            "limit = 1\nroots = 1\n[[device]]\nname = \"a\"\nspeed = \"full\"\ndescriptor = \"\"\nconfigs = []\n",
+            "request = [{ type = 0x21, request = 9, length = 2 }, { type = 0xC0, request = 1, value = 2, index = 3, answer = \"00fF\" }]\n",
+        ],
+        read: "limit 1, roots 1, bound 2; a, 33 9 - - 2 taken, 192 1 2 3 - 0 255",
+    },
+    Example {
+        text: &[
+            "limit = 1\nroots = 1\n[[device]]\nname = \"a\"\nspeed = \"full\"\ndescriptor = \"\"\nconfigs = []\n",
+            "request = [{ type = 0x81, request = 6, kept = true }, { type = 0xA1, request = 1, refuse = \"data\" }, { type = 0x40, request = 255, refuse = \"status\" }]\n",
+        ],
+        read: "limit 1, roots 1, bound 2; a, 129 6 - - - kept, 161 1 - - - refused, 64 255 - - - refused at status",
+    },
+    // a look more makes each event dearer
+    Example {
+        text: &[
+            "limit = 1\nroots = 1\n[[event]]\ndo = \"look\"\npath = \"1\"\n[[event]]\ndo = \"news\"\n",
+            "[[event]]\ndo = \"look\"\npath = \"1.7\"\nafter = 3\n",
+        ],
+        read: "limit 1, roots 1, bound 55350002; 0 look 1; 0 news; 3 look 1.7",
     },
 ];
 
