@@ -6,7 +6,9 @@ use Rattle.usb_world.specs.{PlanData}
 use Rattle.usb_bus.specs.{AppendsFront}
 use Rattle.usb_host.specs.{HostState}
 use Rattle.usb_plan.specs.{spelled_plan}
-use Rattle.usb_run.specs.{Item, Listing, Sent, Received, Cleared, Tree, ListsRight, item_lines}
+use Rattle.usb_run.specs.{Item, Listing, Sent, Received, Cleared, Read, Written, Looked, Tree}
+use Rattle.usb_run.specs.declared.runs.Item.TheVariants.{News}
+use Rattle.usb_run.specs.{ListsRight, item_lines}
 use Rattle.usb_run.specs.{number_of, Opens, RunsTo, listings, never}
 use Rattle.usb_serve.specs.{ServeFault, IsCausedInTree, IsOfRun, IsUnopened, IsUnread, of_run}
 use Rattle.usb_serve.specs.declared.serving.ServeFault.TheVariants as serve
@@ -14,12 +16,16 @@ use Rattle.usb_text.specs.{lines_text}
 use Rattle.usb_drawing.specs.declared.art.Style.{Style}
 use Rattle.usb_drawing.specs.Drawings.{drawing_lines}
 
--- the lines of an item, those of a transfer as in mode Tree; the number is that of a listing
+-- the lines of an item, all but those of a listing as in mode Tree; the number is that of a listing
 abbrev pub drawn_lines : Style → ℕ → Item → List (List ℕ)
 drawn_lines style number (Listing entries taken) = drawing_lines style number entries
 drawn_lines style number (Sent path sent) = item_lines number (Sent path sent)
 drawn_lines style number (Received path received) = item_lines number (Received path received)
 drawn_lines style number (Cleared path cleared) = item_lines number (Cleared path cleared)
+drawn_lines style number (Read path read) = item_lines number (Read path read)
+drawn_lines style number (Written path written) = item_lines number (Written path written)
+drawn_lines style number (Looked path looked) = item_lines number (Looked path looked)
+drawn_lines style number (News news) = item_lines number (News news)
 
 -- the text of an item; those made before it are given, the newest first
 abbrev pub drawn_item : Style → List Item → Item → List ℕ

@@ -75,5 +75,8 @@ fn drawn_lines(alloc: Global, style: Style, number: u64, item: &Item) -> Result<
         Item::Sent(_, _) | Item::Received(_, _) | Item::Cleared(_, _) => {
             item_lines(alloc, number, item)
         }
+        Item::Read(_, _) | Item::Written(_, _) | Item::Looked(_, _) | Item::News(_) => {
+            item_lines(alloc, number, item)
+        }
     }
 }

@@ -8,7 +8,7 @@ use Rattle.arrayvec.specs.ArrayVec.{ArrayVec}
 use Rattle.std.proofs.lemmas.List.{take_more, take-append-drop, length-take, take-append-le}
 use Rattle.std.proofs.lemmas.List.{take_all}
 use Rattle.std.proofs.lemmas.List.Elements.{All-nil, All-push}
-use Rattle.std.proofs.lemmas.Bool.{eqb-true, lt-ltb, ltb-true}
+use Rattle.std.proofs.lemmas.Bool.{and_parts, eqb-true, lt-ltb, ltb-true}
 use Rattle.std.proofs.lemmas.Bool.Decides.{nat_tests}
 use Rattle.std.proofs.KnownBytes.{Appends-trans, Consumes-trans}
 use Rattle.std.specs.Io.KnownBytes.{Appends, Consumes, IsAtEnd}
@@ -337,12 +337,8 @@ pub plug_records : (front line : List ℕ) (shown : Bool) (records : ArrayVec �
     → Decides shown (IsShownText line) → (shown && fits_form plug_form front) ≡ true
     → records.items ≡ [] → RecordsOf line (Some records)
 plug_records front line shown records e decides fits none =
-    let both = both_true shown (fits_form plug_form front) fits in
+    let both = and_parts shown (fits_form plug_form front) fits in
     told_records front line records none (inl (plug_taken front line e both.1, decides.0 both.0))
-  where
-    both_true : (x y : Bool) → (x && y) ≡ true → (x ≡ true) × (y ≡ true)
-    both_true true y is = (refl, is)
-    both_true false y is = absurd (cc is)
 
 pub report_records : (front line : List ℕ) (is_long : Bool) (records : ArrayVec ℕ)
     → front ≡ take longest line → is_long ≡ nat_lt longest (length line) → is_long ≡ false

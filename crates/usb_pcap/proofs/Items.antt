@@ -6,7 +6,7 @@ use Rattle.std.proofs.Common.{refl, sym, ap, subst, ◌∙◌, arith, append_ass
 use Rattle.std.proofs.Common.{length-append, get_or, drop, drop-cons, drop_of_length-le, add-one}
 use Rattle.std.proofs.Common.{Bor}
 use Rattle.std.proofs.lemmas.Option.{same_Some}
-use Rattle.std.proofs.lemmas.Bool.{and_parts, eqb-true, lt-ltb}
+use Rattle.std.proofs.lemmas.Bool.{and_parts, eqb-true, lt-ltb, not-true}
 use Rattle.std.proofs.lemmas.Bool.Decides.{nat_tests}
 use Rattle.std.proofs.lemmas.Fmt.{decimal_by_steps}
 use Rattle.std.specs.Char.{is_ascii_digit}
@@ -18,7 +18,6 @@ use Rattle.usb_pcap.specs.{is_escape, is_plain}
 use Rattle.usb_port.specs.{is_port_digit}
 use Rattle.usb_pcap.proofs.Reading.{decimal_in-some, found_some, if_either, if-some, map_some}
 use Rattle.usb_pcap.proofs.Reading.{strip-some}
-use Rattle.usb_tree.proofs.Interface.{not-true}
 
 -- ---- words
 

@@ -4,8 +4,9 @@ use Rattle.std.proofs.Common.{◌≤◌, ◌==◌, ◌&&◌, ◌||◌, Bool, tru
 use Rattle.std.proofs.Common.{All, Decides, flat_map, encode_utf8, refl, sym, ap, ap₂, subst, ◌∙◌}
 use Rattle.std.proofs.Common.{arith, append_assoc, append-nil, codes, length-append, slice_index}
 use Rattle.std.proofs.Common.{IsAscii, IsUtf8, Option, Some, None, not}
-use Rattle.std.proofs.lemmas.Bool.{and_parts, cases_lt, eqb-true}
+use Rattle.std.proofs.lemmas.Bool.{and_parts, cases_lt, eqb-true, not-true}
 use Rattle.std.proofs.lemmas.Bool.Decides.{nat_tests}
+use Rattle.std.proofs.lemmas.List.{nil_from_length}
 use Rattle.std.proofs.lemmas.List.Concat.{flat_map-append}
 use Rattle.std.proofs.lemmas.List.Elements.{All-head, All-nil, All-push}
 use Rattle.std.proofs.lemmas.List.Elements.{All-tail}
@@ -54,10 +55,6 @@ shown_length text (c, scalar, is) = by_escape c text is
       omega (arith, few.1, all),
     ))
 
-none_left : (q : List ℕ) → length q ≡ 0 → q ≡ []
-none_left [] e = refl
-none_left (x ∷ q) e = absurd (omega (arith, e))
-
 cons_alone : (d c : ℕ) (es : List ℕ) → d ∷ [] ≡ c ∷ es → es ≡ []
 cons_alone d c es e = cc
 
@@ -73,7 +70,7 @@ shown_alone p q text (c, cs, cis) (d, ds, dis) split =
     (λ dm de. let whole : escaped d ≡ escaped c ++ q = sym de ∙ split ∙ ap (λ l. l ++ q) ce in
     let long : length (escaped d) ≡ length (escaped c) + length q =
     ap length whole ∙ length-append (escaped c) q in
-    none_left q (omega (arith, long, escaped_length c, escaped_length d)))
+    nil_from_length q (omega (arith, long, escaped_length c, escaped_length d)))
     (λ dp de. absurd (backslash d dp (char_from_byte text [] d (de
     ∙ sym (append-nil (encode_utf8 d)))
     (rw (split, ce) (omega arith)) (rw (split, ce) (omega arith))
@@ -207,7 +204,7 @@ begins_more line begun b room other h = record {
     | inl longer ↦
         let all : length begun + 1 ≡ length first + length rest =
         sym (length-append begun (b ∷ [])) ∙ ap length e ∙ length-append first rest in
-        let end : rest ≡ [] = none_left rest (omega (arith, all, longer)) in
+        let end : rest ≡ [] = nil_from_length rest (omega (arith, all, longer)) in
         other (subst IsShownChar (sym (e ∙ ap (λ l. first ++ l) end ∙ append-nil first)) is)
     | inr most ↦
         let (m, split, more) = front_split first rest begun (b ∷ []) (sym e) most in
@@ -245,7 +242,7 @@ not_whole line begun some h (ms, mas, is) =
     go : (ns : List ℕ) → All IsScalar ns → begun ++ h.more ≡ flat_map shown_char ns → ⊥
     go [] nas e = let all : length begun + length h.more ≡ 0 =
         sym (length-append begun h.more) ∙ ap length e in
-        some (none_left begun (omega (arith, all)))
+        some (nil_from_length begun (omega (arith, all)))
     go (n ∷ ns) nas e = first_begun begun h.more (shown_char n) (flat_map shown_char ns) some
         h.stuck e (n, All-head IsScalar n ns nas, refl) h.none
 
@@ -375,14 +372,10 @@ one_scalar text c (cs, (are, spell)) e =
     in
     (and_parts (scalar c) (scalars es) (subst (λ (l : List ℕ). scalars l ≡ true) one are)).0
 
-not_false : (x : Bool) → not x ≡ true → x ≡ false
-not_false false e = refl
-not_false true e = absurd (cc)
-
 pub plain_decides : (text : List ℕ) (c : ℕ) (marked : Bool) → IsUtf8 text → text ≡ encode_utf8 c
     → marked ≡ is_escaped c → Decides (not marked) (IsPlainChar text)
 plain_decides text c marked utf is same = (
-  λ e. (c, one_scalar text c utf is, sym same ∙ not_false marked e, is),
+  λ e. (c, one_scalar text c utf is, sym same ∙ not-true marked e, is),
   λ plain. let (d, scalar, free, spelled) = plain in
       let one = one_char d c (sym spelled ∙ is) in
       ap not (same ∙ ap is_escaped (sym one) ∙ free),

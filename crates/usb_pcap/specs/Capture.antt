@@ -19,7 +19,7 @@ use Rattle.usb_pcap.specs.Record.{AreRecords, attempt_packets, header}
 abbrev pub longest : ℕ
 longest = 131200
 
--- a line of an event, a listing, a transfer or a bound
+-- a line of an event, a listing, a transfer, a look, news or a bound
 abbrev pub IsTold : List ℕ → Type 0
 IsTold line = (IsPlug line × IsShownText line) ⊎ ((length line ≤ longest) × IsReport line)
 

@@ -20,7 +20,7 @@ failures = codes "no device" ∷ codes "no endpoint" ∷ codes "stalled" ∷ cod
 abbrev pub plug_form : List Piece
 plug_form = word (codes "plug ") ∷ path ∷ word (codes " ") ∷ name ∷ []
 
--- an unplug, the lines of a listing, the lines of transfers, a bound
+-- an unplug, the lines of a listing, the lines of transfers, looks and news, a bound
 abbrev pub report_forms : List (List Piece)
 report_forms =
     (word (codes "unplug ") ∷ path ∷ [])
@@ -41,6 +41,17 @@ report_forms =
     ∷ (word (codes "clear ") ∷ path ∷ word (codes " done") ∷ [])
     ∷ (one_of (codes "send " ∷ codes "receive " ∷ codes "clear " ∷ []) ∷ path ∷
     word (codes " failed ") ∷ one_of failures ∷ [])
+    ∷ (word (codes "control ") ∷ path ∷ word (codes " in done ") ∷ bytes ∷ [])
+    ∷ (word (codes "control ") ∷ path ∷ one_of (codes " in failed " ∷ codes " out failed " ∷ []) ∷
+    one_of failures ∷ [])
+    ∷ (word (codes "control ") ∷ path ∷ word (codes " out done ") ∷ number ∷ [])
+    ∷ (word (codes "control ") ∷ path ∷ word (codes " out failed reserved") ∷ [])
+    ∷ (word (codes "look ") ∷ path ∷ one_of (codes " found" ∷ codes " empty" ∷ []) ∷ [])
+    ∷ (word (codes "look ") ∷ path ∷ word (codes " refused ") ∷ one_of causes ∷ [])
+    ∷ (word (codes "look ") ∷ path ∷ word (codes " refused bad configuration ") ∷ number ∷ [])
+    ∷ (word (codes "look ") ∷ path ∷ word (codes " failed no port") ∷ [])
+    ∷ (word (codes "news") ∷ [])
+    ∷ (one_of (codes "left " ∷ codes "arrived " ∷ []) ∷ path ∷ [])
     ∷ (word (codes "bound ") ∷ number ∷ [])
     ∷ []
 

@@ -22,8 +22,8 @@ pub struct TracedAttempt {
 /// The first number that has no time in a pcap file: as many microseconds as 2 ^ 32 seconds have.
 const NO_TIME: u64 = 4_294_967_296_000_000;
 
-/// The attempt that a line is of: its number, the token, the host's data behind SETUP and OUT, the answer, and maybe
-/// the host's ACK. None for any other line.
+/// The attempt of a line: its number, the token, the host's data after SETUP and OUT, the answer,
+/// and maybe the host's ACK. `None` for any other line.
 pub fn read_attempt(line: &[u8]) -> Option<TracedAttempt>
     ensures exact { result ≡ read_attempt line.now }
     ensures found { IfSome result (λ a. IsAttemptLine line.now a) }

@@ -32,7 +32,8 @@ pub enum PcapFault {
     Write,
 }
 
-/// No line of a run is longer, but that of a plug: a configuration of 65535 bytes, and what stands beside it.
+/// The most bytes of a line of a run that is no plug: a configuration of 65,535 bytes, and what is
+/// beside it.
 const LONGEST: usize = 131_200;
 
 /// A line that has begun.
@@ -48,12 +49,18 @@ pub(crate) struct OpenLine {
     begun: Begun,
 }
 
-/// Reads the text of a run, and writes the header of a pcap file and a record for each packet of its attempts.
+/// Reads the text of a run, and writes the header of a pcap file and a record for each packet of
+/// its attempts.
 ///
 /// # Errors
-/// `Line(n)` where line n is the first that has the form of no line of a run, or the last and nothing ends it;
-/// `TooLong` where the text has 2 ^ 64 - 1 bytes or more, and as many reads did not come to its end; `Read` where the
-/// reader failed, `Write` where the writer failed. The records of the lines before have gone out.
+///
+/// After each of them the records of the lines before are written, or a prefix of them if the
+/// writer failed.
+///
+/// - `Line(n)`: line n is the first that has the form of no line of a run, or nothing ends it.
+/// - `TooLong`: 2 ^ 64 - 1 reads did not come to the end of the text.
+/// - `Read`: the reader failed.
+/// - `Write`: the writer failed.
 pub fn capture<R: Read, W: Write>(
     reader: &mut Watched<R>,
     writer: &mut Watched<W>,
@@ -61,7 +68,8 @@ pub fn capture<R: Read, W: Write>(
     ensures read { IsErrOf result PcapFault.Read → has_failed reader.new ≡ true }
     ensures write { IsErrOf result PcapFault.Write → has_failed writer.new ≡ true }
     ensures captures { IfSome (R.remaining (inner_of reader.old)) (λ text.
-        Captures (W.contents (inner_of writer.old)) (W.contents (inner_of writer.new)) text result) }
+        Captures (W.contents (inner_of writer.old)) (W.contents (inner_of writer.new)) text
+        result) }
 {
     if put_piece(writer, &HEADER).is_err() {
         return Err(PcapFault::Write);
@@ -172,7 +180,8 @@ impl OpenLine {
     }
 }
 
-/// Whether a line is that of a plug, by its first bytes, and by whether it is characters as a run shows them.
+/// Whether a line is that of a plug, by its first bytes, and by whether it is characters as a run
+/// shows them.
 fn is_shown_plug(front: &[u8], shown: bool) -> bool
     ensures { result ≡ (shown && fits_form plug_form front.now) }
 {

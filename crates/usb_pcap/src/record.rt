@@ -10,10 +10,12 @@ use arrayvec::ArrayVec;
 use usb_packet::{Packet, encode};
 use usb_world::{ExchangeAnswer, Mark, Outgoing};
 
-/// Room for the records of an attempt: at most seven packets, each with 16 bytes before it and of at most 67 bytes.
+/// Room for the records of an attempt: at most seven packets of at most 67 bytes, each after 16
+/// bytes of its own.
 pub(crate) type Records = ArrayVec<u8, 581>;
 
-/// The header of a pcap file: little endian, version 2.4, packets of at most 65535 bytes, of a full-speed USB (294).
+/// The header of a pcap file: little endian, version 2.4, packets of at most 65,535 bytes, of a
+/// full-speed USB (294).
 pub(crate) const HEADER: [u8; 24] = [
     0xd4, 0xc3, 0xb2, 0xa1, 2, 0, 4, 0, 0, 0, 0, 0, 0, 0, 0, 0, 0xff, 0xff, 0, 0, 0x26, 1, 0, 0,
 ];

@@ -35,8 +35,8 @@ const FAILURES: [&str; 6] = [
 /// `plug PATH NAME`.
 const PLUG: [Part; 4] = [Word("plug "), Path, Word(" "), Name];
 
-/// An unplug, the lines of a listing, the lines of transfers, a bound.
-const REPORTS: [&[Part]; 15] = [
+/// An unplug, the lines of a listing, the lines of transfers, looks and news, a bound.
+const REPORTS: [&[Part]; 25] = [
     &[Word("unplug "), Path],
     &[Word("listing "), Number],
     &[Word("end")],
@@ -74,6 +74,26 @@ const REPORTS: [&[Part]; 15] = [
         Word(" failed "),
         OneOf(&FAILURES),
     ],
+    &[Word("control "), Path, Word(" in done "), Bytes],
+    &[
+        Word("control "),
+        Path,
+        OneOf(&[" in failed ", " out failed "]),
+        OneOf(&FAILURES),
+    ],
+    &[Word("control "), Path, Word(" out done "), Number],
+    &[Word("control "), Path, Word(" out failed reserved")],
+    &[Word("look "), Path, OneOf(&[" found", " empty"])],
+    &[Word("look "), Path, Word(" refused "), OneOf(&CAUSES)],
+    &[
+        Word("look "),
+        Path,
+        Word(" refused bad configuration "),
+        Number,
+    ],
+    &[Word("look "), Path, Word(" failed no port")],
+    &[Word("news")],
+    &[OneOf(&["left ", "arrived "]), Path],
     &[Word("bound "), Number],
 ];
 
@@ -84,7 +104,7 @@ pub(crate) fn is_plug(line: &[u8]) -> bool
     fits_form(&PLUG, line)
 }
 
-/// Whether a line is of another event, a listing, a transfer or a bound.
+/// Whether a line is of another event, a listing, a transfer, a look, news or a bound.
 pub(crate) fn is_report(line: &[u8]) -> bool
     ensures { result ≡ has_form report_forms line.now }
 {

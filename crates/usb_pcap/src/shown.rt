@@ -9,7 +9,8 @@ use arrayvec::ArrayVec;
 /// The bytes of a character that has begun: no character has more.
 pub(crate) type Begun = ArrayVec<u8, 6>;
 
-/// Takes the next byte of a line. Nothing is begun behind a whole character; six bytes that are none stay.
+/// Takes the next byte of a line. After a whole character nothing has begun. Six bytes that are no
+/// character stay.
 pub(crate) fn take_shown(begun: &mut Begun, byte: u8)
     ensures { (line : List ℕ) → Begins line begun.old.items
         → Begins (line ++ byte ∷ []) begun.new.items }

@@ -96,8 +96,8 @@ impl<'a> Text<'a> {
     }
 }
 
-/// The bytes that a text begins with in pairs of digits, behind these, and what stands behind them; None where they are
-/// more than 64.
+/// These bytes and those that a text begins with in pairs of digits, and what follows in the text.
+/// `None` if they are more than 64.
 #[tactic(auto, unfolding(crate::specs::Text::bytes_on))]
 fn bytes_on(mut bytes: ArrayVec<u8, 64>, text: &[u8]) -> Option<(ArrayVec<u8, 64>, &[u8])>
     ensures { option_map (λ r. (r.0.items, r.1.now)) result ≡ bytes_on bytes.items text.now }

@@ -1,10 +1,11 @@
 -- The lemmas that crates above cite. All others are for this crate alone.
 pub use Rattle.usb_run.proofs.AskedCalls.{AskAnswered, silent, listed, sent, received, cleared}
-pub use Rattle.usb_run.proofs.AskedCalls.{answered}
+pub use Rattle.usb_run.proofs.AskedCalls.{read, written, looked, news, answered}
+pub use Rattle.usb_run.proofs.AskedCalls.{all_reported}
 pub use Rattle.usb_run.proofs.endings.Causes.{at_fault, run_limit, untold_fault}
-pub use Rattle.usb_run.proofs.endings.Ends.{knows_opened, limit_opened}
+pub use Rattle.usb_run.proofs.endings.Ends.{answered_goes, knows_opened, limit_opened}
 pub use Rattle.usb_run.proofs.courses.KnowledgeKept.{arrival_knows, came_running, came_still}
-pub use Rattle.usb_run.proofs.courses.KnowledgeKept.{item_keeps_sound, knows_then, makes_knows}
+pub use Rattle.usb_run.proofs.courses.KnowledgeKept.{item_knows, knows_then, makes_knows}
 pub use Rattle.usb_run.proofs.courses.KnowledgeKept.{puts_knows}
 pub use Rattle.usb_run.proofs.items.Moments.{run_lists_right}
 pub use Rattle.usb_run.proofs.courses.RunCourses.{RunsOnward, called_onward, comes_onward}

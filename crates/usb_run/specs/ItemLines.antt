@@ -2,7 +2,9 @@
 use Rattle.std.specs.Prelude.{ℕ, ◌+◌, List, [], ◌∷◌}
 use Rattle.usb_run.specs.declared.runs.Item.{Item}
 use Rattle.usb_run.specs.declared.runs.Item.TheVariants.{Listing, Sent, Received, Cleared}
-use Rattle.usb_run.specs.TransferLines.{sent_line, received_line, cleared_line}
+use Rattle.usb_run.specs.declared.runs.Item.TheVariants.{Read, Written, Looked, News}
+use Rattle.usb_run.specs.TransferLines.{sent_line, received_line, cleared_line, read_line}
+use Rattle.usb_run.specs.TransferLines.{look_line, news_lines, written_line}
 use Rattle.usb_text.specs.{listing_lines}
 
 -- the lines of an item; the number is that of a listing
@@ -11,6 +13,10 @@ item_lines number (Listing entries taken) = listing_lines number entries
 item_lines number (Sent path sent) = sent_line path sent ∷ []
 item_lines number (Received path received) = received_line path received ∷ []
 item_lines number (Cleared path cleared) = cleared_line path cleared ∷ []
+item_lines number (Read path read) = read_line path read ∷ []
+item_lines number (Written path written) = written_line path written ∷ []
+item_lines number (Looked path looked) = look_line path looked ∷ []
+item_lines number (News news) = news_lines news.items
 
 -- listings alone are numbered
 abbrev pub number_of : Item → ℕ → ℕ
@@ -18,3 +24,7 @@ number_of (Listing entries taken) number = number + 1
 number_of (Sent path sent) number = number
 number_of (Received path received) number = number
 number_of (Cleared path cleared) number = number
+number_of (Read path read) number = number
+number_of (Written path written) number = number
+number_of (Looked path looked) number = number
+number_of (News news) number = number

@@ -1,6 +1,7 @@
 pub mod TransferLines
 pub mod Run
 pub mod ItemLines
+pub mod NewsCalls
 pub mod Transfers
 pub mod RunSegments
 pub mod Transcript
@@ -8,9 +9,12 @@ pub mod Reports
 pub mod Moments
 -- the words of this crate, wherever one stands
 pub use TransferLines.{cleared_end, failed_end, fault_word, received_end, sent_end}
-unfoldable pub use TransferLines.{cleared_line, received_line, sent_line}
+pub use TransferLines.{look_end, one_news_line}
+unfoldable pub use TransferLines.{cleared_line, look_line, news_lines, read_line, received_line}
+unfoldable pub use TransferLines.{sent_line, written_line}
 pub use Run.{IsBegun, IsCaused, RunsOn, Spent, items_left, listing_of, round_fault, run_fault}
 pub use ItemLines.{item_lines, number_of}
+pub use NewsCalls.{AllNews, SomeNews, SomeNewsAre, no_news, one_news}
 pub use Transfers.{Does, Gives, IsItemOf, StopsAt, TransferStops, sent_count, transfer_ended}
 pub use RunSegments.{Arrives, Comes, EndsSettling, Knowing, Knows, LeavesSettled, OneRound, Ran}
 pub use RunSegments.{Reaches, RoundFails, Rounds, Settled, Settles, Settling, Unsettled, idle, more}
@@ -21,11 +25,13 @@ pub use Transcript.{in_round, in_text, item_text, itself, last, never, on_the_wa
 pub use Transcript.{unwritten}
 unfoldable pub use Transcript.{items_text, listings}
 pub use Reports.{EndsWell, Finishes, Opens, RunsWell}
-pub use Moments.{IsListingOf, ListsPlugged, ListsRight, TellsRight}
+pub use Moments.{ControlIfAsked, ControlTold, IsListingOf, ListsPlugged, ListsRight, LookShows}
+pub use Moments.{TellsRight, as_answer}
 pub use declared.mode.Mode.{Mode}
 pub use declared.mode.Mode.TheVariants.{Tree}
 pub use declared.runs.Item.{Item}
-pub use declared.runs.Item.TheVariants.{Cleared, Listing, Received, Sent}
+pub use declared.runs.Item.TheVariants.{Cleared, Listing, Looked, Read, Received, Sent}
+pub use declared.runs.Item.TheVariants.{Written}
 pub use declared.runs.Report.{Report}
 pub use declared.runs.RunFault.{RunFault}
 pub use declared.runs.RunFault.TheVariants.{LimitReached, Memory, TraceFailed}

@@ -1,20 +1,62 @@
 -- What is right of the items of a plan's run.
-use Rattle.std.specs.Prelude.{◌≤◌, ⊤, List, All, Option, Some, is_ok}
+use Rattle.std.specs.Prelude.{◌≡◌, ◌≤◌, ⊤, ℕ, List, All, length, Option, Some, Result, Ok, Err}
+use Rattle.std.specs.Prelude.{true, is_ok}
 use Rattle.std.specs.List.{AllByRecursion}
 use Rattle.usb_world.specs.declared.event.Ask.{Ask}
-use Rattle.usb_world.specs.{Show, Send, Receive, Clear, PlanData, AreOfDamages, AtMostTwoRunning}
-use Rattle.usb_world.specs.{World}
+use Rattle.usb_world.specs.{Show, Send, Receive, Clear, ControlIn, ControlOut, Look as LookAt}
+use Rattle.usb_world.specs.{News as AskNews}
+use Rattle.usb_world.specs.{PlanData, AreOfDamages, AtMostTwoRunning, EachWas, World}
+use Rattle.usb_device.specs.{reach}
+use Rattle.usb_transaction.specs.{Target}
+use Rattle.usb_pipe.specs.{PipeFault}
 use Rattle.usb_enum.specs.{FewLosses}
-use Rattle.usb_table.specs.{Delivered, Collected, Restarted, bytes_in, Lists, tree_after}
-use Rattle.usb_host.specs.{HostState, table_in}
-use Rattle.usb_run.specs.RunSegments.{Settled}
+use Rattle.usb_table.specs.{ChangesAt, Delivered, Collected, ReadLeft, ReadMade, Restarted}
+use Rattle.usb_table.specs.{TransferFault, TransferIs, TransferLeaves, WriteLeft, WriteMade}
+use Rattle.usb_table.specs.{bytes_in, control_target, Lists, table_answer, tree_after, write_target}
+use Rattle.usb_host.specs.{HostFault, HostState, Look, LookDid, host_told, table_in}
+use Rattle.usb_host.specs.declared.fault.HostFault.TheVariants as host
+use Rattle.usb_run.specs.NewsCalls.{AllNews}
+use Rattle.usb_run.specs.RunSegments.{Knows, Settled}
+use Rattle.usb_run.specs.Transfers.{sent_count, transfer_ended}
 use Rattle.usb_run.specs.declared.runs.Item.{Item}
 use Rattle.usb_run.specs.declared.runs.Item.TheVariants.{Listing, Sent, Received, Cleared}
+use Rattle.usb_run.specs.declared.runs.Item.TheVariants.{Read, Written, Looked, News as ToldNews}
 use Rattle.usb_run.specs.declared.runs.Report.{Report}
 
+-- a control transfer was made to a target, the device at a path: that did what this says, any other
+-- is as it was, and if the transfer is done, a device is reached there
+pub record ControlTold {A : Type 0} (Is : TransferIs A) (Leaves : TransferLeaves A)
+    (path : List ℕ) (target : Target) (old : World) (told : Result A TransferFault) (new : World)
+    : Type 0 where
+  pub answer : Result A PipeFault
+  pub is : transfer_ended (host_told (table_answer answer)) ≡ Ok told
+  pub made : Is target old answer new
+  pub each : EachWas (λ x. ChangesAt path (Leaves target answer old new x) x) old new
+  pub there : is_ok told ≡ true → reach new.roots path ≡ true
+
+-- so it was if there is a target; else that is told, and nothing changed
+abbrev pub ControlIfAsked : {A : Type 0} → TransferIs A → TransferLeaves A → List ℕ
+    → Result Target TransferFault → World → Result A TransferFault → World → Type 0
+ControlIfAsked Is Leaves path (Ok target) old told new =
+    ControlTold Is Leaves path target old told new
+ControlIfAsked Is Leaves path (Err fault) old told new = (told ≡ Err fault) × (new ≡ old)
+
+-- what a look came to, as the host told it
+abbrev pub as_answer : {A : Type 0} → Result A TransferFault → Result A HostFault
+as_answer (Ok done) = Ok done
+as_answer (Err fault) = Err (host.Transfer fault)
+
+-- the port at a path was enumerated anew, and what is told is what is listed there then, or that no
+-- port has the path; what the host knows after it is so
+pub record LookShows (path : List ℕ) (old : HostState) (told : Result Look TransferFault)
+    (new : HostState) : Type 0 where
+  pub did : LookDid path old (as_answer told) new
+  pub knows : Knows new
+
 -- what an item tells of the event that asked for it is so: of a listing the host had settled; the
--- device at the path took the bytes that were to be sent,
--- gave those that are told, or had its halts cleared
+-- device at the path took the bytes that were to be sent, gave those that are told, had its halts
+-- cleared, or answered or took what is told; a look shows what is listed at its port; and the news
+-- are all there were
 abbrev pub TellsRight : Option Ask → Item → HostState → HostState → Type 0
 TellsRight (Some Show) item old new = Settled new
 TellsRight (Some (Send path bytes)) (Sent to told) old new =
@@ -24,6 +66,15 @@ TellsRight (Some (Receive path packets)) (Received from told) old new =
     new.world
 TellsRight (Some (Clear path)) (Cleared at told) old new =
     Restarted path (is_ok told) (table_in old) old.world (table_in new) new.world
+TellsRight (Some (ControlIn path request)) (Read from told) old new =
+    ControlIfAsked (ReadMade request) (ReadLeft request) path (control_target path old.entries)
+    old.world told new.world
+TellsRight (Some (ControlOut path write)) (Written to count) old new =
+    (told : Result (Unit {0}) TransferFault) × (count ≡ sent_count (length write.bytes) told)
+    × ControlIfAsked (WriteMade write.setup write.bytes) (WriteLeft write.setup write.bytes) path
+    (write_target path write.setup old.entries) old.world told new.world
+TellsRight (Some (LookAt path)) (Looked at told) old new = LookShows path old told new
+TellsRight (Some AskNews) (ToldNews news) old new = AllNews old news.items new
 TellsRight due item old new = ⊥
 
 -- What is plugged
@@ -34,6 +85,10 @@ IsListingOf plan (Listing tree taken) = Lists plan.roots (tree_after plan taken)
 IsListingOf plan (Sent path sent) = ⊤
 IsListingOf plan (Received path received) = ⊤
 IsListingOf plan (Cleared path cleared) = ⊤
+IsListingOf plan (Read path read) = ⊤
+IsListingOf plan (Written path written) = ⊤
+IsListingOf plan (Looked path looked) = ⊤
+IsListingOf plan (ToldNews news) = ⊤
 
 -- each listing of a run is right, whether it stopped at a fault or not, where no three attempts
 -- running are damaged and no address was lost three times up to its last world; and there is a

@@ -1,16 +1,22 @@
--- The printed lines of transfers.
-use Rattle.std.specs.Prelude.{ℕ, List, ◌++◌, Result, Ok, Err, codes, decimal}
+-- The printed lines of transfers, looks and news.
+use Rattle.std.specs.Prelude.{ℕ, List, [], ◌∷◌, ◌++◌, Result, Ok, Err, codes, decimal, map}
 use Rattle.std.specs.Global.{Vec}
 use Rattle.usb_packet.specs.{hex_text}
 use Rattle.usb_port.specs.{path_text}
-use Rattle.usb_table.specs.{TransferFault, NoDevice, NoEndpoint}
+use Rattle.usb_host.specs.{Look, News}
+use Rattle.usb_host.specs.{Arrived, Empty, Found, Left}
+use Rattle.usb_host.specs.declared.look.Look.TheVariants.{Refused}
+use Rattle.usb_table.specs.{TransferFault, NoDevice, NoEndpoint, NoPort, Reserved}
 use Rattle.usb_table.specs.declared.fault.TransferFault.TheVariants.{Stalled as EndpointStalled}
 use Rattle.usb_table.specs.declared.fault.TransferFault.TheVariants.{Busy as EndpointBusy, NoAnswer}
 use Rattle.usb_table.specs.declared.fault.TransferFault.TheVariants.{Broken}
+use Rattle.usb_text.specs.{cause_text}
 
 -- why a transfer was not done
 abbrev pub fault_word : TransferFault → List ℕ
 fault_word NoDevice = codes "no device"
+fault_word NoPort = codes "no port"
+fault_word Reserved = codes "reserved"
 fault_word NoEndpoint = codes "no endpoint"
 fault_word EndpointStalled = codes "stalled"
 fault_word EndpointBusy = codes "busy"
@@ -45,3 +51,31 @@ received_line path received = codes "receive " ++ path_text path ++ received_end
 -- clear PATH done, or clear PATH failed WORDS
 unfoldable pub cleared_line : List ℕ → Result (Unit {0}) TransferFault → List ℕ
 cleared_line path cleared = codes "clear " ++ path_text path ++ cleared_end cleared
+
+-- control PATH in done HEX, or control PATH in failed WORDS
+unfoldable pub read_line : List ℕ → Result (Vec ℕ) TransferFault → List ℕ
+read_line path read = codes "control " ++ path_text path ++ codes " in" ++ received_end read
+
+-- control PATH out done N, or control PATH out failed WORDS
+unfoldable pub written_line : List ℕ → Result ℕ TransferFault → List ℕ
+written_line path written = codes "control " ++ path_text path ++ codes " out" ++ sent_end written
+
+-- what is listed at a port after a look
+abbrev pub look_end : Result Look TransferFault → List ℕ
+look_end (Ok Empty) = codes " empty"
+look_end (Ok Found) = codes " found"
+look_end (Ok (Refused cause)) = codes " refused " ++ cause_text cause
+look_end (Err fault) = failed_end fault
+
+-- look PATH found, look PATH empty, look PATH refused CAUSE, or look PATH failed WORDS
+unfoldable pub look_line : List ℕ → Result Look TransferFault → List ℕ
+look_line path looked = codes "look " ++ path_text path ++ look_end looked
+
+-- left PATH, or arrived PATH
+abbrev pub one_news_line : News → List ℕ
+one_news_line (Left path) = codes "left " ++ path_text path
+one_news_line (Arrived path) = codes "arrived " ++ path_text path
+
+-- news, a line for each device that left or arrived, end
+unfoldable pub news_lines : List News → List (List ℕ)
+news_lines news = codes "news" ∷ map one_news_line news ++ codes "end" ∷ []

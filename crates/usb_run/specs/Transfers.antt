@@ -2,14 +2,20 @@
 use Rattle.std.specs.Prelude.{◌≡◌, ℕ, length, Option, Some, None, Result, Ok, Err}
 use Rattle.std.specs.Global.{Vec}
 use Rattle.usb_world.specs.declared.event.Ask.{Ask}
-use Rattle.usb_world.specs.{Show, Send, Receive, Clear}
+use Rattle.usb_request.specs.{IsToHost}
+use Rattle.usb_world.specs.{Show, Send, Receive, Clear, ControlIn, ControlOut, IsWrite}
+use Rattle.usb_world.specs.{Look as LookAt, News as AskNews}
 use Rattle.usb_table.specs.{TransferFault}
-use Rattle.usb_host.specs.{HostFault, ClearTells, ReceiveTells, SendTells, HostState}
+use Rattle.usb_host.specs.{HostFault, ClearTells, ReceiveTells, SendTells, ReadTells, WriteTells}
+use Rattle.usb_host.specs.{LookTells}
+use Rattle.usb_host.specs.{HostState, Look, News}
 use Rattle.usb_host.specs.declared.fault.HostFault.TheVariants as host
 use Rattle.usb_run.specs.declared.runs.Item.{Item}
 use Rattle.usb_run.specs.declared.runs.Item.TheVariants.{Sent, Received, Cleared}
+use Rattle.usb_run.specs.declared.runs.Item.TheVariants.{Read, Written, Looked, News as ToldNews}
 use Rattle.usb_run.specs.declared.runs.RunFault.{RunFault}
 use Rattle.usb_run.specs.declared.runs.RunFault.TheVariants.{Memory}
+use Rattle.usb_run.specs.NewsCalls.{AllNews, SomeNews}
 use Rattle.usb_run.specs.Run.{run_fault, listing_of}
 
 -- what a transfer came to, where it did not end the run
@@ -44,8 +50,8 @@ pub record TransferStops {A : Type 0} (Tells : HostState → Result A HostFault 
 
 -- What a run makes of an event
 
--- nothing of a change, a listing at once where the host is to list, and of a transfer to the device
--- at a path what it came to
+-- nothing of a change, a listing at once if the host is to list, what a transfer or a look came to,
+-- and all news
 abbrev pub IsItemOf : Option Ask → Option Item → HostState → HostState → Type 0
 IsItemOf None item old new = (item ≡ None) × (new ≡ old)
 IsItemOf (Some Show) item old new = (item ≡ Some (listing_of new)) × (new ≡ old)
@@ -59,8 +65,21 @@ IsItemOf (Some (Receive path packets)) item old new =
 IsItemOf (Some (Clear path)) item old new =
     (told : Result (Unit {0}) TransferFault) × (item ≡ Some (Cleared path told))
     × Transfers (ClearTells path) old told new
+IsItemOf (Some (ControlIn path request)) item old new = IsToHost request
+    × ((told : Result (Vec ℕ) TransferFault) × (item ≡ Some (Read path told))
+    × Transfers (ReadTells path request) old told new)
+IsItemOf (Some (ControlOut path write)) item old new = IsWrite write
+    × ((told : Result (Unit {0}) TransferFault)
+    × (item ≡ Some (Written path (sent_count (length write.bytes) told)))
+    × Transfers (WriteTells path write.setup write.bytes) old told new)
+IsItemOf (Some (LookAt path)) item old new =
+    (told : Result Look TransferFault) × (item ≡ Some (Looked path told))
+    × Transfers (LookTells path) old told new
+IsItemOf (Some AskNews) item old new =
+    (told : Vec News) × (item ≡ Some (ToldNews told)) × AllNews old told.items new
 
--- no item of it: memory was refused for a listing, or a transfer ended the run
+-- no item of it: memory was refused for a listing or for news, or a transfer or a look ended the
+-- run
 abbrev pub StopsAt : Option Ask → RunFault → HostState → HostState → Type 0
 StopsAt None fault old new = ⊥
 StopsAt (Some Show) fault old new = (fault ≡ Memory) × (new ≡ old)
@@ -68,6 +87,12 @@ StopsAt (Some (Send path bytes)) fault old new = TransferStops (SendTells path b
 StopsAt (Some (Receive path packets)) fault old new =
     TransferStops (ReceiveTells path packets) old fault new
 StopsAt (Some (Clear path)) fault old new = TransferStops (ClearTells path) old fault new
+StopsAt (Some (ControlIn path request)) fault old new =
+    TransferStops (ReadTells path request) old fault new
+StopsAt (Some (ControlOut path write)) fault old new =
+    TransferStops (WriteTells path write.setup write.bytes) old fault new
+StopsAt (Some (LookAt path)) fault old new = TransferStops (LookTells path) old fault new
+StopsAt (Some AskNews) fault old new = (fault ≡ Memory) × SomeNews old new
 
 abbrev pub Does : Option Ask → HostState → Result (Option Item) RunFault → HostState → Type 0
 Does due old (Ok item) new = IsItemOf due item old new

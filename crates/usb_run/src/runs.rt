@@ -20,12 +20,13 @@ ghost use Rattle.usb_run.specs.Reports.{EndsWell, Finishes, Opens};
 ghost use Rattle.usb_run.specs.Transcript.{Next, NextAsked, NextEvent, PutsLine};
 ghost use Rattle.usb_run.specs.Transfers.{Does, Gives};
 
+use crate::asked::{look, news, read, write};
 use crate::transfer::{answered, counted};
 use std::alloc::{AllocError, AllocFailed, Global};
 use std::io::Write;
 use thiserror::Error;
 use usb_bus::{BusFault, Watched};
-use usb_host::{Host, HostFault, Round, TransferFault, Tree};
+use usb_host::{Host, HostFault, Look, News, Round, TransferFault, Tree};
 use usb_port::PortPath;
 use usb_sim::{Ask, Plan, SimBus, Trace, Tracer, Untraced, untraced_fault};
 
@@ -40,6 +41,14 @@ pub enum Item {
     Received(PortPath, Result<Vec<u8>, TransferFault>),
     /// That the halts of the device at a path were cleared.
     Cleared(PortPath, Result<(), TransferFault>),
+    /// The bytes that were read from endpoint 0 of the device at a path.
+    Read(PortPath, Result<Vec<u8>, TransferFault>),
+    /// How many bytes were written to endpoint 0 of the device at a path.
+    Written(PortPath, Result<u64, TransferFault>),
+    /// What was listed at a port after a look at it.
+    Looked(PortPath, Result<Look, TransferFault>),
+    /// Which devices left and which arrived since this was last asked.
+    News(Vec<News>),
 }
 
 /// Why a run ended early, in the order in which the reasons are told.
@@ -175,6 +184,7 @@ pub fn run(alloc: Global, plan: &Plan) -> Result<Report, RunFault>
 /// holds the address that the host has for it.
 #[derive(Debug, Drop)]
 pub struct Runner<T: Trace> {
+    alloc: Global,
     host: Host<SimBus<T>>,
     /// Nothing more is made.
     over: bool,
@@ -211,7 +221,11 @@ impl<W: Write> Runner<Tracer<W>> {
         ensures trace { W.contents (inner_of result) ≡ self.host.trace }
         ensures failed { has_failed result ≡ tells_failure self.host.world.fault }
     {
-        let Runner { host, over: _ } = self;
+        let Runner {
+            alloc: _,
+            host,
+            over: _,
+        } = self;
         host.into_bus().into_writer()
     }
 }
@@ -252,7 +266,11 @@ impl<T: Trace> Runner<T> {
         ensures trace { T.text result ≡ self.host.trace }
         ensures failed { T.failed result ≡ tells_failure self.host.world.fault }
     {
-        let Runner { host, over: _ } = self;
+        let Runner {
+            alloc: _,
+            host,
+            over: _,
+        } = self;
         host.into_bus().into_tracer()
     }
 
@@ -266,6 +284,7 @@ impl<T: Trace> Runner<T> {
         // for the checker: what holds of each plan
         let _events = plan.events();
         Runner {
+            alloc,
             host: Host::new(alloc, bus),
             over: false,
         }
@@ -288,7 +307,7 @@ impl<T: Trace> Runner<T> {
             return Ok(None);
         }
         self.over = true;
-        if let Some(item) = item_of_events(&mut self.host)? {
+        if let Some(item) = item_of_events(self.alloc, &mut self.host)? {
             self.over = false;
             return Ok(Some(item));
         }
@@ -358,7 +377,10 @@ impl<T: Trace> Runner<T> {
 }
 
 /// Lets events come up to one of which an item is made; None where none is left.
-fn item_of_events<T: Trace>(host: &mut Host<SimBus<T>>) -> Result<Option<Item>, RunFault>
+fn item_of_events<T: Trace>(
+    alloc: Global,
+    host: &mut Host<SimBus<T>>,
+) -> Result<Option<Item>, RunFault>
     requires running { host.old.stopped ≡ false }
     ensures on { RunsOn (Knowing NextAsked) host.old result host.new }
     ensures spent { Spent host.old host.new }
@@ -370,7 +392,7 @@ fn item_of_events<T: Trace>(host: &mut Host<SimBus<T>>) -> Result<Option<Item>, 
         let Some(due) = next_due(host)? else {
             return Ok(None);
         };
-        if let Some(item) = item_of(host, due)? {
+        if let Some(item) = item_of(alloc, host, due)? {
             return Ok(Some(item));
         }
     }
@@ -390,19 +412,27 @@ fn next_due<T: Trace>(host: &mut Host<SimBus<T>>) -> Result<Option<Option<Ask>>,
 }
 
 /// What the run makes of an event: nothing of a change.
-fn item_of<T: Trace>(host: &mut Host<SimBus<T>>, due: Option<Ask>) -> Result<Option<Item>, RunFault>
+fn item_of<T: Trace>(
+    alloc: Global,
+    host: &mut Host<SimBus<T>>,
+    due: Option<Ask>,
+) -> Result<Option<Item>, RunFault>
     requires running { host.old.stopped ≡ false }
     ensures on { RunsOn (Does due) host.old result host.new }
     ensures owning { HostMapHolds host.old → HostMapHolds host.new }
 {
     match due {
         None => Ok(None),
-        Some(ask) => asked_item(host, ask),
+        Some(ask) => asked_item(alloc, host, ask),
     }
 }
 
-/// What the run makes of what is asked: a listing where the host is to list, and the answer of a transfer.
-fn asked_item<T: Trace>(host: &mut Host<SimBus<T>>, ask: Ask) -> Result<Option<Item>, RunFault>
+/// What the run makes of what is asked: a listing, the answer of a transfer or of a look, or news.
+fn asked_item<T: Trace>(
+    alloc: Global,
+    host: &mut Host<SimBus<T>>,
+    ask: Ask,
+) -> Result<Option<Item>, RunFault>
     requires running { host.old.stopped ≡ false }
     ensures on { RunsOn (Does (Some ask)) host.old result host.new }
     ensures owning { HostMapHolds host.old → HostMapHolds host.new }
@@ -412,6 +442,10 @@ fn asked_item<T: Trace>(host: &mut Host<SimBus<T>>, ask: Ask) -> Result<Option<I
         Ask::Send(path, bytes) => Ok(Some(send(host, path, bytes.as_slice())?)),
         Ask::Receive(path, packets) => Ok(Some(receive(host, path, packets)?)),
         Ask::Clear(path) => Ok(Some(clear(host, path)?)),
+        Ask::ControlIn(path, request) => Ok(Some(read(host, path, request)?)),
+        Ask::ControlOut(path, request) => Ok(Some(write(host, path, &request)?)),
+        Ask::Look(path) => Ok(Some(look(host, path)?)),
+        Ask::News => Ok(Some(news(alloc, host)?)),
     }
 }
 

@@ -11,7 +11,9 @@ use Rattle.usb_bus.proofs.Interface.{front_after_first}
 use Rattle.usb_world.specs.{PlanData, World, to_come}
 use Rattle.usb_host.specs.{HostState}
 use Rattle.usb_plan.specs.{bound_of}
-use Rattle.usb_run.specs.{Item, Listing, Sent, Received, Cleared, RunFault, Tree, IsCaused}
+use Rattle.usb_run.specs.{Item, Listing, Sent, Received, Cleared, Read, Written, Looked, RunFault}
+use Rattle.usb_run.specs.declared.runs.Item.TheVariants.{News}
+use Rattle.usb_run.specs.{Tree, IsCaused}
 use Rattle.usb_run.specs.{items_left, Opens, item_lines, number_of, Knows, CutsText, RunsTo, Next}
 use Rattle.usb_run.specs.{AppendsText, StoppedRun, begun, behind, never, item_text, items_text}
 use Rattle.usb_run.specs.{listings}
@@ -45,6 +47,10 @@ counts_one (Listing entries taken) n = omega arith
 counts_one (Sent path sent) n = omega arith
 counts_one (Received path received) n = omega arith
 counts_one (Cleared path cleared) n = omega arith
+counts_one (Read path read) n = omega arith
+counts_one (Written path written) n = omega arith
+counts_one (Looked path looked) n = omega arith
+counts_one (News news) n = omega arith
 
 pub number_next : {items : List Item} {number : ℕ} {over : Bool} {w : World}
     (n : ItemsNumbered items number over w) (next : ℕ) (item : Item)

@@ -1,11 +1,12 @@
-//! The line of each transfer.
-ghost use Rattle.std.specs.Prelude.{◌≡◌, ◌++◌, OnOk, IfOk};
+//! The lines of each transfer, of looks and of news.
+ghost use Rattle.std.specs.Prelude.{◌≡◌, ◌++◌, map, OnOk, IfOk};
 ghost use Rattle.usb_run.specs.TransferLines.{fault_word, failed_end, sent_end, received_end, cleared_end, sent_line, received_line, cleared_line};
+ghost use Rattle.usb_run.specs.TransferLines.{look_end, look_line, news_lines, one_news_line, read_line, written_line};
 
 use std::alloc::{AllocError, Global};
 use usb_port::PortPath;
-use usb_run::TransferFault;
-use usb_text::{push_decimal, push_hex, push_path};
+use usb_run::{Look, News, TransferFault};
+use usb_text::{Lines, push_cause, push_decimal, push_hex, push_path};
 
 /// `send PATH done N`, or `send PATH failed WORDS`.
 #[tactic(auto, unfolding(usb_run::specs::TransferLines::sent_line))]
@@ -53,6 +54,113 @@ pub fn cleared_line(
     push_path(&mut line, path)?;
     push_cleared(&mut line, cleared)?;
     Ok(line)
+}
+
+/// `control PATH in done HEX`, or `control PATH in failed WORDS`.
+#[tactic(auto, unfolding(usb_run::specs::TransferLines::read_line))]
+pub fn read_line(
+    alloc: Global,
+    path: &PortPath,
+    read: &Result<Vec<u8>, TransferFault>,
+) -> Result<Vec<u8>, AllocError>
+    ensures { IfOk result (λ line. line.items ≡ read_line path.now read.now) }
+{
+    let mut line = Vec::new(alloc);
+    line.extend_from_slice(b"control ")?;
+    push_path(&mut line, path)?;
+    line.extend_from_slice(b" in")?;
+    push_received(&mut line, read)?;
+    Ok(line)
+}
+
+/// `control PATH out done N`, or `control PATH out failed WORDS`.
+#[tactic(auto, unfolding(usb_run::specs::TransferLines::written_line))]
+pub fn written_line(
+    alloc: Global,
+    path: &PortPath,
+    written: &Result<u64, TransferFault>,
+) -> Result<Vec<u8>, AllocError>
+    ensures { IfOk result (λ line. line.items ≡ written_line path.now written.now) }
+{
+    let mut line = Vec::new(alloc);
+    line.extend_from_slice(b"control ")?;
+    push_path(&mut line, path)?;
+    line.extend_from_slice(b" out")?;
+    push_sent(alloc, &mut line, written)?;
+    Ok(line)
+}
+
+/// `look PATH found`, `look PATH empty`, `look PATH refused CAUSE`, or `look PATH failed WORDS`.
+#[tactic(auto, unfolding(usb_run::specs::TransferLines::look_line))]
+pub fn look_line(
+    alloc: Global,
+    path: &PortPath,
+    looked: &Result<Look, TransferFault>,
+) -> Result<Vec<u8>, AllocError>
+    ensures { IfOk result (λ line. line.items ≡ look_line path.now looked.now) }
+{
+    let mut line = Vec::new(alloc);
+    line.extend_from_slice(b"look ")?;
+    push_path(&mut line, path)?;
+    push_looked(alloc, &mut line, looked)?;
+    Ok(line)
+}
+
+/// `news`, a line for each device that left or arrived, and `end`.
+#[tactic(auto, unfolding(usb_run::specs::TransferLines::news_lines))]
+pub fn news_lines(alloc: Global, news: &[News]) -> Result<Lines, AllocError>
+    ensures { IfOk result (λ lines. lines ≡ news_lines news.now) }
+{
+    let mut lines = Lines::new(alloc);
+    lines.push(b"news".to_vec(alloc)?)?;
+    push_news(alloc, &mut lines, news)?;
+    lines.push(b"end".to_vec(alloc)?)?;
+    Ok(lines)
+}
+
+fn push_news(alloc: Global, lines: &mut Lines, news: &[News]) -> Result<(), AllocError>
+    ensures { OnOk result (lines.new ≡ lines.old ++ map one_news_line news.now) }
+{
+    'news: for one in news {
+        lines.push(one_news_line(alloc, one)?)?;
+    }
+    Ok(())
+}
+
+/// `left PATH`, or `arrived PATH`.
+fn one_news_line(alloc: Global, news: &News) -> Result<Vec<u8>, AllocError>
+    ensures { IfOk result (λ line. line.items ≡ one_news_line news.now) }
+{
+    let mut line = Vec::new(alloc);
+    match news {
+        News::Left(path) => {
+            line.extend_from_slice(b"left ")?;
+            push_path(&mut line, path)?;
+        }
+        News::Arrived(path) => {
+            line.extend_from_slice(b"arrived ")?;
+            push_path(&mut line, path)?;
+        }
+    }
+    Ok(line)
+}
+
+fn push_looked(
+    alloc: Global,
+    line: &mut Vec<u8>,
+    looked: &Result<Look, TransferFault>,
+) -> Result<(), AllocError>
+    ensures { OnOk result (line.new.items ≡ line.old.items ++ look_end looked.now) }
+{
+    match looked {
+        Ok(Look::Empty) => line.extend_from_slice(b" empty"),
+        Ok(Look::Found) => line.extend_from_slice(b" found"),
+        Ok(Look::Refused(cause)) => {
+            line.extend_from_slice(b" refused ")?;
+            push_cause(alloc, line, *cause)
+        }
+        Err(fault) => push_failed(line, *fault),
+    }
 }
 
 fn push_sent(
@@ -108,6 +216,8 @@ fn fault_word(fault: TransferFault) -> &'static str
 {
     match fault {
         TransferFault::NoDevice => "no device",
+        TransferFault::NoPort => "no port",
+        TransferFault::Reserved => "reserved",
         TransferFault::NoEndpoint => "no endpoint",
         TransferFault::Stalled => "stalled",
         TransferFault::Busy => "busy",

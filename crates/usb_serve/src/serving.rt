@@ -15,7 +15,9 @@ ghost use Rattle.usb_run.specs.RunSegments.{Knows};
 ghost use Rattle.usb_run.specs.Transcript.{Next, Prints};
 ghost use Rattle.usb_serve.specs.ServedTranscripts.{RunEnds};
 
-use crate::answers::{cleared_line, received_line, sent_line};
+use crate::answers::{
+    cleared_line, look_line, news_lines, read_line, received_line, sent_line, written_line,
+};
 use crate::input::{InputFault, read_text};
 use crate::output::Output;
 use crate::tracing::OutputTracer;
@@ -261,6 +263,7 @@ pub fn number_of(item: &Item, number: u64) -> u64
     match item {
         Item::Listing(_, _) => number.saturating_add(1),
         Item::Sent(_, _) | Item::Received(_, _) | Item::Cleared(_, _) => number,
+        Item::Read(_, _) | Item::Written(_, _) | Item::Looked(_, _) | Item::News(_) => number,
     }
 }
 
@@ -273,6 +276,10 @@ pub fn item_lines(alloc: Global, number: u64, item: &Item) -> Result<Lines, Allo
         Item::Sent(path, sent) => one_line(alloc, sent_line(alloc, path, sent)?),
         Item::Received(path, received) => one_line(alloc, received_line(alloc, path, received)?),
         Item::Cleared(path, cleared) => one_line(alloc, cleared_line(alloc, path, cleared)?),
+        Item::Read(path, read) => one_line(alloc, read_line(alloc, path, read)?),
+        Item::Written(path, written) => one_line(alloc, written_line(alloc, path, written)?),
+        Item::Looked(path, looked) => one_line(alloc, look_line(alloc, path, looked)?),
+        Item::News(news) => news_lines(alloc, news.as_slice()),
     }
 }
 

@@ -13,7 +13,8 @@ use Rattle.usb_device.specs.{answer_of, effect_of, after_packet, reply_to, recei
 use Rattle.usb_device.specs.{reset_state, replaced, changed, changed_at, called, state_at, state_on}
 use Rattle.usb_device.specs.{new_ports, first_ports, Location, hears, row_of, in_row, ack_row}
 use Rattle.usb_device.specs.{out_row, unless_busy, begun, setup_row, token_row, payload_row}
-use Rattle.usb_device.specs.{data_row, after_memory, answered, Outcome}
+use Rattle.usb_device.specs.{data_row, after_memory, answered, Outcome, Write, WriteData, judged}
+use Rattle.usb_device.specs.{max_packet, write_row, writing}
 use Rattle.usb_device.specs.declared.transfer.RememberedPacket.TheVariants.{Nothing, SetupSeen}
 use Rattle.usb_device.specs.declared.transfer.RememberedPacket.TheVariants.{OutSeen, AckAwaited}
 use Rattle.usb_device.specs.declared.transfer.InEndpoint.TheVariants as by
@@ -62,7 +63,11 @@ module _ (d : State) (m : AwaitsControl d.memory) where
   ack_stage : (stage : Stage) → StaysOut d (ack_row d stage)
   ack_stage stage = grind (arith, rest)
 
+  write_stage : (w : Write) (bytes : List ℕ) (x : WriteData) → StaysOut d (write_row d w bytes x).1
+  write_stage w bytes x = grind (arith, rest)
+
   out_stage : (stage : Stage) (t : Toggle) (bytes : List ℕ) → StaysOut d (out_row d stage t bytes).1
+  out_stage (writing w) t bytes = write_stage w bytes (judged (max_packet d.spec) w t bytes)
   out_stage stage t bytes = grind (arith, rest)
 
   unless_busy_out : (r : Reply) → StaysOut d r.1 → StaysOut d (unless_busy d r).1

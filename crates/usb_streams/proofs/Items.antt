@@ -1,18 +1,21 @@
 -- What an item moves at a path.
-use Rattle.std.proofs.Common.{◌≡◌, ◌≢◌, ◌∙◌, refl, sym, ap, subst, Bool, true, false, ◌||◌, ℕ, List}
+use Rattle.std.proofs.Common.{◌≡◌, ◌≢◌, ◌∙◌, refl, sym, ap, subst, Bool, true, false, ◌||◌, ◌+◌, ℕ}
+use Rattle.std.proofs.Common.{arith, List}
 use Rattle.std.proofs.Common.{[], length, Option, None, Some, Result, Ok, Err, append-nil, eq-eqb}
-use Rattle.std.proofs.Common.{is_ok, is_some, if◌then◌else◌}
+use Rattle.std.proofs.Common.{◌⊎◌, inl, inr, is_ok, is_some, if◌then◌else◌}
 use Rattle.std.specs.BTreeMap.{is_at as ties}
 use Rattle.std.specs.Global.{Vec}
 use Rattle.usb_port.specs.{path_cmp}
 use Rattle.usb_device.specs.{EndpointState, State, Location, path_to, reach, reach_on, state_on}
 use Rattle.usb_device.specs.{state_there}
 use Rattle.usb_world.specs.declared.event.Ask.{Ask}
-use Rattle.usb_world.specs.{Show, Send, Receive, Clear, BusFault, EachWas, Was, World}
+use Rattle.usb_world.specs.{Show, Send, Receive, Clear, ControlIn, ControlOut, Look as LookAt}
+use Rattle.usb_world.specs.{News as AskNews, BusFault, EachWas, IsWrite, Was, World, Write}
+use Rattle.usb_request.specs.{IsToHost, Setup}
 use Rattle.usb_tree.specs.{address_of}
 use Rattle.usb_transaction.specs.{Target, is_at}
 use Rattle.usb_pipe.specs.declared.condition.Condition.TheVariants.{Ready}
-use Rattle.usb_pipe.specs.{PipeFault, Bulk, Sends, OutPipeInSync}
+use Rattle.usb_pipe.specs.{PipeFault, Bulk, InPipeInSync, Sends, OutPipeInSync}
 use Rattle.usb_pipe.specs.declared.fault.PipeFault.TheVariants as pipe_fault
 use Rattle.usb_table.specs.declared.fault.TableFault.TheVariants as table
 use Rattle.usb_enum.specs.{Accepted}
@@ -22,20 +25,25 @@ use Rattle.usb_table.specs.{bytes_in, pipe_in, pipe_out, Entries, accepted_devic
 use Rattle.usb_table.specs.{is_below_hub, PipesInSync, FitsOut, ArePipesIf, ArePipesTo, IsPipe}
 use Rattle.usb_table.specs.{GoesThrough, pipes_at, ClearedAfter, ClearedBy, ClearedIf, PipesCleared}
 use Rattle.usb_table.specs.{PipesReceived, PipesSent, ReceivedBy, SameSettings, SentBy}
-use Rattle.usb_table.specs.{table_answer}
+use Rattle.usb_table.specs.{control_target, ReadLeft, ReadMade, SparesBulk, table_answer}
+use Rattle.usb_table.specs.{TransferIf, WriteLeft, WriteMade, write_target}
 use Rattle.usb_table.proofs.Interface.{held_address, path_itself, path_tied, done_through}
+use Rattle.usb_table.proofs.Interface.{cases_path, read_spares, spares-same, StillEnds}
+use Rattle.usb_table.proofs.Interface.{write_still}
 use Rattle.usb_host.specs.{HostState, claims, host_told, table_in, ClearTells, ReceiveTells}
-use Rattle.usb_host.specs.{SendTells}
+use Rattle.usb_host.specs.{SendTells, ReadTells, RenewedAt, SameBulk, StayedAt, WriteTells}
 use Rattle.usb_run.specs.{Item, Knows, IsItemOf, sent_count, transfer_ended}
 use Rattle.usb_run.specs.declared.runs.Item.TheVariants as item
 use Rattle.usb_run.specs.Transfers.{Transfers}
-use Rattle.usb_run.proofs.Interface.{AskAnswered, silent, listed, sent, received, cleared, answered}
+use Rattle.usb_run.proofs.Interface.{AskAnswered, silent, listed, sent, received, cleared, read}
+use Rattle.usb_run.proofs.Interface.{written, looked, news, answered, all_reported}
+use Rattle.usb_run.proofs.Interface.{answered_goes}
 use Rattle.usb_run.proofs.Interface.{count_done, told_cleared, told_received, told_sent, done_told}
 use Rattle.usb_run.proofs.Interface.{no_bus_fault}
 use Rattle.usb_streams.specs.{ToldItem, ClearsNoIn, ClearsNoOut, GaveNextBy, IsAtWork, Joins}
 use Rattle.usb_streams.specs.{StreamsAt, bytes_for, bytes_from, is_done}
 use Rattle.usb_streams.proofs.Bytes.{SinkStep, joins_none, sink_step_none}
-use Rattle.usb_streams.proofs.Devices.{DeviceMoves, gave_no_bytes}
+use Rattle.usb_streams.proofs.Devices.{DeviceMoves, gave_no_bytes, spares_stays}
 use Rattle.usb_streams.proofs.HaltedSends.{NoneSent, empty_stuck, failed_stuck, none_sent}
 
 -- The pipes over a call
@@ -236,6 +244,24 @@ module _ (bytes : List ℕ) (old new : World) (x : Location) (s v : State) (on :
   by_pipes Absent left result other single fits x joins =
       untried (is_ok result) None (pipe_out left) (ap is_ok x.0) refl x.2
 
+ends_same : (s v : State) → v ≡ s → StillEnds s v
+ends_same s v same = record {
+  sink = ap (λ (d : State). d.sink) same;
+  spec = ap (λ (d : State). d.spec) same;
+  into = λ pipe got fits. subst (InPipeInSync pipe got) (sym same) fits;
+}
+
+-- through endpoints that move nothing no byte comes
+gave_still : (pipe left : Option Bulk) (s v : State) → left ≡ pipe → StillEnds s v
+    → GaveNextBy [] pipe left s v
+gave_still None left s v kept ends = (refl, kept)
+gave_still (Some pipe) left s v kept ends =
+    subst (λ l. GaveNextBy [] (Some pipe) l s v) (sym kept) (record {
+      next = λ got fits. refl;
+      has = λ got fits. let same : got ≡ got + 0 = omega arith in
+          subst (λ n. InPipeInSync pipe n v) same (ends.into pipe got fits);
+    })
+
 -- what an item moves, by the bytes that it has for the path
 module _ (path : List ℕ) (t : ToldItem) (pipes left : Pipes) (s v : State) where
   moved : (to from : List ℕ) → bytes_for path t.due ≡ to → bytes_from path t.item ≡ from
@@ -264,6 +290,24 @@ module _ (path : List ℕ) (t : ToldItem) (pipes left : Pipes) (s v : State) whe
       (ap (λ (d : State). d.place) same) (ap (λ (d : State). d.bulk_in) same))
       (ap (λ (d : State). d.spec) same)
 
+  -- a device whose endpoints stay, with its pipes
+  spared_moves : bytes_for path t.due ≡ [] → bytes_from path t.item ≡ [] → SameBulk pipes left
+      → (x : Location) → SparesBulk x s v → DeviceMoves path t pipes left s v
+  spared_moves e f same x spares =
+      let stays = spares_stays pipes left x s v same spares in
+      moved [] [] e f (joins_none (is_done t.item) [] s.sink v.sink refl stays.sink)
+      (λ none. sink_step_none (is_done t.item) (pipe_out pipes) (pipe_out left) s v stays.out
+      stays.sink) (λ none. stays.gave) stays.spec
+
+  -- a device through whose endpoints nothing moves, with its pipes
+  ends_move : bytes_for path t.due ≡ [] → bytes_from path t.item ≡ [] → left ≡ pipes
+      → StillEnds s v → DeviceMoves path t pipes left s v
+  ends_move e f kept ends =
+      moved [] [] e f (joins_none (is_done t.item) [] s.sink v.sink refl ends.sink)
+      (λ none. sink_step_none (is_done t.item) (pipe_out pipes) (pipe_out left) s v
+      (ap pipe_out kept) ends.sink)
+      (λ none. gave_still (pipe_in pipes) (pipe_in left) s v (ap pipe_in kept) ends) ends.spec
+
 -- Hosts
 
 -- the accepted device at a path was listed there before an item, and moved what the item tells
@@ -272,6 +316,13 @@ pub record MovesAt (path : List ℕ) (device : Accepted) (due : Option Ask) (ite
   pub listed : accepted_device_at path old.entries ≡ Some device
   pub moves : StreamsAt path (DeviceMoves path (record { due = due; asked = old; item = item })
       (pipes_at path (table_in old)) (pipes_at path (table_in new))) old new
+
+-- or a look was asked for, which found it anew
+pub record LookFinds (path : List ℕ) (device : Accepted) (due : Option Ask) (old new : HostState)
+    : Type 0 where
+  pub to : List ℕ
+  pub asks : due ≡ Some (LookAt to)
+  pub renewed : RenewedAt path device old new
 
 module _ (path : List ℕ) (device : Accepted) (old new : HostState)
     (at : accepted_device_at path new.entries ≡ Some device) where
@@ -288,6 +339,64 @@ module _ (path : List ℕ) (device : Accepted) (old new : HostState)
           (pipes_at path (table_in old)) (pipes_at path (table_in new)) v v refl none
           (ap (λ (h : HostState). pipes_at path (table_in h)) same) refl;
     };
+  }
+
+  -- what leaves the device and its pipes
+  stayed_moves : (due : Option Ask) (item : Item) → bytes_for path due ≡ []
+      → bytes_from path item ≡ [] → StayedAt path device old new
+      → MovesAt path device due item old new
+  stayed_moves due item e f stayed = record {
+    listed = stayed.listed;
+    moves = λ x v is on stands.
+        let was : Was SparesBulk old.world x v = stayed.endpoints x v is on stands in
+        record {
+          before = was.before;
+          on = was.on;
+          stands = was.stands;
+          so = spared_moves path (record { due = due; asked = old; item = item })
+              (pipes_at path (table_in old)) (pipes_at path (table_in new)) was.before v e f
+              stayed.pipes x was.so;
+        };
+  }
+
+  -- what moves nothing through its endpoints, and leaves the pipes
+  still_moves : (due : Option Ask) (item : Item) → bytes_for path due ≡ []
+      → bytes_from path item ≡ [] → accepted_device_at path old.entries ≡ Some device
+      → pipes_at path (table_in new) ≡ pipes_at path (table_in old)
+      → ((x : Location) (v : State) → reach_on new.world.roots x ≡ true
+      → state_on new.world.roots x ≡ Some v → Was (λ y s u. StillEnds s u) old.world x v)
+      → MovesAt path device due item old new
+  still_moves due item e f there left ends = record {
+    listed = there;
+    moves = λ x v is on stands.
+        let was : Was (λ y s u. StillEnds s u) old.world x v = ends x v on stands in
+        record {
+          before = was.before;
+          on = was.on;
+          stands = was.stands;
+          so = ends_move path (record { due = due; asked = old; item = item })
+              (pipes_at path (table_in old)) (pipes_at path (table_in new)) was.before v e f left
+              was.so;
+        };
+  }
+
+  -- news
+  news_stays : (reported : List (List ℕ × ℕ)) → new ≡ record old { reported = reported }
+      → StayedAt path device old new
+  news_stays reported only = record {
+    listed = ap (λ (h : HostState). accepted_device_at path h.entries) (sym only) ∙ at;
+    pipes = record {
+      out = ap (λ (h : HostState). pipe_out (pipes_at path (table_in h))) only;
+      into = ap (λ (h : HostState). pipe_in (pipes_at path (table_in h))) only;
+    };
+    endpoints = λ x s is on stands.
+        let same : new.world ≡ old.world = ap (λ (h : HostState). h.world) only in
+        record {
+          before = s;
+          on = ap (λ (w : World). reach_on w.roots x) (sym same) ∙ on;
+          stands = ap (λ (w : World). state_on w.roots x) (sym same) ∙ stands;
+          so = spares-same x s s refl;
+        };
   }
 
   listed_before : (to : List ℕ) → GoesThrough to (table_in old) (table_in new)
@@ -463,6 +572,100 @@ module _ (path : List ℕ) (device : Accepted) (old new : HostState)
           gave_no_bytes (pipe_in before) (pipe_in left) x s v alone.0 same cleared.place alone.1)
           same.0)
 
+      -- a read, of which device it may be
+      read_stays : (from : List ℕ) (request : Setup) → IsToHost request
+          → (told : Result (Vec ℕ) TransferFault)
+          → Transfers (ReadTells from request) old told new → StayedAt path device old new
+      read_stays from request host told is =
+          let reads = is.call.did running in
+          record {
+            listed = ap (λ es. accepted_device_at path es) (sym is.call.stopped.kept) ∙ at;
+            pipes = record {
+              out = ap (λ t. pipe_out (pipes_at path t)) reads.same;
+              into = ap (λ t. pipe_in (pipes_at path t)) reads.same;
+            };
+            endpoints = λ x s is_path on stands.
+                endpoints x s on stands (control_target from old.entries) reads.answer reads.did;
+          }
+        where
+          endpoints : (x : Location) (s : State) → reach_on new.world.roots x ≡ true
+              → state_on new.world.roots x ≡ Some s → (asked : Result Target TransferFault)
+              (answer : Result (Vec ℕ) TableFault) → TransferIf (ReadMade request)
+              (ReadLeft request) from (table_in old) asked old.world answer new.world
+              → Was SparesBulk old.world x s
+          endpoints x s on stands (Err fault) answer refused = record {
+            before = s;
+            on = ap (λ (w : World). reach_on w.roots x) (sym refused.1) ∙ on;
+            stands = ap (λ (w : World). state_on w.roots x) (sym refused.1) ∙ stands;
+            so = spares-same x s s refl;
+          }
+          endpoints x s on stands (Ok target) answer made =
+              let worlds = (is.call.did running).keeps.worlds in
+              let single : new.world.shared ≡ false =
+              (worlds.addresses.kept (claims old.entries) knows.sound.owned).single in
+              let was = made.left (knows.sound.owned.so still) single x s on stands in
+              let kept = worlds.devices.same single x s on stands in
+              let same : SameSettings x was.before s = subst (λ (d : State). SameSettings x d s)
+              (one_stands old.world x was.before kept.before was.stands kept.stands) kept.so in
+              record {
+                before = was.before;
+                on = was.on;
+                stands = was.stands;
+                so = elim (cases_path from (path_to x)) [
+                  | inl there ↦ read_spares target request host made.answer old.world new.world x
+                      was.before s same (was.so.itself there)
+                  | inr far ↦ spares-same x was.before s (was.so.others far)
+                ];
+              }
+
+      -- and a write
+      written_moves : (to : List ℕ) (write : Write) → IsWrite write
+          → (told : Result (Unit {0}) TransferFault)
+          → Transfers (WriteTells to write.setup write.bytes) old told new
+          → MovesAt path device (Some (ControlOut to write))
+          (item.Written to (sent_count (length write.bytes) told)) old new
+      written_moves to write fits told is =
+          let writes = is.call.did running in
+          still_moves (Some (ControlOut to write))
+          (item.Written to (sent_count (length write.bytes) told)) refl refl
+          (ap (λ es. accepted_device_at path es) (sym is.call.stopped.kept) ∙ at)
+          (ap (λ t. pipes_at path t) writes.same)
+          (λ x v on stands. ends x v on stands (write_target to write.setup old.entries) refl
+          writes.answer writes.did)
+        where
+          ends : (x : Location) (v : State) → reach_on new.world.roots x ≡ true
+              → state_on new.world.roots x ≡ Some v → (asked : Result Target TransferFault)
+              → write_target to write.setup old.entries ≡ asked
+              → (answer : Result (Unit {0}) TableFault)
+              → TransferIf (WriteMade write.setup write.bytes) (WriteLeft write.setup write.bytes)
+              to (table_in old) asked old.world answer new.world
+              → Was (λ y s u. StillEnds s u) old.world x v
+          ends x v on stands (Err fault) asks answer refused = record {
+            before = v;
+            on = ap (λ (w : World). reach_on w.roots x) (sym refused.1) ∙ on;
+            stands = ap (λ (w : World). state_on w.roots x) (sym refused.1) ∙ stands;
+            so = ends_same v v refl;
+          }
+          ends x v on stands (Ok target) asks answer done =
+              let worlds = (is.call.did running).keeps.worlds in
+              let single : new.world.shared ≡ false =
+              (worlds.addresses.kept (claims old.entries) knows.sound.owned).single in
+              let was = done.left (knows.sound.owned.so still) single x v on stands in
+              let kept = worlds.devices.same single x v on stands in
+              let same : SameSettings x was.before v = subst (λ (d : State). SameSettings x d v)
+              (one_stands old.world x was.before kept.before was.stands kept.stands) kept.so in
+              record {
+                before = was.before;
+                on = was.on;
+                stands = was.stands;
+                so = elim (cases_path to (path_to x)) [
+                  | inl there ↦ write_still to write.setup write.bytes fits.0 (table_in old) target
+                      asks done.answer old.world new.world x was.before v same
+                      (was.so.itself there)
+                  | inr far ↦ ends_same was.before v (was.so.others far)
+                ];
+              }
+
       -- whether it is to the path or to another
       sent_item : (to bytes : List ℕ) (told : Result (Unit {0}) TransferFault)
           → Transfers (SendTells to bytes) old told new → (tied : Bool)
@@ -508,8 +711,9 @@ module _ (path : List ℕ) (device : Accepted) (old new : HostState)
           (told_cleared to old new knows.sound still running told is).each
 
       pub item_moves : (due : Option Ask) (made : Item) → IsItemOf due (Some made) old new
-          → MovesAt path device due made old new
-      item_moves due made is = moves_as (answered due (Some made) old new is)
+          → new.world.fault ≡ None → MovesAt path device due made old new
+          ⊎ LookFinds path device due old new
+      item_moves due made is works = moves_as (answered due (Some made) old new is)
         where
           told_as : (asked : Option Ask) (told : Item) → due ≡ asked → Some made ≡ Some told
               → MovesAt path device asked told old new → MovesAt path device due made old new
@@ -518,18 +722,41 @@ module _ (path : List ℕ) (device : Accepted) (old new : HostState)
               subst (λ d. MovesAt path device d made old new) (sym asks)
               (subst (λ (i : Item). MovesAt path device asked i old new) (sym same) so)
 
+          still_as : (asked : Option Ask) (told : Item) → due ≡ asked → Some made ≡ Some told
+              → bytes_for path asked ≡ [] → bytes_from path told ≡ [] → StayedAt path device old new
+              → MovesAt path device due made old new
+          still_as asked told asks e f g stayed =
+              told_as asked told asks e (stayed_moves asked told f g stayed)
+
           moves_as : AskAnswered due (Some made) old new → MovesAt path device due made old new
+              ⊎ LookFinds path device due old new
           moves_as (silent none same) = absurd (cc none)
           moves_as (listed asks e same) =
               let listing : Item = item.Listing new.entries new.world.taken in
-              told_as (Some Show) listing asks e (shown listing refl same)
+              inl (told_as (Some Show) listing asks e (shown listing refl same))
           moves_as (sent to bytes told asks e came) =
-              told_as (Some (Send to bytes)) _ asks e
-              (sent_item to bytes told came (ties (path_cmp to) path) refl)
+              inl (told_as (Some (Send to bytes)) _ asks e
+              (sent_item to bytes told came (ties (path_cmp to) path) refl))
           moves_as (received from packets told asks e came) =
-              told_as (Some (Receive from packets)) _ asks e
-              (received_item from packets told came (ties (path_cmp from) path) refl)
+              inl (told_as (Some (Receive from packets)) _ asks e
+              (received_item from packets told came (ties (path_cmp from) path) refl))
           moves_as (cleared to told asks e came) =
-              told_as (Some (Clear to)) _ asks e
-              (cleared_item to told came (ties (path_cmp to) path)
-              refl)
+              inl (told_as (Some (Clear to)) _ asks e
+              (cleared_item to told came (ties (path_cmp to) path) refl))
+          moves_as (read from request told host asks e came) =
+              inl (still_as (Some (ControlIn from request)) (item.Read from told) asks e refl refl
+              (read_stays from request host told came))
+          moves_as (written to write told fits asks e came) =
+              inl (told_as (Some (ControlOut to write)) _ asks e
+              (written_moves to write fits told came))
+          moves_as (looked to told asks e came) = elim (((came.call.keeps.sound
+              (answered_goes came.answer told came.tells)).bulk knows.sound works).each path device
+              at) [
+                | inl stayed ↦ inl (still_as (Some (LookAt to)) (item.Looked to told) asks e refl refl
+                    stayed)
+                | inr renewed ↦ inr (record { to = to; asks = asks; renewed = renewed })
+              ]
+          moves_as (news told asks e all) =
+              let only = all_reported old new told.items all in
+              inl (still_as (Some AskNews) (item.News told) asks e refl refl
+              (news_stays only.0 only.1))

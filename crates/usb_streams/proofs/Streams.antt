@@ -3,7 +3,7 @@ use Rattle.std.proofs.Common.{◌≡◌, ◌⊎◌, inl, inr, ◌∙◌, refl, s
 use Rattle.std.proofs.Common.{Option, None, Some, Ok}
 use Rattle.usb_device.specs.{State, Location, path_to, reach, reach_on, state_on, state_there}
 use Rattle.usb_world.specs.declared.event.Ask.{Ask}
-use Rattle.usb_world.specs.{Was, World}
+use Rattle.usb_world.specs.{Look, Was, World}
 use Rattle.usb_world.proofs.Interface.{settled_course}
 use Rattle.usb_enum.specs.{Accepted}
 use Rattle.usb_table.specs.{Pipes, Hub, Function, Absent, pipe_in, pipe_out, accepted_device_at}
@@ -13,14 +13,15 @@ use Rattle.usb_host.specs.{RenewedAt, StayedAt, Round, HostState, table_in, Roun
 use Rattle.usb_host.proofs.Interface.{stay_event}
 use Rattle.usb_run.specs.{Item, Comes, Knows, Settled, AppendsText, IsItemOf}
 use Rattle.usb_run.proofs.Interface.{arrival_knows, came_running, came_still, comes_onward}
+use Rattle.usb_run.proofs.Interface.{item_knows}
 use Rattle.usb_streams.specs.{LiesBetween, round, silent, last, wrote, Stretch, begun, further}
 use Rattle.usb_streams.specs.{more, HeadAt, KeepsStreams, ToldItem, StartsAt, StoodAt}
-use Rattle.usb_streams.specs.{StoodOrFound, StreamsAt}
+use Rattle.usb_streams.specs.{FoundSince, in_look, in_round, StoodOrFound, StreamsAt}
 use Rattle.usb_streams.specs.Streams.{Streams}
 use Rattle.usb_streams.proofs.Devices.{DeviceMoves, DeviceStays, streams_at_then, spares_stays}
 use Rattle.usb_streams.proofs.Devices.{streams_move, streams_none, streams_stay}
 use Rattle.usb_streams.proofs.Heads.{course_kept, kept_then}
-use Rattle.usb_streams.proofs.Items.{MovesAt, item_moves}
+use Rattle.usb_streams.proofs.Items.{LookFinds, MovesAt, item_moves}
 use Rattle.usb_streams.proofs.Starts.{begun_place, new_in}
 use Rattle.usb_streams.proofs.Stretches.{between_knows, between_onward, item_onward, stretch_knows}
 
@@ -190,9 +191,10 @@ module _ (path : List ℕ) (device : Accepted) where
         earlier = f.earlier;
         before = f.before;
         up_to = f.up_to;
-        done = f.done;
+        asked = f.asked;
+        then_told = f.then_told;
         found = f.found;
-        round = f.round;
+        call = f.call;
         renewed = f.renewed;
         head = f.head;
         starts = f.starts;
@@ -209,9 +211,10 @@ module _ (path : List ℕ) (device : Accepted) where
         earlier = told;
         before = h;
         up_to = before;
-        done = anew.0;
+        asked = h;
+        then_told = [];
         found = new;
-        round = anew.1;
+        call = in_round anew.0 anew.1;
         renewed = anew.2;
         head = renewed_head path device h new anew.2 knows (between_onward between still).sound;
         starts = renewed_starts path device h new anew.2 (between_knows between knows) still at;
@@ -222,44 +225,76 @@ module _ (path : List ℕ) (device : Accepted) where
       })
 
   stood_more : {old h mid new : HostState} {told : List ToldItem} (due : Option Ask) (item : Item)
-      → Settled h → Comes h (Ok (Some due)) mid → IsItemOf due (Some item) mid new
+      → Stretch old told h → Settled h → Comes h (Ok (Some due)) mid
+      → IsItemOf due (Some item) mid new → new.world.fault ≡ None
       → accepted_device_at path new.entries ≡ Some device
       → (accepted_device_at path h.entries ≡ Some device → StoodOrFound path device told old h)
       → StoodOrFound path device (record { due = due; asked = mid; item = item } ∷ told) old new
-  stood_more {old} {h} {mid} {new} {told} due item settled comes is at earlier =
-      later (earlier stayed.listed)
+  stood_more {old} {h} {mid} {new} {told} due item before settled comes is still at earlier =
+      pick (item_moves path device mid new at known working
+      (came_running h mid (Some due) comes ∙ settled.running) due item is still)
     where
-      moves : MovesAt path device due item mid new
-      moves = item_moves path device mid new at (arrival_knows h mid (Some due) comes settled.knows)
-          (came_still (Some due) h.world mid.world comes.takes.took.ends)
-          (came_running h mid (Some due) comes ∙ settled.running) due item is
+      known : Knows mid
+      known = arrival_knows h mid (Some due) comes settled.knows
 
-      stayed : StayedAt path device h mid
-      stayed = stayed_came (Some due) h mid comes path device moves.listed
+      working : mid.world.fault ≡ None
+      working = came_still (Some due) h.world mid.world comes.takes.took.ends
 
-      on_to : (since : List ToldItem) (from : HostState) → StoodAt path device since from h
+      on_to : (since : List ToldItem) (from : HostState) → MovesAt path device due item mid new
+          → StoodAt path device since from h
           → StoodAt path device (record { due = due; asked = mid; item = item } ∷ since) from new
-      on_to since from stood = moved_stands path device since due item from mid new
-          (stayed_stands path device since from h mid stood stayed) moves
+      on_to since from moves stood = moved_stands path device since due item from mid new
+          (stayed_stands path device since from h mid stood
+          (stayed_came (Some due) h mid comes path device moves.listed)) moves
 
-      later : StoodOrFound path device told old h
+      later : MovesAt path device due item mid new → StoodOrFound path device told old h
           → StoodOrFound path device (record { due = due; asked = mid; item = item } ∷ told) old new
-      later (inl stood) = inl (on_to told old stood)
-      later (inr f) = inr (record {
+      later moves (inl stood) = inl (on_to told old moves stood)
+      later moves (inr f) = inr (record {
         earlier = f.earlier;
         before = f.before;
         up_to = f.up_to;
-        done = f.done;
+        asked = f.asked;
+        then_told = f.then_told;
         found = f.found;
-        round = f.round;
+        call = f.call;
         renewed = f.renewed;
         head = f.head;
         starts = f.starts;
         since = record { due = due; asked = mid; item = item } ∷ f.since;
         behind = more due item f.behind settled comes is;
-        stood = on_to f.since f.found f.stood;
+        stood = on_to f.since f.found moves f.stood;
         all = ap (λ l. record { due = due; asked = mid; item = item } ∷ l) f.all;
       })
+
+      looked : LookFinds path device due mid new
+          → FoundSince path device (record { due = due; asked = mid; item = item } ∷ told) old new
+      looked f =
+          let knows : Knows new = item_knows due (Some item) mid new is known in
+          record {
+            earlier = told;
+            before = h;
+            up_to = before;
+            asked = mid;
+            then_told = record { due = Some (Look f.to); asked = mid; item = item } ∷ [];
+            found = new;
+            call = in_look f.to item settled
+                (subst (λ d. Comes h (Ok (Some d)) mid) f.asks comes)
+                (subst (λ d. IsItemOf d (Some item) mid new) f.asks is);
+            renewed = f.renewed;
+            head = renewed_head path device mid new f.renewed known working;
+            starts = renewed_starts path device mid new f.renewed knows still at;
+            since = [];
+            behind = begun;
+            stood = stood_none path device new knows still at;
+            all = ap (λ d. record { due = d; asked = mid; item = item } ∷ told) (sym f.asks);
+          }
+
+      pick : MovesAt path device due item mid new ⊎ LookFinds path device due mid new
+          → StoodOrFound path device (record { due = due; asked = mid; item = item } ∷ told) old new
+      pick (inl moves) = later moves (earlier
+          (stayed_came (Some due) h mid comes path device moves.listed).listed)
+      pick (inr finds) = inr (looked finds)
 
   stood : {old new : HostState} {told : List ToldItem} → Stretch old told new → Knows old
       → new.world.fault ≡ None → accepted_device_at path new.entries ≡ Some device
@@ -270,7 +305,7 @@ module _ (path : List ℕ) (device : Accepted) where
       (stood before knows ((between_onward between) still).sound)
   stood (more {h = h} {mid = mid} {new = new} due item before settled comes is) knows still at =
       let mid_still = (item_onward due (Some item) mid new is still).sound in
-      stood_more due item settled comes is at
+      stood_more due item before settled comes is still at
       (stood before knows (comes_onward comes mid_still).sound)
 
 pub stood_or_found : (old new : HostState) (told : List ToldItem) → Stretch old told new → Knows old

@@ -8,7 +8,7 @@ use Rattle.usb_run.specs.{none, more as one_more, Settles, AppendsText, Makes, a
 use Rattle.usb_run.specs.{last as run_last, begun as run_begun, told as run_told, shown, IsItemOf}
 use Rattle.usb_run.specs.Transcript.{Transcript}
 use Rattle.usb_run.proofs.Interface.{RunsOnward, arrival_knows, called_onward, comes_onward}
-use Rattle.usb_run.proofs.Interface.{item_called, item_keeps_sound, knows_then, puts_knows}
+use Rattle.usb_run.proofs.Interface.{item_called, item_knows, knows_then, puts_knows}
 use Rattle.usb_run.proofs.Interface.{puts_onward, round_called}
 use Rattle.usb_streams.specs.{IsStretch, LiesBetween, round, silent, last, wrote, Stretch, begun}
 use Rattle.usb_streams.specs.{further, more, ToldItem}
@@ -42,9 +42,7 @@ pub stretch_knows : {old new : HostState} {told : List ToldItem} → Stretch old
 stretch_knows begun s = s
 stretch_knows (further before between) s = between_knows between (stretch_knows before s)
 stretch_knows (more {h = h} {mid = mid} {new = new} due item before settled comes is) s =
-    knows_then mid new (item_onward due (Some item) mid new is)
-    (item_keeps_sound due (Some item) mid new is)
-    (arrival_knows h mid (Some due) comes settled.knows)
+    item_knows due (Some item) mid new is (arrival_knows h mid (Some due) comes settled.knows)
 
 -- A run
 

@@ -7,14 +7,16 @@ use Rattle.std.specs.List.{AllByRecursion}
 use Rattle.usb_port.specs.{path_cmp}
 use Rattle.usb_device.specs.{State, Location, path_to, reach_on, state_on}
 use Rattle.usb_world.specs.declared.event.Ask.{Ask}
-use Rattle.usb_world.specs.{Send, Clear, Was}
+use Rattle.usb_world.specs.{Send, Clear, Look, Was}
 use Rattle.usb_pipe.specs.declared.condition.Condition.TheVariants.{Ready}
 use Rattle.usb_pipe.specs.{Bulk, InPipeInSync}
 use Rattle.usb_enum.specs.{Accepted}
 use Rattle.usb_table.specs.{Pipes, bytes_in, pipe_in, pipe_out, accepted_device_at, FitsIn}
 use Rattle.usb_table.specs.{pipes_at}
 use Rattle.usb_host.specs.{RenewedAt, Round, HostState, table_in, RoundTells}
-use Rattle.usb_run.specs.{Item, Listing, Sent, Received, Cleared}
+use Rattle.usb_run.specs.{Comes, IsItemOf, Item, Listing, Sent, Received, Cleared, Read}
+use Rattle.usb_run.specs.{Looked, Settled, Written}
+use Rattle.usb_run.specs.declared.runs.Item.TheVariants.{News}
 use Rattle.usb_streams.specs.Heads.{HeadAt}
 use Rattle.usb_streams.specs.Stretches.{ToldItem, Stretch}
 
@@ -31,6 +33,10 @@ bytes_from path (Listing tree taken) = []
 bytes_from path (Sent to told) = []
 bytes_from path (Received from told) = if is_at (path_cmp from) path then bytes_in told else []
 bytes_from path (Cleared at told) = []
+bytes_from path (Read from told) = []
+bytes_from path (Written to told) = []
+bytes_from path (Looked at told) = []
+bytes_from path (News news) = []
 
 -- an item tells of no fault
 abbrev pub is_done : Item → Bool
@@ -38,6 +44,10 @@ is_done (Listing tree taken) = true
 is_done (Sent to told) = is_ok told
 is_done (Received from told) = is_ok told
 is_done (Cleared at told) = is_ok told
+is_done (Read from told) = is_ok told
+is_done (Written to told) = is_ok told
+is_done (Looked at told) = is_ok told
+is_done (News news) = true
 
 -- the bytes of the sends to a path that are told done, end to end
 unfoldable pub sent_to : List ℕ → List ToldItem → List ℕ
@@ -145,23 +155,35 @@ StartsAt path h = (x : Location) (s : State) (pipe : Bulk) → path ≡ path_to 
     → reach_on h.world.roots x ≡ true → state_on h.world.roots x ≡ Some s
     → pipe_in (pipes_at path (table_in h)) ≡ Some pipe → InPipeInSync pipe s.place s
 
--- it was found anew in a round of the stretch, and stood there since; until that round was over it
--- had taken and given what it had when none was reached there, or nothing where it was plugged then
+-- the call of a stretch in which a device is found anew, from the host that makes it, and with what
+-- it tells: a round, or a look that an event asks of a host that had settled
+pub data FindsAnew (before : HostState) : HostState → List ToldItem → HostState → Type 0 where
+  in_round : {found : HostState} (done : Round) → RoundTells before (Ok done) found
+      → FindsAnew before before [] found
+  in_look : {asked found : HostState} (at : List ℕ) (item : Item) → Settled before
+      → Comes before (Ok (Some (Some (Look at)))) asked
+      → IsItemOf (Some (Look at)) (Some item) asked found
+      → FindsAnew before asked
+      (record { due = Some (Look at); asked = asked; item = item } ∷ []) found
+
+-- it was found anew in such a call of the stretch, and stood there since; until that call was over
+-- it had taken and given what it had when none was reached there, or nothing if it was plugged then
 pub record FoundSince (path : List ℕ) (device : Accepted) (told : List ToldItem)
     (old new : HostState) : Type 0 where
   pub earlier : List ToldItem
   pub before : HostState
   pub up_to : Stretch old earlier before
-  pub done : Round
+  pub asked : HostState
+  pub then_told : List ToldItem
   pub found : HostState
-  pub round : RoundTells before (Ok done) found
-  pub renewed : RenewedAt path device before found
+  pub call : FindsAnew before asked then_told found
+  pub renewed : RenewedAt path device asked found
   pub head : HeadAt path renewed.moment found.world
   pub starts : StartsAt path found
   pub since : List ToldItem
   pub behind : Stretch found since new
   pub stood : StoodAt path device since found new
-  pub all : since ++ earlier ≡ told
+  pub all : since ++ (then_told ++ earlier) ≡ told
 
 abbrev pub StoodOrFound : List ℕ → Accepted → List ToldItem → HostState → HostState → Type 0
 StoodOrFound path device told old new = StoodAt path device told old new

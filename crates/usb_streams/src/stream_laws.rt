@@ -16,11 +16,11 @@ ghost use Rattle.usb_streams.specs.Heads.{MovesNothing};
 ghost use Rattle.usb_streams.specs.Streams.{StoodOrFound};
 ghost use Rattle.usb_streams.specs.Stretches.{IsStretch, Stretch, ToldItem};
 
-/// Over any stretch of a run up to a host whose bus is at work, a device that is listed in the end stood at its path
-/// from the beginning, or since a round that found it anew and moved none of its bytes. From there on its sink got, end to end, the bytes of the
-/// sends to it that are told done, with at most a front of a failed one behind them; and the receives from it that are
-/// told done handed back, end to end, the next bytes of its source, none twice and none left out: each as long as no
-/// halt of the endpoint is cleared.
+/// Over any stretch of a run up to a host whose bus works, a device that is listed in the end stood at its path from the
+/// beginning, or since a round or a look that found it anew and moved none of its bytes. From there on its sink got the
+/// bytes of the sends to it that are reported done, end to end, with at most a prefix of a failed one after them. The
+/// receives from it that are reported done returned the next bytes of its source, end to end, none twice and none left
+/// out. Each is so as long as no halt of the endpoint is cleared.
 pub fn transfers_join()
     ensures { (old new : HostState) (told : List ToldItem) → Stretch old told new → Knows old
         → new.world.fault ≡ None

@@ -101,10 +101,12 @@ abbrev pub cause_index : Cause → List ℕ
 cause_index (BadConfiguration index) = decimal index
 cause_index cause = []
 
+abbrev pub cause_text : Cause → List ℕ
+cause_text cause = cause_word cause ++ cause_index cause
+
 -- PATH refused CAUSE
 unfoldable pub refused_line : List ℕ → Cause → List ℕ
-refused_line path cause = path_text path ++ codes " refused " ++ cause_word cause ++ cause_index
-    cause
+refused_line path cause = path_text path ++ codes " refused " ++ cause_text cause
 
 abbrev pub finding_lines : List ℕ → Finding → List (List ℕ)
 finding_lines path (Device device) = device_lines path device

@@ -1,6 +1,6 @@
 //! The lines of a listing.
 ghost use Rattle.std.specs.Prelude.{◌≡◌, ◌++◌, ◌∷◌, [], OnOk, IfOk, flat_map, map, option_map};
-ghost use Rattle.usb_text.specs.ListingLines.{address_line, config_line, config_lines, hub_line, hub_lines, string_line, string_lines, refused_line, listing_line, bound_line, device_lines, finding_lines, entry_lines, listing_lines, star, request_word, cause_word, cause_index};
+ghost use Rattle.usb_text.specs.ListingLines.{address_line, config_line, config_lines, hub_line, hub_lines, string_line, string_lines, refused_line, listing_line, bound_line, cause_text, device_lines, finding_lines, entry_lines, listing_lines, star, request_word, cause_word, cause_index};
 
 use crate::lines::Lines;
 use crate::text::{push_decimal, push_hex, push_path, push_units, speed_word};
@@ -219,6 +219,18 @@ fn push_index(alloc: Global, line: &mut Vec<u8>, cause: Cause) -> Result<(), All
     }
 }
 
+/// Adds the words of a cause, and the number that one of them ends in.
+///
+/// # Errors
+///
+/// Memory is refused.
+pub fn push_cause(alloc: Global, line: &mut Vec<u8>, cause: Cause) -> Result<(), AllocError>
+    ensures { OnOk result (line.new.items ≡ line.old.items ++ cause_text cause) }
+{
+    line.extend_from_slice(cause_word(cause).as_bytes())?;
+    push_index(alloc, line, cause)
+}
+
 /// `PATH refused CAUSE`.
 #[tactic(auto, unfolding(crate::specs::ListingLines::refused_line))]
 fn refused_line(alloc: Global, path: &PortPath, cause: Cause) -> Result<Vec<u8>, AllocError>
@@ -227,8 +239,7 @@ fn refused_line(alloc: Global, path: &PortPath, cause: Cause) -> Result<Vec<u8>,
     let mut line = Vec::with_capacity(alloc, ROOM)?;
     push_path(&mut line, path)?;
     line.extend_from_slice(b" refused ")?;
-    line.extend_from_slice(cause_word(cause).as_bytes())?;
-    push_index(alloc, &mut line, cause)?;
+    push_cause(alloc, &mut line, cause)?;
     Ok(line)
 }
 

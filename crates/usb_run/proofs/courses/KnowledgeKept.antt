@@ -15,10 +15,13 @@ use Rattle.usb_host.proofs.Interface.{accounted, settled_matches, sound_event, s
 use Rattle.usb_run.specs.{Item, Arrives, Comes, Knows, LeavesSettled, Ran, idle, silent, Reaches}
 use Rattle.usb_run.specs.{Rounds, none, more, Settled, Settles, AppendsText, Makes, asked, last}
 use Rattle.usb_run.specs.{IsItemOf}
-use Rattle.usb_run.proofs.AskedCalls.{answered, Calls, no_call, sends, receives, clears, item_calls}
+use Rattle.usb_run.proofs.AskedCalls.{AskAnswered, silent as no_item, listed, sent, received}
+use Rattle.usb_run.proofs.AskedCalls.{cleared, read, written, looked, news, answered}
+use Rattle.usb_run.proofs.AskedCalls.{OnlyReported, all_reported}
 use Rattle.usb_run.proofs.courses.RunCourses.{RunsOnward, called_onward, comes_onward}
 use Rattle.usb_run.proofs.courses.RunCourses.{settles_onward}
 use Rattle.usb_run.proofs.courses.RunParts.{item_called, round_called, round_running, rounds_called}
+use Rattle.usb_run.proofs.endings.Ends.{answered_goes}
 
 -- Damage that is fair up to a last world is fair up to one before it, and from one behind the first
 
@@ -187,20 +190,45 @@ transfer_keeps_sound : {A : Type 0} {most : ℕ} {Did : HostState → Result A H
     → KeepsInvariant a b
 transfer_keeps_sound tells = tells.keeps.sound
 
-calls_stay : {due : Option Ask} {a b : HostState} → Calls due a b → KeepsInvariant a b
-calls_stay {a = a} (no_call same) = subst (KeepsInvariant a) (sym same) (sound_none a)
-calls_stay (sends path bytes result asks tells) = transfer_keeps_sound tells
-calls_stay (receives path packets result asks tells) = transfer_keeps_sound tells
-calls_stay (clears path result asks tells) = transfer_keeps_sound tells
+reported_stays : (a b : HostState) → OnlyReported a b → KeepsInvariant a b
+reported_stays a b only = subst (KeepsInvariant a) (sym only.1) (record {
+  sound = λ s. record {
+    owned = s.owned;
+    rooted = s.rooted;
+    order = s.order;
+    known = s.known;
+    truthful = s.truthful;
+    level = s.level;
+  };
+  caused = λ s fair causes. causes;
+})
+
+answers_stay : {due : Option Ask} {item : Option Item} {a b : HostState}
+    → AskAnswered due item a b → KeepsInvariant a b
+answers_stay {a = a} (no_item nothing same) = subst (KeepsInvariant a) (sym same) (sound_none a)
+answers_stay {a = a} (listed asks is same) = subst (KeepsInvariant a) (sym same) (sound_none a)
+answers_stay (sent path bytes told asks is came) = transfer_keeps_sound came.call
+answers_stay (received path packets told asks is came) = transfer_keeps_sound came.call
+answers_stay (cleared path told asks is came) = transfer_keeps_sound came.call
+answers_stay (read path request told host asks is came) = transfer_keeps_sound came.call
+answers_stay (written path write told fits asks is came) = transfer_keeps_sound came.call
+answers_stay (looked path told asks is came) =
+    (came.call.keeps.sound (answered_goes came.answer told came.tells)).sound
+answers_stay {a = a} {b = b} (news told asks is all) =
+    reported_stays a b (all_reported a b told.items all)
 
 pub item_keeps_sound : (due : Option Ask) (item : Option Item) (a b : HostState)
     → IsItemOf due item a b → KeepsInvariant a b
-item_keeps_sound due item a b is = calls_stay (item_calls (answered due item a b is))
+item_keeps_sound due item a b is = answers_stay (answered due item a b is)
+
+pub item_knows : (due : Option Ask) (item : Option Item) (a b : HostState) → IsItemOf due item a b
+    → Knows a → Knows b
+item_knows due item a b is s = knows_then a b (called_onward (item_called due item a b is))
+    (item_keeps_sound due item a b is) s
 
 pub makes_knows : {a b : HostState} {item : Item} {over : Bool} → Makes a item over b → Knows b
 makes_knows (asked {item} {mid} {new} due reaches is right) =
-    knows_then mid new (called_onward (item_called due (Some item) mid new is))
-    (item_keeps_sound due (Some item) mid new is) (reaches_knows reaches)
+    item_knows due (Some item) mid new is (reaches_knows reaches)
 makes_knows (last reaches settled) = settled.knows
 
 pub puts_knows : {h k : HostState} {text : List ℕ} → AppendsText text h k → Knows h → Knows k

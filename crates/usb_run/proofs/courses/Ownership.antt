@@ -6,6 +6,7 @@ use Rattle.usb_world.specs.{BusFault, Limit, Memory, Failed, TookEvent, after, e
 use Rattle.usb_address.specs.{MapHolds, WhileBusWorks}
 use Rattle.usb_address.proofs.Interface.{event_keeps}
 use Rattle.usb_host.specs.{HostState, HostMapHolds, claims}
+use Rattle.usb_run.proofs.AskedCalls.{OnlyReported}
 
 -- what an event leaves of a host, whose bus stands for the world `mid` before it
 pub owning_event : (h : HostState) (mid v : World) (t : Option (List ℕ))
@@ -23,3 +24,9 @@ owning_event h mid v t result same running took exact refused cut limit o =
     (event_keeps mid result v took exact refused cut
     (λ reached none. cc (ap is_some none, limit reached))).kept (claims h.entries) before in
     record { single = kept.single; owned = λ _. kept }
+
+-- news leaves them
+pub owning_reported : {old new : HostState} → OnlyReported old new → HostMapHolds old
+    → HostMapHolds new
+owning_reported only o =
+    subst HostMapHolds (sym only.1) (record { single = o.single; owned = o.owned })

@@ -6,15 +6,18 @@ use Rattle.usb_world.specs.{BusFault, World, AttemptsWithin, to_come}
 use Rattle.usb_world.proofs.Interface.{spends_none, spends_then}
 use Rattle.usb_bus.specs.{TakesEvent}
 use Rattle.usb_bus.proofs.Interface.{went_none, went_then}
-use Rattle.usb_host.specs.{Agrees, round_bound, HostFault, Round, HostState, HostSteps}
+use Rattle.usb_host.specs.{Agrees, handling_bound, round_bound, HostFault, Round, HostState}
+use Rattle.usb_host.specs.{HostSteps}
 use Rattle.usb_host.specs.{OnlyBusSteps, RoundTells, TransferTells}
 use Rattle.usb_run.specs.{Item, RunFault, Spent, Arrives, Ran, idle, Reaches, Rounds, none, more}
 use Rattle.usb_run.specs.{Settled, Settles, Settling, Unsettled, Makes, asked, last, RunStops}
 use Rattle.usb_run.specs.{in_round, at_event, in_item, in_last, Does, IsItemOf, StopsAt}
 use Rattle.usb_run.specs.RunSegments as run
-use Rattle.usb_run.proofs.AskedCalls.{AskAnswered, silent, listed, sent, received, cleared}
-use Rattle.usb_run.proofs.AskedCalls.{answered, Calls, no_call, sends, receives, clears, item_calls}
-use Rattle.usb_run.proofs.AskedCalls.{stop_calls}
+use Rattle.usb_run.proofs.AskedCalls.{AskAnswered, silent, listed, sent, received, cleared, read}
+use Rattle.usb_run.proofs.AskedCalls.{written, looked, news, answered, Calls, no_call, sends}
+use Rattle.usb_run.proofs.AskedCalls.{receives, clears, reads, writes, looks, tells_news}
+use Rattle.usb_run.proofs.AskedCalls.{item_calls, stop_calls}
+use Rattle.usb_run.proofs.AskedCalls.{OnlyReported}
 
 -- Calls of the host
 
@@ -31,6 +34,11 @@ called_then v w = record { most = v.most + w.most; went = went_then v.most w.mos
 
 called_same : (old new : HostState) → new ≡ old → Called old new
 called_same old new same = subst (Called old) (sym same) (called_none old)
+
+-- news takes no attempt
+called_reported : (old new : HostState) → OnlyReported old new → Called old new
+called_reported old new only =
+    subst (Called old) (sym only.1) (record { most = 0; went = went_none })
 
 pub round_called : {a b : HostState} {result : Result Round HostFault} → RoundTells a result b
     → Called a b
@@ -67,6 +75,10 @@ calls_called {a = a} {b = b} (no_call same) = called_same a b same
 calls_called (sends path bytes result asks tells) = transfer_called tells
 calls_called (receives path packets result asks tells) = transfer_called tells
 calls_called (clears path result asks tells) = transfer_called tells
+calls_called (reads path request result asks tells) = transfer_called tells
+calls_called (writes path write result asks tells) = transfer_called tells
+calls_called (looks path result asks tells) = record { most = handling_bound; went = tells.went }
+calls_called {a = a} {b = b} (tells_news asks only) = called_reported a b only
 
 pub item_called : (due : Option Ask) (item : Option Item) (a b : HostState) → IsItemOf due item a b
     → Called a b
@@ -109,6 +121,10 @@ silent_same (listed asks is same) = same
 silent_same (sent path bytes told asks is came) = cc is
 silent_same (received path packets told asks is came) = cc is
 silent_same (cleared path told asks is came) = cc is
+silent_same (read path request told host asks is came) = cc is
+silent_same (written path write told fits asks is came) = cc is
+silent_same (looked path told asks is came) = cc is
+silent_same (news told asks is all) = cc is
 
 -- one event more that made no item
 pub ran_silent : {a b c : HostState} (due : Option Ask) (d : HostState) → Ran a b

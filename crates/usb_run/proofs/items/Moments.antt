@@ -3,7 +3,8 @@ use Rattle.std.proofs.Common.{◌≡◌, ◌∙◌, refl, sym, ap, subst, true, 
 use Rattle.std.proofs.Common.{Bool, Option, None, Some, Result, Ok, Err, arith, ℕ}
 use Rattle.std.specs.List.{AllByRecursion}
 use Rattle.usb_device.specs.{Spec, Ports}
-use Rattle.usb_world.specs.{Action, Show, Send, Receive, Clear, Event, BusFault, PlanData, IsPlan}
+use Rattle.usb_world.specs.{Action, Show, Send, Receive, Clear, ControlIn, ControlOut, Event}
+use Rattle.usb_world.specs.{Look as LookAt, News as AskNews, BusFault, PlanData, IsPlan}
 use Rattle.usb_world.specs.{AtMostTwoRunning, AtPorts, after, ask_of, event, event_taken}
 use Rattle.usb_world.specs.{after_change, opening}
 use Rattle.usb_world.specs.{after_event, after_first_event, World}
@@ -24,15 +25,16 @@ use Rattle.usb_run.specs.{Settled, listing_of, Makes, asked, last, RunsTo, Stopp
 use Rattle.usb_run.specs.{on_the_way, unwritten, in_text, begun, told, IsItemOf, sent_count}
 use Rattle.usb_run.specs.declared.runs.Item.TheVariants as item
 use Rattle.usb_run.specs.Transcript.{Transcript}
-use Rattle.usb_run.proofs.AskedCalls.{AskAnswered, silent, listed, sent, received, cleared}
-use Rattle.usb_run.proofs.AskedCalls.{answered}
-use Rattle.usb_run.proofs.courses.KnowledgeKept.{arrival_settled}
+use Rattle.usb_run.proofs.AskedCalls.{AskAnswered, silent, listed, sent, received, cleared, read}
+use Rattle.usb_run.proofs.AskedCalls.{written, looked, news, answered}
+use Rattle.usb_run.proofs.courses.KnowledgeKept.{arrival_settled, item_knows}
 use Rattle.usb_run.proofs.courses.KnowledgeKept.{reaches_knows, reaches_running, reaches_still}
 use Rattle.usb_run.proofs.courses.RunCourses.{RunsOnward, onward_runs, onward_then, over_cuts}
 use Rattle.usb_run.proofs.courses.RunCourses.{over_makes, over_puts, over_stops, over_transcript}
 use Rattle.usb_run.proofs.courses.DamagedLosses.{damages_runs}
 use Rattle.usb_run.proofs.courses.RunCourses.{over_run, traced_runs_onward, worse_runs}
-use Rattle.usb_run.proofs.items.ToldTransfers.{told_sent, told_received, told_cleared, count_done}
+use Rattle.usb_run.proofs.items.ToldTransfers.{told_sent, told_received, told_cleared, told_read}
+use Rattle.usb_run.proofs.items.ToldTransfers.{told_look, told_written, count_done}
 
 -- What is asked changes nothing that is plugged
 
@@ -105,6 +107,22 @@ item_right due made h mid k reaches is = right (answered due (Some made) mid k i
     right (cleared path answer asks e came) = tells (Some (Clear path)) _ asks e
         (told_cleared path mid k (reaches_knows reaches).sound (reaches_still reaches)
         (reaches_running reaches) answer came)
+    right (read path request answer host asks e came) =
+        tells (Some (ControlIn path request)) _ asks e
+        (told_read path mid k (reaches_knows reaches).sound (reaches_still reaches)
+        (reaches_running reaches) request answer came)
+    right (written path write answer fits asks e came) =
+        tells (Some (ControlOut path write)) _ asks e (
+          answer,
+          refl,
+          told_written path mid k (reaches_knows reaches).sound (reaches_still reaches)
+              (reaches_running reaches) write answer came,
+        )
+    right (looked path answer asks e came) = tells (Some (LookAt path)) _ asks e
+        (told_look path mid k (reaches_knows reaches).sound (reaches_still reaches)
+        (reaches_running reaches) answer came
+        (item_knows due (Some made) mid k is (reaches_knows reaches)))
+    right (news answer asks e all) = tells (Some AskNews) _ asks e all
 
 -- Each listing is what is plugged
 
@@ -138,6 +156,18 @@ module _ (plan : PlanData) (rules : IsPlan plan) (paths : AtPorts plan.events) (
       subst (IsListingOf plan) (sym is) tt
   due_right made mid k before still on (cleared path answer asks e came) right =
       let is : made ≡ item.Cleared path answer = cc e in
+      subst (IsListingOf plan) (sym is) tt
+  due_right made mid k before still on (read path request answer host asks e came) right =
+      let is : made ≡ item.Read path answer = cc e in
+      subst (IsListingOf plan) (sym is) tt
+  due_right made mid k before still on (written path write answer fits asks e came) right =
+      let is : made ≡ item.Written path (sent_count (length write.bytes) answer) = cc e in
+      subst (IsListingOf plan) (sym is) tt
+  due_right made mid k before still on (looked path answer asks e came) right =
+      let is : made ≡ item.Looked path answer = cc e in
+      subst (IsListingOf plan) (sym is) tt
+  due_right made mid k before still on (news answer asks e all) right =
+      let is : made ≡ item.News answer = cc e in
       subst (IsListingOf plan) (sym is) tt
 
   made_right : {h k : HostState} {made : Item} {over : Bool} → RunsOnward (opening plan) h.world

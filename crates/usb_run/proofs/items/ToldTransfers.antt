@@ -2,14 +2,22 @@
 use Rattle.std.proofs.Common.{◌≡◌, ◌≢◌, ◌∙◌, refl, sym, ap, subst, Bool, false, ℕ, List, None}
 use Rattle.std.proofs.Common.{Result, Ok, Err, is_ok}
 use Rattle.std.specs.Global.{Vec}
-use Rattle.usb_world.specs.{BusFault, World}
+use Rattle.usb_world.specs.{BusFault, World, Write}
 use Rattle.usb_table.specs.declared.fault.TableFault.TheVariants as table
 use Rattle.usb_table.specs.{TableFault, TransferFault, Pipes, Delivered, Collected, Restarted}
-use Rattle.usb_table.specs.{bytes_in}
+use Rattle.usb_table.specs.{bytes_in, control_target, IsHeld, ReadLeft, ReadMade, table_answer}
+use Rattle.usb_table.specs.{TransferIf, TransferIs, TransferLeaves, WriteLeft, WriteMade}
+use Rattle.usb_table.specs.{write_target}
 use Rattle.usb_table.proofs.Interface.{sent_delivers, received_collects, cleared_restarts}
+use Rattle.usb_table.proofs.Interface.{done_through}
 use Rattle.usb_host.specs.{HostFault, HostState, claims, HostInvariant, host_told, MovesThrough}
-use Rattle.usb_host.specs.{table_in, ClearTells, ReceiveTells, SendTells}
-use Rattle.usb_run.specs.{transfer_ended, sent_count}
+use Rattle.usb_host.specs.{table_in, ClearTells, ReceiveTells, SendTells, ReadTells, WriteTells}
+use Rattle.usb_host.specs.{ControlsAt, Look, LookDid, LookTells}
+use Rattle.usb_host.specs.declared.fault.HostFault.TheVariants as host
+use Rattle.usb_pipe.specs.{PipeFault}
+use Rattle.usb_request.specs.{Setup}
+use Rattle.usb_transaction.specs.{Target}
+use Rattle.usb_run.specs.{as_answer, ControlIfAsked, Knows, LookShows, transfer_ended, sent_count}
 use Rattle.usb_run.specs.Transfers.{Transfers}
 
 -- What is told of an answer of the table's
@@ -35,6 +43,40 @@ pub no_bus_fault : {A : Type 0} (result : Result A TableFault) (told : Result A 
     → transfer_ended (host_told result) ≡ Ok told → (why : BusFault) → result ≢ Err (table.Bus why)
 no_bus_fault result told e why is = let none = sym (ap (λ r. transfer_ended (host_told r)) is)
     ∙ e in cc none
+
+-- A control transfer, by whether there is a target
+
+control_told : {A : Type 0} (Is : TransferIs A) (Leaves : TransferLeaves A) (path : List ℕ)
+    (old new : HostState) (told : Result A TransferFault) (answer : Result A TableFault)
+    → IsHeld (table_in old) old.world → new.world.shared ≡ false
+    → transfer_ended (host_told answer) ≡ Ok told → (asked : Result Target TransferFault)
+    → TransferIf Is Leaves path (table_in old) asked old.world answer new.world
+    → ControlIfAsked Is Leaves path asked old.world told new.world
+control_told Is Leaves path old new told answer held single e (Ok target) made =
+    let ended = ap (λ r. transfer_ended (host_told r)) (sym made.told) ∙ e in
+    record {
+      answer = made.answer;
+      is = ended;
+      made = made.is;
+      each = made.left held single;
+      there = λ done. made.there held single (done_through made.answer
+          (table_answer made.answer) refl ∙ done_told (table_answer made.answer) told ended ∙ done);
+    }
+control_told Is Leaves path old new told answer held single e (Err fault) refused =
+    let is = ap (λ r. transfer_ended (host_told r)) (sym refused.0) ∙ e in
+    (cc is, refused.1)
+
+-- A look
+
+-- what ended the run is not told
+as_told : (answer : Result Look HostFault) (told : Result Look TransferFault)
+    → transfer_ended answer ≡ Ok told → answer ≡ as_answer told
+as_told (Ok look) told e = let is : told ≡ Ok look = cc e in sym (ap as_answer is)
+as_told (Err (host.Transfer fault)) told e =
+    let is : told ≡ Err fault = cc e in sym (ap as_answer is)
+as_told (Err (host.Bus fault)) told e = absurd (cc e)
+as_told (Err host.Stopped) told e = absurd (cc e)
+as_told (Err host.Memory) told e = absurd (cc e)
 
 -- By a host that goes on, and whose bus is at work
 
@@ -89,6 +131,36 @@ module _ (path : List ℕ) (old new : HostState) (sound : HostInvariant old) (st
       (cleared_restarts path (table_in old) old.world new.world (table_in new) h.answer
       (no_bus_fault h.answer told e) (sound.owned.so still) (sound.level still path)
       (single h) h.through.fits h.moves)
+
+  control_ended : {A : Type 0} {Is : TransferIs A} {Leaves : TransferLeaves A}
+      {target : Result Target TransferFault} {result : Result A HostFault}
+      (told : Result A TransferFault) → ControlsAt Is Leaves path target old result new
+      → transfer_ended result ≡ Ok told
+      → ControlIfAsked Is Leaves path target old.world told new.world
+  control_ended {A} {Is} {Leaves} {target} told h e =
+      control_told Is Leaves path old new told h.answer (sound.owned.so still)
+      ((h.keeps.worlds.addresses.kept (claims old.entries) sound.owned).single)
+      (sym (ap transfer_ended h.told) ∙ e) target h.did
+
+  pub told_read : (request : Setup) (told : Result (Vec ℕ) TransferFault)
+      → Transfers (ReadTells path request) old told new
+      → ControlIfAsked (ReadMade request) (ReadLeft request) path
+      (control_target path old.entries) old.world told new.world
+  told_read request told x = control_ended told (x.call.did running) x.tells
+
+  pub told_written : (write : Write) (told : Result (Unit {0}) TransferFault)
+      → Transfers (WriteTells path write.setup write.bytes) old told new
+      → ControlIfAsked (WriteMade write.setup write.bytes) (WriteLeft write.setup write.bytes) path
+      (write_target path write.setup old.entries) old.world told new.world
+  told_written write told x = control_ended told (x.call.did running) x.tells
+
+  pub told_look : (told : Result Look TransferFault) → Transfers (LookTells path) old told new
+      → Knows new → LookShows path old told new
+  told_look told x knows = record {
+    did = subst (λ (r : Result Look HostFault). LookDid path old r new)
+        (as_told x.answer told x.tells) (x.call.did running);
+    knows = knows;
+  }
 
 -- how many bytes were sent
 

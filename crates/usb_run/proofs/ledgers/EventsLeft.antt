@@ -1,5 +1,5 @@
 -- Of the events to come none is added, whatever is done.
-use Rattle.std.proofs.Common.{◌≡◌, ◌≤◌, ◌==◌, Bool, true, false, if◌then◌else◌, List, [], ◌∷◌}
+use Rattle.std.proofs.Common.{◌≡◌, ◌≤◌, ◌==◌, ℕ, Bool, true, false, if◌then◌else◌, List, [], ◌∷◌}
 use Rattle.std.proofs.Common.{Option, None, Some, refl, sym, subst, arith}
 use Rattle.std.specs.List.{sum_by}
 use Rattle.std.proofs.lemmas.List.Elements.{All-tail}
@@ -8,7 +8,6 @@ use Rattle.usb_world.specs.{Event, Attempt, BusFault, Limit, AtPorts, PlugsAtPor
 use Rattle.usb_world.specs.{Course, Step, here, step, attempt, root_call, event, report, after}
 use Rattle.usb_world.specs.{attempted, after_due_events, event_taken, is_due, at_attempt}
 use Rattle.usb_world.specs.{after_event, after_first_event, with_attempt, World}
-use Rattle.usb_plan.specs.{moved}
 
 -- what is so of the events to come, and stays so where the first one comes
 module _ (P : List Event → Type 0) (tail : (e : Event) (events : List Event) → P (e ∷ events)
@@ -62,7 +61,8 @@ pub at_ports-course : {w v : World} → Course AnyStep w v → AtPorts w.left �
 at_ports-course c h = left_course AtPorts
     (λ e events. All-tail (λ (x : Event). PlugsAtPort x.action) e events) c h
 
--- and move no more
-pub moved_left : (w v : World) → Course AnyStep w v → sum_by moved v.left ≤ sum_by moved w.left
-moved_left w v c = left_course (λ events. sum_by moved events ≤ sum_by moved w.left)
-    (λ e events h. omega (arith, h, sum_by-cons moved e events)) c (omega arith)
+-- and what each has comes to no more
+pub sum_left : (f : Event → ℕ) (w v : World) → Course AnyStep w v
+    → sum_by f v.left ≤ sum_by f w.left
+sum_left f w v c = left_course (λ events. sum_by f events ≤ sum_by f w.left)
+    (λ e events h. omega (arith, h, sum_by-cons f e events)) c (omega arith)

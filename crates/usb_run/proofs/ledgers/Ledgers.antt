@@ -1,9 +1,11 @@
 -- What was left to do and the events pay for the attempts of a run, as each round pays for its own.
 use Rattle.std.proofs.Common.{◌≡◌, ◌≢◌, ◌≤◌, ◌∙◌, ℕ, ◌+◌, ◌*◌, refl, sym, ap, subst, arith, List}
-use Rattle.std.proofs.Common.{[], ◌∷◌, length, Option, None, Some, Result, Ok, Err}
+use Rattle.std.proofs.Common.{[], ◌∷◌, length, cond, false, Option, None, Some, Result, Ok}
+use Rattle.std.proofs.Common.{Err}
 use Rattle.std.specs.List.{sum_by}
 use Rattle.std.proofs.lemmas.List.Sums.{sum_by-cons}
-use Rattle.usb_world.specs.{Action, Send, Receive, Clear, Event, BusFault, PlanData, IsPlan}
+use Rattle.usb_world.specs.{Action, Send, Receive, Clear, ControlIn, ControlOut, Look as LookAt}
+use Rattle.usb_world.specs.{Event, BusFault, PlanData, IsPlan}
 use Rattle.usb_world.specs.{AtPorts, AnyStep, Course, after, ask_of, event, event_taken, opening}
 use Rattle.usb_world.specs.{after_event, after_first_event, World, to_come}
 use Rattle.usb_world.specs.declared.event.Action.TheVariants as action
@@ -13,16 +15,21 @@ use Rattle.usb_backlog.specs.{KeepsBy, looks_by, strays_by, unmarked}
 use Rattle.usb_backlog.proofs.Interface.{few-none, keeps-event}
 use Rattle.usb_bus.specs.{next_due, Traced, still}
 use Rattle.usb_transaction.specs.{transaction_bound}
+use Rattle.usb_table.specs.{control_most}
 use Rattle.usb_host.specs.{HostFault, Round, Worked, Quiet, hubs, clear_bound, Affords, Costs}
+use Rattle.usb_host.specs.{Look, LookCosts, LookTells, handling_bound, is_final, look_cost}
 use Rattle.usb_host.specs.{PaysRound, RoundPaid, Weights, debt, event_weight, hub_weight}
 use Rattle.usb_host.specs.{look_weight, stray_weight, HasPlugs, plug_events, HostState}
 use Rattle.usb_host.specs.{opening_host as host_opening, HostInvariant, RoundTells, TransferTells}
 use Rattle.usb_host.proofs.Interface.{plugs_opening, plugs_same}
-use Rattle.usb_plan.specs.{moved, moved_in}
+use Rattle.usb_plan.specs.{is_look, is_look_at, moved, moved_in}
 use Rattle.usb_run.specs.{Item, RunFault, Comes, Opens, IsItemOf, StopsAt}
-use Rattle.usb_run.proofs.AskedCalls.{answered, Calls, no_call, sends, receives, clears, item_calls}
-use Rattle.usb_run.proofs.AskedCalls.{stop_calls}
-use Rattle.usb_run.proofs.ledgers.EventsLeft.{moved_left, at_ports-course}
+use Rattle.usb_run.proofs.AskedCalls.{AskAnswered, silent, listed, sent, received, cleared, read}
+use Rattle.usb_run.proofs.AskedCalls.{written, looked, news, answered, Calls, no_call, sends}
+use Rattle.usb_run.proofs.AskedCalls.{receives, clears, reads, writes, looks, tells_news}
+use Rattle.usb_run.proofs.AskedCalls.{stop_calls, all_reported}
+use Rattle.usb_run.proofs.endings.Ends.{answered_goes}
+use Rattle.usb_run.proofs.ledgers.EventsLeft.{sum_left, at_ports-course}
 use Rattle.usb_run.proofs.courses.KnowledgeKept.{arrival_sound}
 use Rattle.usb_run.proofs.ledgers.PlanWeights.{looks_by-opening, strays_by-opening}
 use Rattle.usb_run.proofs.ledgers.PlanWeights.{greatest_total-plugs, weights}
@@ -30,27 +37,32 @@ use Rattle.usb_run.proofs.ledgers.RunBounds.{Carries, Few}
 use Rattle.usb_run.proofs.courses.RunCourses.{Running, called_onward, comes_onward}
 use Rattle.usb_run.proofs.courses.RunCourses.{traced_runs_onward}
 use Rattle.usb_run.proofs.courses.RunParts.{Called, round_called}
-use Rattle.usb_run.proofs.ledgers.Sums.{debt_grown, grown_pays, moved_within, owed_after}
+use Rattle.usb_run.proofs.ledgers.Sums.{debt_grown, grown_pays, looked_within, moved_within}
+use Rattle.usb_run.proofs.ledgers.Sums.{owed_after}
 use Rattle.usb_run.proofs.ledgers.Sums.{owed_behind, owed_came, owed_due, owed_first, owed_moved}
 use Rattle.usb_run.proofs.ledgers.Sums.{owed_settled, owed_worked, pays_costs, room_within}
 use Rattle.usb_run.proofs.ledgers.Sums.{still_within, stopped_within}
 use Rattle.usb_enum.proofs.Interface.{traced_faulted}
 
+-- what an event pays beside its weight; a look pays one look again for each device below
+abbrev pub event_pays : Weights → PlanData → Event → ℕ
+event_pays c plan e = 1000 * moved e + look_weight c * length plan.events * cond (is_look e) 1 0
+
 -- attempts that were made, what is enough for what is left to do, and what the events to come pay
-abbrev pub weight_owed : Weights → HostState → ℕ
-weight_owed c h = h.world.attempts + debt c h + (event_weight c + c.polls) * to_come h.world +
-    1000 * sum_by moved h.world.left
+abbrev pub weight_owed : Weights → PlanData → HostState → ℕ
+weight_owed c plan h = h.world.attempts + debt c h + (event_weight c + c.polls) * to_come h.world +
+    sum_by (event_pays c plan) h.world.left
 
 -- what all events pay, and the polls of the last round
 abbrev pub most_owed : Weights → PlanData → ℕ
-most_owed c plan = (event_weight c + c.polls) * length plan.events + 1000 * sum_by moved plan.events
-    + c.polls
+most_owed c plan = (event_weight c + c.polls) * length plan.events +
+    sum_by (event_pays c plan) plan.events + c.polls
 
 -- attempts are few, whatever became of the bus; where it is at work, so many more may be made
 pub record Paid (c : Weights) (plan : PlanData) (room : ℕ) (h : HostState) : Type 0 where
   pub few : Few (most_owed c plan + event_weight c) h
   pub affords : h.world.fault ≡ None → Affords c plan h
-  pub owes : h.world.fault ≡ None → weight_owed c h + room ≤ most_owed c plan
+  pub owes : h.world.fault ≡ None → weight_owed c plan h + room ≤ most_owed c plan
 
 -- Faults
 
@@ -65,23 +77,36 @@ few_called {a} {b} most calls few working = split a.world.fault refl
 
 -- What an event pays
 
--- a clear, what is sent, and what is received
-abbrev pub room_of : Option Ask → ℕ
-room_of (Some (Send path bytes)) = transaction_bound * length bytes
-room_of (Some (Receive path packets)) = transaction_bound * packets
-room_of (Some (Clear path)) = clear_bound
-room_of _ = 0
+-- the attempts of what an event asks, and what a look leaves to do
+abbrev pub room_of : Weights → PlanData → Option Ask → ℕ
+room_of c plan (Some (Send path bytes)) = transaction_bound * length bytes
+room_of c plan (Some (Receive path packets)) = transaction_bound * packets
+room_of c plan (Some (Clear path)) = clear_bound
+room_of c plan (Some (ControlIn path request)) = control_most request.length
+room_of c plan (Some (ControlOut path write)) = control_most write.setup.length
+room_of c plan (Some (LookAt path)) = look_cost c plan
+room_of c plan _ = 0
 
-room_paid : (a : Action) → room_of (ask_of a) ≤ 3200 + 1000 * moved_in a
+-- what one event pays beside what it adds
+abbrev pub beside : Weights → ℕ
+beside c = look_weight c + stray_weight c + 3200
+
+room_paid : (c : Weights) (plan : PlanData) (a : Action)
+    → room_of c plan (ask_of a)
+    ≤ beside c + (1000 * moved_in a + look_weight c * length plan.events * cond (is_look_at a) 1 0)
 unfolding ask_of
-room_paid (action.Ask (Send path bytes)) = omega arith
-room_paid (action.Ask (Receive path packets)) = omega arith
-room_paid (action.Ask (Clear path)) = omega arith
-room_paid _ = omega arith
+room_paid c plan (action.Ask (Send path bytes)) = omega arith
+room_paid c plan (action.Ask (Receive path packets)) = omega arith
+room_paid c plan (action.Ask (Clear path)) = omega arith
+room_paid c plan (action.Ask (ControlIn path request)) = omega arith
+room_paid c plan (action.Ask (ControlOut path write)) = omega arith
+room_paid c plan (action.Ask (LookAt path)) = omega arith
+room_paid c plan _ = omega arith
 
-room_moved : (e : Event) → room_of (ask_of e.action) ≤ 3200 + 1000 * moved e
+room_moved : (c : Weights) (plan : PlanData) (e : Event)
+    → room_of c plan (ask_of e.action) ≤ beside c + event_pays c plan e
 unfolding moved
-room_moved e = room_paid e.action
+room_moved c plan e = room_paid c plan e.action
 
 -- the first event to come asks for this
 record IsFirstDue (w : World) (due : Option Ask) : Type 0 where
@@ -105,15 +130,12 @@ unfolding after after_event
 after_left w e events working same = ap (λ f. (event_taken f w).left) working
     ∙ ap (λ l. (after_first_event l w).left) same
 
-module _ (c : Weights) where
-  -- what one event adds, and what it pays beside that
+module _ (c : Weights) (plan : PlanData) where
+  -- what one event adds
   abbrev added : ℕ
   added = 7 * look_weight c + stray_weight c
 
-  abbrev beside : ℕ
-  beside = look_weight c + stray_weight c + 3200
-
-  event_is : event_weight c ≡ added + beside
+  event_is : event_weight c ≡ added + beside c
   event_is = omega arith
 
   debt_kept : (a b : HostState) → KeepsBy unmarked unmarked unmarked a.world b.world
@@ -128,14 +150,14 @@ module _ (c : Weights) where
   owed_on : (a b : HostState) (k more : ℕ) → Course AnyStep a.world b.world → Costs c more a b
       → b.world.taken + to_come b.world ≡ a.world.taken + to_come a.world
       → to_come b.world + k ≤ to_come a.world
-      → weight_owed c b + c.polls * k ≤ weight_owed c a + more
+      → weight_owed c plan b + c.polls * k ≤ weight_owed c plan a + more
   owed_on a b k more course costs events fewer =
       owed_after (event_weight c) c.polls a.world.attempts (debt c a) a.world.taken
-      (to_come a.world) (sum_by moved a.world.left)
-      b.world.attempts (debt c b) b.world.taken (to_come b.world) (sum_by moved b.world.left) k more
-      costs events fewer (moved_left a.world b.world course)
+      (to_come a.world) (sum_by (event_pays c plan) a.world.left)
+      b.world.attempts (debt c b) b.world.taken (to_come b.world)
+      (sum_by (event_pays c plan) b.world.left) k more
+      costs events fewer (sum_left (event_pays c plan) a.world b.world course)
 
-module _ (c : Weights) (plan : PlanData) where
   abbrev pub most : ℕ
   most = most_owed c plan
 
@@ -166,7 +188,7 @@ module _ (c : Weights) (plan : PlanData) where
   paid_less h r q less x = record {
     few = x.few;
     affords = x.affords;
-    owes = λ none. room_within (weight_owed c h) q r most less (x.owes none);
+    owes = λ none. room_within (weight_owed c plan h) q r most less (x.owes none);
   }
 
   -- A round
@@ -175,7 +197,8 @@ module _ (c : Weights) (plan : PlanData) where
       → RoundTells a result b → Few all b
   round_few a b room result x tells = few_called all (round_called tells) x.few (λ working.
       stopped_within (event_weight c) c.polls a.world.attempts (debt c a) a.world.taken
-      (to_come a.world) (sum_by moved a.world.left) b.world.attempts b.world.taken most room
+      (to_come a.world) (sum_by (event_pays c plan) a.world.left) b.world.attempts b.world.taken
+      most room
       (tells.keeps.pays c plan (x.affords working)).most (omega (arith, tells.went.spends.events))
       (x.owes working))
 
@@ -192,8 +215,8 @@ module _ (c : Weights) (plan : PlanData) where
         tells.keeps.sound.keeps.sound.sound (round_paid.plugs none) none
 
     round_owed : (k more : ℕ) → Costs c more a b → to_come b.world + k ≤ to_come a.world
-        → weight_owed c b + c.polls * k ≤ weight_owed c a + more
-    round_owed k more costs fewer = owed_on c a b k more round_work.course costs
+        → weight_owed c plan b + c.polls * k ≤ weight_owed c plan a + more
+    round_owed k more costs fewer = owed_on a b k more round_work.course costs
         tells.went.spends.events fewer
 
     -- no event is added
@@ -204,19 +227,21 @@ module _ (c : Weights) (plan : PlanData) where
     event_came other = omega (arith, other, tells.went.spends.events, tells.went.spends.onward)
 
     round_goes : (r : Round) → RoundPaid c r a b → (r ≡ Quiet → b.world.taken ≢ a.world.taken)
-        → weight_owed c b + c.polls ≤ most
-    round_goes Worked done came = owed_worked (weight_owed c b) (weight_owed c a) c.polls most
+        → weight_owed c plan b + c.polls ≤ most
+    round_goes Worked done came =
+        owed_worked (weight_owed c plan b) (weight_owed c plan a) c.polls most
         (round_owed 0 0 (pays_costs (b.world.attempts + debt c b) (event_weight c * a.world.taken)
         (a.world.attempts + debt c a + event_weight c * b.world.taken) done) none_added)
         (x.owes round_work.sound)
-    round_goes Quiet done came = owed_came (weight_owed c b) (weight_owed c a) c.polls most
+    round_goes Quiet done came =
+        owed_came (weight_owed c plan b) (weight_owed c plan a) c.polls most
         (round_owed 1 c.polls done (event_came (came refl))) (x.owes round_work.sound)
 
-    round_settles : round ≡ Quiet → weight_owed c b + 0 ≤ most
+    round_settles : round ≡ Quiet → weight_owed c plan b + 0 ≤ most
     round_settles quiet =
         let done : RoundPaid c Quiet a b = subst (λ r. RoundPaid c r a b) quiet
         (round_paid.pays none) in
-        owed_settled (weight_owed c b) (weight_owed c a) c.polls most
+        owed_settled (weight_owed c plan b) (weight_owed c plan a) c.polls most
         (round_owed 0 c.polls done none_added) (x.owes round_work.sound)
 
   -- An event
@@ -240,28 +265,31 @@ module _ (c : Weights) (plan : PlanData) where
         (plugs_same plan.events a b comes.takes.took.spends.onward came_entries
         (x.affords came_work.sound).plugs) comes.takes.took.ends.still
 
-    came_owed : weight_owed c b + (c.polls + room_of due) ≤ most
+    came_owed : weight_owed c plan b + (c.polls + room_of c plan due) ≤ most
     came_owed =
         let first : IsFirstDue a.world due = first_due a.world due comes.takes.asked in
         let left : b.world.left ≡ first.events = ap (λ (w : World). w.left) comes.takes.exact
         ∙ after_left a.world first.e first.events came_work.sound first.left in
         let fewer : to_come a.world ≡ to_come b.world + 1 =
         omega (arith, ap length first.left, ap length left) in
-        let less : sum_by moved a.world.left ≡ moved first.e + sum_by moved b.world.left =
-        ap (sum_by moved) first.left ∙ (sum_by-cons moved first.e first.events
-        ∙ ap (λ l. moved first.e + sum_by moved l) (sym left)) in
-        let fits : room_of due ≤ 3200 + 1000 * moved first.e =
-        subst (λ d. room_of d ≤ 3200 + 1000 * moved first.e) first.asks (room_moved first.e) in
-        owed_due (weight_owed c b) (weight_owed c a) (look_weight c) (stray_weight c) c.polls
-        (moved first.e) (room_of due) most
-        (owed_behind (event_weight c) (added c) (beside c) c.polls a.world.attempts (debt c a)
-        a.world.taken (to_come a.world) (sum_by moved a.world.left)
-        b.world.attempts (debt c b) b.world.taken (to_come b.world) (sum_by moved b.world.left)
-        (moved first.e)
-        (event_is c) comes.takes.took.spends.most (debt_kept c a b came_keeps came_entries)
+        let pays : Event → ℕ = event_pays c plan in
+        let less : sum_by pays a.world.left ≡ pays first.e + sum_by pays b.world.left =
+        ap (sum_by pays) first.left ∙ (sum_by-cons pays first.e first.events
+        ∙ ap (λ l. pays first.e + sum_by pays l) (sym left)) in
+        let fits : room_of c plan due ≤ beside c + pays first.e =
+        subst (λ d. room_of c plan d ≤ beside c + pays first.e) first.asks
+        (room_moved c plan first.e) in
+        owed_due (weight_owed c plan b) (weight_owed c plan a) (beside c) c.polls (pays first.e)
+        (room_of c plan due) most
+        (owed_behind (event_weight c) added (beside c) c.polls a.world.attempts (debt c a)
+        a.world.taken (to_come a.world) (sum_by (event_pays c plan) a.world.left)
+        b.world.attempts (debt c b) b.world.taken (to_come b.world)
+        (sum_by (event_pays c plan) b.world.left)
+        (pays first.e)
+        event_is comes.takes.took.spends.most (debt_kept a b came_keeps came_entries)
         comes.takes.took.ends.one fewer less) fits (x.owes came_work.sound)
 
-    came_paid : Paid c plan (c.polls + room_of due) b
+    came_paid : Paid c plan (c.polls + room_of c plan due) b
     came_paid = record {
       few = still_within b.world.attempts a.world.attempts all comes.takes.took.spends.most x.few;
       affords = λ none. came_affords;
@@ -279,7 +307,7 @@ module _ (c : Weights) (plan : PlanData) where
     transfer_few : Few all b
     transfer_few = few_called all transfer_calls x.few (λ working.
         moved_within b.world.attempts a.world.attempts (debt c a)
-        ((event_weight c + c.polls) * to_come a.world) (1000 * sum_by moved a.world.left)
+        ((event_weight c + c.polls) * to_come a.world) (sum_by (event_pays c plan) a.world.left)
         c.polls n most (event_weight c) tells.went.spends.most (x.owes working))
 
     module _ (none : b.world.fault ≡ None) where
@@ -296,66 +324,69 @@ module _ (c : Weights) (plan : PlanData) where
           (plugs_same plan.events a b tells.went.spends.onward tells.stopped.kept
           (x.affords transfer_work.sound).plugs) none
 
-      transfer_owed : weight_owed c b + c.polls ≤ most
+      transfer_owed : weight_owed c plan b + c.polls ≤ most
       transfer_owed =
           let fewer : to_come b.world + 0 ≤ to_come a.world =
           omega (arith, tells.went.spends.events, tells.went.spends.onward) in
-          let costs : Costs c n a b = grown_pays (event_weight c) (added c) (beside c)
+          let costs : Costs c n a b = grown_pays (event_weight c) added (beside c)
           a.world.attempts (debt c a) a.world.taken b.world.attempts (debt c b) b.world.taken n
-          (event_is c) tells.went.spends.most (debt_kept c a b transfer_keeps tells.stopped.kept)
+          event_is tells.went.spends.most (debt_kept a b transfer_keeps tells.stopped.kept)
           tells.went.spends.onward in
-          owed_moved (weight_owed c b) (weight_owed c a) c.polls n most
-          (owed_on c a b 0 n transfer_work.course costs tells.went.spends.events fewer)
+          owed_moved (weight_owed c plan b) (weight_owed c plan a) c.polls n most
+          (owed_on a b 0 n transfer_work.course costs tells.went.spends.events fewer)
           (x.owes transfer_work.sound)
 
     transfer_paid : Paid c plan c.polls b
     transfer_paid = record { few = transfer_few; affords = transfer_affords; owes = transfer_owed }
 
-  asked_paid : (a : HostState) {due asked : Option Ask} → due ≡ asked
-      → Paid c plan (c.polls + room_of due) a → Paid c plan (c.polls + room_of asked) a
-  asked_paid a asks x = subst (λ d. Paid c plan (c.polls + room_of d) a) asks x
+  -- A look
 
-  calls_paid : (a b : HostState) (due : Option Ask) → Paid c plan (c.polls + room_of due) a
-      → Calls due a b → Paid c plan c.polls b
-  calls_paid a b due x (no_call same) =
-      subst (Paid c plan c.polls) (sym same)
-      (paid_less a (c.polls + room_of due) c.polls (omega arith) x)
-  calls_paid a b due x (sends path bytes result asks tells) =
-      transfer_paid (transaction_bound * length bytes) a b result (asked_paid a asks x) tells
-  calls_paid a b due x (receives path packets result asks tells) =
-      transfer_paid (transaction_bound * packets) a b result (asked_paid a asks x) tells
-  calls_paid a b due x (clears path result asks tells) =
-      transfer_paid clear_bound a b result (asked_paid a asks x) tells
+  module _ (a b : HostState) (path : List ℕ) (result : Result Look HostFault)
+      (x : Paid c plan (c.polls + look_cost c plan) a) (tells : LookTells path a result b) where
+    look_calls : Called a b
+    look_calls = record { most = handling_bound; went = tells.went }
 
-  calls_few : (a b : HostState) (due : Option Ask) → Paid c plan (c.polls + room_of due) a
-      → Calls due a b → Few all b
-  calls_few a b due x (no_call same) = subst (Few all) (sym same) x.few
-  calls_few a b due x (sends path bytes result asks tells) =
-      transfer_few (transaction_bound * length bytes) a b result (asked_paid a asks x) tells
-  calls_few a b due x (receives path packets result asks tells) =
-      transfer_few (transaction_bound * packets) a b result (asked_paid a asks x) tells
-  calls_few a b due x (clears path result asks tells) =
-      transfer_few clear_bound a b result (asked_paid a asks x) tells
+    look_few : Few all b
+    look_few = few_called all look_calls x.few (λ working.
+        looked_within (event_weight c) c.polls a.world.attempts (debt c a) a.world.taken
+        (to_come a.world) (sum_by (event_pays c plan) a.world.left) b.world.attempts b.world.taken
+        most (look_cost c plan) (tells.keeps.costs c plan (x.affords working)).most
+        (omega (arith, tells.went.spends.events)) (x.owes working))
 
-  item_paid : (a b : HostState) (due : Option Ask) (item : Option Item)
-      → Paid c plan (c.polls + room_of due) a → IsItemOf due item a b → Paid c plan c.polls b
-  item_paid a b due item x is = calls_paid a b due x (item_calls (answered due item a b is))
+    module _ (goes : is_final result ≡ false) (none : b.world.fault ≡ None) where
+      look_work : Running a.world b.world
+      look_work = called_onward look_calls none
 
-  stop_few : (a b : HostState) (due : Option Ask) (fault : RunFault)
-      → Paid c plan (c.polls + room_of due) a → StopsAt due fault a b → Few all b
-  stop_few a b due fault x stops = calls_few a b due x (stop_calls due fault a b stops)
+      look_costs : LookCosts c plan a result b
+      look_costs = tells.keeps.costs c plan (x.affords look_work.sound)
 
-  -- The trace
+      look_affords : Affords c plan b
+      look_affords = affords_on a b (x.affords look_work.sound) look_work
+          (tells.keeps.sound goes).sound.sound (look_costs.plugs goes none) none
 
-  written_paid : (a : HostState) (trace : Option (List ℕ)) → Paid c plan c.polls a
-      → Paid c plan c.polls (record a { trace = trace })
-  written_paid a trace x = record {
+      look_owed : weight_owed c plan b + c.polls ≤ most
+      look_owed =
+          let fewer : to_come b.world + 0 ≤ to_come a.world =
+          omega (arith, tells.went.spends.events, tells.went.spends.onward) in
+          owed_moved (weight_owed c plan b) (weight_owed c plan a) c.polls (look_cost c plan) most
+          (owed_on a b 0 (look_cost c plan) look_work.course (look_costs.costs goes none)
+          tells.went.spends.events fewer) (x.owes look_work.sound)
+
+    look_paid : is_final result ≡ false → Paid c plan c.polls b
+    look_paid goes = record { few = look_few; affords = look_affords goes; owes = look_owed goes }
+
+  -- The trace, and of which devices the caller was told
+
+  kept_paid : (a : HostState) (trace : Option (List ℕ)) (reported : List (List ℕ × ℕ))
+      → Paid c plan c.polls a
+      → Paid c plan c.polls (record a { trace = trace; reported = reported })
+  kept_paid a trace reported x = record {
     few = x.few;
     affords = λ none. so (x.affords none);
     owes = x.owes;
   }
     where
-      so : Affords c plan a → Affords c plan (record a { trace = trace })
+      so : Affords c plan a → Affords c plan (record a { trace = trace; reported = reported })
       so y =
           let s = y.works.sound in
           record {
@@ -379,10 +410,72 @@ module _ (c : Weights) (plan : PlanData) where
             plugs = record { each = y.plugs.each; none_waits = y.plugs.none_waits };
           }
 
+  -- What an event asks
+
+  same_paid : (a b : HostState) (room : ℕ) → b ≡ a → Paid c plan (c.polls + room) a
+      → Paid c plan c.polls b
+  same_paid a b room same x = subst (Paid c plan c.polls) (sym same)
+      (paid_less a (c.polls + room) c.polls (omega arith) x)
+
+  asked_paid : (a : HostState) {due asked : Option Ask} → due ≡ asked
+      → Paid c plan (c.polls + room_of c plan due) a
+      → Paid c plan (c.polls + room_of c plan asked) a
+  asked_paid a asks x = subst (λ d. Paid c plan (c.polls + room_of c plan d) a) asks x
+
+  asked_calls : (a b : HostState) {due : Option Ask} {item : Option Item}
+      → Paid c plan (c.polls + room_of c plan due) a → AskAnswered due item a b
+      → Paid c plan c.polls b
+  asked_calls a b {due} x (silent nothing same) = same_paid a b (room_of c plan due) same x
+  asked_calls a b {due} x (listed asks is same) = same_paid a b (room_of c plan due) same x
+  asked_calls a b x (sent path bytes told asks is came) =
+      transfer_paid (transaction_bound * length bytes) a b came.answer (asked_paid a asks x)
+      came.call
+  asked_calls a b x (received path packets told asks is came) =
+      transfer_paid (transaction_bound * packets) a b came.answer (asked_paid a asks x) came.call
+  asked_calls a b x (cleared path told asks is came) =
+      transfer_paid clear_bound a b came.answer (asked_paid a asks x) came.call
+  asked_calls a b x (read path request told host asks is came) =
+      transfer_paid (control_most request.length) a b came.answer (asked_paid a asks x) came.call
+  asked_calls a b x (written path write told fits asks is came) =
+      transfer_paid (control_most write.setup.length) a b came.answer (asked_paid a asks x)
+      came.call
+  asked_calls a b x (looked path told asks is came) =
+      look_paid a b path came.answer (asked_paid a asks x) came.call
+      (answered_goes came.answer told came.tells)
+  asked_calls a b {due} x (news told asks is all) =
+      let only = all_reported a b told.items all in
+      subst (Paid c plan c.polls) (sym only.1) (kept_paid a a.trace only.0
+      (paid_less a (c.polls + room_of c plan due) c.polls (omega arith) x))
+
+  calls_few : (a b : HostState) (due : Option Ask) → Paid c plan (c.polls + room_of c plan due) a
+      → Calls due a b → Few all b
+  calls_few a b due x (no_call same) = subst (Few all) (sym same) x.few
+  calls_few a b due x (sends path bytes result asks tells) =
+      transfer_few (transaction_bound * length bytes) a b result (asked_paid a asks x) tells
+  calls_few a b due x (receives path packets result asks tells) =
+      transfer_few (transaction_bound * packets) a b result (asked_paid a asks x) tells
+  calls_few a b due x (clears path result asks tells) =
+      transfer_few clear_bound a b result (asked_paid a asks x) tells
+  calls_few a b due x (reads path request result asks tells) =
+      transfer_few (control_most request.length) a b result (asked_paid a asks x) tells
+  calls_few a b due x (writes path write result asks tells) =
+      transfer_few (control_most write.setup.length) a b result (asked_paid a asks x) tells
+  calls_few a b due x (looks path result asks tells) =
+      look_few a b path result (asked_paid a asks x) tells
+  calls_few a b due x (tells_news asks only) = subst (Few all) (sym only.1) x.few
+
+  item_paid : (a b : HostState) (due : Option Ask) (item : Option Item)
+      → Paid c plan (c.polls + room_of c plan due) a → IsItemOf due item a b → Paid c plan c.polls b
+  item_paid a b due item x is = asked_calls a b x (answered due item a b is)
+
+  stop_few : (a b : HostState) (due : Option Ask) (fault : RunFault)
+      → Paid c plan (c.polls + room_of c plan due) a → StopsAt due fault a b → Few all b
+  stop_few a b due fault x stops = calls_few a b due x (stop_calls due fault a b stops)
+
   -- A run
 
   pub carries_paid : Carries all (Paid c plan c.polls) (Paid c plan 0)
-      (λ due. Paid c plan (c.polls + room_of due))
+      (λ due. Paid c plan (c.polls + room_of c plan due))
   carries_paid = record {
     few = λ a x. x.few;
     goes = λ a b round x tells goes. record {
@@ -403,7 +496,7 @@ module _ (c : Weights) (plan : PlanData) where
         comes.takes.took.spends.most x.few;
     answers = λ a b due item x is. item_paid a b due item x is;
     stops = λ a b due fault x stops. stop_few a b due fault x stops;
-    writes = λ a trace x. written_paid a trace x;
+    writes = λ a trace x. kept_paid a trace a.reported x;
   }
 
 -- A run begins
@@ -428,14 +521,15 @@ module _ (plan : PlanData) (few : plug_events plan.events ≤ 127) (before : Opt
     plugs = plugs_opening plan.events first refl;
   }
 
-  first_owed : weight_owed (weights plan) first + (weights plan).polls ≤ most_owed (weights plan)
-      plan
+  first_owed : weight_owed (weights plan) plan first + (weights plan).polls
+      ≤ most_owed (weights plan) plan
   first_owed =
       let c = weights plan in
       owed_first (look_weight c) (stray_weight c) (hub_weight c)
       (looks_by unmarked first.world.roots) (strays_by unmarked unmarked first.world.roots)
       (hubs first.entries)
-      ((event_weight c + c.polls) * length plan.events) (1000 * sum_by moved plan.events) c.polls
+      ((event_weight c + c.polls) * length plan.events) (sum_by (event_pays c plan) plan.events)
+      c.polls
       (looks_by-opening unmarked plan.roots) (strays_by-opening unmarked unmarked (λ i. refl)
       (λ i. refl) plan.roots) refl
 

@@ -9,7 +9,8 @@ use Rattle.usb_world.specs.declared.event.Action.TheVariants.{Change, Ask}
 use Rattle.usb_backlog.specs.{PortMark, after_first, looks_by, strays_by}
 use Rattle.usb_enum.specs.{PlugsWithin}
 use Rattle.usb_host.specs.{Weights, repowered}
-use Rattle.usb_plan.specs.{bound_of, enough_for, greatest_total, moved, plugged_total, total_after}
+use Rattle.usb_plan.specs.{bound_of, enough_for, greatest_total, looks_in, moved, plugged_total}
+use Rattle.usb_plan.specs.{total_after}
 use Rattle.usb_plan.specs.{total_at}
 use Rattle.usb_run.proofs.ledgers.Sums.{uncut}
 
@@ -46,12 +47,13 @@ greatest_total-plugs most devices (e ∷ events) h =
 -- The bound is not cut off where it is within the limit
 
 pub bound_uncut : (plan : PlanData) → IsPlan plan → bound_of plan ≤ plan.limit
-    → enough_for (length plan.events) (greatest_total plan.devices plan.events)
-    (sum_by moved plan.events) ≤ plan.limit
+    → enough_for (length plan.events) (looks_in plan.events)
+    (greatest_total plan.devices plan.events) (sum_by moved plan.events) ≤ plan.limit
 unfolding bound_of
 bound_uncut plan is below =
-    uncut (enough_for (length plan.events) (greatest_total plan.devices plan.events)
-    (sum_by moved plan.events)) (2 ^ 64 - 1) plan.limit below (omega (arith, is.limit))
+    uncut (enough_for (length plan.events) (looks_in plan.events)
+    (greatest_total plan.devices plan.events) (sum_by moved plan.events)) (2 ^ 64 - 1) plan.limit
+    below (omega (arith, is.limit))
 
 -- Nothing is plugged where power is taken and given first
 

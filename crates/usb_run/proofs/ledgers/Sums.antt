@@ -25,16 +25,16 @@ grown_pays e x y a d t a' d' t' more is attempts debts later =
 -- events that came are no longer to come: their polls are over
 pub owed_after : (e z a d t n m a' d' t' n' m' k more : ℕ) → a' + d' + e * t ≤ a + d + e * t' + more
     → t' + n' ≡ t + n → n' + k ≤ n → m' ≤ m
-    → a' + d' + (e + z) * n' + 1000 * m' + z * k ≤ a + d + (e + z) * n + 1000 * m + more
+    → a' + d' + (e + z) * n' + m' + z * k ≤ a + d + (e + z) * n + m + more
 owed_after e z a d t n m a' d' t' n' m' k more pays events fewer moves =
     let x = ap (λ i. e * i) events in
     let y = mul-le-mul_left z fewer in
     omega (arith, pays, x, y, moves)
 
--- one event came: what it adds is less than what it pays, by its polls, a clear and what it moves
+-- one event came: what it adds is less than what it pays, by its polls and what it asks
 pub owed_behind : (e x y z a d t n m a' d' t' n' m' v : ℕ) → e ≡ x + y → a' ≤ a + 0
     → d' + x * t ≤ d + x * t' → t' ≡ t + 1 → n ≡ n' + 1 → m ≡ v + m'
-    → a' + d' + (e + z) * n' + 1000 * m' + (y + z + 1000 * v) ≤ a + d + (e + z) * n + 1000 * m
+    → a' + d' + (e + z) * n' + m' + (y + z + v) ≤ a + d + (e + z) * n + m
 owed_behind e x y z a d t n m a' d' t' n' m' v is attempts debts one left moves =
     let w = ap (λ i. (e + z) * i) left in
     let later = ap (λ i. x * i) one in
@@ -42,8 +42,15 @@ owed_behind e x y z a d t n m a' d' t' n' m' v is attempts debts one left moves 
 
 -- attempts that were made, and those of one thing more that was cut off
 pub stopped_within : (e z a d t n m a' t' most room : ℕ) → a' + e * t ≤ a + d + e * t' + e
-    → t' ≤ t + n → a + d + (e + z) * n + 1000 * m + room ≤ most → a' ≤ most + e
+    → t' ≤ t + n → a + d + (e + z) * n + m + room ≤ most → a' ≤ most + e
 stopped_within e z a d t n m a' t' most room stops few owes =
+    let x = mul-le-mul_left e few in
+    omega (arith, stops, x, owes)
+
+-- and those of a look that is paid for
+pub looked_within : (e z a d t n m a' t' most room : ℕ) → a' + e * t ≤ a + d + e * t' + room
+    → t' ≤ t + n → a + d + (e + z) * n + m + (z + room) ≤ most → a' ≤ most + e
+looked_within e z a d t n m a' t' most room stops few owes =
     let x = mul-le-mul_left e few in
     omega (arith, stops, x, owes)
 
@@ -56,18 +63,23 @@ owed_first a c k l s h p q z looks strays hubs =
     let w = ap (λ i. k * i) hubs in
     omega (arith, x, y, w)
 
--- all that is owed is within the bound, where an event is to come
-pub within_enough : (v w m a e : ℕ) → 1 ≤ v → e ≡ 2611968 + 800 * w + 26 * (768 * v)
-    → a ≤ (e + 768 * v) * v + 1000 * m + 768 * v + e
-    → a + 2 ≤ 200 * v * (30000 + 10 * w) + 50000 * v * v + 1000 * m + 2
-within_enough v w m a e some is within =
-    let x = ap (λ i. i * v) is in
-    omega (arith, within_bound v w some, is, x, within)
+-- all that is owed is within the bound, if an event is to come: what each look pays besides is as
+-- much as that of an event without looks
+pub within_enough : (v l w m a e x : ℕ) → 1 ≤ v → e ≡ 2611968 + 800 * w + 26 * (768 * v) → x ≤ e
+    → a ≤ (e + 768 * v) * v + (1000 * m + x * v * l) + 768 * v + e
+    → a + 2 ≤ 200 * (v * (1 + l)) * (30000 + 10 * w) + 50000 * (v * (1 + l)) * v + 1000 * m + 2
+within_enough v l w m a e x some is less within =
+    let each = ap (λ i. i * v) is in
+    let bound = within_bound v w some in
+    let one : e * v ≤ 200 * v * (30000 + 10 * w) + 50000 * v * v = omega (arith, bound, is, each) in
+    let looks = mul-le-mul_left l one in
+    let paid = mul-le-mul_left (v * l) less in
+    omega (arith, bound, is, each, looks, paid, within)
 
--- where there is none, nothing is
-pub none_enough : (v w m a : ℕ) → a ≤ 0 → a + 2 ≤ 200 * v * (30000 + 10 * w) + 50000 * v *
-    v + 1000 * m + 2
-none_enough v w m a none = omega (arith, none)
+-- if there is none, nothing is
+pub none_enough : (v l w m a : ℕ) → a ≤ 0 → a + 2 ≤ 200 * (v * (1 + l)) * (30000 + 10 * w) + 50000 *
+    (v * (1 + l)) * v + 1000 * m + 2
+none_enough v l w m a none = omega (arith, none)
 
 pub uncut : (x top limit : ℕ) → min x top ≤ limit → limit + 1 ≤ top → x ≤ limit
 uncut x top limit below less = omega (arith, below, less)
@@ -89,9 +101,9 @@ owed_settled x y z most h owes = omega (arith, h, owes)
 pub owed_moved : (x y z n most : ℕ) → x + z * 0 ≤ y + n → y + (z + n) ≤ most → x + z ≤ most
 owed_moved x y z n most h owes = omega (arith, h, owes)
 
-pub owed_due : (x y l s z v r most : ℕ) → x + (l + s + 3200 + z + 1000 * v) ≤ y
-    → r ≤ 3200 + 1000 * v → y + 0 ≤ most → x + (z + r) ≤ most
-owed_due x y l s z v r most h fits owes = omega (arith, h, fits, owes)
+pub owed_due : (x y b z v r most : ℕ) → x + (b + z + v) ≤ y → r ≤ b + v → y + 0 ≤ most
+    → x + (z + r) ≤ most
+owed_due x y b z v r most h fits owes = omega (arith, h, fits, owes)
 
 pub moved_within : (a' a d p q z n most e : ℕ) → a' ≤ a + n → a + d + p + q + (z + n) ≤ most
     → a' ≤ most + e

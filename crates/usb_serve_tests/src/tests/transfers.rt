@@ -398,10 +398,14 @@ fn end_text(alloc: Global, ended: Result<String, TransferFault>) -> Result<Strin
     }
 }
 
-/// An item of a run, in the words of its line; none of a listing.
+/// An item of a run that is a transfer through a bulk pipe, in the words of its line.
 fn item_text(alloc: Global, item: &Item) -> Result<String, AllocError> {
     match item {
-        Item::Listing(_, _) => Ok(String::new(alloc)),
+        Item::Listing(_, _)
+        | Item::Read(_, _)
+        | Item::Written(_, _)
+        | Item::Looked(_, _)
+        | Item::News(_) => Ok(String::new(alloc)),
         Item::Sent(path, sent) => {
             let ended = match sent {
                 Ok(count) => Ok(format!(in alloc; " {count}")?),
