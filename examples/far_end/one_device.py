@@ -72,11 +72,12 @@ class Port:
             self.told = now
 
 
-port, listing = Port(), False
+REPORTS = ("listing", "news", "control", "send", "receive", "clear", "look")  # the first words of what is not asked
+port, block = Port(), False
 for line in map(str.rstrip, sys.stdin):
     words = line.split(" ")
-    if listing or words[0] in ("listing", "send", "receive", "clear"):  # told, not asked
-        listing = line != "end" and (listing or words[0] == "listing")
+    if block or words[0] in REPORTS:
+        block = line != "end" and (block or words[0] in ("listing", "news"))
         continue
     answer = ("roots 1" if words[0] == "usbplan" else port.call(line[7:]) if words[0] == "port" else
               port.wait() if line == "wait" else port.attempt(words))

@@ -1,8 +1,8 @@
 -- How lines and their replies follow each other, and what stops them.
-use Rattle.std.proofs.Common.{◌≡◌, ◌≢◌, ◌⊎◌, inl, inr, ◌∙◌, ℕ, ◌+◌, ◌<◌, ◌≤◌, Bool, true, false}
+use Rattle.std.proofs.Common.{◌≡◌, ◌≢◌, inl, inr, ◌∙◌, ℕ, ◌+◌, ◌<◌, ◌≤◌, Bool, true, false}
 use Rattle.std.proofs.Common.{not, ◌&&◌}
-use Rattle.std.proofs.Common.{if◌then◌else◌, List, [], ◌∷◌, ◌++◌, length, take, Option, Ok, Err}
-use Rattle.std.proofs.Common.{Some, refl, sym, ap, subst, arith, append_assoc, append-nil}
+use Rattle.std.proofs.Common.{List, [], ◌∷◌, ◌++◌, length, take, Option, Ok, Err}
+use Rattle.std.proofs.Common.{Some, refl, sym, ap, subst, arith, append_assoc}
 use Rattle.std.proofs.Common.{length-append}
 use Rattle.std.proofs.KnownBytes.{Appends-nil, Appends-trans, Consumes-nil, Consumes-trans}
 use Rattle.std.proofs.lemmas.Bool.{false≢true}
@@ -361,11 +361,6 @@ served_more a b c count more is so one = record {
 
 pub only_one : (p q : Question) → ◌≡◌ {A = Option Question} (Some q) (Some p) → p ≡ q
 only_one p q found = cc
-
--- the first three tests fail
-pub last_of_four : (a b c d r : Bool) → a ≡ false → b ≡ false → c ≡ false → r ≡ d
-    → r ≡ (if a then true else if b then true else if c then true else d)
-last_of_four a b c d r first second third is = rw (first, second, third) is
 
 pub served_one : (a b : Scene) (more : Bool) → more ≡ true → ServesNext a (Ok more) b
     → ServedOne a b

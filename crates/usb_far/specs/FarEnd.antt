@@ -10,15 +10,17 @@ use Rattle.usb_request.specs.{bytes_of, Setup as SetupData}
 use Rattle.usb_world.specs.declared.event.Ask.{Ask}
 use Rattle.usb_world.specs.declared.event.Ask.TheVariants as ask
 use Rattle.usb_world.specs.{Attempt, BusFault, Destination, Failed, Outcome, World, IsRootPort}
+use Rattle.usb_world.specs.{Write}
 use Rattle.usb_world.specs.{root_row, roots_of, after, attempt, event, outcome_in, root_call}
 use Rattle.usb_world.specs.declared.types.Outcome.TheVariants as outcome
 use Rattle.usb_sim.specs.{Ghosts, trace_of, tracer_of, world_of}
 use Rattle.usb_bus.specs.{lines_between, next_due, step_lines, Attempts, TakesEvent}
 use Rattle.usb_lines.specs.{Pipe, LineFault}
 use Rattle.usb_lines.specs.declared.line.LineFault.TheVariants as line
-use Rattle.usb_wire.specs.{said_line, send_limit, kind_asked, Answer, Roots, Ack, Nak, Stall}
-use Rattle.usb_wire.specs.{Nothing, Data, Done, Show, End, Send, Receive, Clear, Said, Changed}
-use Rattle.usb_wire.specs.{Answered, Asked, DataPacket, Endpoint, Question}
+use Rattle.usb_wire.specs.{said_line, send_limit, write_limit, kind_asked, Answer, Roots, Ack}
+use Rattle.usb_wire.specs.{Nak, Stall, ControlOut}
+use Rattle.usb_wire.specs.{Nothing, Data, Done, Show, End, Send, Receive, Clear, ControlIn, Look}
+use Rattle.usb_wire.specs.{News, Said, Changed, Answered, Asked, DataPacket, Endpoint, Question}
 use Rattle.usb_wire.specs.declared.question.Asked.TheVariants as asked
 use Rattle.usb_wire.specs.declared.question.Question.TheVariants.{Hello, Setup, Out, In, Port, Wait}
 use Rattle.usb_far.specs.declared.far_end.FarEnd.{FarEnd}
@@ -164,11 +166,20 @@ unfoldable pub send_wanted : List ℕ → List ℕ → Option Answer
 send_wanted path bytes = if nat_lt send_limit (length bytes) then None else Some
     (Send path (record { items = bytes }))
 
+unfoldable pub write_wanted : List ℕ → Write → Option Answer
+write_wanted path request =
+    if nat_lt write_limit (length request.bytes) then None
+    else Some (ControlOut path (record { setup = request.setup; bytes = request.bytes }))
+
 abbrev pub asked_answer : Ask → Option Answer
 asked_answer ask.Show = Some Show
 asked_answer (ask.Send path bytes) = send_wanted path bytes
 asked_answer (ask.Receive path packets) = Some (Receive path packets)
 asked_answer (ask.Clear path) = Some (Clear path)
+asked_answer (ask.ControlIn path request) = Some (ControlIn path request)
+asked_answer (ask.ControlOut path request) = write_wanted path request
+asked_answer (ask.Look path) = Some (Look path)
+asked_answer ask.News = Some News
 
 -- what an event asks, and the end where none is left
 abbrev pub due_answer : Option (Option Ask) → Option Answer

@@ -8,11 +8,12 @@ pub use FarEnd.{destination_at, done, due_answer, far_after, far_begun, far_done
 pub use FarEnd.{is_nak, is_poll, line_of, may_ask, may_ask_as, outcome_answer, played_of, push_of}
 pub use FarEnd.{reading_fault, status_lines, told_behind}
 unfoldable pub use FarEnd.{attempt_done, call_done, hello_done, pushes, send_wanted, statuses}
-unfoldable pub use FarEnd.{wait_done}
+unfoldable pub use FarEnd.{wait_done, write_wanted}
 pub use Serving.{AllReplied, CauseOf, HasNoQuestion, HasQuestion, InTurn, IsLastLine, IsUnwritten}
 pub use Serving.{MayGoOn, OnlyReads, OnlyReadsLine, Passed, Passes, ReadsOn, ReadsQuestion, Replied}
 pub use Serving.{Scene, ServedAll, ServedNone, ServedOne, ServedSome, ServedUpTo, ServesHost}
-pub use Serving.{ServesNext, and_then, begins_with, is_told, passed, phase_behind, scene}
+pub use Serving.{ServesNext, and_then, begins_block, begins_with, is_report, is_told, passed}
+pub use Serving.{phase_behind, scene}
 pub use declared.far_end.Phase.{Phase}
 pub use declared.fault.FarFault.{FarFault}
 pub use declared.fault.FarFault.TheVariants.{LongSend}

@@ -20,20 +20,29 @@ use Rattle.usb_far.specs.FarEnd.{Far, IsReplied, IsUnanswered, Played, done, may
 abbrev pub begins_with : List ℕ → List ℕ → Bool
 begins_with line word = starts_with nat_eq line word
 
--- a line of a listing, or how a transfer went
+-- the first line of a listing, or of news
+abbrev pub begins_block : List ℕ → Bool
+begins_block line = begins_with line (codes "listing ") || bytes_eq line (codes "news")
+
+-- how a transfer or a look went
+abbrev pub is_report : List ℕ → Bool
+is_report line =
+    begins_with line (codes "send ")
+    || begins_with line (codes "receive ")
+    || begins_with line (codes "clear ")
+    || begins_with line (codes "control ")
+    || begins_with line (codes "look ")
+
+-- a line of a listing or of news, or how a transfer or a look went
 abbrev pub is_told : Phase → List ℕ → Bool
 is_told New line = false
-is_told Asks line =
-    if begins_with line (codes "listing ") then true
-    else if begins_with line (codes "send ") then true
-    else if begins_with line (codes "receive ") then true
-    else begins_with line (codes "clear ")
+is_told Asks line = begins_block line || is_report line
 is_told Tells line = true
 
--- a listing goes on up to its end
+-- a listing goes on up to its end, and so do news
 abbrev pub phase_behind : Phase → List ℕ → Phase
 phase_behind New line = New
-phase_behind Asks line = if begins_with line (codes "listing ") then Tells else Asks
+phase_behind Asks line = if begins_block line then Tells else Asks
 phase_behind Tells line = if bytes_eq line (codes "end") then Asks else Tells
 
 -- ---- lines that are answered

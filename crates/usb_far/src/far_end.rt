@@ -7,7 +7,7 @@ ghost use Rattle.usb_bus.specs.Watch.{has_failed};
 ghost use Rattle.usb_sim.specs.Sim.{trace_of, world_of};
 ghost use Rattle.usb_lines.specs.Pipes.{pipe_of};
 ghost use Rattle.usb_wire.specs.Questions.{IsQuestion};
-ghost use Rattle.usb_far.specs.FarEnd.{IsEventGivenUp, IsGivenUp, HasNoPort, IsDone, IsUnanswered, SendsTooMuch, attempt_done, call_done, asked_answer, came_in, done, due_answer, send_wanted, statuses, wait_done};
+ghost use Rattle.usb_far.specs.FarEnd.{IsEventGivenUp, IsGivenUp, HasNoPort, IsDone, IsUnanswered, SendsTooMuch, attempt_done, call_done, asked_answer, came_in, done, due_answer, send_wanted, statuses, wait_done, write_wanted};
 
 use crate::attempt::{answer_of, in_attempt, is_poll, out_attempt, setup_attempt};
 use crate::fault::FarFault;
@@ -19,8 +19,8 @@ use usb_port::{PortCall, PortPath};
 use usb_request::feature::{
     C_PORT_CONNECTION, C_PORT_ENABLE, C_PORT_RESET, PORT_ENABLE, PORT_POWER, PORT_RESET,
 };
-use usb_sim::{Ask, Plan, SentBytes, SimBus, Trace, Tracer};
-use usb_wire::{Answer, Question, SEND_LIMIT};
+use usb_sim::{Ask, Plan, SentBytes, SimBus, Trace, Tracer, WriteRequest};
+use usb_wire::{Answer, ControlWrite, Question, SEND_LIMIT, WRITE_LIMIT};
 
 /// The statuses of root ports, port 1 first.
 pub(crate) type Statuses = ArrayVec<[u8; 4], 7>;
@@ -32,7 +32,7 @@ pub enum Phase {
     New,
     /// It asks.
     Asks,
-    /// It tells a listing.
+    /// It reports a listing, or news.
     Tells,
 }
 
@@ -203,7 +203,7 @@ fn call_root<T: Trace>(bus: &mut SimBus<T>, port: u8, call: PortCall)
     }
 }
 
-/// What an event asks, as it is told; None where it sends more than a line has room for.
+/// What an event asks, as it is told; `None` if it sends or writes more than a line has room for.
 fn answer_of_due(due: Option<Option<Ask>>) -> Option<Answer>
     ensures { result ≡ due_answer due }
 {
@@ -222,10 +222,14 @@ fn asked_answer(ask: Ask) -> Option<Answer>
         Ask::Send(path, bytes) => send_answer(path, &bytes),
         Ask::Receive(path, packets) => Some(Answer::Receive { path, packets }),
         Ask::Clear(path) => Some(Answer::Clear(path)),
+        Ask::ControlIn(path, request) => Some(Answer::ControlIn { path, request }),
+        Ask::ControlOut(path, request) => write_answer(path, &request),
+        Ask::Look(path) => Some(Answer::Look(path)),
+        Ask::News => Some(Answer::News),
     }
 }
 
-/// What is to be sent, where a line has room for it.
+/// What is to be sent, if a line has room for it.
 #[tactic(auto, unfolding(crate::specs::FarEnd::send_wanted))]
 fn send_answer(path: PortPath, bytes: &SentBytes) -> Option<Answer>
     ensures { result ≡ send_wanted path bytes.now }
@@ -236,4 +240,18 @@ fn send_answer(path: PortPath, bytes: &SentBytes) -> Option<Answer>
     let mut sent = ArrayVec::new();
     sent.try_extend_from_slice(bytes.as_slice()).unwrap();
     Some(Answer::Send { path, bytes: sent })
+}
+
+/// What is to be written, if a line has room for it.
+#[tactic(auto, unfolding(crate::specs::FarEnd::write_wanted))]
+fn write_answer(path: PortPath, request: &WriteRequest) -> Option<Answer>
+    ensures { result ≡ write_wanted path request.now }
+{
+    if request.bytes().len() > WRITE_LIMIT {
+        return None;
+    }
+    let mut bytes = ArrayVec::new();
+    bytes.try_extend_from_slice(request.bytes()).unwrap();
+    let request = ControlWrite::new(request.setup(), bytes)?;
+    Some(Answer::ControlOut { path, request })
 }

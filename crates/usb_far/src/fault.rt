@@ -27,7 +27,8 @@ pub enum FarFault {
     /// The input ended in mid-line.
     #[error("host gone")]
     HostGone,
-    /// An event sends more than 500 bytes, for which not every line has room.
+    /// An event sends more than 500 bytes, or writes more than 480 to endpoint 0. Not every line has
+    /// room for them.
     #[error("too much to send")]
     LongSend,
     /// The simulated bus makes no more steps.

@@ -5,7 +5,7 @@ ghost use Rattle.usb_lines.specs.Lines.{IsUnbroken};
 ghost use Rattle.usb_lines.specs.Pipes.{OutPipe as AnOutPipe, Pipe as APipe, out_pipe_of, pipe_of};
 ghost use Rattle.usb_wire.specs.Words.{all_printable, is_printable};
 ghost use Rattle.usb_far.specs.FarEnd.{played_of};
-ghost use Rattle.usb_far.specs.Serving.{HasNoQuestion, HasQuestion, ServesHost, ServesNext, is_told, phase_behind, scene};
+ghost use Rattle.usb_far.specs.Serving.{HasNoQuestion, HasQuestion, ServesHost, ServesNext, begins_block, begins_with, is_report, is_told, phase_behind, scene};
 
 use crate::far_end::{FarEnd, Phase};
 use crate::fault::FarFault;
@@ -18,8 +18,16 @@ use usb_wire::{Question, read_question};
 /// Answers the host's lines until its input ends, or until a fault.
 ///
 /// # Errors
-/// The number of the line, from 1 on, and why the far end says no more there. Nothing is written behind the replies to
-/// the lines before it.
+/// The number of the line, from 1, and its fault, by the first of these that applies. After it
+/// nothing is written.
+/// - `Read`: the reader failed. `HostGone`: the input ended in mid-line.
+/// - `LineTooLong`: a line that reports nothing has more than 1,024 bytes.
+/// - `BadCharacter`: a byte of such a line is no printable ASCII.
+/// - `NoQuestion`: such a line is no question, or the hello is not the first one.
+/// - `BadNumber`: there is no such root port.
+/// - `LongSend`: an event sends more than 500 bytes, or writes more than 480 to endpoint 0.
+/// - `Bus`: the simulated bus has failed.
+/// - `Write`: the writer failed.
 pub fn serve<T: Trace, R: Read, W: Write>(
     far: &mut FarEnd<T>,
     reader: &mut Watched<R>,
@@ -39,7 +47,7 @@ pub fn serve<T: Trace, R: Read, W: Write>(
 }
 
 impl<T: Trace> FarEnd<T> {
-    /// Answers the next line, or reads it over; tells whether there was one.
+    /// Answers the next line, or ignores it; returns whether there was one.
     fn serve_next<R: Read, W: Write>(
         &mut self,
         reader: &mut Watched<R>,
@@ -56,7 +64,7 @@ impl<T: Trace> FarEnd<T> {
         }
     }
 
-    /// Answers a line, or takes it for one that tells something.
+    /// Answers a line, or ignores it if it reports something.
     fn take_line<W: Write>(
         &mut self,
         line: &[u8],
@@ -96,7 +104,7 @@ impl<T: Trace> FarEnd<T> {
         }
     }
 
-    /// Reads over a long line that tells something, of which the front was read.
+    /// Ignores a long line that reports something, of which a prefix was read.
     fn skip_told<R: Read>(
         &mut self,
         front: &[u8],
@@ -153,51 +161,63 @@ fn is_printable(byte: u8) -> bool
     (b' '..=b'~').contains(&byte)
 }
 
-/// Whether a line tells something: it is of a listing, or how a transfer went.
+/// Whether a line reports something: it is of a listing or of news, or how a transfer or a look
+/// went.
 fn is_told(phase: Phase, line: &[u8]) -> bool
     ensures { result ≡ is_told phase line.now }
 {
     match phase {
         Phase::New => false,
-        Phase::Asks => is_told_between(line),
+        Phase::Asks => begins_block(line) || is_report(line),
         Phase::Tells => true,
     }
 }
 
-/// The same where the host tells no listing.
-fn is_told_between(line: &[u8]) -> bool
-    ensures { result ≡ is_told Phase.Asks line.now }
+/// Whether a line is the first one of a listing or of news.
+fn begins_block(line: &[u8]) -> bool
+    ensures { result ≡ begins_block line.now }
 {
-    if line.starts_with(b"listing ") {
-        return true;
-    }
-    if line.starts_with(b"send ") {
-        return true;
-    }
-    if line.starts_with(b"receive ") {
-        return true;
-    }
-    line.starts_with(b"clear ")
+    begins_with(line, b"listing ") || line == NEWS
 }
 
-/// The last line of a listing.
-const LISTING_END: &[u8] = b"end";
+/// Whether a line is how a transfer or a look went.
+fn is_report(line: &[u8]) -> bool
+    ensures { result ≡ is_report line.now }
+{
+    begins_with(line, b"send ")
+        || begins_with(line, b"receive ")
+        || begins_with(line, b"clear ")
+        || begins_with(line, b"control ")
+        || begins_with(line, b"look ")
+}
 
-/// What the host does behind a line that tells something.
+fn begins_with(line: &[u8], word: &[u8]) -> bool
+    ensures { result ≡ begins_with line.now word.now }
+{
+    line.starts_with(word)
+}
+
+/// The first line of news.
+const NEWS: &[u8] = b"news";
+
+/// The last line of a listing, and of news.
+const BLOCK_END: &[u8] = b"end";
+
+/// What the host does after a line that reports something.
 fn phase_behind(phase: Phase, line: &[u8]) -> Phase
     ensures { result ≡ phase_behind phase line.now }
 {
     match phase {
         Phase::New => Phase::New,
         Phase::Asks => {
-            if line.starts_with(b"listing ") {
+            if begins_block(line) {
                 Phase::Tells
             } else {
                 Phase::Asks
             }
         }
         Phase::Tells => {
-            if line == LISTING_END {
+            if line == BLOCK_END {
                 Phase::Asks
             } else {
                 Phase::Tells

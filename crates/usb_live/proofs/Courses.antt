@@ -48,10 +48,7 @@ on_asks c = record {
 
 owes_few : (o : Owed) → owes o ≤ 1
 owes_few owed.Nothing = omega arith
-owes_few owed.Listing = omega arith
-owes_few (owed.Send path count) = omega arith
-owes_few (owed.Receive path) = omega arith
-owes_few (owed.Clear path) = omega arith
+owes_few _ = omega arith
 
 -- an answer owes one item at most, and a fault none
 owes_by : (result : Result Answer LiveFault) → owes (owed_by result) ≤ questions_in result
@@ -61,16 +58,11 @@ owes_by (Err f) = omega arith
 -- an item that is owed is one
 owes_one : (o : Owed) (item : Item) → settles o item ≡ true → owes o ≡ 1
 owes_one owed.Nothing item fits = cc
-owes_one owed.Listing item fits = refl
-owes_one (owed.Send path count) item fits = refl
-owes_one (owed.Receive path) item fits = refl
-owes_one (owed.Clear path) item fits = refl
+owes_one _ item fits = refl
 
 number_more : (item : Item) (m : ℕ) → number_of item m ≤ m + 1
 number_more (Listing entries taken) m = omega arith
-number_more (Sent path sent) m = omega arith
-number_more (Received path got) m = omega arith
-number_more (Cleared path all) m = omega arith
+number_more _ m = omega arith
 
 -- once it is told, it is a listing more at most, and is owed no more
 owes_told : (o : Owed) (item : Item) (m n : ℕ) (result : Result (Unit {0}) LiveFault)
@@ -238,36 +230,11 @@ waits_by r0 r1 w0 w1 j k (Ok answer.End) c sound h =
         one = refl;
       };
     }
-waits_by r0 r1 w0 w1 j k (Ok (answer.Roots roots)) c sound h =
-    wanted_on r0 r1 w0 w1 j k (Ok (answer.Roots roots)) c sound h
-waits_by r0 r1 w0 w1 j k (Ok answer.Ack) c sound h =
-    wanted_on r0 r1 w0 w1 j k (Ok answer.Ack) c sound h
-waits_by r0 r1 w0 w1 j k (Ok answer.Nak) c sound h =
-    wanted_on r0 r1 w0 w1 j k (Ok answer.Nak) c sound h
-waits_by r0 r1 w0 w1 j k (Ok answer.Stall) c sound h =
-    wanted_on r0 r1 w0 w1 j k (Ok answer.Stall) c sound h
-waits_by r0 r1 w0 w1 j k (Ok answer.Nothing) c sound h =
-    wanted_on r0 r1 w0 w1 j k (Ok answer.Nothing) c sound h
-waits_by r0 r1 w0 w1 j k (Ok (answer.Data sent)) c sound h =
-    wanted_on r0 r1 w0 w1 j k (Ok (answer.Data sent)) c sound h
-waits_by r0 r1 w0 w1 j k (Ok answer.Done) c sound h =
-    wanted_on r0 r1 w0 w1 j k (Ok answer.Done) c sound h
-waits_by r0 r1 w0 w1 j k (Ok answer.Show) c sound h =
-    wanted_on r0 r1 w0 w1 j k (Ok answer.Show) c sound h
-waits_by r0 r1 w0 w1 j k (Ok (answer.Send path bytes)) c sound h =
-    wanted_on r0 r1 w0 w1 j k (Ok (answer.Send path bytes)) c sound h
-waits_by r0 r1 w0 w1 j k (Ok (answer.Receive path packets)) c sound h =
-    wanted_on r0 r1 w0 w1 j k (Ok (answer.Receive path packets)) c sound h
-waits_by r0 r1 w0 w1 j k (Ok (answer.Clear path)) c sound h =
-    wanted_on r0 r1 w0 w1 j k (Ok (answer.Clear path)) c sound h
-waits_by r0 r1 w0 w1 j k (Err f) c sound h = wanted_on r0 r1 w0 w1 j k (Err f) c sound h
+waits_by r0 r1 w0 w1 j k result c sound h = wanted_on r0 r1 w0 w1 j k result c sound h
 
 pub nothing_is : (o : Owed) → is_nothing o ≡ true → o ≡ owed.Nothing
 nothing_is owed.Nothing h = refl
-nothing_is owed.Listing h = cc
-nothing_is (owed.Send path count) h = cc
-nothing_is (owed.Receive path) h = cc
-nothing_is (owed.Clear path) h = cc
+nothing_is _ h = cc
 
 -- behind a fault it is told again, and the stage is as at any other answer
 pub wait_on : {R W : Type 0} (rem : R → Option (List ℕ)) (con : W → Option (List ℕ)) (limit m : ℕ)
@@ -341,15 +308,9 @@ course_tells {o} {limit} {m} EndWanted r w0 w1 j k (Listing entries taken) done 
         listed = h;
       };
     }
-course_tells {o} {limit} {m} EndWanted r w0 w1 j k (Sent path sent) done c sound fits shown h =
-    told_on r w0 w1 j k (Sent path sent) (Ok done) c sound
-    (same_left (told_text m (Sent path sent)) w0 w1 j (Ok done) k h) fits shown h
-course_tells {o} {limit} {m} EndWanted r w0 w1 j k (Received path got) done c sound fits shown h =
-    told_on r w0 w1 j k (Received path got) (Ok done) c sound
-    (same_left (told_text m (Received path got)) w0 w1 j (Ok done) k h) fits shown h
-course_tells {o} {limit} {m} EndWanted r w0 w1 j k (Cleared path all) done c sound fits shown h =
-    told_on r w0 w1 j k (Cleared path all) (Ok done) c sound
-    (same_left (told_text m (Cleared path all)) w0 w1 j (Ok done) k h) fits shown h
+course_tells {o} {limit} {m} EndWanted r w0 w1 j k item done c sound fits shown h =
+    told_on r w0 w1 j k item (Ok done) c sound
+    (same_left (told_text (number_of item m) item) w0 w1 j (Ok done) k h) fits shown h
 
 -- an item was told well; the reader stays
 pub tell_on : {R W : Type 0} (rem : R → Option (List ℕ)) (con : W → Option (List ℕ)) (limit m : ℕ)
@@ -441,17 +402,7 @@ left_roots roots k = left_if (nat_lt roots 1) (nat_lt 7 roots) k (record k { roo
 
 left_greeted : (result : Result Answer LiveFault) (k : Kept) → (greeted result k).left ≡ k.left
 left_greeted (Ok (answer.Roots roots)) k = left_roots roots k
-left_greeted (Ok answer.Ack) k = refl
-left_greeted (Ok answer.Nak) k = refl
-left_greeted (Ok answer.Stall) k = refl
-left_greeted (Ok answer.Nothing) k = refl
-left_greeted (Ok (answer.Data sent)) k = refl
-left_greeted (Ok answer.Done) k = refl
-left_greeted (Ok answer.Show) k = refl
-left_greeted (Ok answer.End) k = refl
-left_greeted (Ok (answer.Send path bytes)) k = refl
-left_greeted (Ok (answer.Receive path packets)) k = refl
-left_greeted (Ok (answer.Clear path)) k = refl
+left_greeted (Ok _) k = refl
 left_greeted (Err f) k = refl
 
 greeted_course : {limit : ℕ} (u r : Pipe) (b w : OutPipe) (mid : Kept)

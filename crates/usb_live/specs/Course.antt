@@ -1,18 +1,19 @@
 -- What a host and a far end say to each other, from the hello on.
-use Rattle.std.specs.Prelude.{◌≡◌, ⊤, ℕ, ◌+◌, ◌≤◌, ◌==◌, ◌&&◌, nat_lt, Bool, true, false, List}
-use Rattle.std.specs.Prelude.{length}
-use Rattle.std.specs.Prelude.{Option, Some, None, Result, Ok, Err, is_err}
+use Rattle.std.specs.Prelude.{◌≡◌, ⊤, ℕ, ◌+◌, ◌≤◌, ◌==◌, ◌&&◌, nat_le, nat_lt, Bool, true, false}
+use Rattle.std.specs.Prelude.{List, length, Option, Some, None, Result, Ok, Err}
+use Rattle.std.specs.Global.{Vec}
 use Rattle.std.specs.Str.{bytes_eq}
 use Rattle.usb_table.specs.{Entries, TransferFault}
 use Rattle.usb_text.specs.{lines_text, listing_lines}
 use Rattle.usb_wire.specs.{Answer, Question}
 use Rattle.usb_wire.specs.declared.answer.Answer.TheVariants as answer
 use Rattle.usb_wire.specs.declared.question.Question.TheVariants.{Hello, Wait}
-use Rattle.usb_host.specs.{Agrees, HostFault, Round, Quiet, Worked}
+use Rattle.usb_host.specs.{Agrees, Round, Quiet, Worked}
 use Rattle.usb_lines.specs.{OutPipe, Pipe}
 use Rattle.usb_resources.specs.{Addresses}
-use Rattle.usb_run.specs.{Item, Listing, Sent, Received, Cleared, item_lines, number_of}
-use Rattle.usb_run.specs.{transfer_ended}
+use Rattle.usb_run.specs.{Item, Listing, Sent, Received, Cleared, Read, Written, Looked}
+use Rattle.usb_run.specs.{item_lines, number_of}
+use Rattle.usb_run.specs.declared.runs.Item.TheVariants.{News}
 use Rattle.usb_stream.specs.{AskedWell, AsksNoQuestion, AsksOnce, Kept, WritesLines, greeted}
 use Rattle.usb_stream.specs.{questions, streams, unasked, LiveFault}
 use Rattle.usb_live.specs.declared.end.LiveEnd.{LiveEnd}
@@ -26,13 +27,17 @@ use Rattle.usb_live.specs.declared.stage.Stage.TheVariants.{Asks, EndWanted, Ove
 abbrev pub told_text : ℕ → Item → List ℕ
 told_text number item = lines_text (item_lines number item)
 
--- what is owed behind an answer to what is wanted
+-- what is owed after an answer to `wait`
 abbrev pub owed_by : Result Answer LiveFault → Owed
 owed_by (Ok answer.Show) = owed.Listing
 owed_by (Ok answer.End) = owed.Listing
 owed_by (Ok (answer.Send path bytes)) = owed.Send path (length bytes.items)
 owed_by (Ok (answer.Receive path packets)) = owed.Receive path
 owed_by (Ok (answer.Clear path)) = owed.Clear path
+owed_by (Ok (answer.ControlIn path request)) = owed.Read path request.length
+owed_by (Ok (answer.ControlOut path write)) = owed.Write path (length write.bytes)
+owed_by (Ok (answer.Look path)) = owed.Look path
+owed_by (Ok answer.News) = owed.News
 owed_by other = owed.Nothing
 
 abbrev pub is_nothing : Owed → Bool
@@ -43,14 +48,22 @@ abbrev pub is_count : ℕ → Result ℕ TransferFault → Bool
 is_count count (Ok all) = all == count
 is_count count (Err fault) = true
 
--- the item is the one that is owed: a listing; or that transfer at that path, of which all bytes
--- were sent if it is a send
--- that did not fail
+abbrev pub is_within : ℕ → Result (Vec ℕ) TransferFault → Bool
+is_within most (Ok bytes) = nat_le (length bytes.items) most
+is_within most (Err fault) = true
+
+-- the item is the one that is owed: a listing, or news; a look at that path; or that transfer at
+-- that path. If it did not fail, a send or a write moved all bytes, and a read at most those asked
+-- for
 abbrev pub settles : Owed → Item → Bool
 settles owed.Listing (Listing entries taken) = true
 settles (owed.Send path count) (Sent at sent) = bytes_eq path at && is_count count sent
 settles (owed.Receive path) (Received at received) = bytes_eq path at
 settles (owed.Clear path) (Cleared at cleared) = bytes_eq path at
+settles (owed.Read path most) (Read at bytes) = bytes_eq path at && is_within most bytes
+settles (owed.Write path count) (Written at written) = bytes_eq path at && is_count count written
+settles (owed.Look path) (Looked at looked) = bytes_eq path at
+settles owed.News (News news) = true
 settles other item = false
 
 -- what is owed still, behind an item that was told, or a front of it
@@ -190,12 +203,6 @@ EndsBy fault lines left stage (Err Memory) = fault ≡ None
 abbrev pub goes_on : Round → ℕ → Bool
 goes_on Worked busy = nat_lt busy 256
 goes_on Quiet busy = false
-
--- of a private function: what a transfer came to, or that the host has stopped
-abbrev pub TellsTransfer : {A : Type 0} → Result A HostFault
-    → Result (Result A TransferFault) LiveEnd → Type 0
-TellsTransfer answer (Ok came) = transfer_ended answer ≡ Ok came
-TellsTransfer answer (Err end) = is_err (transfer_ended answer) ≡ true
 
 -- a whole course: at most so many questions were asked
 pub record Lives (limit : ℕ) (unread left : Pipe) (before now : OutPipe)

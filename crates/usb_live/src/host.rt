@@ -2,31 +2,36 @@
 ghost use Rattle.std.specs.Prelude.{◌≡◌, IfOk, IfSome, OnOk, false};
 ghost use Rattle.usb_text.specs.ListingLines.{written_lines};
 ghost use Rattle.usb_lines.specs.Pipes.{out_pipe_of, pipe_of};
-ghost use Rattle.usb_live.specs.Course.{IsShown, ListsEntries, Lives, TellsTransfer, goes_on, told_text};
+ghost use Rattle.usb_live.specs.Course.{IsShown, ListsEntries, Lives, goes_on, told_text};
+ghost use Rattle.usb_live.specs.Wanted.{IsOwed};
 
 use crate::bus::{Begun, CourseBus};
 use crate::end::LiveEnd;
+use crate::wanted::item_of;
 use std::alloc::{AllocError, Global};
 use std::io::{Read, Write};
 use std::marker::Brand;
 use usb_bus::Watched;
 use usb_host::{Host, HostFault, Round};
-use usb_run::{Item, TransferFault, counted};
+use usb_run::{Item, RunFault};
 use usb_serve::item_lines;
 use usb_wire::Answer;
 
-/// How many rounds in a row may have worked before one behind which it is asked what is wanted all the same.
+/// The number of rounds in a row that may work before the one after which the host asks what is
+/// wanted in any case.
 const BUSY_ROUNDS: u16 = 256;
 
 /// A host over a far end.
 type LiveHost<R, W, B> = Host<CourseBus<R, W, B>>;
 
-/// Says the hello to a far end, finds its devices, and does what is wanted until the end is: a listing, or a transfer,
-/// is told in the lines of `usbplan tree`. At most so many questions are asked. Hands the reader and the writer back.
+/// Says the hello to the controller side, finds its devices, and does what is wanted until the end
+/// is. Listings, transfers, looks and news are reported in the lines of `usbplan tree`. At most
+/// `limit` questions are asked. Hands the reader and the writer back.
 ///
 /// # Errors
-/// Line with the bus's fault, behind which nothing is told; Rounds behind as many rounds and as many questions as
-/// there may be, which no far end has brought about; Memory where memory was refused, which may be told at any time.
+/// - `Line`: the bus has this fault. After it nothing is asked or reported.
+/// - `Rounds`: `limit` questions were asked, in as many rounds. No controller side has caused it.
+/// - `Memory`: memory was refused. It may be returned at any time.
 pub fn live<R: Read + Drop, W: Write + Drop>(
     alloc: Global,
     reader: Watched<R>,
@@ -58,7 +63,7 @@ fn course<R: Read + Drop, W: Write + Drop, B: Begun>(
     host.into_bus().finish(ran)
 }
 
-/// Rounds, and behind each quiet one, or one that 256 in a row that worked stand before, what is wanted, until that is
+/// Makes rounds. After a quiet one, or 257 in a row that worked, it does what is wanted, until that is
 /// the end.
 fn run<R: Read + Drop, W: Write + Drop, B: Begun>(
     alloc: Global,
@@ -76,7 +81,7 @@ fn run<R: Read + Drop, W: Write + Drop, B: Begun>(
         busy = 0;
         let answer = wanted(host)?;
         let is_end = matches!(answer, Answer::End);
-        if let Some(item) = item_of(host, answer)? {
+        if let Some(item) = done(alloc, host, answer)? {
             tell(alloc, host, &item)?;
         }
         if is_end {
@@ -86,8 +91,8 @@ fn run<R: Read + Drop, W: Write + Drop, B: Begun>(
     Err(LiveEnd::Rounds(lines_of(host)))
 }
 
-/// Whether another round is made before it is asked what is wanted: this one worked, and fewer than 256 in a row did
-/// before it.
+/// Whether another round is made before the host asks what is wanted: this one worked, and fewer than
+/// 256 in a row did before it.
 fn goes_on(round: Round, busy: u16) -> bool
     ensures { result ≡ goes_on round busy }
 {
@@ -97,7 +102,7 @@ fn goes_on(round: Round, busy: u16) -> bool
     }
 }
 
-/// One round, behind which neither the host has stopped nor the bus has a fault.
+/// One round, after which neither the host has stopped nor the bus has a fault.
 fn round_of<R: Read + Drop, W: Write + Drop, B: Begun>(
     host: &mut LiveHost<R, W, B>,
 ) -> Result<Round, LiveEnd>
@@ -135,56 +140,26 @@ fn wanted<R: Read + Drop, W: Write + Drop, B: Begun>(
     }
 }
 
-/// Does what is wanted; the item that is told of it, if one is.
-fn item_of<R: Read + Drop, W: Write + Drop, B: Begun>(
+/// Does what is wanted, once. Returns the item that is reported of it, if there is one.
+fn done<R: Read + Drop, W: Write + Drop, B: Begun>(
+    alloc: Global,
     host: &mut LiveHost<R, W, B>,
     answer: Answer,
 ) -> Result<Option<Item>, LiveEnd>
     // A listing is of what the host has found.
     ensures lists { IfOk result (ListsEntries answer host.new.entries) }
     ensures shown { IfOk result (λ item. IfSome item IsShown) }
+    // Nothing that is wanted is dropped.
+    ensures owed { IfOk result (IsOwed answer) }
 {
-    match answer {
-        Answer::Show | Answer::End => match host.tree() {
-            Ok(tree) => Ok(Some(Item::Listing(tree, 0))),
-            Err(_) => Err(LiveEnd::Memory),
-        },
-        Answer::Send { path, bytes } => {
-            let sent = host.send(&path, bytes.as_slice());
-            let told = told(host, sent)?;
-            Ok(Some(Item::Sent(path, counted(bytes.len(), told))))
-        }
-        Answer::Receive { path, packets } => {
-            let received = host.receive(&path, packets);
-            let told = told(host, received)?;
-            Ok(Some(Item::Received(path, told)))
-        }
-        Answer::Clear(path) => {
-            let cleared = host.clear_halt(&path);
-            let told = told(host, cleared)?;
-            Ok(Some(Item::Cleared(path, told)))
-        }
-        _ => Ok(None),
+    match item_of(alloc, host, answer) {
+        Ok(item) => Ok(item),
+        Err(RunFault::Memory) => Err(LiveEnd::Memory),
+        Err(RunFault::LimitReached | RunFault::TraceFailed) => Err(bus_end(host)),
     }
 }
 
-/// What a transfer came to, where the host goes on.
-fn told<R: Read + Drop, W: Write + Drop, B: Begun, T: Drop>(
-    host: &LiveHost<R, W, B>,
-    answer: Result<T, HostFault>,
-) -> Result<Result<T, TransferFault>, LiveEnd>
-    // What a transfer came to is told, and the course ends only where the host has stopped.
-    ensures { TellsTransfer answer result }
-{
-    match answer {
-        Ok(done) => Ok(Ok(done)),
-        Err(HostFault::Transfer(fault)) => Ok(Err(fault)),
-        Err(HostFault::Bus(_)) => Err(bus_end(host)),
-        Err(HostFault::Stopped | HostFault::Memory) => Err(LiveEnd::Memory),
-    }
-}
-
-/// Tells the lines of an item, at once, where it is the one that is owed.
+/// Reports the lines of an item, at once, if it is the one that is owed.
 fn tell<R: Read + Drop, W: Write + Drop, B: Begun>(
     alloc: Global,
     host: &mut LiveHost<R, W, B>,

@@ -48,13 +48,7 @@ outcome_for most answer.Ack = Ack
 outcome_for most answer.Nak = Nak
 outcome_for most answer.Stall = Stall
 outcome_for most answer.Nothing = Nothing
-outcome_for most (answer.Roots roots) = Nothing
-outcome_for most answer.Done = Nothing
-outcome_for most answer.Show = Nothing
-outcome_for most answer.End = Nothing
-outcome_for most (answer.Send path bytes) = Nothing
-outcome_for most (answer.Receive path packets) = Nothing
-outcome_for most (answer.Clear path) = Nothing
+outcome_for most _ = Nothing
 
 -- ---- what is kept
 
@@ -365,17 +359,7 @@ roots_if roots k = if nat_lt roots 1 then k else if nat_lt 7 roots then k else r
 
 abbrev pub greeted_by : Answer → Kept → Kept
 greeted_by (answer.Roots roots) k = roots_if roots k
-greeted_by (answer.Data sent) k = k
-greeted_by answer.Ack k = k
-greeted_by answer.Nak k = k
-greeted_by answer.Stall k = k
-greeted_by answer.Nothing k = k
-greeted_by answer.Done k = k
-greeted_by answer.Show k = k
-greeted_by answer.End k = k
-greeted_by (answer.Send path bytes) k = k
-greeted_by (answer.Receive path packets) k = k
-greeted_by (answer.Clear path) k = k
+greeted_by _ k = k
 
 abbrev pub greeted : Result Answer LiveFault → Kept → Kept
 greeted (Ok got) k = greeted_by got k

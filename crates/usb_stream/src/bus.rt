@@ -20,16 +20,16 @@ use usb_wire::{Answer, Asked, Question, Said, WireFault, question_line, read_sai
 /// The most root ports.
 const ROOTS: u8 = 7;
 
-/// A bus whose far end is behind a reader and a writer of lines.
+/// A bus whose controller side is at the other end of a reader and a writer of lines.
 ///
-/// A fault is kept: behind it nothing is read or written, and each later call tells the same fault.
+/// A fault is kept: after it nothing is read or written, and each later call returns the same fault.
 #[derive(Drop)]
 pub struct StreamBus<R, W> {
     reader: Watched<R>,
     writer: Watched<W>,
     /// How many root ports there are.
     roots: u8,
-    /// wPortStatus and wPortChange of each root port as they were told last, port 1 first (11.24.2.7).
+    /// wPortStatus and wPortChange of each root port as last reported, port 1 first (11.24.2.7).
     statuses: [[u8; 4]; 7],
     /// How many more questions may be asked.
     left: u64,
@@ -54,8 +54,8 @@ impl<R, W> StreamBus<R, W> {
     }
 }
 
-/// Nothing is said of a world: what a far end does is its own. Root calls tell no fault: it is kept, and the next
-/// question tells it.
+/// Nothing is said of a world: what the controller side does is its own. Root calls return no fault:
+/// it is kept, and the next question returns it.
 impl<R: Read, W: Write> Bus for StreamBus<R, W> {
     ghost use Rattle.std.specs.Prelude.{false};
     ghost use Rattle.usb_stream.specs.Stream.{AttemptsByLine, Calls, bus_fault, kept_of, no_world, kept_status, streams, unread_of, written_of};
@@ -155,8 +155,8 @@ impl<R: Read, W: Write> StreamBus<R, W> {
     ghost use Rattle.usb_stream.specs.Stream.{AsksOnce, Calls, CauseOfHearing, CauseOfLine, FailsOnce, AnswerLinesRead, SaysHello, Says, WritesLines, attempts_in, bus_fault, counted_on, greeted, kept_of, streams, unread_of, written_of};
     ghost use Rattle.usb_stream.specs.declared.fault.LiveFault.{LiveFault as AFault};
 
-    /// Says the hello to a far end, which tells how many root ports there are; at most so many questions are asked in
-    /// all. At the hello all statuses are 0.
+    /// Says the hello to the controller side, which answers with the number of root ports. At most
+    /// `limit` questions are asked in all. At the hello all statuses are 0.
     ///
     /// The bus is made whatever is answered: it may have a fault from the first.
     pub fn open(reader: Watched<R>, writer: Watched<W>, limit: u64) -> Self
@@ -218,7 +218,7 @@ impl<R: Read, W: Write> StreamBus<R, W> {
         self.left
     }
 
-    /// How many attempts were asked for: each whose question went out, or a front of it, answered or not.
+    /// The number of attempts of which the question went out, or a prefix of it, answered or not.
     pub fn attempts(&self) -> u64
         ensures { result ≡ (kept_of self.now).attempts }
     {
@@ -228,7 +228,13 @@ impl<R: Read, W: Write> StreamBus<R, W> {
     /// Asks what is wanted.
     ///
     /// # Errors
-    /// The fault that was told before, or told now.
+    ///
+    /// The fault that is kept, or else:
+    /// - `LimitReached`: no question is left. Nothing is written or read.
+    /// - `Write`: the writer failed. `Read`: the reader failed.
+    /// - `Line`: a line has that fault.
+    /// - `TooManyPushes`: more than 64 statuses came before the answer.
+    /// - `Gone`: the input ended in mid-line.
     pub fn wait(&mut self) -> Result<Answer, LiveFault>
         ensures again { (f : AFault) → (kept_of self.old).fault ≡ Some f
             → (result ≡ Err f) × (self.new ≡ self.old) }
@@ -240,10 +246,11 @@ impl<R: Read, W: Write> StreamBus<R, W> {
         self.ask(&Question::Wait)
     }
 
-    /// Tells lines, each with its newline.
+    /// Writes lines that are no questions, each with its newline.
     ///
     /// # Errors
-    /// The fault that was told before, or Write where the writer failed.
+    ///
+    /// The fault that is kept, or `Write` if the writer failed.
     pub fn tell(&mut self, lines: &[u8]) -> Result<(), LiveFault>
         ensures again { (f : AFault) → (kept_of self.old).fault ≡ Some f
             → (result ≡ Err f) × (self.new ≡ self.old) }

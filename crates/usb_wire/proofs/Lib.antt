@@ -1,6 +1,7 @@
 mod AnswerLemmas
 mod WordLemmas
 mod FieldLemmas
+mod SetupLemmas
 mod FaultLaws
 mod SaidLaws
 mod ReadLaws

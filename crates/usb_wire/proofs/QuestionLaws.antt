@@ -1,5 +1,5 @@
 -- Questions and their lines, both ways.
-use Rattle.std.proofs.Common.{◌≡◌, ◌≢◌, ℕ, zero, suc, ◌+◌, ◌*◌, ◌/◌, ◌%◌, ◌^◌, ◌<◌, ◌≤◌, Bool, true}
+use Rattle.std.proofs.Common.{◌≡◌, ◌≢◌, ℕ, zero, suc, ◌+◌, ◌<◌, ◌≤◌, Bool, true}
 use Rattle.std.proofs.Common.{false, ◌==◌, nat_lt, if◌then◌else◌, List, [], ◌∷◌, ◌++◌, length}
 use Rattle.std.proofs.Common.{get_or, IfSome, Option, Some, None, option_map, Result, Ok, Err, refl}
 use Rattle.std.proofs.Common.{sym, subst, ap, ◌∙◌, arith, append_assoc, codes, decimal}
@@ -15,10 +15,10 @@ use Rattle.std.proofs.lemmas.Str.Pattern.{IsSplitOnceResult, split_parts}
 use Rattle.hex.specs.Hex.{IsBytes}
 use Rattle.usb_packet.specs.{TokenKind, OutTok, InTok, SetupTok, Toggle, Zero, One, data_name}
 use Rattle.usb_packet.specs.{hex_text, token_name, Speed, Full, Low, LowBelowHub}
-use Rattle.usb_packet.proofs.SpellingLemmas.{IsBytes-cons, IsBytes-none}
+use Rattle.usb_packet.proofs.SpellingLemmas.{IsBytes-none}
 use Rattle.usb_port.specs.{PortCall, SetPower, SetReset, ClearEnable, ClearPower}
 use Rattle.usb_port.specs.{ClearConnectionChange, ClearEnableChange, ClearResetChange}
-use Rattle.usb_request.specs.{Setup as SetupData, bytes_of, setup_of}
+use Rattle.usb_request.specs.{Setup as SetupData, bytes_of}
 use Rattle.usb_wire.specs.{WireFault, LineTooLong, BadCharacter, Endpoint, Question}
 use Rattle.usb_wire.specs.{hex_value, after_pre, asked_in, behind_pre_word}
 use Rattle.usb_wire.specs.{call_in, cut_at, data_behind, endpoint_in, in_question, out_question}
@@ -35,6 +35,8 @@ use Rattle.usb_wire.proofs.ReadLaws.{IsVisibleWord, bytes_word, decimal-is_word,
 use Rattle.usb_wire.proofs.ReadLaws.{read_number}
 use Rattle.usb_wire.proofs.SaidLaws.{IsDataWord, bytes_of_word-data}
 use Rattle.usb_wire.proofs.SaidLaws.{number_of_word-ok as number_read, same_Ok, word_is}
+use Rattle.usb_wire.proofs.SetupLemmas.{IsBytes-bytes_of, length-bytes_of}
+use Rattle.usb_wire.proofs.SetupLemmas.{setup_in_bytes-bytes_of, setup_in_bytes-some}
 use Rattle.usb_wire.proofs.WordLemmas.{HasNoSpace-visible, all_printable-append}
 use Rattle.usb_wire.proofs.WordLemmas.{all_printable-visible, all_visible, is_visible}
 
@@ -310,30 +312,6 @@ out_found speed text q e =
 
 -- ---- setup data
 
-record WordParts (c d : ℕ) : Type 0 where
-  low : (c + 256 * d) % 256 ≡ c
-  high : (c + 256 * d) / 256 ≡ d
-  few : c + 256 * d < 2 ^ 16
-
-word_parts : (c d : ℕ) → c < 256 → d < 256 → WordParts c d
-word_parts c d one two = record { low = omega arith; high = omega arith; few = omega arith }
-
-record IsEight (xs : List ℕ) : Type 0 where
-  again : bytes_of (setup_of xs) ≡ xs
-  fits : IsSetupData (setup_of xs)
-
-is_eight : (xs : List ℕ) → length xs ≡ 8 → IsBytes xs → IsEight xs
-unfolding bytes_of setup_of
-is_eight (a ∷ b ∷ c ∷ d ∷ e ∷ f ∷ g ∷ h ∷ []) size small =
-    let value = word_parts c d (small 2) (small 3) in
-    let index = word_parts e f (small 4) (small 5) in
-    let count = word_parts g h (small 6) (small 7) in
-    record {
-      again = rw (value.low, value.high, index.low, index.high, count.low, count.high) refl;
-      fits = (small 0, small 1, value.few, index.few, count.few);
-    }
-is_eight _ size small = absurd (omega arith)
-
 record GivenSetup (t : Toggle) (digits : List ℕ) (setup : SetupData) : Type 0 where
   zero_toggle : t ≡ Zero
   fits : IsSetupData setup
@@ -343,15 +321,8 @@ setup_given : (t : Toggle) (digits xs : List ℕ) (setup : SetupData) → IsData
     → setup_by t xs ≡ Some setup → GivenSetup t digits setup
 setup_given One digits xs setup given e = absurd (cc)
 setup_given Zero digits xs setup given e =
-    if_some_cases (length xs == 8) (Some (setup_of xs)) None setup e (λ eight is.
-    let whole = is_eight xs (eqb-true (length xs) 8 eight) given.few.1 in
-    subst (GivenSetup Zero digits) (same_Some (setup_of xs) setup is)
-    (record {
-      zero_toggle = refl;
-      fits = whole.fits;
-      value = given.value ∙ ap Some (sym whole.again);
-    }))
-    (λ e. none_not_some setup e)
+    let is = setup_in_bytes-some xs setup given.few.1 e in
+    record { zero_toggle = refl; fits = is.fits; value = given.value ∙ ap Some (sym is.bytes) }
 
 setup_read : (t : Toggle) (digits : List ℕ) (setup : SetupData) → setup_in t digits ≡ Some setup
     → GivenSetup t digits setup
@@ -360,18 +331,6 @@ setup_read t digits setup e =
     bind_some (result_ok (bytes_of_word 64 digits)) _ setup e
     (λ xs read e. setup_given t digits xs setup
     (bytes_of_word-data 64 digits xs (ok_read (bytes_of_word 64 digits) xs read)) e)
-
-setup_again : (s : SetupData) → setup_of (bytes_of s) ≡ s
-unfolding bytes_of setup_of
-setup_again s =
-    let value : s.value % 256 + 256 * (s.value / 256) ≡ s.value = omega arith in
-    let index : s.index % 256 + 256 * (s.index / 256) ≡ s.index = omega arith in
-    let count : s.length % 256 + 256 * (s.length / 256) ≡ s.length = omega arith in
-    rw (value, index, count) refl
-
-length-bytes_of : (s : SetupData) → length (bytes_of s) ≡ 8
-unfolding bytes_of
-length-bytes_of s = refl
 
 setup_found : (speed : Speed) (text : List ℕ) (q : Question) → setup_question speed text ≡ Some q
     → IsAsked (speed_text speed ++ (codes "SETUP" ++ 32 ∷ text)) q
@@ -653,9 +612,6 @@ out_read speed e t digits xs h value few =
       read_bytes 64 digits xs value few,
     ) refl
 
-setup_back : (s : SetupData) → IsSetupData s → setup_by Zero (bytes_of s) ≡ Some s
-setup_back s h = rw (length-bytes_of s) (ap Some (setup_again s))
-
 setup_read_back : (speed : Speed) (e : Endpoint) (digits : List ℕ) (s : SetupData) → IsEndpoint e
     → IsSetupData s → hex_value digits ≡ Some (bytes_of s)
     → setup_question speed (endpoint_text e ++ (between_text speed ++ data_with Zero digits))
@@ -669,7 +625,7 @@ setup_read_back speed e digits s h fits value =
       endpoint_read e h,
       data_reached_at speed Zero digits,
       read_bytes 64 digits (bytes_of s) value few,
-      setup_back s fits,
+      setup_in_bytes-bytes_of s,
     ) refl
 
 asked_read : (digits : List ℕ) (q : Question) → IsQuestion q
@@ -726,22 +682,8 @@ question_read-asked line q h is = ap question_of is.written ∙ asked_read is.di
 
 -- ---- what is written
 
-small_setup : (s : SetupData) → IsSetupData s → IsBytes (bytes_of s)
-unfolding bytes_of
-small_setup s h =
-    let l : List ℕ = (s.length % 256) ∷ (s.length / 256) ∷ [] in
-    let i : List ℕ = (s.index % 256) ∷ (s.index / 256) ∷ l in
-    let v : List ℕ = (s.value % 256) ∷ (s.value / 256) ∷ i in
-    let small_l : IsBytes l = IsBytes-cons (s.length % 256) ((s.length / 256) ∷ []) (omega arith)
-    (IsBytes-cons (s.length / 256) [] (omega (arith, h.4)) IsBytes-none) in
-    let small_i : IsBytes i = IsBytes-cons (s.index % 256) ((s.index / 256) ∷ l) (omega arith)
-    (IsBytes-cons (s.index / 256) l (omega (arith, h.3)) small_l) in
-    let small_v : IsBytes v = IsBytes-cons (s.value % 256) ((s.value / 256) ∷ i) (omega arith)
-    (IsBytes-cons (s.value / 256) i (omega (arith, h.2)) small_i) in
-    IsBytes-cons s.request_type (s.request ∷ v) h.0 (IsBytes-cons s.request v h.1 small_v)
-
 question_small : (q : Question) → IsQuestion q → IsBytes (question_bytes q)
-question_small (Setup speed endpoint setup) h = small_setup setup h.1
+question_small (Setup speed endpoint setup) h = IsBytes-bytes_of setup h.1
 question_small (Out speed endpoint sent) h = h.1.1
 question_small _ h = IsBytes-none
 

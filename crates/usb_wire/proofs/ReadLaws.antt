@@ -1,15 +1,21 @@
 -- What may be said and stands in a line is read.
-use Rattle.std.proofs.Common.{◌≡◌, ℕ, ◌+◌, ◌*◌, ◌<◌, ◌≤◌, true, List, [], ◌∷◌, ◌++◌, length, get_or}
+use Rattle.std.proofs.Common.{◌≡◌, ℕ, suc, ◌+◌, ◌*◌, ◌<◌, ◌≤◌, ◌==◌, Bool, true, false, List, []}
+use Rattle.std.proofs.Common.{◌∷◌, ◌++◌, length, get_or}
 use Rattle.std.proofs.Common.{Some, ok_or, Ok, refl, sym, subst, ap, ◌∙◌, arith, append_assoc}
 use Rattle.std.proofs.Common.{codes, decimal, length-append, lit<, lit≤}
-use Rattle.std.proofs.lemmas.Bool.{le-ltb}
+use Rattle.std.proofs.lemmas.Bool.{eq-eqb, le-ltb, lt-ltb}
+use Rattle.std.proofs.lemmas.Bool.Decides.{nat_tests}
 use Rattle.std.proofs.lemmas.Fmt.{length-decimal-le}
 use Rattle.hex.specs.Hex.{IsBytes}
 use Rattle.usb_packet.specs.{Toggle, Zero, One, data_name, hex_text}
 use Rattle.usb_port.specs.{IsPath, path_text}
 use Rattle.usb_port.proofs.Paths.{length-path_text, reads_back}
+use Rattle.usb_request.specs.{DIRECTION_IN, IsToDevice, IsToHost, Setup, bytes_of}
 use Rattle.usb_wire.specs.{Answer, Roots, Ack, Nak, Stall, Nothing, Data, Done, Show, End, Send}
 use Rattle.usb_wire.specs.{Receive, Clear, Said, Changed, Answered, BadNumber, BadPath, Asked}
+use Rattle.usb_wire.specs.{ControlIn, ControlOut, Look, News, answer_setup, control_answer}
+use Rattle.usb_wire.specs.{is_other_request, look_answer, request_of_word, said_setup, with_three}
+use Rattle.usb_wire.specs.{bare_control, write_answer, write_limit, write_of_words, write_text}
 use Rattle.usb_wire.specs.{MayAnswer, IsSaidLine, MayPush, MaySay, answer_bytes, answer_in_digits}
 use Rattle.usb_wire.specs.{said_bytes, said_line, said_in_digits, send_limit, hex_value, alone}
 use Rattle.usb_wire.specs.{bytes_of_word, clear_answer, data_answer, line_says, number_of_word}
@@ -21,6 +27,8 @@ use Rattle.usb_wire.proofs.FieldLemmas.{Counted, all_visible-decimal, all_visibl
 use Rattle.usb_wire.proofs.FieldLemmas.{all_visible-path_text, bytes_of_word-value}
 use Rattle.usb_wire.proofs.FieldLemmas.{hex_value-hex_text, hex_value-length, spelled-value}
 use Rattle.usb_wire.proofs.FieldLemmas.{status_of_word-value, within-decimal}
+use Rattle.usb_wire.proofs.SetupLemmas.{IsBytes-bytes_of, length-bytes_of}
+use Rattle.usb_wire.proofs.SetupLemmas.{setup_in_bytes-bytes_of}
 use Rattle.usb_wire.proofs.WordLemmas.{HasNoSpace-visible, all_printable-append}
 use Rattle.usb_wire.proofs.WordLemmas.{all_printable-visible, all_visible, words_cut, words_none}
 
@@ -74,7 +82,31 @@ read_path : (p : List ℕ) → IsPath p → path_in (path_text p) ≡ Ok p
 unfolding path_in
 read_path p h = ap (λ o. ok_or o BadPath) (reads_back p h)
 
--- ---- lines of one, two and three words
+eight_setup : (s : Setup) → length (bytes_of s) ≤ 8
+eight_setup s = let size = length-bytes_of s in omega (arith, size)
+
+read_request_word : (with_bytes : Bool) (word : List ℕ) (s : Setup)
+    → hex_value word ≡ Some (bytes_of s) → is_other_request with_bytes s ≡ false
+    → request_of_word with_bytes word ≡ Ok s
+unfolding request_of_word
+read_request_word with_bytes word s e kind =
+    rw (read_bytes 8 word (bytes_of s) e (eight_setup s), setup_in_bytes-bytes_of s, kind) refl
+
+reads_bare : (s : Setup) → IsToHost s → is_other_request false s ≡ false
+reads_bare s reads = rw (le-ltb s.request_type DIRECTION_IN reads) refl
+
+writes_bare : (s : Setup) → IsToDevice s → s.length ≡ 0 → is_other_request false s ≡ false
+writes_bare s writes none = rw (lt-ltb s.request_type DIRECTION_IN writes, none) refl
+
+some_count : (n : ℕ) → (suc n == 0) ≡ false
+some_count n = grind (arith, nat_tests)
+
+writes_some : (s : Setup) (n : ℕ) → IsToDevice s → s.length ≡ suc n
+    → is_other_request true s ≡ false
+writes_some s n writes some =
+    rw (lt-ltb s.request_type DIRECTION_IN writes, some, some_count n) refl
+
+-- ---- lines of one word and more
 
 -- the line is read as this
 record ReadsLine (asked : Asked) (count : ℕ) (line : List ℕ) (s : Said) : Type 0 where
@@ -101,29 +133,62 @@ read_two asked count front first word s f w e =
       says = ap (words_say asked count) cut ∙ e;
     }
 
+-- words after two others
+record IsRest (rest : List ℕ) (ws : List (List ℕ)) : Type 0 where
+  words : words rest ≡ ws
+  printable : all_printable rest ≡ true
+  short : length rest ≤ 1001
+
+read_rest : (asked : Asked) (count : ℕ) (front first word rest : List ℕ) (ws : List (List ℕ))
+    (s : Said) → IsFront front first → IsVisibleWord 13 word → IsRest rest ws
+    → words_say asked count (first ∷ word ∷ ws) ≡ Ok s
+    → ReadsLine asked count (front ++ word ++ codes " " ++ rest) s
+read_rest asked count front first word rest ws s f w r e =
+    let whole : front ++ word ++ codes " " ++ rest ≡ front ++ (word ++ 32 ∷ rest) =
+    append_assoc (front ++ word) (codes " ") rest ∙ append_assoc front word (32 ∷ rest) in
+    let cut : words (front ++ (word ++ 32 ∷ rest)) ≡ first ∷ word ∷ ws =
+    f.cut (word ++ 32 ∷ rest) ∙ ap (λ ws. first ∷ ws)
+    (words_cut word rest (HasNoSpace-visible word w.visible) ∙ ap (λ ws. word ∷ ws) r.words) in
+    let size : length (front ++ (word ++ 32 ∷ rest)) ≡ length front + length (word ++ 32 ∷ rest) =
+    length-append front (word ++ 32 ∷ rest) in
+    let more : length (word ++ 32 ∷ rest) ≡ length word + length (32 ∷ rest) =
+    length-append word (32 ∷ rest) in
+    let plain = all_printable-append word (32 ∷ rest) (all_printable-visible word w.visible)
+    r.printable in
+    subst (λ line. ReadsLine asked count line s) (sym whole) (record {
+      short = omega (arith, size, more, f.short, w.short, r.short);
+      printable = all_printable-append front (word ++ 32 ∷ rest) f.printable plain;
+      says = ap (words_say asked count) cut ∙ e;
+    })
+
+last_rest : (last : List ℕ) → IsVisibleWord 1001 last → IsRest last (last ∷ [])
+last_rest last l = record {
+  words = words_none last (HasNoSpace-visible last l.visible);
+  printable = all_printable-visible last l.visible;
+  short = l.short;
+}
+
+two_rest : (word last : List ℕ) → IsVisibleWord 17 word → IsVisibleWord 961 last
+    → IsRest (word ++ codes " " ++ last) (word ∷ last ∷ [])
+two_rest word last w l =
+    let rest = last_rest last (record { visible = l.visible; short = omega (arith, l.short) }) in
+    let size : length (word ++ 32 ∷ last) ≡ length word + length (32 ∷ last) =
+    length-append word (32 ∷ last) in
+    subst (λ text. IsRest text (word ∷ last ∷ [])) (sym (append_assoc word (codes " ") last))
+    (record {
+      words = words_cut word last (HasNoSpace-visible word w.visible)
+          ∙ ap (λ ws. word ∷ ws) rest.words;
+      printable = all_printable-append word (32 ∷ last) (all_printable-visible word w.visible)
+          rest.printable;
+      short = omega (arith, size, w.short, l.short);
+    })
+
 read_three : (asked : Asked) (count : ℕ) (front first word last : List ℕ) (s : Said)
     → IsFront front first → IsVisibleWord 13 word → IsVisibleWord 1001 last
     → words_say asked count (first ∷ word ∷ last ∷ []) ≡ Ok s
     → ReadsLine asked count (front ++ word ++ codes " " ++ last) s
 read_three asked count front first word last s f w l e =
-    let behind : words (word ++ 32 ∷ last) ≡ word ∷ last ∷ [] =
-    words_cut word last (HasNoSpace-visible word w.visible)
-    ∙ ap (λ ws. word ∷ ws) (words_none last (HasNoSpace-visible last l.visible)) in
-    let whole : front ++ word ++ codes " " ++ last ≡ front ++ (word ++ 32 ∷ last) =
-    append_assoc (front ++ word) (codes " ") last ∙ append_assoc front word (32 ∷ last) in
-    let cut : words (front ++ (word ++ 32 ∷ last)) ≡ first ∷ word ∷ last ∷ [] =
-    f.cut (word ++ 32 ∷ last) ∙ ap (λ ws. first ∷ ws) behind in
-    let size : length (front ++ (word ++ 32 ∷ last)) ≡ length front + length (word ++ 32 ∷ last) =
-    length-append front (word ++ 32 ∷ last) in
-    let more : length (word ++ 32 ∷ last) ≡ length word + length (32 ∷ last) =
-    length-append word (32 ∷ last) in
-    let plain = all_printable-append word (32 ∷ last) (all_printable-visible word w.visible)
-    (all_printable-visible last l.visible) in
-    subst (λ line. ReadsLine asked count line s) (sym whole) (record {
-      short = omega (arith, size, more, f.short, w.short, l.short);
-      printable = all_printable-append front (word ++ 32 ∷ last) f.printable plain;
-      says = ap (words_say asked count) cut ∙ e;
-    })
+    read_rest asked count front first word last (last ∷ []) s f w (last_rest last l) e
 
 -- the first word of a data packet
 abbrev printed_data : Toggle → List ℕ
@@ -165,71 +230,154 @@ data_front : (toggle : Toggle) → IsFront (data_name toggle) (printed_data togg
 data_front Zero = record { short = lit≤ tt; printable = refl; cut = λ rest. refl }
 data_front One = record { short = lit≤ tt; printable = refl; cut = λ rest. refl }
 
-read_answer : (asked : Asked) (count : ℕ) (digits : List ℕ) (a : Answer) → MayAnswer asked a
-    → hex_value digits ≡ Some (answer_bytes a)
-    → ReadsLine asked count (answer_in_digits digits a) (Answered a)
-unfolding words_say alone with_one roots_answer clear_answer three_say with_two send_answer
-    receive_answer
-read_answer Hello count digits (Roots n) h e =
+control_front : IsFront (codes "control ") (codes "control")
+control_front = record { short = lit≤ tt; printable = refl; cut = λ rest. refl }
+
+setup_word : (setup : List ℕ) (s : Setup) → hex_value setup ≡ Some (bytes_of s)
+    → IsVisibleWord 17 setup
+setup_word setup s t = bytes_word 8 setup (bytes_of s) t (eight_setup s)
+
+-- a request without bytes for the device
+read_bare : (count : ℕ) (setup p : List ℕ) (s : Setup) (a : Answer) → IsPath p
+    → hex_value setup ≡ Some (bytes_of s) → is_other_request false s ≡ false
+    → bare_control p s ≡ a
+    → ReadsLine Wait count (codes "control " ++ path_text p ++ codes " " ++ setup) (Answered a)
+unfolding words_say three_say with_two control_answer
+read_bare count setup p s a h t kind is =
+    let word = setup_word setup s t in
+    read_three Wait count (codes "control ") (codes "control") (path_text p) setup (Answered a)
+    control_front (path_text-is_word 13 p (omega arith) h)
+    (record { visible = word.visible; short = omega (arith, word.short) })
+    (rw (read_request_word false setup s t kind, read_path p h, is) refl)
+
+read_write : (count : ℕ) (setup digits p : List ℕ) (s : Setup) (items : List ℕ) → IsPath p
+    → hex_value setup ≡ Some (bytes_of s) → hex_value digits ≡ Some items → IsToDevice s
+    → s.length ≡ length items → length items ≤ write_limit
+    → ReadsLine Wait count (codes "control " ++ path_text p ++ codes " " ++
+    write_text setup digits items) (Answered (ControlOut p (record { setup = s; bytes = items })))
+unfolding words_say with_three write_answer write_of_words
+read_write count setup digits p s [] h t e writes size few =
+    read_bare count setup p s (ControlOut p (record { setup = s; bytes = [] })) h t
+    (writes_bare s writes size) (rw (lt-ltb s.request_type DIRECTION_IN writes) refl)
+read_write count setup digits p s (x ∷ xs) h t e writes size few =
+    read_rest Wait count (codes "control ") (codes "control") (path_text p) _
+    (setup ∷ digits ∷ []) (Answered (ControlOut p (record { setup = s; bytes = x ∷ xs })))
+    control_front (path_text-is_word 13 p (omega arith) h)
+    (two_rest setup digits (setup_word setup s t) (bytes_word write_limit digits (x ∷ xs) e few))
+    (rw (
+      read_request_word true setup s t (writes_some s (length xs) writes size),
+      read_bytes write_limit digits (x ∷ xs) e few,
+      lt-ltb s.request_type DIRECTION_IN writes,
+      eq-eqb s.length (length (x ∷ xs)) size,
+      read_path p h,
+    ) refl)
+
+read_answer : (asked : Asked) (count : ℕ) (setup digits : List ℕ) (a : Answer) → MayAnswer asked a
+    → hex_value setup ≡ Some (answer_setup a) → hex_value digits ≡ Some (answer_bytes a)
+    → ReadsLine asked count (answer_in_digits setup digits a) (Answered a)
+unfolding words_say alone with_one roots_answer clear_answer look_answer three_say with_two
+    send_answer receive_answer
+read_answer Hello count setup digits (Roots n) h t e =
     read_two Hello count (codes "roots ") (codes "roots") (decimal n) (Answered (Roots n))
     (record { short = lit≤ tt; printable = refl; cut = λ rest. refl })
     (decimal-is_word 1001 n (omega arith) (omega (arith, h.1)))
     (rw (read_number 1 7 n h.0 h.1 (omega arith)) refl)
-read_answer Attempt count digits Ack h e = record { short = lit≤ tt; printable = refl; says = refl }
-read_answer Attempt count digits Nak h e = record { short = lit≤ tt; printable = refl; says = refl }
-read_answer Attempt count digits Stall h e = record {
+read_answer Attempt count setup digits Ack h t e = record {
   short = lit≤ tt;
   printable = refl;
   says = refl;
 }
-read_answer Attempt count digits Nothing h e = record {
+read_answer Attempt count setup digits Nak h t e = record {
   short = lit≤ tt;
   printable = refl;
   says = refl;
 }
-read_answer Attempt count digits (Data sent) h e =
+read_answer Attempt count setup digits Stall h t e = record {
+  short = lit≤ tt;
+  printable = refl;
+  says = refl;
+}
+read_answer Attempt count setup digits Nothing h t e = record {
+  short = lit≤ tt;
+  printable = refl;
+  says = refl;
+}
+read_answer Attempt count setup digits (Data sent) h t e =
     read_two Attempt count (data_name sent.toggle) (printed_data sent.toggle) digits
     (Answered (Data sent)) (data_front sent.toggle)
     (bytes_word 500 digits sent.bytes.items e (omega (arith, h.0)))
     (data_said count sent.toggle sent.bytes.items digits e h.0)
-read_answer Port count digits Done h e = record { short = lit≤ tt; printable = refl; says = refl }
-read_answer Wait count digits Done h e = record { short = lit≤ tt; printable = refl; says = refl }
-read_answer Wait count digits Show h e = record { short = lit≤ tt; printable = refl; says = refl }
-read_answer Wait count digits End h e = record { short = lit≤ tt; printable = refl; says = refl }
-read_answer Wait count digits (Send p sent) h e =
+read_answer Port count setup digits Done h t e = record {
+  short = lit≤ tt;
+  printable = refl;
+  says = refl;
+}
+read_answer Wait count setup digits Done h t e = record {
+  short = lit≤ tt;
+  printable = refl;
+  says = refl;
+}
+read_answer Wait count setup digits Show h t e = record {
+  short = lit≤ tt;
+  printable = refl;
+  says = refl;
+}
+read_answer Wait count setup digits End h t e = record {
+  short = lit≤ tt;
+  printable = refl;
+  says = refl;
+}
+read_answer Wait count setup digits (Send p sent) h t e =
     read_three Wait count (codes "send ") (codes "send") (path_text p) digits
     (Answered (Send p sent)) (record { short = lit≤ tt; printable = refl; cut = λ rest. refl })
     (path_text-is_word 13 p (omega arith) h.0) (bytes_word 500 digits sent.items e h.1.0)
     (rw (read_bytes send_limit digits sent.items e h.1.0, read_path p h.0) refl)
-read_answer Wait count digits (Receive p n) h e =
+read_answer Wait count setup digits (Receive p n) h t e =
     read_three Wait count (codes "receive ") (codes "receive") (path_text p) (decimal n)
     (Answered (Receive p n)) (record { short = lit≤ tt; printable = refl; cut = λ rest. refl })
     (path_text-is_word 13 p (omega arith) h.0) (decimal-is_word 1001 n (omega arith) h.1)
     (rw (read_number 0 1000 n (omega arith) h.1 h.1, read_path p h.0) refl)
-read_answer Wait count digits (Clear p) h e =
+read_answer Wait count setup digits (Clear p) h t e =
     read_two Wait count (codes "clear ") (codes "clear") (path_text p) (Answered (Clear p))
     (record { short = lit≤ tt; printable = refl; cut = λ rest. refl })
     (path_text-is_word 1001 p (omega arith) h) (rw (read_path p h) refl)
-read_answer _ count digits _ h e = absurd h
+read_answer Wait count setup digits (ControlIn p s) h t e =
+    read_bare count setup p s (ControlIn p s) h.0 t (reads_bare s h.2)
+    (rw (le-ltb s.request_type DIRECTION_IN h.2) refl)
+read_answer Wait count setup digits (ControlOut p w) h t e =
+    read_write count setup digits p w.setup w.bytes h.0 t e h.2.0 h.2.1 h.3.0
+read_answer Wait count setup digits (Look p) h t e =
+    read_two Wait count (codes "look ") (codes "look") (path_text p) (Answered (Look p))
+    (record { short = lit≤ tt; printable = refl; cut = λ rest. refl })
+    (path_text-is_word 1001 p (omega arith) h) (rw (read_path p h) refl)
+read_answer Wait count setup digits News h t e = record {
+  short = lit≤ tt;
+  printable = refl;
+  says = refl;
+}
+read_answer _ count setup digits _ h t e = absurd h
 
 read_line : (asked : Asked) (count : ℕ) (line : List ℕ) (s : Said) → ReadsLine asked count line s
     → line_says asked count line ≡ Ok s
 unfolding line_says text_of_line
 read_line asked count line s h = rw (le-ltb 1024 (length line) h.short, h.printable) h.says
 
-read_said : (asked : Asked) (count : ℕ) (digits : List ℕ) (s : Said) → count < 256
-    → MaySay asked count s → hex_value digits ≡ Some (said_bytes s)
-    → ReadsLine asked count (said_in_digits digits s) s
-read_said asked count digits (Changed number status) small h e =
+read_said : (asked : Asked) (count : ℕ) (setup digits : List ℕ) (s : Said) → count < 256
+    → MaySay asked count s → hex_value setup ≡ Some (said_setup s)
+    → hex_value digits ≡ Some (said_bytes s)
+    → ReadsLine asked count (said_in_digits setup digits s) s
+read_said asked count setup digits (Changed number status) small h t e =
     read_changed asked count number status digits h.0 h.1 h.2 small e h.3
-read_said asked count digits (Answered a) small h e = read_answer asked count digits a h e
+read_said asked count setup digits (Answered a) small h t e =
+    read_answer asked count setup digits a h t e
 
 -- what may be said and stands in a line is read
 pub line_says-said : (asked : Asked) (count : ℕ) (line : List ℕ) (s : Said) → count < 256
     → MaySay asked count s → IsSaidLine line s → line_says asked count line ≡ Ok s
 line_says-said asked count line s small may is =
-    ap (line_says asked count) is.written ∙ read_line asked count (said_in_digits is.digits s) s
-    (read_said asked count is.digits s small may is.spelled)
+    ap (line_says asked count) is.written
+    ∙ read_line asked count (said_in_digits is.setup is.digits s) s
+    (read_said asked count is.setup is.digits s small may is.set_up is.spelled)
 
 none_small : (i : ℕ) → get_or [] i 0 < 256
 none_small i = omega arith
@@ -237,9 +385,22 @@ none_small i = omega arith
 answer_small : (asked : Asked) (a : Answer) → MayAnswer asked a → IsBytes (answer_bytes a)
 answer_small Attempt (Data sent) h = h.1
 answer_small Wait (Send p sent) h = h.1.1
+answer_small Wait (ControlOut p w) h = h.3.1
 answer_small _ (Data sent) h = absurd h
 answer_small _ (Send p sent) h = absurd h
+answer_small _ (ControlOut p w) h = absurd h
 answer_small _ _ h = none_small
+
+setup_small : (asked : Asked) (a : Answer) → MayAnswer asked a → IsBytes (answer_setup a)
+setup_small Wait (ControlIn p s) h = IsBytes-bytes_of s h.1
+setup_small Wait (ControlOut p w) h = IsBytes-bytes_of w.setup h.1
+setup_small _ (ControlIn p s) h = absurd h
+setup_small _ (ControlOut p w) h = absurd h
+setup_small _ _ h = none_small
+
+small_setup : (asked : Asked) (count : ℕ) (s : Said) → MaySay asked count s → IsBytes (said_setup s)
+small_setup asked count (Changed number status) h = none_small
+small_setup asked count (Answered a) h = setup_small asked a h
 
 small_bytes : (asked : Asked) (count : ℕ) (s : Said) → MaySay asked count s → IsBytes (said_bytes s)
 small_bytes asked count (Changed number status) h = h.4
@@ -249,7 +410,9 @@ small_bytes asked count (Answered a) h = answer_small asked a h
 pub IsSaidLine-said_line : (asked : Asked) (count : ℕ) (s : Said) → MaySay asked count s
     → IsSaidLine (said_line s) s
 IsSaidLine-said_line asked count s may = record {
+  setup = hex_text (said_setup s);
   digits = hex_text (said_bytes s);
+  set_up = hex_value-hex_text (said_setup s) (small_setup asked count s may);
   spelled = hex_value-hex_text (said_bytes s) (small_bytes asked count s may);
   written = refl;
 }

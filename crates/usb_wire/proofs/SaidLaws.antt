@@ -2,16 +2,23 @@
 use Rattle.std.proofs.Common.{◌≡◌, ℕ, ◌^◌, ◌<◌, ◌≤◌, Bool, true, false, ◌&&◌, ◌==◌, nat_lt}
 use Rattle.std.proofs.Common.{if◌then◌else◌, List, [], ◌∷◌, ◌++◌, length, Option, Some, None, ok_or}
 use Rattle.std.proofs.Common.{Result, Ok, Err, IfOk, refl, sym, subst, ap, ◌∙◌, arith, append_assoc}
-use Rattle.std.proofs.Common.{codes, decimal}
+use Rattle.std.proofs.Common.{codes, decimal, not}
 use Rattle.std.specs.List.{join_with_byte}
 use Rattle.std.specs.Result.{result_unwrap_or}
 use Rattle.std.specs.Str.{bytes_eq}
-use Rattle.std.proofs.lemmas.Bool.{and_parts, eqb-true, ltb-false}
+use Rattle.std.proofs.lemmas.Bool.{and_parts, eqb-true, ltb-false, ltb-true}
+use Rattle.std.proofs.lemmas.Bool.Decides.{nat_tests}
 use Rattle.std.proofs.lemmas.Slice.Eq.{bytes_eq-Decides}
 use Rattle.usb_packet.specs.{Toggle, Zero, One}
 use Rattle.usb_port.specs.{IsPath, path_of, path_text}
 use Rattle.usb_port.proofs.Paths.{some_if}
+use Rattle.usb_request.specs.{DIRECTION_IN, Setup, bytes_of}
 use Rattle.usb_wire.specs.{Answer, Roots, Ack, Nak, Stall, Nothing, Data, Done, Show, End, Send}
+use Rattle.usb_wire.specs.{ControlIn, ControlOut, IsSetupData, Look, News, answer_setup}
+use Rattle.usb_wire.specs.{bare_control, both, control_answer, counted_write, has_bytes}
+use Rattle.usb_wire.specs.{is_other_request, look_answer, request_of_word, request_with, said_bytes}
+use Rattle.usb_wire.specs.{said_in_digits, said_setup, setup_in_bytes, with_three, write_answer}
+use Rattle.usb_wire.specs.{IsWrite, Write, is_write, write_limit, write_of_words, write_text}
 use Rattle.usb_wire.specs.{Receive, Clear, Said, Changed, Answered, WireFault, LineTooLong}
 use Rattle.usb_wire.specs.{BadCharacter, NoAnswer, BadHex, BadLength, BadNumber, BadPath, Asked}
 use Rattle.usb_wire.specs.{More as MoreWords, AreAtMost, MayAnswer, IsSaidLine, MayPush, MaySay}
@@ -26,6 +33,7 @@ use Rattle.usb_wire.specs.declared.words.Words.{Words}
 use Rattle.usb_wire.specs.Reading.{◌>>=◌}
 use Rattle.usb_wire.proofs.FieldLemmas.{IsNumberWord, Spelled, counted-count_in, numbered-within}
 use Rattle.usb_wire.proofs.FieldLemmas.{spelled-value}
+use Rattle.usb_wire.proofs.SetupLemmas.{setup_in_bytes-some}
 use Rattle.usb_wire.proofs.WordLemmas.{joined-words}
 
 -- ---- what was read, step by step
@@ -42,6 +50,11 @@ if_ok : {A P : Type 0} (b : Bool) (r s : Result A WireFault) (y : A) → (if b t
     → (b ≡ true → r ≡ Ok y → P) → (s ≡ Ok y → P) → P
 if_ok true r s y e k l = k refl e
 if_ok false r s y e k l = l e
+
+else_ok : {A : Type 0} (b : Bool) (fault : WireFault) (r : Result A WireFault) (y : A)
+    → (if b then Err fault else r) ≡ Ok y → (b ≡ false) × (r ≡ Ok y)
+else_ok true fault r y e = absurd (cc)
+else_ok false fault r y e = (refl, e)
 
 none_ok : {A P : Type 0} (fault : WireFault) (y : A)
     → ◌≡◌ {A = Result A WireFault} (Err fault) (Ok y) → P
@@ -66,17 +79,12 @@ pub record IsDataWord (most : ℕ) (word xs : List ℕ) : Type 0 where
   pub value : hex_value word ≡ Some xs
   pub few : AreAtMost most xs
 
-few_bytes : (b : Bool) (r : Result (List ℕ) WireFault) (xs : List ℕ)
-    → (if b then Err BadLength else r) ≡ Ok xs → (b ≡ false) × (r ≡ Ok xs)
-few_bytes true r xs e = absurd (cc)
-few_bytes false r xs e = (refl, e)
-
 pub bytes_of_word-data : (most : ℕ) (word xs : List ℕ) → bytes_of_word most word ≡ Ok xs
     → IsDataWord most word xs
 unfolding bytes_of_word
 bytes_of_word-data most word xs e =
     bind-ok (count_in word) _ xs e (λ n counted e.
-    let parts = few_bytes (nat_lt most n) (ok_or (hex_value word) BadHex) xs e in
+    let parts = else_ok (nat_lt most n) BadLength (ok_or (hex_value word) BadHex) xs e in
     let value = ok_or_ok (hex_value word) BadHex xs parts.1 in
     let spelled = spelled-value word xs value in
     let same = (counted-count_in word n counted).count in
@@ -116,41 +124,120 @@ path_in-word word p e =
     let found = some_if (Some p) word (sym (ok_or_ok (path_of word) BadPath p e)) in
     record { is = found.0; text = found.1 }
 
+pub record IsRequestWord (with_bytes : Bool) (word : List ℕ) (s : Setup) : Type 0 where
+  pub value : hex_value word ≡ Some (bytes_of s)
+  pub fits : IsSetupData s
+  pub kind : is_other_request with_bytes s ≡ false
+
+pub request_word : (with_bytes : Bool) (word : List ℕ) (s : Setup)
+    → request_of_word with_bytes word ≡ Ok s → IsRequestWord with_bytes word s
+unfolding request_of_word
+request_word with_bytes word s e =
+    bind-ok (bytes_of_word 8 word) _ s e (λ xs found e.
+    let given = bytes_of_word-data 8 word xs found in
+    bind-ok (ok_or (setup_in_bytes xs) BadLength) (request_with with_bytes) s e (λ t eight e.
+    let found = ok_or_ok (setup_in_bytes xs) BadLength t eight in
+    let is = setup_in_bytes-some xs t given.few.1 found in
+    let right = else_ok (is_other_request with_bytes t) NoAnswer (Ok t) s e in
+    subst (IsRequestWord with_bytes word) (same_Ok t s right.1) (record {
+      value = given.value ∙ ap Some (sym is.bytes);
+      fits = is.fits;
+      kind = right.0;
+    })))
+
+-- bytes go with the setup data, as many as they say
+record IsWriteWords (setup bytes : List ℕ) (w : Write) : Type 0 where
+  request : IsRequestWord true setup w.setup
+  payload : IsDataWord write_limit bytes w.bytes
+  is : IsWrite w
+
+both_ok : {A B : Type 0} (r : Result A WireFault) (s : Result B WireFault) (v : A × B)
+    → both r s ≡ Ok v → (r ≡ Ok v.0) × (s ≡ Ok v.1)
+both_ok {A} {B} (Ok x) (Ok y) v e =
+    let is = same_Ok (x, y) v e in
+    (ap (λ (p : A × B). Ok p.0) is, ap (λ (p : A × B). Ok p.1) is)
+both_ok (Ok x) (Err fault) v e = absurd (cc)
+both_ok (Err BadLength) (Ok y) v e = absurd (cc)
+both_ok (Err BadLength) (Err fault) v e = absurd (cc)
+both_ok (Err _) s v e = absurd (cc)
+
+write_words : (setup bytes : List ℕ) (w : Write) → write_of_words setup bytes ≡ Ok w
+    → IsWriteWords setup bytes w
+unfolding write_of_words
+write_words setup bytes w e =
+    bind-ok (both (request_of_word true setup) (bytes_of_word write_limit bytes)) counted_write w e
+    (λ v given e.
+    let made : Write = record { setup = v.0; bytes = v.1 } in
+    if_ok (is_write v.0 v.1) (Ok made) (Err BadLength) w e (λ same is.
+    let read = both_ok (request_of_word true setup) (bytes_of_word write_limit bytes) v given in
+    let parts = and_parts (nat_lt v.0.request_type DIRECTION_IN) (v.0.length == length v.1) same in
+    subst (IsWriteWords setup bytes) (same_Ok made w is) (record {
+      request = request_word true setup v.0 read.0;
+      payload = bytes_of_word-data write_limit bytes v.1 read.1;
+      is = (
+        ltb-true v.0.request_type DIRECTION_IN parts.0,
+        eqb-true v.0.length (length v.1) parts.1,
+      );
+    })) (λ e. none_ok BadLength w e))
+
 -- ---- answers without bytes
 
 record Plain (asked : Asked) (line : List ℕ) (a : Answer) : Type 0 where
   may : MayAnswer asked a
-  none : answer_bytes a ≡ []
-  text : line ≡ answer_in_digits (codes "-") a
+  none : (answer_setup a ≡ []) × (answer_bytes a ≡ [])
+  text : line ≡ answer_in_digits (codes "-") (codes "-") a
 
 plain_line : (asked : Asked) (count : ℕ) (line : List ℕ) (a : Answer) → Plain asked line a
     → MaySay asked count (Answered a) × IsSaidLine line (Answered a)
-plain_line asked count line a h =
-    (h.may, record { digits = codes "-"; spelled = ap Some (sym h.none); written = h.text })
+plain_line asked count line a h = (
+  h.may,
+  record {
+    setup = codes "-";
+    digits = codes "-";
+    set_up = ap Some (sym h.none.0);
+    spelled = ap Some (sym h.none.1);
+    written = h.text;
+  },
+)
 
 -- the word of an answer, or another
 word_plain : (asked : Asked) (word : List ℕ) (a b : Answer) (r : Result Answer WireFault)
-    → (if bytes_eq word (answer_in_digits (codes "-") a) then Ok a else r) ≡ Ok b
-    → MayAnswer asked a → answer_bytes a ≡ [] → (r ≡ Ok b → Plain asked word b) → Plain asked word b
+    → (if bytes_eq word (answer_in_digits (codes "-") (codes "-") a) then Ok a else r) ≡ Ok b
+    → MayAnswer asked a → (answer_setup a ≡ []) × (answer_bytes a ≡ [])
+    → (r ≡ Ok b → Plain asked word b) → Plain asked word b
 word_plain asked word a b r e may none k =
-    let text : List ℕ = answer_in_digits (codes "-") a in
+    let text : List ℕ = answer_in_digits (codes "-") (codes "-") a in
     if_ok (bytes_eq word text) (Ok a) r b e (λ same e. subst (Plain asked word) (same_Ok a b e)
     (record { may = may; none = none; text = word_is word text same })) k
+
+-- a line of bytes alone
+of_bytes : {line : List ℕ} (digits : List ℕ) (s : Said) → said_setup s ≡ []
+    → hex_value digits ≡ Some (said_bytes s) → line ≡ said_in_digits (codes "-") digits s
+    → IsSaidLine line s
+of_bytes digits s bare spelled text = record {
+  setup = codes "-";
+  digits = digits;
+  set_up = ap Some (sym bare);
+  spelled = spelled;
+  written = text;
+}
 
 alone_says : (asked : Asked) (word : List ℕ) (a : Answer) → alone asked word ≡ Ok a
     → Plain asked word a
 unfolding alone
 alone_says Hello word a e = none_ok NoAnswer a e
 alone_says Attempt word a e =
-    word_plain Attempt word Ack a _ e tt refl (λ e.
-    word_plain Attempt word Nak a _ e tt refl (λ e.
-    word_plain Attempt word Stall a _ e tt refl (λ e.
-    word_plain Attempt word Nothing a _ e tt refl (λ e. none_ok NoAnswer a e))))
-alone_says Port word a e = word_plain Port word Done a _ e tt refl (λ e. none_ok NoAnswer a e)
+    word_plain Attempt word Ack a _ e tt (refl, refl) (λ e.
+    word_plain Attempt word Nak a _ e tt (refl, refl) (λ e.
+    word_plain Attempt word Stall a _ e tt (refl, refl) (λ e.
+    word_plain Attempt word Nothing a _ e tt (refl, refl) (λ e. none_ok NoAnswer a e))))
+alone_says Port word a e =
+    word_plain Port word Done a _ e tt (refl, refl) (λ e. none_ok NoAnswer a e)
 alone_says Wait word a e =
-    word_plain Wait word Done a _ e tt refl (λ e.
-    word_plain Wait word Show a _ e tt refl (λ e.
-    word_plain Wait word End a _ e tt refl (λ e. none_ok NoAnswer a e)))
+    word_plain Wait word Done a _ e tt (refl, refl) (λ e.
+    word_plain Wait word Show a _ e tt (refl, refl) (λ e.
+    word_plain Wait word End a _ e tt (refl, refl) (λ e.
+    word_plain Wait word News a _ e tt (refl, refl) (λ e. none_ok NoAnswer a e))))
 
 -- ---- lines
 
@@ -179,7 +266,7 @@ roots_say count word a e =
     (same_Ok (Roots n) a is)
     (plain_line Hello count _ (Roots n) (record {
       may = (number.low, number.high);
-      none = refl;
+      none = (refl, refl);
       text = ap (λ t. codes "roots " ++ t) number.text;
     })))
 
@@ -196,14 +283,20 @@ data_says count Zero word a e =
     bind-ok (bytes_of_word 64 word) _ a e (λ xs read is.
     let found = bytes_of_word-data 64 word xs read in
     subst (λ a. WordsSay Attempt count (codes "DATA0" ∷ word ∷ []) (Answered a))
-    (same_Ok (Data (record { toggle = Zero; bytes = record { items = xs } })) a is)
-    (found.few, record { digits = word; spelled = found.value; written = refl }))
+    (same_Ok (Data (record { toggle = Zero; bytes = record { items = xs } })) a is) (
+      found.few,
+      of_bytes word (Answered (Data (record { toggle = Zero; bytes = record { items = xs } })))
+          refl found.value refl,
+    ))
 data_says count One word a e =
     bind-ok (bytes_of_word 64 word) _ a e (λ xs read is.
     let found = bytes_of_word-data 64 word xs read in
     subst (λ a. WordsSay Attempt count (codes "DATA1" ∷ word ∷ []) (Answered a))
-    (same_Ok (Data (record { toggle = One; bytes = record { items = xs } })) a is)
-    (found.few, record { digits = word; spelled = found.value; written = refl }))
+    (same_Ok (Data (record { toggle = One; bytes = record { items = xs } })) a is) (
+      found.few,
+      of_bytes word (Answered (Data (record { toggle = One; bytes = record { items = xs } })))
+          refl found.value refl,
+    ))
 
 clear_says : (count : ℕ) (word : List ℕ) (a : Answer) → clear_answer word ≡ Ok a
     → WordsSay Wait count (codes "clear" ∷ word ∷ []) (Answered a)
@@ -215,8 +308,22 @@ clear_says count word a e =
     (same_Ok (Clear p) a is)
     (plain_line Wait count _ (Clear p) (record {
       may = found.is;
-      none = refl;
+      none = (refl, refl);
       text = ap (λ t. codes "clear " ++ t) (sym found.text);
+    })))
+
+look_says : (count : ℕ) (word : List ℕ) (a : Answer) → look_answer word ≡ Ok a
+    → WordsSay Wait count (codes "look" ∷ word ∷ []) (Answered a)
+unfolding look_answer
+look_says count word a e =
+    bind-ok (path_in word) _ a e (λ p read is.
+    let found = path_in-word word p read in
+    subst (λ a. WordsSay Wait count (codes "look" ∷ word ∷ []) (Answered a))
+    (same_Ok (Look p) a is)
+    (plain_line Wait count _ (Look p) (record {
+      may = found.is;
+      none = (refl, refl);
+      text = ap (λ t. codes "look " ++ t) (sym found.text);
     })))
 
 -- three words, as the table writes them
@@ -238,8 +345,10 @@ send_says count first second a e =
     ap (λ t. codes "send " ++ t ++ codes " " ++ second) way.text
     ∙ three_text (codes "send ") first second in
     subst (λ a. WordsSay Wait count (codes "send" ∷ first ∷ second ∷ []) (Answered a))
-    (same_Ok (Send p (record { items = xs })) a is)
-    ((way.is, sent.few), record { digits = second; spelled = sent.value; written = sym text })))
+    (same_Ok (Send p (record { items = xs })) a is) (
+      (way.is, sent.few),
+      of_bytes second (Answered (Send p (record { items = xs }))) refl sent.value (sym text),
+    )))
 
 receive_says : (count : ℕ) (first second : List ℕ) (a : Answer) → receive_answer first second ≡ Ok a
     → WordsSay Wait count (codes "receive" ∷ first ∷ second ∷ []) (Answered a)
@@ -258,9 +367,105 @@ receive_says count first second a e =
     (same_Ok (Receive p n) a is)
     (plain_line Wait count _ (Receive p n) (record {
       may = (way.is, number.high);
-      none = refl;
+      none = (refl, refl);
       text = sym text;
     }))))
+
+control_text : (first second p : List ℕ) → IsPathWord first p
+    → codes "control " ++ path_text p ++ codes " " ++ second
+    ≡ codes "control " ++ (first ++ 32 ∷ second)
+control_text first second p way =
+    ap (λ t. codes "control " ++ t ++ codes " " ++ second) way.text
+    ∙ three_text (codes "control ") first second
+
+pub false_not : (b : Bool) → not b ≡ false → b ≡ true
+false_not true h = refl
+false_not false h = cc
+
+no_zero : (n : ℕ) → n ≡ 0 → not (n == 0) ≡ true → ⊥
+no_zero n zero some = absurd (grind (arith, nat_tests, zero, some))
+
+-- a request without bytes for the device, by whether it reads
+bare_says : (count : ℕ) (first second p : List ℕ) (s : Setup) (less : Bool)
+    → nat_lt s.request_type DIRECTION_IN ≡ less → IsPathWord first p
+    → IsRequestWord false second s
+    → WordsSay Wait count (codes "control" ∷ first ∷ second ∷ [])
+    (Answered (if less then ControlOut p (record { setup = s; bytes = [] }) else ControlIn p s))
+bare_says count first second p s true less way request =
+    let none : not (s.length == 0) ≡ false = sym (rw less refl) ∙ request.kind in (
+      (
+        way.is,
+        request.fits,
+        (
+          ltb-true s.request_type DIRECTION_IN less,
+          eqb-true s.length 0 (false_not (s.length == 0) none),
+        ),
+        (omega arith, λ i. omega arith),
+      ),
+      record {
+        setup = second;
+        digits = codes "-";
+        set_up = request.value;
+        spelled = refl;
+        written = sym (control_text first second p way);
+      },
+    )
+bare_says count first second p s false more way request = (
+  (way.is, request.fits, ltb-false s.request_type DIRECTION_IN more),
+  record {
+    setup = second;
+    digits = codes "-";
+    set_up = request.value;
+    spelled = refl;
+    written = sym (control_text first second p way);
+  },
+)
+
+control_says : (count : ℕ) (first second : List ℕ) (a : Answer) → control_answer first second ≡ Ok a
+    → WordsSay Wait count (codes "control" ∷ first ∷ second ∷ []) (Answered a)
+unfolding control_answer
+control_says count first second a e =
+    bind-ok (request_of_word false second) _ a e (λ s read e.
+    bind-ok (path_in first) _ a e (λ p found is.
+    subst (λ a. WordsSay Wait count (codes "control" ∷ first ∷ second ∷ []) (Answered a))
+    (same_Ok (bare_control p s) a is)
+    (bare_says count first second p s (nat_lt s.request_type DIRECTION_IN) refl
+    (path_in-word first p found) (request_word false second s read))))
+
+-- bytes after setup data, as the table writes them
+write_text-some : (setup digits xs : List ℕ) (n : ℕ) → n ≡ length xs → not (n == 0) ≡ true
+    → write_text setup digits xs ≡ setup ++ 32 ∷ digits
+write_text-some setup digits [] n size some = absurd (no_zero n size some)
+write_text-some setup digits (x ∷ xs) n size some = append_assoc setup (codes " ") digits
+
+write_says : (count : ℕ) (first second third : List ℕ) (a : Answer)
+    → write_answer first second third ≡ Ok a
+    → WordsSay Wait count (codes "control" ∷ first ∷ second ∷ third ∷ []) (Answered a)
+unfolding write_answer
+write_says count first second third a e =
+    bind-ok (write_of_words second third) _ a e (λ w read e.
+    bind-ok (path_in first) _ a e (λ p found is.
+    let written = write_words second third w read in
+    let way = path_in-word first p found in
+    let kind = and_parts (nat_lt w.setup.request_type DIRECTION_IN) (not (w.setup.length == 0))
+    (false_not (has_bytes w.setup) written.request.kind) in
+    let text : codes "control " ++ path_text p ++ codes " " ++ write_text second third w.bytes
+    ≡ codes "control " ++ (first ++ 32 ∷ (second ++ 32 ∷ third)) =
+    ap (λ t. codes "control " ++ t ++ codes " " ++ write_text second third w.bytes) way.text
+    ∙ ap (λ t. codes "control " ++ first ++ codes " " ++ t)
+    (write_text-some second third w.bytes w.setup.length written.is.1 kind.1)
+    ∙ three_text (codes "control ") first (second ++ 32 ∷ third) in
+    subst (λ a. WordsSay Wait count (codes "control" ∷ first ∷ second ∷ third ∷ []) (Answered a))
+    (same_Ok (ControlOut p w) a is) (
+      (way.is, written.request.fits, written.is, written.payload.few),
+      record {
+        setup = second;
+        digits = third;
+        set_up = written.request.value;
+        spelled = written.payload.value;
+        written = sym text;
+      },
+    )))
 
 pushed_says : (asked : Asked) (count : ℕ) (first second : List ℕ) (s : Said) → MayPush asked
     → count < 256 → status_change count first second ≡ Ok s
@@ -278,7 +483,7 @@ pushed_says asked count first second s may small e =
     said_is asked count (codes "port" ∷ first ∷ second ∷ []) (Changed n xs) s
     (same_Ok (Changed n xs) s is) (
       (may, number.low, number.high, sent.four, sent.small.small),
-      record { digits = second; spelled = sent.value; written = sym text },
+      of_bytes second (Changed n xs) refl sent.value (sym text),
     )))
 
 one_says : (asked : Asked) (count : ℕ) (word argument : List ℕ) (a : Answer)
@@ -300,7 +505,10 @@ one_says Port count word argument a e = none_ok NoAnswer a e
 one_says Wait count word argument a e =
     if_ok (bytes_eq word (codes "clear")) (clear_answer argument) _ a e
     (λ same e. says_same_word Wait count word (codes "clear") (argument ∷ []) _ same
-    (clear_says count argument a e)) (λ e. none_ok NoAnswer a e)
+    (clear_says count argument a e)) (λ e.
+    if_ok (bytes_eq word (codes "look")) (look_answer argument) _ a e
+    (λ same e. says_same_word Wait count word (codes "look") (argument ∷ []) _ same
+    (look_says count argument a e)) (λ e. none_ok NoAnswer a e))
 
 two_says : (asked : Asked) (count : ℕ) (word first second : List ℕ) (a : Answer)
     → with_two asked word first second ≡ Ok a
@@ -314,8 +522,21 @@ two_says Wait count word first second a e =
     if_ok (bytes_eq word (codes "receive")) (receive_answer first second) _ a e
     (λ same e. says_same_word Wait count word (codes "receive") arguments _ same
     (receive_says count first second a e)) (λ e.
-    none_ok NoAnswer a e))
+    if_ok (bytes_eq word (codes "control")) (control_answer first second) _ a e
+    (λ same e. says_same_word Wait count word (codes "control") arguments _ same
+    (control_says count first second a e)) (λ e.
+    none_ok NoAnswer a e)))
 two_says _ count word first second a e = none_ok NoAnswer a e
+
+four_say : (asked : Asked) (count : ℕ) (word first second third : List ℕ) (a : Answer)
+    → with_three asked word first second third ≡ Ok a
+    → WordsSay asked count (word ∷ first ∷ second ∷ third ∷ []) (Answered a)
+unfolding with_three
+four_say Wait count word first second third a e =
+    if_ok (bytes_eq word (codes "control")) (write_answer first second third) _ a e
+    (λ same e. says_same_word Wait count word (codes "control") (first ∷ second ∷ third ∷ []) _ same
+    (write_says count first second third a e)) (λ e. none_ok NoAnswer a e)
+four_say _ count word first second third a e = none_ok NoAnswer a e
 
 may_push-true : (asked : Asked) → may_push asked ≡ true → MayPush asked
 may_push-true Hello h = absurd (cc)
@@ -346,12 +567,16 @@ words_says asked count (word ∷ argument ∷ []) s small e =
     (one_says asked count word argument a e))
 words_says asked count (word ∷ first ∷ second ∷ []) s small e =
     three_says asked count word first second s small e
+words_says asked count (word ∷ first ∷ second ∷ third ∷ []) s small e =
+    said_of-ok (with_three asked word first second third) s e
+    (λ a e is. said_is asked count (word ∷ first ∷ second ∷ third ∷ []) (Answered a) s is
+    (four_say asked count word first second third a e))
 words_says asked count _ s small e = none_ok NoAnswer s e
 
-many_words : (asked : Asked) (count : ℕ) (ws : List (List ℕ)) → 4 ≤ length ws
+many_words : (asked : Asked) (count : ℕ) (ws : List (List ℕ)) → 5 ≤ length ws
     → words_say asked count ws ≡ Err NoAnswer
 unfolding words_say
-many_words asked count (word ∷ first ∷ second ∷ third ∷ more) h = refl
+many_words asked count (word ∷ first ∷ second ∷ third ∷ fourth ∷ more) h = refl
 many_words asked count _ h = absurd (omega arith)
 
 -- words by their shape

@@ -86,13 +86,13 @@ all_printable-append text more h t = list_all-append is_printable text more ∙ 
 pub some-words : (text : List ℕ) → 1 ≤ length (words text)
 some-words text = omega (arith, length-slice_split (λ c. c == 32) text)
 
--- the words behind three others
-pub four-words : (text first second third fourth behind last : List ℕ)
-    → words text ≡ first ∷ words behind → words behind ≡ second ∷ words third
-    → words third ≡ fourth ∷ words last → 4 ≤ length (words text)
-four-words text first second third fourth behind last one two three =
+-- the words after four others
+pub five-words : (text a b c d after_a after_b after_c last : List ℕ)
+    → words text ≡ a ∷ words after_a → words after_a ≡ b ∷ words after_b
+    → words after_b ≡ c ∷ words after_c → words after_c ≡ d ∷ words last → 5 ≤ length (words text)
+five-words text a b c d after_a after_b after_c last one two three four =
     let some = some-words last in
-    rw (one, two, three) (omega arith)
+    rw (one, two, three, four) (omega arith)
 
 below_128 : (c : ℕ) → is_printable c ≡ true → c < 128
 below_128 c h = grind (arith, nat_tests)

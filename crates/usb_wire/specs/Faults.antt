@@ -1,24 +1,27 @@
 -- What is wrong with a line of the far end: the table of faults, of which the first counts.
 use Rattle.std.specs.Prelude.{ℕ, ◌==◌, ◌&&◌, ◌||◌, nat_lt, Bool, false, not, List, [], ◌∷◌, length}
-use Rattle.std.specs.Prelude.{codes, Option, Some, None, is_none, if◌then◌else◌}
+use Rattle.std.specs.Prelude.{codes, Option, Some, None, is_none, if◌then◌else◌, true}
 use Rattle.std.specs.Str.{bytes_eq}
 use Rattle.usb_port.specs.{path_of}
+use Rattle.usb_request.specs.{setup_of}
 use Rattle.usb_wire.specs.declared.question.Asked.{Asked}
 use Rattle.usb_wire.specs.declared.question.Asked.TheVariants.{Hello, Attempt, Port, Wait}
 use Rattle.usb_wire.specs.declared.fault.WireFault.{WireFault}
 use Rattle.usb_wire.specs.declared.fault.WireFault.TheVariants.{LineTooLong, BadCharacter, NoAnswer}
 use Rattle.usb_wire.specs.declared.fault.WireFault.TheVariants.{BadHex, BadLength, BadNumber}
 use Rattle.usb_wire.specs.declared.fault.WireFault.TheVariants.{BadPath}
-use Rattle.usb_wire.specs.Answers.{send_limit}
-use Rattle.usb_wire.specs.Fields.{hex_length, is_dash, is_hex, number_within}
+use Rattle.usb_wire.specs.Answers.{send_limit, write_limit}
+use Rattle.usb_wire.specs.Fields.{hex_length, hex_value, is_dash, is_hex, is_other_request}
+use Rattle.usb_wire.specs.Fields.{number_within}
 use Rattle.usb_wire.specs.Words.{all_printable, words}
 
--- what a word behind the first one is: bytes, at most so many; the four of a status; how many root
--- ports there are, the
--- number of one, how many packets; a path
+-- what a word after the first one is: bytes, at most so many; the four of a status; the eight of a
+-- request with bytes for the device, or of one without; how many root ports there are, the number
+-- of one, how many packets; a path
 pub data Field : Type 0 where
   bytes_field : ℕ → Field
   status_field : Field
+  request_field : Bool → Field
   roots_field : Field
   root_field : Field
   packets_field : Field
@@ -54,9 +57,13 @@ forms Wait =
     ∷ form (codes "ok") []
     ∷ form (codes "show") []
     ∷ form (codes "end") []
+    ∷ form (codes "news") []
     ∷ form (codes "clear") (path_field ∷ [])
+    ∷ form (codes "look") (path_field ∷ [])
     ∷ form (codes "send") (path_field ∷ bytes_field send_limit ∷ [])
     ∷ form (codes "receive") (path_field ∷ packets_field ∷ [])
+    ∷ form (codes "control") (path_field ∷ request_field false ∷ [])
+    ∷ form (codes "control") (path_field ∷ request_field true ∷ bytes_field write_limit ∷ [])
     ∷ []
 
 -- the first word is the form's, and so many words stand behind it
@@ -68,17 +75,41 @@ fields_in [] word arguments = None
 fields_in (f ∷ fs) word arguments = if form_fits word arguments f then Some f.fields else fields_in
     fs word arguments
 
+-- eight bytes of setup data, but of a request without bytes for the device where one with bytes is
+-- due, or the other way round
+abbrev pub is_other_setup : Bool → Option (List ℕ) → Bool
+is_other_setup with_bytes (Some bytes) = (length bytes == 8) && is_other_request with_bytes
+    (setup_of bytes)
+is_other_setup with_bytes None = false
+
+abbrev pub is_no_request : Field → List ℕ → Bool
+is_no_request (request_field with_bytes) word = is_other_setup with_bytes (hex_value word)
+is_no_request _ word = false
+
 -- neither pairs of digits, of either case, nor a dash
 abbrev pub is_bad_hex : Field → List ℕ → Bool
 is_bad_hex (bytes_field most) word = not (is_dash word || is_hex word)
 is_bad_hex status_field word = not (is_dash word || is_hex word)
+is_bad_hex (request_field with_bytes) word = not (is_dash word || is_hex word)
 is_bad_hex _ word = false
 
--- too many bytes, or not the four of a status
+-- too many bytes, not the four of a status, or not the eight of a request
 abbrev pub is_bad_length : Field → List ℕ → Bool
 is_bad_length (bytes_field most) word = nat_lt most (hex_length word)
 is_bad_length status_field word = not (hex_length word == 4)
+is_bad_length (request_field with_bytes) word = not (hex_length word == 8)
 is_bad_length _ word = false
+
+-- the bytes after setup data are not wLength of them
+abbrev pub is_other_count : Option (List ℕ) → ℕ → Bool
+is_other_count (Some setup) count = not ((setup_of setup).length == count)
+is_other_count None count = false
+
+abbrev pub has_other_count : List Field → List (List ℕ) → Bool
+has_other_count (request_field true ∷ bytes_field most ∷ []) (setup ∷ bytes ∷ []) =
+    is_other_count (hex_value setup) (hex_length bytes)
+has_other_count (field ∷ fields) (word ∷ more) = has_other_count fields more
+has_other_count _ _ = false
 
 -- no number, or one that is out of its range
 abbrev pub is_bad_number : ℕ → Field → List ℕ → Bool
@@ -97,11 +128,13 @@ is_some_bad is_bad (field ∷ fields) (word ∷ more) =
     is_bad field word || is_some_bad is_bad fields more
 is_some_bad is_bad _ _ = false
 
--- the first fault of the words behind the first one
+-- the first fault of the words after the first one
 abbrev pub argument_fault : ℕ → List Field → List (List ℕ) → Option WireFault
 argument_fault count fields arguments =
-    if is_some_bad is_bad_hex fields arguments then Some BadHex
-    else if is_some_bad is_bad_length fields arguments then Some BadLength
+    if is_some_bad is_no_request fields arguments then Some NoAnswer
+    else if is_some_bad is_bad_hex fields arguments then Some BadHex
+    else if is_some_bad is_bad_length fields arguments || has_other_count fields arguments then Some
+    BadLength
     else if is_some_bad (is_bad_number count) fields arguments then Some BadNumber
     else if is_some_bad is_bad_path fields arguments then Some BadPath
     else None

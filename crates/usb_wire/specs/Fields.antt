@@ -1,5 +1,6 @@
 -- What single words stand for: bytes, numbers and paths.
-use Rattle.std.specs.Prelude.{ℕ, ◌/◌, ◌%◌, ◌==◌, ◌&&◌, ◌||◌, nat_le, nat_lt, Bool, not, List, []}
+use Rattle.std.specs.Prelude.{ℕ, ◌/◌, ◌%◌, ◌==◌, ◌&&◌, ◌||◌, nat_le, nat_lt, Bool, true, false}
+use Rattle.std.specs.Prelude.{not, List, []}
 use Rattle.std.specs.Prelude.{length, codes, Option, Some, None, if◌then◌else◌, slice_index}
 use Rattle.std.specs.Char.{is_ascii_digit}
 use Rattle.std.specs.List.{list_all}
@@ -7,6 +8,7 @@ use Rattle.std.specs.Result.{result_ok}
 use Rattle.std.specs.Str.{bytes_eq}
 use Rattle.std.specs.Str.Parse.{digits_value}
 use Rattle.hex.specs.Hex.{decode_of, is_hex_digit}
+use Rattle.usb_request.specs.{DIRECTION_IN, Setup}
 
 -- a dash, or pairs of digits
 abbrev pub is_dash : List ℕ → Bool
@@ -34,3 +36,12 @@ abbrev pub number_within : ℕ → ℕ → List ℕ → Option ℕ
 number_within least most word =
     if is_decimal word && nat_le least (digits_value 10 word) && nat_le (digits_value 10 word) most
     then Some (digits_value 10 word) else None
+
+-- bytes go with the request to the device (9.3.1)
+abbrev pub has_bytes : Setup → Bool
+has_bytes setup = nat_lt setup.request_type DIRECTION_IN && not (setup.length == 0)
+
+-- they do not where they should, or do where they should not
+abbrev pub is_other_request : Bool → Setup → Bool
+is_other_request true setup = not (has_bytes setup)
+is_other_request false setup = has_bytes setup

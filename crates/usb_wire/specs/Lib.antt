@@ -1,3 +1,4 @@
+pub mod Writes
 pub mod Questions
 pub mod Answers
 pub mod Words
@@ -6,30 +7,39 @@ pub mod Faults
 pub mod Reading
 pub mod QuestionReading
 -- the words of this crate, wherever one stands
-pub use Questions.{IsEndpoint, IsQuestion, IsQuestionLine, IsSetupData, between_text, call_text}
+pub use Questions.{IsEndpoint, IsQuestion, IsQuestionLine, between_text, call_text}
 pub use Questions.{data_with, kind_asked, question_bytes, question_in_digits, question_line}
 pub use Questions.{speed_text, token_text}
-pub use Answers.{AreAtMost, IsData, IsSaidLine, MayAnswer, MayPush, MaySay, answer_bytes}
-pub use Answers.{answer_in_digits, said_bytes, said_in_digits, said_line, send_limit}
+pub use Writes.{IsWrite, Write}
+pub use Answers.{AreAtMost, IsData, IsSaidLine, IsSetupData, MayAnswer, MayPush, MaySay}
+pub use Answers.{answer_bytes, answer_in_digits, answer_setup, said_bytes, said_in_digits}
+pub use Answers.{said_line, said_setup, send_limit, write_limit, write_text}
 pub use Words.{AreWords, all_printable, is_printable, words}
-pub use Fields.{hex_length, hex_value, is_dash, is_decimal, is_hex, number_within}
+pub use Fields.{has_bytes, hex_length, hex_value, is_dash, is_decimal, is_hex, is_other_request}
+pub use Fields.{number_within}
 pub use Faults.{Field, Form, argument_fault, bytes_field, fault_by, fields_in, form, form_fits}
 pub use Faults.{forms, is_bad_hex, is_bad_length, is_bad_number, is_bad_path, is_some_bad}
-pub use Faults.{line_fault, packets_field, path_field, push, root_field, roots_field, status_field}
-pub use Faults.{words_fault}
-pub use Reading.{fault_in, may_push, result_map, said_of}
-unfoldable pub use Reading.{alone, bytes_of_word, clear_answer, count_in, data_answer, line_says}
-unfoldable pub use Reading.{number_of_word, path_in, receive_answer, roots_answer, send_answer}
+pub use Faults.{has_other_count, is_no_request, is_other_count, is_other_setup, line_fault}
+pub use Faults.{packets_field, path_field, push}
+pub use Faults.{request_field, root_field, roots_field, status_field, words_fault}
+pub use Reading.{bare_control, both, counted_write, fault_in, is_write, may_push, request_with}
+pub use Reading.{result_map}
+pub use Reading.{said_of, setup_in_bytes}
+unfoldable pub use Reading.{alone, bytes_of_word, clear_answer, control_answer, count_in}
+unfoldable pub use Reading.{data_answer, line_says, look_answer, number_of_word, path_in}
+unfoldable pub use Reading.{receive_answer, request_of_word, roots_answer, send_answer}
 unfoldable pub use Reading.{shape_says, status_change, status_of_word, text_of_line, three_say}
-unfoldable pub use Reading.{with_one, with_two, words_say}
+unfoldable pub use Reading.{with_one, with_three, with_two, words_say, write_answer}
+unfoldable pub use Reading.{write_of_words}
 pub use QuestionReading.{setup_by}
 unfoldable pub use QuestionReading.{after_pre, asked_in, behind_pre_word, call_in, cut_at}
 unfoldable pub use QuestionReading.{data_behind, endpoint_in, in_question, out_question}
 unfoldable pub use QuestionReading.{port_question, question_of, setup_in, setup_question}
 unfoldable pub use QuestionReading.{toggle_named, token_behind, token_of_words}
 pub use declared.answer.Answer.{Answer}
-pub use declared.answer.Answer.TheVariants.{Ack, Clear, Data, Done, End, Nak, Nothing, Receive}
-pub use declared.answer.Answer.TheVariants.{Roots, Send, Show, Stall}
+pub use declared.answer.Answer.TheVariants.{Ack, Clear, ControlIn, ControlOut, Data, Done, End}
+pub use declared.answer.Answer.TheVariants.{Look, Nak, News}
+pub use declared.answer.Answer.TheVariants.{Nothing, Receive, Roots, Send, Show, Stall}
 pub use declared.answer.Said.{Said}
 pub use declared.answer.Said.TheVariants.{Answered, Changed}
 pub use declared.fault.WireFault.{WireFault}
@@ -39,4 +49,4 @@ pub use declared.question.Asked.{Asked}
 pub use declared.question.DataPacket.{DataPacket}
 pub use declared.question.Endpoint.{Endpoint}
 pub use declared.question.Question.{Question}
-pub use declared.words.Words.TheVariants.{More, One, Three, Two}
+pub use declared.words.Words.TheVariants.{Four, More, One, Three, Two}

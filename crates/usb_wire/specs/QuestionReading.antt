@@ -1,5 +1,5 @@
 -- How the lines of the host are read, for the private functions.
-use Rattle.std.specs.Prelude.{ℕ, ◌==◌, List, [], ◌∷◌, length, codes, Option, Some, None, option_map}
+use Rattle.std.specs.Prelude.{ℕ, ◌==◌, List, [], ◌∷◌, codes, Option, Some, None, option_map}
 use Rattle.std.specs.Prelude.{if◌then◌else◌}
 use Rattle.std.specs.Result.{result_ok}
 use Rattle.std.specs.Str.{bytes_eq}
@@ -7,11 +7,11 @@ use Rattle.usb_packet.specs.{Speed, Full, Low, LowBelowHub}
 use Rattle.usb_packet.specs.{Toggle, Zero, One}
 use Rattle.usb_port.specs.{PortCall, SetPower, SetReset, ClearEnable, ClearPower}
 use Rattle.usb_port.specs.{ClearConnectionChange, ClearEnableChange, ClearResetChange}
-use Rattle.usb_request.specs.{Setup as SetupData, setup_of}
+use Rattle.usb_request.specs.{Setup as SetupData}
 use Rattle.usb_wire.specs.declared.question.Endpoint.{Endpoint}
 use Rattle.usb_wire.specs.declared.question.Question.{Question}
 use Rattle.usb_wire.specs.declared.question.Question.TheVariants.{Hello, Setup, Out, In, Port, Wait}
-use Rattle.usb_wire.specs.Reading.{bytes_of_word, number_of_word, text_of_line}
+use Rattle.usb_wire.specs.Reading.{bytes_of_word, number_of_word, setup_in_bytes, text_of_line}
 
 infixl 10 ◌>>=◌
 abbrev pub ◌>>=◌ : {A B : Type 0} → Option A → (A → Option B) → Option B
@@ -56,7 +56,7 @@ data_behind speed text = do
   Some (toggle, named.1)
 
 abbrev pub setup_by : Toggle → List ℕ → Option SetupData
-setup_by Zero bytes = if length bytes == 8 then Some (setup_of bytes) else None
+setup_by Zero bytes = setup_in_bytes bytes
 setup_by One bytes = None
 
 unfoldable pub setup_in : Toggle → List ℕ → Option SetupData

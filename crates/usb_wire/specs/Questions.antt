@@ -1,12 +1,12 @@
 -- The questions of the host, and the line of each.
-use Rattle.std.specs.Prelude.{◌≡◌, ℕ, ◌^◌, ◌<◌, ◌≤◌, List, [], ◌++◌, codes, decimal, Some}
+use Rattle.std.specs.Prelude.{◌≡◌, ℕ, ◌<◌, ◌≤◌, List, [], ◌++◌, codes, decimal, Some}
 use Rattle.usb_packet.specs.{Speed, Full, Low, LowBelowHub}
 use Rattle.usb_packet.specs.{TokenKind, OutTok, InTok, SetupTok, Toggle, Zero, data_name, hex_text}
 use Rattle.usb_packet.specs.{token_name}
 use Rattle.usb_port.specs.{PortCall, SetPower, SetReset, ClearEnable, ClearPower}
 use Rattle.usb_port.specs.{ClearConnectionChange, ClearEnableChange, ClearResetChange}
-use Rattle.usb_request.specs.{bytes_of, Setup as SetupData}
-use Rattle.usb_wire.specs.Answers.{IsData}
+use Rattle.usb_request.specs.{bytes_of}
+use Rattle.usb_wire.specs.Answers.{IsData, IsSetupData}
 use Rattle.usb_wire.specs.Fields.{hex_value}
 use Rattle.usb_wire.specs.declared.question.Asked.{Asked}
 use Rattle.usb_wire.specs.declared.question.Asked.TheVariants.{Hello as OfHello}
@@ -88,11 +88,6 @@ pub record IsQuestionLine (line : List ℕ) (question : Question) : Type 0 where
 -- the fields fit their places
 abbrev pub IsEndpoint : Endpoint → Type 0
 IsEndpoint e = (e.address < 128) × (e.number < 16)
-
-abbrev pub IsSetupData : SetupData → Type 0
-IsSetupData s =
-    (s.request_type < 256) × (s.request < 256) × (s.value < 2 ^ 16) × (s.index < 2 ^ 16)
-    × (s.length < 2 ^ 16)
 
 -- what may be asked
 abbrev pub IsQuestion : Question → Type 0

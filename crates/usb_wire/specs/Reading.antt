@@ -4,9 +4,11 @@ use Rattle.std.specs.Prelude.{codes, Option, Some, None, ok_or, Result, Ok, Err,
 use Rattle.std.specs.Str.{bytes_eq}
 use Rattle.usb_packet.specs.{Toggle, Zero, One as OneToggle}
 use Rattle.usb_port.specs.{path_of}
+use Rattle.usb_request.specs.{DIRECTION_IN, setup_of, Setup as SetupData}
 use Rattle.usb_wire.specs.declared.answer.Answer.{Answer}
 use Rattle.usb_wire.specs.declared.answer.Answer.TheVariants.{Roots, Ack, Nak, Stall, Nothing, Data}
 use Rattle.usb_wire.specs.declared.answer.Answer.TheVariants.{Done, Show, End, Send, Receive, Clear}
+use Rattle.usb_wire.specs.declared.answer.Answer.TheVariants.{ControlIn, ControlOut, Look, News}
 use Rattle.usb_wire.specs.declared.answer.Said.{Said}
 use Rattle.usb_wire.specs.declared.answer.Said.TheVariants.{Changed, Answered}
 use Rattle.usb_wire.specs.declared.fault.WireFault.{WireFault}
@@ -16,10 +18,12 @@ use Rattle.usb_wire.specs.declared.fault.WireFault.TheVariants.{BadPath}
 use Rattle.usb_wire.specs.declared.question.Asked.{Asked}
 use Rattle.usb_wire.specs.declared.question.Asked.TheVariants.{Hello, Attempt, Port, Wait}
 use Rattle.usb_wire.specs.declared.words.Words.{Words}
-use Rattle.usb_wire.specs.declared.words.Words.TheVariants.{One, Two, Three, More}
-use Rattle.usb_wire.specs.Answers.{send_limit}
-use Rattle.usb_wire.specs.Fields.{hex_length, hex_value, is_dash, is_hex, number_within}
+use Rattle.usb_wire.specs.declared.words.Words.TheVariants.{One, Two, Three, Four, More}
+use Rattle.usb_wire.specs.Answers.{send_limit, write_limit}
+use Rattle.usb_wire.specs.Fields.{hex_length, hex_value, is_dash, is_hex, is_other_request}
+use Rattle.usb_wire.specs.Fields.{number_within}
 use Rattle.usb_wire.specs.Words.{all_printable, words}
+use Rattle.usb_wire.specs.Writes.{Write}
 
 infixl 10 ◌>>=◌
 abbrev pub ◌>>=◌ : {A B : Type 0} → Result A WireFault → (A → Result B WireFault)
@@ -51,6 +55,41 @@ status_of_word word = do
   count ← count_in word
   if count == 4 then ok_or (hex_value word) BadHex else Err BadLength
 
+-- the fields of setup data, if they are of eight bytes
+abbrev pub setup_in_bytes : List ℕ → Option SetupData
+setup_in_bytes bytes = if length bytes == 8 then Some (setup_of bytes) else None
+
+-- a request with bytes for the device, or one without
+abbrev pub request_with : Bool → SetupData → Result SetupData WireFault
+request_with with_bytes setup = if is_other_request with_bytes setup then Err NoAnswer else Ok setup
+
+unfoldable pub request_of_word : Bool → List ℕ → Result SetupData WireFault
+request_of_word with_bytes word = do
+  bytes ← bytes_of_word 8 word
+  setup ← ok_or (setup_in_bytes bytes) BadLength
+  request_with with_bytes setup
+
+-- both, or the first fault of the two
+abbrev pub both : {A B : Type 0} → Result A WireFault → Result B WireFault
+    → Result (A × B) WireFault
+both (Ok x) (Ok y) = Ok (x, y)
+both (Ok x) (Err fault) = Err fault
+both (Err BadLength) (Err fault) = Err fault
+both (Err fault) other = Err fault
+
+-- a request to the device, and wLength bytes go with it
+abbrev pub is_write : SetupData → List ℕ → Bool
+is_write setup bytes = nat_lt setup.request_type DIRECTION_IN && (setup.length == length bytes)
+
+abbrev pub counted_write : SetupData × List ℕ → Result Write WireFault
+counted_write write =
+    if is_write write.0 write.1 then Ok (record { setup = write.0; bytes = write.1 })
+    else Err BadLength
+
+unfoldable pub write_of_words : List ℕ → List ℕ → Result Write WireFault
+write_of_words setup bytes = both (request_of_word true setup) (bytes_of_word write_limit bytes) >>=
+    counted_write
+
 unfoldable pub number_of_word : ℕ → ℕ → List ℕ → Result ℕ WireFault
 number_of_word least most word = ok_or (number_within least most word) BadNumber
 
@@ -71,6 +110,7 @@ alone Wait word =
     if bytes_eq word (codes "ok") then Ok Done
     else if bytes_eq word (codes "show") then Ok Show
     else if bytes_eq word (codes "end") then Ok End
+    else if bytes_eq word (codes "news") then Ok News
     else Err NoAnswer
 
 unfoldable pub roots_answer : List ℕ → Result Answer WireFault
@@ -88,6 +128,11 @@ clear_answer word = do
   path ← path_in word
   Ok (Clear path)
 
+unfoldable pub look_answer : List ℕ → Result Answer WireFault
+look_answer word = do
+  path ← path_in word
+  Ok (Look path)
+
 -- the answers of two words
 unfoldable pub with_one : Asked → List ℕ → List ℕ → Result Answer WireFault
 with_one Hello word argument = if bytes_eq word (codes "roots") then roots_answer argument else Err
@@ -97,8 +142,10 @@ with_one Attempt word argument =
     else if bytes_eq word (codes "DATA1") then data_answer OneToggle argument
     else Err NoAnswer
 with_one Port word argument = Err NoAnswer
-with_one Wait word argument = if bytes_eq word (codes "clear") then clear_answer argument else Err
-    NoAnswer
+with_one Wait word argument =
+    if bytes_eq word (codes "clear") then clear_answer argument
+    else if bytes_eq word (codes "look") then look_answer argument
+    else Err NoAnswer
 
 unfoldable pub send_answer : List ℕ → List ℕ → Result Answer WireFault
 send_answer first second = do
@@ -112,13 +159,40 @@ receive_answer first second = do
   path ← path_in first
   Ok (Receive path packets)
 
+-- a request without bytes for the device
+abbrev pub bare_control : List ℕ → SetupData → Answer
+bare_control path setup =
+    if nat_lt setup.request_type DIRECTION_IN then ControlOut path
+    (record { setup = setup; bytes = [] })
+    else ControlIn path setup
+
+unfoldable pub control_answer : List ℕ → List ℕ → Result Answer WireFault
+control_answer first second = do
+  setup ← request_of_word false second
+  path ← path_in first
+  Ok (bare_control path setup)
+
 -- the answers of three words
 unfoldable pub with_two : Asked → List ℕ → List ℕ → List ℕ → Result Answer WireFault
 with_two Wait word first second =
     if bytes_eq word (codes "send") then send_answer first second
     else if bytes_eq word (codes "receive") then receive_answer first second
+    else if bytes_eq word (codes "control") then control_answer first second
     else Err NoAnswer
 with_two _ word first second = Err NoAnswer
+
+unfoldable pub write_answer : List ℕ → List ℕ → List ℕ → Result Answer WireFault
+write_answer first second third = do
+  write ← write_of_words second third
+  path ← path_in first
+  Ok (ControlOut path write)
+
+-- the answers of four words
+unfoldable pub with_three : Asked → List ℕ → List ℕ → List ℕ → List ℕ → Result Answer WireFault
+with_three Wait word first second third =
+    if bytes_eq word (codes "control") then write_answer first second third
+    else Err NoAnswer
+with_three _ word first second third = Err NoAnswer
 
 -- the status of a root port
 unfoldable pub status_change : ℕ → List ℕ → List ℕ → Result Said WireFault
@@ -147,13 +221,17 @@ words_say asked count [] = Err NoAnswer
 words_say asked count (word ∷ []) = said_of (alone asked word)
 words_say asked count (word ∷ argument ∷ []) = said_of (with_one asked word argument)
 words_say asked count (word ∷ first ∷ second ∷ []) = three_say asked count word first second
-words_say asked count (word ∷ first ∷ second ∷ third ∷ more) = Err NoAnswer
+words_say asked count (word ∷ first ∷ second ∷ third ∷ []) =
+    said_of (with_three asked word first second third)
+words_say asked count (word ∷ first ∷ second ∷ third ∷ fourth ∷ more) = Err NoAnswer
 
 unfoldable pub shape_says : Asked → ℕ → Words → Result Said WireFault
 shape_says asked count (One word) = said_of (alone asked word.now)
 shape_says asked count (Two word argument) = said_of (with_one asked word.now argument.now)
 shape_says asked count (Three word first second) =
     three_say asked count word.now first.now second.now
+shape_says asked count (Four word first second third) =
+    said_of (with_three asked word.now first.now second.now third.now)
 shape_says asked count More = Err NoAnswer
 
 -- what is wrong with the text of a line

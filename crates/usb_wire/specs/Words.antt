@@ -2,7 +2,7 @@
 use Rattle.std.specs.Prelude.{◌≡◌, ℕ, ◌≤◌, ◌==◌, ◌&&◌, nat_le, Bool, List, [], ◌∷◌, length}
 use Rattle.std.specs.List.{list_all, slice_split}
 use Rattle.usb_wire.specs.declared.words.Words.{Words}
-use Rattle.usb_wire.specs.declared.words.Words.TheVariants.{One, Two, Three, More}
+use Rattle.usb_wire.specs.declared.words.Words.TheVariants.{One, Two, Three, Four, More}
 
 -- they stand one space apart
 abbrev pub words : List ℕ → List (List ℕ)
@@ -20,4 +20,5 @@ abbrev pub AreWords : List (List ℕ) → Words → Type 0
 AreWords ws (One a) = ws ≡ a.now ∷ []
 AreWords ws (Two a b) = ws ≡ a.now ∷ b.now ∷ []
 AreWords ws (Three a b c) = ws ≡ a.now ∷ b.now ∷ c.now ∷ []
-AreWords ws More = 4 ≤ length ws
+AreWords ws (Four a b c d) = ws ≡ a.now ∷ b.now ∷ c.now ∷ d.now ∷ []
+AreWords ws More = 5 ≤ length ws

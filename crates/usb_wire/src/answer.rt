@@ -3,12 +3,15 @@ ghost use Rattle.std.specs.Prelude.{◌≡◌, ◌∷◌, ◌++◌, ◌+◌, ◌
 ghost use Rattle.hex.specs.Hex.{encode_upper};
 ghost use Rattle.usb_packet.specs.Text.{hex_text};
 ghost use Rattle.usb_port.specs.Path.{path_text};
-ghost use Rattle.usb_wire.specs.Answers.{said_line};
+ghost use Rattle.usb_request.specs.Layout.{bytes_of};
+ghost use Rattle.usb_wire.specs.Answers.{said_line, write_text};
 
 use crate::question::{DataPacket, push_data};
+use crate::write::ControlWrite;
 use arrayvec::{ArrayString, ArrayVec};
 use usb_packet::{hex_digits, push_decimal};
 use usb_port::PortPath;
+use usb_request::{ReadRequest, Setup};
 
 /// The most bytes of a transfer that is wanted: so many find room in each line that wants one.
 pub const SEND_LIMIT: usize = 500;
@@ -50,6 +53,24 @@ pub enum Answer {
     },
     /// What is wanted: to clear the halts of the bulk endpoints of the device at a port (9.4.1).
     Clear(PortPath),
+    /// What is wanted: to read from endpoint 0 of the device at a port (9.3).
+    ControlIn {
+        /// The port.
+        path: PortPath,
+        /// The request.
+        request: ReadRequest,
+    },
+    /// What is wanted: to write to endpoint 0 of the device at a port (9.3).
+    ControlOut {
+        /// The port.
+        path: PortPath,
+        /// The request, with 0 to 480 bytes.
+        request: ControlWrite,
+    },
+    /// What is wanted: to enumerate again whatever is at a port.
+    Look(PortPath),
+    /// What is wanted: which devices left and which arrived since this was last wanted.
+    News,
 }
 
 /// What one line of the far end says.
@@ -108,6 +129,18 @@ fn push_answer(line: &mut ArrayString<1024>, answer: &Answer)
             push_number(line, u64::from(*packets));
         }
         Answer::Clear(path) => push_path(line, "clear ", path),
+        Answer::ControlIn { path, request } => {
+            push_path(line, "control ", path);
+            line.push(' ');
+            push_setup(line, request.setup());
+        }
+        Answer::ControlOut { path, request } => {
+            push_path(line, "control ", path);
+            line.push(' ');
+            push_write(line, request.setup(), request.bytes());
+        }
+        Answer::Look(path) => push_path(line, "look ", path),
+        Answer::News => line.push_str("news"),
         Answer::Ack => line.push_str("ACK"),
         Answer::Nak => line.push_str("NAK"),
         Answer::Stall => line.push_str("STALL"),
@@ -116,6 +149,28 @@ fn push_answer(line: &mut ArrayString<1024>, answer: &Answer)
         Answer::Show => line.push_str("show"),
         Answer::End => line.push_str("end"),
     }
+}
+
+/// Setup data, and the bytes that go with it, if there are any.
+fn push_write(line: &mut ArrayString<1024>, setup: Setup, bytes: &[u8])
+    requires { length line.old.bytes + 2 * length bytes.now < 1000 }
+    ensures { line.new.bytes ≡ line.old.bytes
+        ++ write_text (hex_text (bytes_of setup)) (hex_text bytes.now) bytes.now }
+{
+    push_setup(line, setup);
+    if !bytes.is_empty() {
+        line.push(' ');
+        push_bytes(line, bytes);
+    }
+}
+
+/// The bytes of setup data.
+fn push_setup(line: &mut ArrayString<1024>, setup: Setup)
+    requires { length line.old.bytes < 1000 }
+    ensures text { line.new.bytes ≡ line.old.bytes ++ hex_text (bytes_of setup) }
+    ensures few { length line.new.bytes ≡ length line.old.bytes + 16 }
+{
+    push_bytes(line, &setup.to_bytes());
 }
 
 /// A number in decimal digits.

@@ -1,11 +1,10 @@
 //! What a line of the host asks.
 ghost use Rattle.std.specs.Prelude.{◌≡◌, IfSome, option_map};
-ghost use Rattle.usb_packet.specs.declared.Toggle.TheVariants.{Zero};
-ghost use Rattle.usb_wire.specs.QuestionReading.{after_pre, asked_in, behind_pre_word, call_in, cut_at, data_behind, endpoint_in, in_question, out_question, port_question, question_of, setup_by, setup_in, setup_question, toggle_named, token_behind, token_of_words};
+ghost use Rattle.usb_wire.specs.QuestionReading.{after_pre, asked_in, behind_pre_word, call_in, cut_at, data_behind, endpoint_in, in_question, out_question, port_question, question_of, setup_in, setup_question, toggle_named, token_behind, token_of_words};
 ghost use Rattle.usb_wire.specs.Questions.{IsQuestion, IsQuestionLine};
 ghost use Rattle.usb_wire.specs.declared.question.Question.{Question as AQuestion};
 
-use crate::field::{bytes_of_word, number_of_word};
+use crate::field::{bytes_of_word, number_of_word, setup_in_bytes};
 use crate::question::{DataPacket, Endpoint, Question};
 use crate::reading::text_of_line;
 use usb_packet::{Speed, Toggle};
@@ -197,17 +196,8 @@ fn setup_in(toggle: Toggle, digits: &str) -> Option<Setup>
 {
     let bytes = bytes_of_word::<64>(digits).ok()?;
     match toggle {
-        Toggle::Zero => setup_by(bytes.as_slice()),
+        Toggle::Zero => setup_in_bytes(bytes.as_slice()),
         Toggle::One => None,
-    }
-}
-
-fn setup_by(bytes: &[u8]) -> Option<Setup>
-    ensures { result ≡ setup_by Zero bytes.now }
-{
-    match <[u8; 8]>::try_from(bytes) {
-        Ok(bytes) => Some(Setup::from_bytes(bytes)),
-        Err(_) => None,
     }
 }
 

@@ -10,13 +10,16 @@ pub enum WireFault {
     /// A byte is no printable ASCII.
     #[error("bad character")]
     BadCharacter,
-    /// It is no answer to the question and no status of a root port, or has words too many or too few.
+    /// It is no answer to the question and no status of a root port, or has too many or too few
+    /// words. Nor is a `control` with bytes whose request has none for the device, or one without
+    /// whose request has some (9.3.1).
     #[error("no answer")]
     NoAnswer,
     /// Where bytes stand is neither pairs of hexadecimal digits nor a dash.
     #[error("bad hex")]
     BadHex,
-    /// There are more than 64 bytes of data, more than 500 to send, or not 4 of a status.
+    /// There are more than 64 bytes of data, more than 500 to send, not 4 of a status, not 8 of
+    /// setup data, more than 480 to write, or not wLength of them.
     #[error("bad length")]
     BadLength,
     /// Where a number stands is none, or one that is out of its range.

@@ -3,13 +3,16 @@ ghost use Rattle.std.specs.Prelude.{◌≡◌, ◌≤◌, IfOk, MatchResult, fal
 ghost use Rattle.std.specs.Char.{is_ascii_digit};
 ghost use Rattle.std.specs.List.{list_all};
 ghost use Rattle.hex.specs.Hex.{decode_sized, is_hex_digit};
-ghost use Rattle.usb_wire.specs.Fields.{is_decimal, is_hex};
-ghost use Rattle.usb_wire.specs.Reading.{bytes_of_word, count_in, number_of_word, path_in, result_map, status_of_word};
+ghost use Rattle.usb_wire.specs.Fields.{has_bytes, is_decimal, is_hex, is_other_request};
+ghost use Rattle.usb_wire.specs.Reading.{bytes_of_word, both, count_in, counted_write, number_of_word, path_in, request_of_word, request_with, result_map, setup_in_bytes, status_of_word, write_of_words};
 
 use crate::fault::WireFault;
+use crate::write::{ControlWrite, WRITE_LIMIT};
 use arrayvec::ArrayVec;
 use hex::FromHex;
 use usb_port::PortPath;
+use usb_request::Setup;
+use usb_request::endpoint_address::DIRECTION_IN;
 
 /// At most so many bytes.
 #[tactic(auto, unfolding(crate::specs::Reading::bytes_of_word))]
@@ -61,6 +64,77 @@ pub(crate) fn status_of_word(word: &str) -> Result<[u8; 4], WireFault>
         Ok(status) => Ok(status),
         Err(_) => Err(WireFault::BadHex),
     }
+}
+
+/// The eight bytes of a request with bytes for the device, or of one without (9.3.1).
+#[tactic(auto, unfolding(crate::specs::Reading::request_of_word))]
+pub(crate) fn request_of_word(with_bytes: bool, word: &str) -> Result<Setup, WireFault>
+    ensures value { result ≡ request_of_word with_bytes word.now }
+    ensures kind { IfOk result (λ setup. is_other_request with_bytes setup ≡ false) }
+{
+    let bytes = bytes_of_word::<8>(word)?;
+    let setup = setup_in_bytes(bytes.as_slice()).ok_or(WireFault::BadLength)?;
+    request_with(with_bytes, setup)
+}
+
+/// The fields of setup data; `None` if there are not eight bytes (9.3).
+pub(crate) fn setup_in_bytes(bytes: &[u8]) -> Option<Setup>
+    ensures { result ≡ setup_in_bytes bytes.now }
+{
+    match <[u8; 8]>::try_from(bytes) {
+        Ok(bytes) => Some(Setup::from_bytes(bytes)),
+        Err(_) => None,
+    }
+}
+
+/// The setup data, if the request has bytes for the device, or has none, as it should.
+fn request_with(with_bytes: bool, setup: Setup) -> Result<Setup, WireFault>
+    ensures value { result ≡ request_with with_bytes setup }
+    ensures kind { IfOk result (λ setup. is_other_request with_bytes setup ≡ false) }
+{
+    if has_bytes(setup) == with_bytes {
+        Ok(setup)
+    } else {
+        Err(WireFault::NoAnswer)
+    }
+}
+
+/// Whether bytes go with the request to the device (9.3.1).
+fn has_bytes(setup: Setup) -> bool
+    ensures { result ≡ has_bytes setup }
+{
+    setup.request_type < DIRECTION_IN && setup.length != 0
+}
+
+/// A request, and the wLength bytes that go with it.
+#[tactic(auto, unfolding(crate::specs::Reading::write_of_words))]
+pub(crate) fn write_of_words(setup: &str, bytes: &str) -> Result<ControlWrite, WireFault>
+    ensures { result ≡ write_of_words setup.now bytes.now }
+{
+    let (setup, bytes) = both(request_of_word(true, setup), bytes_of_word(bytes))?;
+    counted_write(setup, bytes)
+}
+
+/// Both, or the first fault of the two.
+fn both(
+    setup: Result<Setup, WireFault>,
+    bytes: Result<ArrayVec<u8, WRITE_LIMIT>, WireFault>,
+) -> Result<(Setup, ArrayVec<u8, WRITE_LIMIT>), WireFault>
+    ensures { both setup (result_map (λ b. b.items) bytes)
+        ≡ result_map (λ w. (w.0, w.1.items)) result }
+{
+    match (setup, bytes) {
+        (Ok(setup), Ok(bytes)) => Ok((setup, bytes)),
+        (Ok(_), Err(fault)) => Err(fault),
+        (Err(WireFault::BadLength), Err(fault)) => Err(fault),
+        (Err(fault), _) => Err(fault),
+    }
+}
+
+fn counted_write(setup: Setup, bytes: ArrayVec<u8, WRITE_LIMIT>) -> Result<ControlWrite, WireFault>
+    ensures { result ≡ counted_write (setup, bytes.items) }
+{
+    ControlWrite::new(setup, bytes).ok_or(WireFault::BadLength)
 }
 
 /// How many bytes a word spells, in pairs of digits or by a dash.

@@ -1,33 +1,43 @@
 //! What a line of the far end says.
-ghost use Rattle.std.specs.Prelude.{◌≡◌, IfOk};
+ghost use Rattle.std.specs.Prelude.{◌≡◌, IfOk, false};
 ghost use Rattle.usb_wire.specs.Answers.{IsSaidLine, MaySay};
 ghost use Rattle.usb_wire.specs.Faults.{line_fault};
-ghost use Rattle.usb_wire.specs.Reading.{alone, clear_answer, data_answer, fault_in, line_says, may_push, status_change, receive_answer, result_map, roots_answer, send_answer, shape_says, text_of_line, three_say, with_one, with_two};
+ghost use Rattle.usb_wire.specs.Fields.{is_other_request};
+ghost use Rattle.usb_wire.specs.Reading.{alone, bare_control, clear_answer, control_answer, data_answer, fault_in, line_says, look_answer, may_push, status_change, receive_answer, result_map, roots_answer, send_answer, shape_says, text_of_line, three_say, with_one, with_three, with_two, write_answer};
 ghost use Rattle.usb_wire.specs.Words.{all_printable, is_printable};
 ghost use Rattle.usb_wire.specs.declared.answer.Said.{Said as ASaid};
 
 use crate::answer::{Answer, Said};
 use crate::fault::WireFault;
-use crate::field::{bytes_of_word, number_of_word, path_in, status_of_word};
+use crate::field::{
+    bytes_of_word, number_of_word, path_in, request_of_word, status_of_word, write_of_words,
+};
 use crate::question::{Asked, DataPacket};
 use crate::words::{Words, words_of};
+use crate::write::ControlWrite;
 use usb_packet::Toggle;
+use usb_port::PortPath;
+use usb_request::{ReadRequest, Setup};
 
 /// The most bytes of a line, without its newline.
 const LINE_LIMIT: usize = 1024;
 
-/// What a line of the far end says behind a question, without its newline, where there are so many root ports (what is
-/// said behind the hello says how many): the answer, or the status of a root port before it.
+/// What a line of the controller side says after a question, without its newline: the answer, or
+/// the status of a root port before it. `roots` is the number of root ports, 1 to 7; the answer to
+/// the hello says it, so that before it any number will do.
 ///
 /// # Errors
-/// The first of these that is so, in the order of [`WireFault`]:
-/// - LineTooLong where it has more than 1,024 bytes,
-/// - BadCharacter where a byte is no printable ASCII,
-/// - NoAnswer where no answer to the question, and no status of a root port, has that first word and so many words,
-/// - BadHex where a word that stands for bytes is neither pairs of digits nor a dash,
-/// - BadLength where that is more than 64 bytes of data, more than 500 to send, or not 4 of a status,
-/// - BadNumber where a word that stands for a number is none, or one out of its range,
-/// - BadPath where a word that stands for a path is none.
+/// The first of these that applies, in the order of [`WireFault`]:
+/// - `LineTooLong`: it has more than 1,024 bytes.
+/// - `BadCharacter`: a byte is no printable ASCII.
+/// - `NoAnswer`: no answer to the question, and no status of a root port, has that first word and
+///   that number of words, or a `control` has BYTES and no request with bytes for the device, or
+///   none and such a request. Bit 7 of its first byte is clear, and wLength is not 0 (9.3.1).
+/// - `BadHex`: in the place of bytes is neither pairs of hexadecimal digits nor a dash.
+/// - `BadLength`: there are more than 64 bytes of data, more than 500 to send, not 4 of a status,
+///   not 8 of setup data, more than 480 to write, or not wLength of them.
+/// - `BadNumber`: in the place of a number is none, or one out of its range.
+/// - `BadPath`: in the place of a path is none.
 pub fn read_said(asked: Asked, roots: u8, line: &[u8]) -> Result<Said, WireFault>
     // What is read may be said, and stands there.
     ensures said { IfOk result (λ said. MaySay asked roots said × IsSaidLine line.now said) }
@@ -85,6 +95,9 @@ fn words_say(asked: Asked, roots: u8, words: Words<'_>) -> Result<Said, WireFaul
         Words::One(word) => Ok(Said::Answered(alone(asked, word)?)),
         Words::Two(word, argument) => Ok(Said::Answered(with_one(asked, word, argument)?)),
         Words::Three(word, first, second) => three_say(asked, roots, word, first, second),
+        Words::Four(word, first, second, third) => Ok(Said::Answered(with_three(
+            asked, word, first, second, third,
+        )?)),
         Words::More => Err(WireFault::NoAnswer),
     }
 }
@@ -111,6 +124,7 @@ fn alone(asked: Asked, word: &str) -> Result<Answer, WireFault>
             "ok" => Ok(Answer::Done),
             "show" => Ok(Answer::Show),
             "end" => Ok(Answer::End),
+            "news" => Ok(Answer::News),
             _ => Err(WireFault::NoAnswer),
         },
     }
@@ -134,6 +148,7 @@ fn with_one(asked: Asked, word: &str, argument: &str) -> Result<Answer, WireFaul
         Asked::Port => Err(WireFault::NoAnswer),
         Asked::Wait => match word {
             "clear" => clear_answer(argument),
+            "look" => look_answer(argument),
             _ => Err(WireFault::NoAnswer),
         },
     }
@@ -161,6 +176,14 @@ fn clear_answer(word: &str) -> Result<Answer, WireFault>
 {
     let path = path_in(word)?;
     Ok(Answer::Clear(path))
+}
+
+#[tactic(auto, unfolding(crate::specs::Reading::look_answer))]
+fn look_answer(word: &str) -> Result<Answer, WireFault>
+    ensures { result ≡ look_answer word.now }
+{
+    let path = path_in(word)?;
+    Ok(Answer::Look(path))
 }
 
 /// What three words say.
@@ -211,6 +234,7 @@ fn with_two(asked: Asked, word: &str, first: &str, second: &str) -> Result<Answe
     match word {
         "send" => send_answer(first, second),
         "receive" => receive_answer(first, second),
+        "control" => control_answer(first, second),
         _ => Err(WireFault::NoAnswer),
     }
 }
@@ -234,4 +258,56 @@ fn receive_answer(first: &str, second: &str) -> Result<Answer, WireFault>
         path,
         packets: packets as u16,
     })
+}
+
+#[tactic(auto, unfolding(crate::specs::Reading::control_answer))]
+fn control_answer(first: &str, second: &str) -> Result<Answer, WireFault>
+    ensures { result ≡ control_answer first.now second.now }
+{
+    let setup = request_of_word(false, second)?;
+    let path = path_in(first)?;
+    Ok(bare_control(path, setup))
+}
+
+/// A request without bytes for the device: one that reads, or one of no data.
+fn bare_control(path: PortPath, setup: Setup) -> Answer
+    requires { is_other_request false setup ≡ false }
+    ensures { result ≡ bare_control path setup }
+{
+    match ReadRequest::new(setup) {
+        Some(request) => Answer::ControlIn { path, request },
+        None => Answer::ControlOut {
+            path,
+            request: ControlWrite::without_data(setup),
+        },
+    }
+}
+
+/// The answers of four words.
+#[tactic(auto, unfolding(crate::specs::Reading::with_three))]
+fn with_three(
+    asked: Asked,
+    word: &str,
+    first: &str,
+    second: &str,
+    third: &str,
+) -> Result<Answer, WireFault>
+    ensures { result ≡ with_three asked word.now first.now second.now third.now }
+{
+    if !matches!(asked, Asked::Wait) {
+        return Err(WireFault::NoAnswer);
+    }
+    match word {
+        "control" => write_answer(first, second, third),
+        _ => Err(WireFault::NoAnswer),
+    }
+}
+
+#[tactic(auto, unfolding(crate::specs::Reading::write_answer))]
+fn write_answer(first: &str, second: &str, third: &str) -> Result<Answer, WireFault>
+    ensures { result ≡ write_answer first.now second.now third.now }
+{
+    let request = write_of_words(second, third)?;
+    let path = path_in(first)?;
+    Ok(Answer::ControlOut { path, request })
 }

@@ -8,21 +8,25 @@ pub(crate) enum Words<'a> {
     One(&'a str),
     Two(&'a str, &'a str),
     Three(&'a str, &'a str, &'a str),
-    /// Four and more.
+    Four(&'a str, &'a str, &'a str, &'a str),
+    /// Five and more.
     More,
 }
 
 pub(crate) fn words_of(line: &str) -> Words<'_>
     ensures { AreWords (words line.now) result }
 {
-    let Some((first, behind)) = first_word(line) else {
+    let Some((first, after_first)) = first_word(line) else {
         return Words::One(line);
     };
-    let Some((second, third)) = first_word(behind) else {
-        return Words::Two(first, behind);
+    let Some((second, after_second)) = first_word(after_first) else {
+        return Words::Two(first, after_first);
     };
-    match first_word(third) {
-        None => Words::Three(first, second, third),
+    let Some((third, fourth)) = first_word(after_second) else {
+        return Words::Three(first, second, after_second);
+    };
+    match first_word(fourth) {
+        None => Words::Four(first, second, third, fourth),
         Some(_) => Words::More,
     }
 }

@@ -93,6 +93,35 @@ device = "hub"
 after = 5
 "#;
 
+/// What a driver of a plan wants of endpoint 0, of a port and of the news.
+const DRIVER: &str = r#"
+limit = 8
+roots = 1
+
+[[event]]
+do = "control"
+path = "1"
+setup = "8000000000000200"
+
+[[event]]
+do = "control"
+path = "1"
+setup = "2109000200000100"
+bytes = "0a"
+
+[[event]]
+do = "control"
+path = "1"
+setup = "0009010000000000"
+
+[[event]]
+do = "look"
+path = "1"
+
+[[event]]
+do = "news"
+"#;
+
 /// A plan, what a host says, what is said to it, and how that ends.
 #[derive(Clone, Copy)]
 struct Row {
@@ -229,6 +258,16 @@ const ROWS: &[Row] = &[
         plan: PLAN,
         host: "",
         far: "",
+        ended: Ok(()),
+    },
+    // what a driver wants; reports are ignored, news up to their end
+    Row {
+        plan: DRIVER,
+        host: "usbplan live 1\nwait\ncontrol 1 in failed no device\nwait\n\
+               control 1 out failed no device\nwait\ncontrol 1 out failed no device\nwait\n\
+               look 1 empty\nwait\nnews\nleft 1\nwait\nend\nwait\n",
+        far: "roots 1\ncontrol 1 8000000000000200\ncontrol 1 2109000200000100 0A\n\
+              control 1 0009010000000000\nlook 1\nnews\nend\n",
         ended: Ok(()),
     },
     // an event that came in the last INs, all of them answered by NAK, is told before the next one is taken

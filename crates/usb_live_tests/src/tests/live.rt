@@ -69,6 +69,33 @@ const WANTED: &[Wanted] = &[
             LISTED,
         ],
     },
+    // reads and writes at endpoint 0, news, and a port that there is not
+    Wanted {
+        far: "control 1 8000000000000200\nACK\nDATA1 0000\nACK\nnews\nnews\nlook 2\n\
+              control 2 8000000000000200\ncontrol 1 2109000200000100 0A\nACK\nACK\nDATA1 -\n\
+              control 1 2109000200000000\nACK\nSTALL\nend\n",
+        host: &[
+            "SETUP 1.0 / DATA0 8000000000000200\nIN 1.0 64\nOUT 1.0 / DATA1 -\n",
+            "control 1 in done 0000\n",
+            "wait\nnews\narrived 1\nend\nwait\nnews\nend\nwait\nlook 2 failed no port\n",
+            "wait\ncontrol 2 in failed no device\n",
+            "wait\nSETUP 1.0 / DATA0 2109000200000100\nOUT 1.0 / DATA1 0A\nIN 1.0 64\n",
+            "control 1 out done 1\n",
+            "wait\nSETUP 1.0 / DATA0 2109000200000000\nIN 1.0 64\n",
+            "control 1 out failed stalled\n",
+            "wait\nlisting 1\n",
+            LISTED,
+        ],
+    },
+    // a look finds that the device has left
+    Wanted {
+        far: "news\nlook 1\nport 1 00010000\nok\nnews\nend\n",
+        host: &[
+            "news\narrived 1\nend\n",
+            "wait\nport 1 clear C_PORT_CONNECTION\nlook 1 empty\n",
+            "wait\nnews\nleft 1\nend\nwait\nlisting 1\nend\n",
+        ],
+    },
     // the device is pulled out
     Wanted {
         far: "port 1 00010100\nok\nport 1 00010000\nok\nend\n",

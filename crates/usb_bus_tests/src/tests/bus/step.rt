@@ -247,6 +247,10 @@ fn ask_told(alloc: Global, ask: &Ask) -> Result<String, AllocError> {
             format!(in alloc; "receive {packets} from {:?}", path.numbers())
         }
         Ask::Clear(path) => format!(in alloc; "clear {:?}", path.numbers()),
+        Ask::ControlIn(path, _) => format!(in alloc; "control {:?} in", path.numbers()),
+        Ask::ControlOut(path, _) => format!(in alloc; "control {:?} out", path.numbers()),
+        Ask::Look(path) => format!(in alloc; "look {:?}", path.numbers()),
+        Ask::News => String::from_str(alloc, "news"),
     }
 }
 

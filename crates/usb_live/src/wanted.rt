@@ -1,0 +1,63 @@
+//! What is wanted of the host, done over any bus.
+ghost use Rattle.std.specs.Prelude.{◌≡◌, IfOk, IfSome, true};
+ghost use Rattle.usb_live.specs.Course.{IsShown, ListsEntries};
+ghost use Rattle.usb_live.specs.Wanted.{DoesWanted, IsOwed};
+
+use std::alloc::Global;
+use usb_bus::Bus;
+use usb_host::Host;
+use usb_run::{Item, RunFault, all_news, answered, counted};
+use usb_wire::Answer;
+
+/// Does what is wanted, once. Returns the item that is reported of it, if there is one.
+///
+/// # Errors
+///
+/// `LimitReached` or `TraceFailed` if the bus has failed, `Memory` if memory was refused.
+pub(crate) fn item_of<B: Bus>(
+    alloc: Global,
+    host: &mut Host<B>,
+    answer: Answer,
+) -> Result<Option<Item>, RunFault>
+    // A listing is of what the host has found.
+    ensures lists { IfOk result (ListsEntries answer host.new.entries) }
+    ensures shown { IfOk result (λ item. IfSome item IsShown) }
+    // The item is the one that is owed.
+    ensures owed { IfOk result (IsOwed answer) }
+    // Over a bus that does what its world does, exactly that was done.
+    ensures does { B.modelled ≡ true → DoesWanted answer host.old result host.new }
+{
+    match answer {
+        Answer::Show | Answer::End => match host.tree() {
+            Ok(tree) => Ok(Some(Item::Listing(tree, 0))),
+            Err(_) => Err(RunFault::Memory),
+        },
+        Answer::Send { path, bytes } => {
+            let sent = answered(host.send(&path, bytes.as_slice()))?;
+            Ok(Some(Item::Sent(path, counted(bytes.len(), sent))))
+        }
+        Answer::Receive { path, packets } => {
+            let received = answered(host.receive(&path, packets))?;
+            Ok(Some(Item::Received(path, received)))
+        }
+        Answer::Clear(path) => {
+            let cleared = answered(host.clear_halt(&path))?;
+            Ok(Some(Item::Cleared(path, cleared)))
+        }
+        Answer::ControlIn { path, request } => {
+            let read = answered(host.control_in(&path, request.setup()))?;
+            Ok(Some(Item::Read(path, read)))
+        }
+        Answer::ControlOut { path, request } => {
+            let bytes = request.bytes();
+            let written = answered(host.control_out(&path, request.setup(), bytes))?;
+            Ok(Some(Item::Written(path, counted(bytes.len(), written))))
+        }
+        Answer::Look(path) => {
+            let looked = answered(host.look(&path))?;
+            Ok(Some(Item::Looked(path, looked)))
+        }
+        Answer::News => Ok(Some(Item::News(all_news(alloc, host)?))),
+        _ => Ok(None),
+    }
+}
