@@ -19,7 +19,7 @@ use Rattle.usb_far.specs.{came_in, done, due_answer, hello_done, is_poll, outcom
 pub played_attempt : (a : Attempt) (old new : Played) (o : Outcome) (answer : Answer)
     (poll came : Bool) (before now : ℕ)
     → Attempts a old.far.world old.trace.bytes (Ok o) new.far.world new.trace.bytes
-    → answer ≡ outcome_answer o → poll ≡ is_poll a.kind o
+    → answer ≡ outcome_answer o → poll ≡ is_poll a o
     → before ≡ old.far.world.taken → now ≡ new.far.world.taken
     → came ≡ came_in poll old.far.came before now
     → new.far ≡ record old.far { world = new.far.world; came = came }
@@ -29,14 +29,14 @@ played_attempt a old new o answer poll came before now made told polled then lat
     let f = old.far in
     let world : new.far.world ≡ after (attempt a) f.world = made.exact in
     let heard : o ≡ outcome_in a f.world = made.outcome in
-    let polled_in : poll ≡ is_poll a.kind (outcome_in a f.world) = polled
-    ∙ ap (is_poll a.kind) heard in
+    let polled_in : poll ≡ is_poll a (outcome_in a f.world) = polled
+    ∙ ap (is_poll a) heard in
     let taken : now ≡ (after (attempt a) f.world).taken = later ∙ ap (λ v. v.taken) world in
-    let same : came ≡ came_in (is_poll a.kind (outcome_in a f.world)) f.came f.world.taken
+    let same : came ≡ came_in (is_poll a (outcome_in a f.world)) f.came f.world.taken
     (after (attempt a) f.world).taken =
     is ∙ ap (λ p. came_in p f.came before now) polled_in
-    ∙ ap (λ t. came_in (is_poll a.kind (outcome_in a f.world)) f.came t now) then
-    ∙ ap (λ t. came_in (is_poll a.kind (outcome_in a f.world)) f.came f.world.taken t) taken in
+    ∙ ap (λ t. came_in (is_poll a (outcome_in a f.world)) f.came t now) then
+    ∙ ap (λ t. came_in (is_poll a (outcome_in a f.world)) f.came f.world.taken t) taken in
     record {
       answered = sym (ap Some (told ∙ ap outcome_answer heard));
       made = λ _. sym (ap (λ v. v.fault) world) ∙ made.counts.ends.still;

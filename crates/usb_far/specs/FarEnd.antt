@@ -1,6 +1,6 @@
 -- The far end as plain data, what it does at each question, and the lines that go out behind it.
-use Rattle.std.specs.Prelude.{◌≡◌, ◌⊎◌, ℕ, ◌+◌, ◌==◌, nat_lt, Bool, true, false, not, if◌then◌else◌}
-use Rattle.std.specs.Prelude.{List, [], ◌∷◌, ◌++◌, length, map, Option, Some, None, Err}
+use Rattle.std.specs.Prelude.{◌≡◌, ◌⊎◌, ◌&&◌, ℕ, ◌+◌, ◌==◌, nat_lt, Bool, true, false, not}
+use Rattle.std.specs.Prelude.{if◌then◌else◌, List, [], ◌∷◌, ◌++◌, length, map, Option, Some, None, Err}
 use Rattle.std.specs.Io.KnownBytes.{Appends}
 use Rattle.std.specs.Str.{bytes_eq}
 use Rattle.usb_packet.specs.{TokenKind, OutTok, InTok, SetupTok, Speed, Zero, speed_has_pre}
@@ -30,8 +30,8 @@ use Rattle.usb_far.specs.declared.fault.FarFault.{FarFault}
 use Rattle.usb_far.specs.declared.fault.FarFault.TheVariants as fault
 
 -- the far end: the world of its bus, the statuses of root ports as they were told last, whether an
--- event came in the INs
--- answered by NAK since the last other question, and what the host does
+-- event came in the polls that brought nothing since the last other question, and what the host
+-- does
 pub record Far : Type 0 where
   pub world : World
   pub told : List (List ℕ)
@@ -107,18 +107,22 @@ outcome_answer outcome.Nak = Nak
 outcome_answer outcome.Stall = Stall
 outcome_answer outcome.Nothing = Nothing
 
-abbrev pub is_nak : Outcome → Bool
-is_nak (outcome.Payload toggle bytes) = false
-is_nak outcome.Ack = false
-is_nak outcome.Nak = true
-is_nak outcome.Stall = false
-is_nak outcome.Nothing = false
+-- the device had nothing to give, or its answer was lost
+abbrev pub brings_nothing : Outcome → Bool
+brings_nothing (outcome.Payload toggle bytes) = false
+brings_nothing outcome.Ack = false
+brings_nothing outcome.Nak = true
+brings_nothing outcome.Stall = false
+brings_nothing outcome.Nothing = true
 
--- an IN that is answered by NAK
-abbrev pub is_poll : TokenKind → Outcome → Bool
-is_poll InTok o = is_nak o
-is_poll OutTok o = false
-is_poll SetupTok o = false
+abbrev pub is_in_token : TokenKind → Bool
+is_in_token InTok = true
+is_in_token OutTok = false
+is_in_token SetupTok = false
+
+-- an IN of an endpoint other than 0 that brings nothing, as the poll of a hub without a change
+abbrev pub is_poll : Attempt → Outcome → Bool
+is_poll a o = is_in_token a.kind && not (a.ep == 0) && brings_nothing o
 
 -- ---- what is done at a question
 
@@ -136,7 +140,7 @@ pub record Deed : Type 0 where
 abbrev pub IsFaultless : Deed → Type 0
 IsFaultless d = d.by_bus ≡ true → d.world.fault ≡ None
 
--- an event came in the last INs, all of them answered by NAK
+-- an event came in the last attempts, all of them polls that brought nothing
 abbrev pub came_in : Bool → Bool → ℕ → ℕ → Bool
 came_in false came before now = false
 came_in true true before now = true
@@ -146,7 +150,7 @@ unfoldable pub attempt_done : Attempt → Far → Deed
 attempt_done a f = record {
   answer = Some (outcome_answer (outcome_in a f.world));
   world = after (attempt a) f.world;
-  came = came_in (is_poll a.kind (outcome_in a f.world)) f.came f.world.taken
+  came = came_in (is_poll a (outcome_in a f.world)) f.came f.world.taken
       (after (attempt a) f.world).taken;
   traced = step_lines a f.world (after (attempt a) f.world);
   by_bus = true;

@@ -5,7 +5,8 @@ pub use FarEnd.{ChangesTold, Deed, Far, HasNoPort, HasNoReply, IsDone, IsEventGi
 pub use FarEnd.{IsGivenUp, IsReplied, IsUnanswered, Played, Replies, SendsTooMuch, asked_answer}
 pub use FarEnd.{attempt_of_in, attempt_of_out, attempt_of_setup, behind_first, came_in}
 pub use FarEnd.{destination_at, done, due_answer, far_after, far_begun, far_done, far_of, is_first}
-pub use FarEnd.{is_nak, is_poll, line_of, may_ask, may_ask_as, outcome_answer, played_of, push_of}
+pub use FarEnd.{brings_nothing, is_in_token, is_poll, line_of, may_ask, may_ask_as}
+pub use FarEnd.{outcome_answer, played_of, push_of}
 pub use FarEnd.{reading_fault, status_lines, told_behind}
 unfoldable pub use FarEnd.{attempt_done, call_done, hello_done, pushes, send_wanted, statuses}
 unfoldable pub use FarEnd.{wait_done, write_wanted}

@@ -60,12 +60,13 @@ fn destination(speed: Speed, endpoint: Endpoint, max: u8) -> Destination
     }
 }
 
-/// Whether it is an IN that was answered by NAK.
+/// Whether it is an IN of an endpoint other than 0 that brought nothing, as the poll of a hub without a change: its
+/// answer was NAK, or was lost.
 pub(crate) fn is_poll(attempt: &Attempt, outcome: &Outcome) -> bool
-    ensures { result ≡ is_poll (attempt_data attempt.now).kind outcome.now }
+    ensures { result ≡ is_poll (attempt_data attempt.now) outcome.now }
 {
     match attempt {
-        Attempt::In { .. } => matches!(outcome, Outcome::Nak),
+        Attempt::In { to } => to.number != 0 && matches!(outcome, Outcome::Nak | Outcome::Nothing),
         Attempt::Setup { .. } | Attempt::Out { .. } => false,
     }
 }

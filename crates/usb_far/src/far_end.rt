@@ -42,7 +42,7 @@ pub struct FarEnd<T: Trace> {
     pub(crate) bus: SimBus<T>,
     /// What the status of each root port was when it was last told.
     pub(crate) told: Statuses,
-    /// An event came in the INs answered by NAK since the last other question.
+    /// An event came in the polls that brought nothing since the last other question.
     pub(crate) came: bool,
     pub(crate) phase: Phase,
 }
@@ -164,7 +164,7 @@ impl<T: Trace> FarEnd<T> {
     }
 }
 
-/// Whether an event came in the last INs, all of them answered by NAK: in those before, or in this one.
+/// Whether an event came in the last polls that brought nothing: in those before, or in this one.
 fn came_in(poll: bool, came: bool, before: u64, now: u64) -> bool
     ensures { result ≡ came_in poll came before now }
 {

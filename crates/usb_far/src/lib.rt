@@ -3,7 +3,7 @@
 //! `FarEnd` is a `SimBus` with the status of each root port as it last reported it. `serve` reads
 //! the lines of `usb_wire` and writes its answers; it ignores what the host reports. Due events
 //! occur in an attempt, as in a `SimBus`. At `wait` the next event occurs and is the answer, but
-//! the answer is `ok` if an event occurred in the INs just before, all of them answered by NAK.
+//! the answer is `ok` if an event occurred in the polls just before, none of which brought anything.
 //!
 //! # What is proved
 //!

@@ -93,6 +93,36 @@ device = "hub"
 after = 5
 "#;
 
+/// The same, and the poll is lost in which the second plug comes.
+const LOST_POLL: &str = r#"
+limit = 100
+roots = 2
+
+[[device]]
+name = "hub"
+speed = "full"
+descriptor = "120100020900004001000200000100000001"
+configs = ["09021900010100C000090400000109000000070581030100FF"]
+ports = 4
+self_powered = true
+
+[[event]]
+do = "plug"
+path = "1"
+device = "hub"
+
+[[event]]
+do = "plug"
+path = "2"
+device = "hub"
+after = 5
+
+[[damage]]
+attempt = 6
+packet = 1
+how = "lose"
+"#;
+
 /// What a driver of a plan wants of endpoint 0, of a port and of the news.
 const DRIVER: &str = r#"
 limit = 8
@@ -270,7 +300,7 @@ const ROWS: &[Row] = &[
               control 1 0009010000000000\nlook 1\nnews\nend\n",
         ended: Ok(()),
     },
-    // an event that came in the last INs, all of them answered by NAK, is told before the next one is taken
+    // an event that came in the last polls, which brought nothing, is told before the next one is taken
     Row {
         host: "usbplan live 1\nport 1 set PORT_POWER\nport 2 set PORT_POWER\nwait\n\
                port 1 set PORT_RESET\nSETUP 0.0 / DATA0 0005010000000000\nIN 0.0 8\n\
@@ -279,6 +309,17 @@ const ROWS: &[Row] = &[
         far: "roots 2\nport 1 00010000\nok\nport 2 00010000\nok\nport 1 01010100\nok\n\
               port 1 03011100\nok\nACK\nDATA1 -\nACK\nDATA1 -\nNAK\nport 2 01010100\nNAK\nNAK\nok\nend\n",
         plan: HUB,
+        ended: Ok(()),
+    },
+    // so it is if that poll is lost
+    Row {
+        host: "usbplan live 1\nport 1 set PORT_POWER\nport 2 set PORT_POWER\nwait\n\
+               port 1 set PORT_RESET\nSETUP 0.0 / DATA0 0005010000000000\nIN 0.0 8\n\
+               SETUP 1.0 / DATA0 0009010000000000\nIN 1.0 8\nIN 1.1 1\nIN 1.1 1\nIN 1.1 1\n\
+               wait\nwait\n",
+        far: "roots 2\nport 1 00010000\nok\nport 2 00010000\nok\nport 1 01010100\nok\n\
+              port 1 03011100\nok\nACK\nDATA1 -\nACK\nDATA1 -\nNAK\nport 2 01010100\nnone\nNAK\nok\nend\n",
+        plan: LOST_POLL,
         ended: Ok(()),
     },
     // and not where another question stands between
