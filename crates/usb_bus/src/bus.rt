@@ -42,8 +42,11 @@ pub trait Bus {
     ///
     /// # Errors
     ///
-    /// `Limit` where the attempts equal the limit, and then nothing else is done; `Memory` where memory was
-    /// refused; `Failed` where the bus itself failed. Every later attempt tells the same fault again.
+    /// - `Limit`: the attempts equal the limit. Nothing else is done.
+    /// - `Memory`: memory was refused.
+    /// - `Failed`: the bus itself failed.
+    ///
+    /// Every later attempt reports the same fault again.
     fn attempt(&mut self, attempt: &Attempt) -> Result<Outcome, BusFault>
         requires { IsAttempt (attempt_data attempt.now) }
         ensures attempts { modelled ≡ true → Attempts (attempt_data attempt.now)

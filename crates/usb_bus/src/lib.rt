@@ -1,23 +1,16 @@
-//! The bus: one transaction attempt at a time, and what goes to its trace.
+//! The bus: the trait `Bus`, one transaction attempt at a time, and what goes to its trace.
 //!
 //! # What is proved
 //!
-//! **The trace.** `Bus` has a trace beside its world: the text that its writer has, where that is known. An attempt
-//! writes the line of each event that came in it and its own line where it was made, and nothing else; where the writer
-//! failed, a front of that; root calls write nothing (`Attempts`, in `usb_bus/specs/Traces.antt`). `apply_next_event`
-//! writes the event's line (`TakesEvent`). *Went* says of two states of a bus that at most so many attempts were made,
-//! and that the steps between them are a course of attempts and root calls whose text is what was written. Every call
-//! that takes a bus has it as its clause `went`, at every answer: `setup`, `data_in`, `data_out`, `poll_in`; the calls
-//! of usb_pipe, usb_hub, usb_enum and usb_table; `round`, `send`, `receive` and `clear_halt` of `usb_host::Host`, whose
-//! value shows the trace. A run is such a course with events between (`Ran`, in `usb_run/specs/RunSegments.antt`) and
-//! items (`Transcript`); `Runner::put_line` adds its line, or a front of it. So no body between a plan and its bus can
-//! write a line that no attempt made.
+//! - Each call of `Bus` is a step of the bus's world, if the bus is *modelled*. An attempt writes
+//!   the lines of the events that came in it and its own line, or a prefix of these if the writer
+//!   failed (`Attempts`, `specs/Traces.antt`). Root calls write nothing.
+//! - Over any bus, an attempt adds at most one to `spent`, and brings at most the maximum of bytes.
+//!   A fault that it reports is `failed` (*Spends*).
+//! - `put_piece` writes a piece or a prefix of it, and its `Watched` writer is marked exactly if it
+//!   failed.
 //!
-//! **Over any bus**, modelled or not: an attempt adds at most one to `spent`, what it brings is at most the maximum, a
-//! fault that it reports is `failed`; root calls add none, and the number of root ports stays (*Spends*).
-//!
-//! - `put_piece` and `Watched`: what went out is a front of the piece, the mark is exact. A flush that fails sets the
-//!   mark; one is pending from a write that took bytes to a flush that succeeds.
+//! `docs/PORTING.md` says what each call must do, and `docs/PROVED.md` what rests on it.
 #![tactic(auto)]
 
 mod bus;

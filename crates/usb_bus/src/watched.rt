@@ -157,7 +157,7 @@ impl From<WriteFailed> for BusFault {
 ///
 /// # Errors
 ///
-/// A write failed: the writer is marked, and what went out is a front of the piece.
+/// A write failed. The writer is marked, and a prefix of the piece is written.
 #[tactic(auto, using(crate::proofs::Fronts::front_kept, crate::proofs::Fronts::pending_kept))]
 pub fn put_piece<W: Write>(writer: &mut Watched<W>, piece: &[u8]) -> Result<(), WriteFailed>
     ensures front { AppendsFront (W.contents (inner_of writer.old))
@@ -184,7 +184,7 @@ pub fn put_piece<W: Write>(writer: &mut Watched<W>, piece: &[u8]) -> Result<(), 
 ///
 /// # Errors
 ///
-/// A write failed: the writer is marked, and what went out is a front of all of them.
+/// A write failed. The writer is marked, and a prefix of all pieces is written.
 pub fn put_pieces<W: Write>(writer: &mut Watched<W>, pieces: &[&[u8]]) -> Result<(), WriteFailed>
     ensures { PutsText (known_text W.contents) has_failed writer.old result writer.new
         (flat_map (λ p. p.now) pieces.now) }

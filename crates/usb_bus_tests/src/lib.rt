@@ -1,4 +1,5 @@
-//! Tests of buses, transactions and pipes, on simulated buses of plans, with writers and readers that fail.
+//! Tests of buses, transactions and pipes, on simulated buses of plans, with writers and readers
+//! that fail.
 #![tactic(auto)]
 
 #[cfg(test)]

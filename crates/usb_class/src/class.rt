@@ -59,6 +59,10 @@ pub fn interface_codes(interface: &InterfaceView<'_>) -> ClassCodes
 }
 
 /// Adds the word for a class, as `mass storage`, or its number, as `class 7f`.
+///
+/// # Errors
+///
+/// Memory was refused. Part of the text may have been added.
 pub fn push_class(alloc: Global, out: &mut Vec<u8>, codes: ClassCodes) -> Result<(), AllocError>
     ensures { OnOk result (out.new.items ≡ out.old.items ++ class_text codes) }
 {

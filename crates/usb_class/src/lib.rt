@@ -1,9 +1,9 @@
-//! What a device or an interface says it is, in words (sections 9.6.1, 9.6.5).
+//! The class of a device or an interface, in words (9.6.1, 9.6.5).
 //!
 //! # What is proved
 //!
-//! A device's or interface's class is the word of the table in `specs/Classes.antt`, or its number; the codes of a
-//! configuration are those of its first interface.
+//! `push_class` writes the word in the table of `specs/Classes.antt`, or the class's number.
+//! `first_codes` returns the codes of a configuration's first interface.
 #![tactic(auto)]
 
 mod class;

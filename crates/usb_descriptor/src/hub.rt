@@ -32,8 +32,11 @@ impl<'a> Model for HubView<'a> {
 ///
 /// # Errors
 ///
-/// The first fault: `Short` under 9 bytes, `WrongType` where bDescriptorType is not HUB, `Length`
-/// where bDescLength is under 9 or bNbrPorts is not 1 to 7.
+/// The first fault:
+///
+/// - `Short`: there are fewer than 9 bytes.
+/// - `WrongType`: bDescriptorType is not HUB.
+/// - `Length`: bDescLength is under 9, or bNbrPorts is not 1 to 7.
 #[tactic(auto, unfolding(crate::specs::Hub::hub_spelled))]
 pub fn read_hub(bytes: &[u8]) -> Result<HubView<'_>, DescriptorFault>
     ensures answer { result ≡ hub_spelled bytes.now }

@@ -31,8 +31,11 @@ impl<'a> Model for StringView<'a> {
 ///
 /// # Errors
 ///
-/// The first fault: `Short` under 2 bytes, `WrongType` where bDescriptorType is not STRING,
-/// `Length` where bLength is odd, under 2, or over the bytes that came.
+/// The first fault:
+///
+/// - `Short`: there are fewer than 2 bytes.
+/// - `WrongType`: bDescriptorType is not STRING.
+/// - `Length`: bLength is odd, under 2, or over the bytes that came.
 #[tactic(auto, unfolding(crate::specs::Text::string_of))]
 pub fn read_string(bytes: &[u8]) -> Result<StringView<'_>, DescriptorFault>
     ensures { result ≡ string_of bytes.now }

@@ -80,9 +80,9 @@ impl Ports {
     ///
     /// # Errors
     ///
-    /// Memory was refused for a sink that was to grow. The devices in front of it and below it had
-    /// the packet; it and those behind it had not. The same devices stand at the same ports, and
-    /// the ports of the row itself are as they were.
+    /// Memory was refused for data that a device was to take. The devices before that one and below
+    /// it had the packet; it and those after it had not. The same devices are at the same ports,
+    /// and the ports of the row itself are as they were.
     pub fn deliver(&mut self, sent: &Sent) -> Result<Heard, AllocError>
         ensures ok { IfOk result (λ heard. (heard, self.new) ≡ delivered sent.now false self.old) }
         ensures err { OnErr result (figure self.new ≡ figure self.old) }
@@ -96,6 +96,10 @@ impl Ports {
 
     /// The same behind another packet, of which something may have been heard: what is heard of
     /// this one joins it.
+    ///
+    /// # Errors
+    ///
+    /// Memory was refused, as of `deliver`.
     pub fn deliver_after(
         &mut self,
         sent: &LentPacket<'_>,

@@ -76,7 +76,7 @@ impl Holders {
     ///
     /// # Errors
     ///
-    /// Memory is refused.
+    /// Memory was refused.
     pub fn of(alloc: Global, roots: &Ports) -> Result<Self, AllocError>
         ensures { IfOk result (λ holders. IsIndexOf holders roots.now) }
     {

@@ -1,18 +1,16 @@
-//! A simulated device: what a plan says of it, and what it does with each packet.
+//! A simulated device: how a plan describes it, and what it does with each packet.
 //!
 //! # What is proved
 //!
-//! - `Device::receive` is exactly the *packet table* and the *request table* (`specs/Rows.antt`,
-//!   `specs/Request.antt`), of functions and hubs. Refused memory changes nothing.
-//! - `Ports` is a row of ports with all that is plugged below it: a *tree*. `Ports::deliver` takes a
-//!   packet down it exactly. If memory was refused (*stopped*), the devices before the one that was
-//!   to take the data had the packet, and no other.
-//! - `Holders` is the index of a tree: who holds each address among the devices that packets reach,
-//!   and whether one is held twice (`IsIndexOf`).
+//! - `Device::receive` is exactly the *packet table* and the *request table*, of functions and hubs
+//!   (`specs/Rows.antt`, `specs/Request.antt`). Refused memory changes nothing.
+//! - `Ports::deliver` takes a packet through a tree of devices. If memory is refused, only the
+//!   devices before the one that was to take the data had the packet.
+//! - `Holders` is the index of a tree: who holds each address, and whether an address is held twice
+//!   (`IsIndexOf`).
 //!
-//! `src/laws.rt` has the laws of one attempt with a device, whatever of it is lost: how far control
-//! transfers and bulk endpoints are after it. `docs/PROVED.md` says what the crates above make of
-//! them.
+//! `src/laws.rt` says how far control transfers and bulk endpoints are after each attempt.
+//! `docs/PROVED.md` says what rests on this.
 #![tactic(auto)]
 
 mod alone;

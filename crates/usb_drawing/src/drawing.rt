@@ -21,8 +21,13 @@ use usb_text::Lines;
 /// made so far; where the writer failed it is a front of that.
 ///
 /// # Errors
-/// Read where the reader failed, TooLong for a text over the limit, Plan for a text that is no plan, Run where the run
-/// ended early, Write where the writer failed, Memory where memory was refused.
+///
+/// - `Read`: the reader failed.
+/// - `TooLong`: the text is over the limit.
+/// - `Plan`: the text is no plan.
+/// - `Run`: the run ended early.
+/// - `Write`: the writer failed.
+/// - `Memory`: memory was refused.
 pub fn draw<R: Read, W: Write>(
     alloc: Global,
     style: Style,

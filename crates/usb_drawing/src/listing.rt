@@ -15,6 +15,10 @@ use usb_text::{Lines, push_decimal, push_path};
 
 /// The lines of a drawn listing: its number, then a line for each entry, which says by its art what the entry stands
 /// below.
+///
+/// # Errors
+///
+/// Memory was refused.
 #[tactic(auto, unfolding(crate::specs::Drawings::drawing_lines))]
 pub fn drawing_lines(
     alloc: Global,

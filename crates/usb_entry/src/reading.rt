@@ -69,10 +69,16 @@ fn config_at(bytes: &[u8], offset: usize) -> Result<Configuration<'_>, EntryFaul
 ///
 /// # Errors
 ///
-/// The first that holds: `Empty` where there are no bytes; `Device` where they begin with no device descriptor;
-/// `TooMany` where bNumConfigurations is over 8; at the first configuration that is not whole `Configuration`, or
-/// `Missing` where no bytes are left for it; `LeftOver` where bytes are left behind the last. `Memory` says nothing of
-/// the bytes.
+/// The first that holds:
+///
+/// - `Empty`: there are no bytes.
+/// - `Device`: they begin with no device descriptor.
+/// - `TooMany`: bNumConfigurations is over 8.
+/// - `Configuration`: the configuration at that byte is malformed. `Missing`: no bytes are left for
+///   it.
+/// - `LeftOver`: bytes are left after the last configuration.
+///
+/// `Memory` says nothing of the bytes.
 pub fn entry_of(alloc: Global, bytes: &[u8]) -> Result<Entry<'_>, EntryFault>
     ensures ok { IfOk result (IsEntry bytes.now) }
     ensures err { IfErr result (HasEntryFault bytes.now) }

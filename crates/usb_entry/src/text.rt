@@ -177,6 +177,10 @@ fn push_identity(
 ///
 /// The descriptors tell neither the speed, which is `low` for a device that is no hub and whose packets have at most
 /// 8 bytes, on control and interrupt endpoints alone, nor how many ports a hub has: a plan takes 1 to 7.
+///
+/// # Errors
+///
+/// Memory was refused.
 #[tactic(auto, unfolding(crate::specs::Text::entry_text))]
 pub fn entry_text(
     alloc: Global,

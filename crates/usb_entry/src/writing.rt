@@ -15,8 +15,12 @@ use usb_bus::{Watched, put_piece};
 ///
 /// # Errors
 ///
-/// The first that holds: `NoName` where the name is empty, those of [`entry_of`], `Memory` where memory was refused:
-/// nothing is written then; `Write` where the writer failed, and a front of the table is written.
+/// The first that holds; nothing is written but at `Write`:
+///
+/// - `NoName`: the name is empty.
+/// - `Empty`, `Device`, `TooMany`, `Configuration`, `Missing`, `LeftOver`: as of [`entry_of`].
+/// - `Memory`: memory was refused.
+/// - `Write`: the writer failed. A prefix of the table is written.
 pub fn write_entry<W: Write>(
     alloc: Global,
     name: &str,

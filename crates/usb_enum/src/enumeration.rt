@@ -43,9 +43,11 @@ const LAST_TIER: u8 = 7;
 ///
 /// # Errors
 ///
-/// `ParentLost` where a request to the hub that has the port failed; none to a root port does.
-/// `Bus` where the bus makes no more steps. `Memory` where memory was refused. The pool is then as
-/// it was.
+/// The pool is then as it was.
+///
+/// - `ParentLost`: a request to the hub that has the port failed. A root port has no such request.
+/// - `Bus`: the bus has failed.
+/// - `Memory`: memory was refused.
 pub fn enumerate<B: Bus>(
     alloc: Global,
     bus: &mut B,

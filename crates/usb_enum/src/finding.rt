@@ -36,6 +36,10 @@ pub struct Accepted {
 
 impl Finding {
     /// A second finding of the same value.
+    ///
+    /// # Errors
+    ///
+    /// Memory was refused.
     pub fn try_clone(&self, alloc: Global) -> Result<Finding, AllocError>
         ensures { IfOk result (λ finding. finding ≡ self.now) }
     {
@@ -48,6 +52,10 @@ impl Finding {
 
 impl Accepted {
     /// A second device of the same value.
+    ///
+    /// # Errors
+    ///
+    /// Memory was refused.
     pub fn try_clone(&self, alloc: Global) -> Result<Accepted, AllocError>
         ensures { IfOk result (λ device. device ≡ self.now) }
     {

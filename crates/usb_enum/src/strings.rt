@@ -33,6 +33,10 @@ pub struct Strings {
 
 impl Strings {
     /// Second strings of the same units.
+    ///
+    /// # Errors
+    ///
+    /// Memory was refused.
     pub fn try_clone(&self, alloc: Global) -> Result<Strings, AllocError>
         ensures { IfOk result (λ strings. strings ≡ self.now) }
     {

@@ -90,6 +90,10 @@ impl ConfigText {
     }
 
     /// A second text of the same bytes.
+    ///
+    /// # Errors
+    ///
+    /// Memory was refused.
     pub fn try_clone(&self, alloc: Global) -> Result<ConfigText, AllocError>
         ensures { IfOk result (λ text. text ≡ self.now) }
     {
@@ -138,6 +142,10 @@ impl ConfigTexts {
     }
 
     /// Second texts of the same bytes.
+    ///
+    /// # Errors
+    ///
+    /// Memory was refused.
     pub fn try_clone(&self, alloc: Global) -> Result<ConfigTexts, AllocError>
         ensures { IfOk result (λ texts. texts ≡ self.now) }
     {
@@ -194,6 +202,10 @@ impl StringUnits {
     }
 
     /// A second string of the same units.
+    ///
+    /// # Errors
+    ///
+    /// Memory was refused.
     pub fn try_clone(&self, alloc: Global) -> Result<StringUnits, AllocError>
         ensures { IfOk result (λ units. units ≡ self.now) }
     {

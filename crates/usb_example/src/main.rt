@@ -1,5 +1,5 @@
-//! A first program over the library: a world with one device in it, a host that finds the device, and bytes that go to
-//! it and come from it.
+//! A first program over the library: a world with one device in it, a host that finds the device,
+//! and bytes to it and from it.
 #![tactic(auto)]
 
 ghost use Rattle.std.specs.Prelude.{◌≡◌, true, None, OnOk};

@@ -53,7 +53,8 @@ impl<W: Write + Drop> FarEnd<Tracer<W>> {
     /// The far end of a plan, before anything came: all root ports are off. Its trace goes to a writer.
     ///
     /// # Errors
-    /// Memory is refused.
+    ///
+    /// Memory was refused.
     pub fn new(alloc: Global, plan: &Plan, writer: Watched<W>) -> Result<Self, AllocError>
         requires { has_failed writer ≡ false }
         ensures far { IfOk result (λ far. far_of far ≡ far_begun (opening plan.now)) }

@@ -1,22 +1,22 @@
-//! The controller side of the live protocol, played from a plan on a simulated bus.
+//! The controller side of the live protocol (`docs/LIVE.md`), played from a plan on a simulated
+//! bus.
 //!
 //! `FarEnd` is a `SimBus` with the status of each root port as it last reported it. `serve` reads
 //! the lines of `usb_wire` and writes its answers; it ignores what the host reports. Due events
-//! occur in an attempt, as in a `SimBus`. At `wait` the next event occurs and is the answer, but
-//! the answer is `ok` if an event occurred in the polls just before, none of which brought anything.
+//! occur in an attempt. At `wait` the next event occurs and is the answer. But the answer is `ok`
+//! if an event occurred in the polls right before, none of which brought anything.
 //!
 //! # What is proved
 //!
 //! Of readers and writers whose bytes are known (*ServesHost* of `serve`, `specs/Serving.antt`):
 //!
-//! - Each question has its reply, once and in order: a line for each root port whose status is not
-//!   the one last reported, and the answer that the bus of the plan gives (*done*).
+//! - Each question has its reply, once and in order: each root port's new status, and the answer of
+//!   the plan's bus (*done*).
 //! - A question is answered and flushed before the next line is read (*InTurn*).
 //! - At a fault the lines before it were answered, and nothing more was. Each fault has its cause
 //!   (*CauseOf*).
 //!
-//! *Only tested*: the words of the faults. `docs/LIVE.md` describes the protocol, and
-//! `docs/PROVED.md` says what rests on this.
+//! *Only tested*: the words of the faults. `docs/PROVED.md` says what rests on this.
 #![tactic(auto)]
 
 mod attempt;

@@ -22,6 +22,7 @@ impl<T: Trace> FarEnd<T> {
     /// the answer.
     ///
     /// # Errors
+    ///
     /// NoQuestion where it is the hello and not the first question, or the first one and not the hello; BadNumber where
     /// there is no such root port; LongSend where an event sends more than 500 bytes; the fault of the bus.
     pub(crate) fn reply(&mut self, question: Question) -> Result<Reply, FarFault>

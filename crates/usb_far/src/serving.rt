@@ -18,8 +18,10 @@ use usb_wire::{Question, read_question};
 /// Answers the host's lines until its input ends, or until a fault.
 ///
 /// # Errors
+///
 /// The number of the line, from 1, and its fault, by the first of these that applies. After it
 /// nothing is written.
+///
 /// - `Read`: the reader failed. `HostGone`: the input ended in mid-line.
 /// - `LineTooLong`: a line that reports nothing has more than 1,024 bytes.
 /// - `BadCharacter`: a byte of such a line is no printable ASCII.

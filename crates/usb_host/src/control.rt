@@ -17,10 +17,12 @@ impl<B: Bus> Host<B> {
     ///
     /// # Errors
     ///
-    /// `Stopped` if an earlier call failed. `Transfer` with `NoDevice` if no accepted device is at
-    /// the path, and then nothing is attempted. `Transfer` with `Stalled` if the device refuses the
-    /// request, `Busy` if it answers with NAKs for too long, and `NoAnswer` after three errors in a
-    /// row. `Memory` if the bytes find no room and `Bus` if the bus has failed; the host then stops.
+    /// - `Stopped`: an earlier call failed.
+    /// - `Transfer` with `NoDevice`: no accepted device is at the path. Nothing is attempted.
+    /// - `Transfer` with `Stalled`: the device refused the request.
+    /// - `Transfer` with `Busy`: NAKs and repeats of one transaction reached 256. With `NoAnswer`:
+    ///   three errors in a row.
+    /// - `Bus`: the bus has failed. `Memory`: the bytes find no room. After both the host stops.
     pub fn control_in(&mut self, path: &PortPath, setup: Setup) -> Result<Vec<u8>, HostFault>
         requires reads { IsToHost setup }
         ensures any_bus { ControlsAnyBus B.modelled (control_target path.now self.old.entries) setup
@@ -49,11 +51,14 @@ impl<B: Bus> Host<B> {
     ///
     /// # Errors
     ///
-    /// `Stopped` if an earlier call failed. `Transfer` with `NoDevice` if no accepted device is at
-    /// the path, and then with `Reserved` if the host alone may send the request
-    /// (`Setup::is_reserved`); nothing is attempted then. `Transfer` with `Stalled` if the device
-    /// refuses the request or its data, `Busy` if it answers with NAKs for too long, and `NoAnswer`
-    /// after three errors in a row. `Bus` if the bus has failed; the host then stops.
+    /// - `Stopped`: an earlier call failed.
+    /// - `Transfer` with `NoDevice`: no accepted device is at the path. Nothing is attempted.
+    /// - `Transfer` with `Reserved`: the host alone may send the request (`Setup::is_reserved`).
+    ///   Nothing is attempted.
+    /// - `Transfer` with `Stalled`: the device refused the request or its data.
+    /// - `Transfer` with `Busy`: NAKs and repeats of one transaction reached 256. With `NoAnswer`:
+    ///   three errors in a row.
+    /// - `Bus`: the bus has failed; the host then stops.
     pub fn control_out(
         &mut self,
         path: &PortPath,

@@ -154,7 +154,7 @@ impl<B: Bus> Host<B> {
     ///
     /// # Errors
     ///
-    /// `Memory` if memory was refused; the host goes on.
+    /// `Memory`: memory was refused; the host goes on.
     pub fn tree(&self) -> Result<Tree, HostFault>
         ensures entries { IfOk result (λ tree. tree ≡ self.now.entries) }
         ensures memory { IfErr result (λ fault. fault ≡ HostFault.Memory) }
@@ -178,11 +178,13 @@ impl<B: Bus> Host<B> {
     ///
     /// # Errors
     ///
-    /// `Stopped` if an earlier call failed, and nothing happens. `Bus` if the bus has failed.
-    /// `Memory` if memory was refused, or if no number is left for a device, as after 2^64 of them.
-    /// After these two the host stops. The parts of the round up to one port or hub were done.
-    /// Nothing is entered there, and at most what was known there, or at a hub on its way, and below
-    /// it is forgotten.
+    /// - `Stopped`: an earlier call failed. Nothing happens.
+    /// - `Bus`: the bus has failed.
+    /// - `Memory`: memory was refused, or no number is left for a device, as after 2^64 of them.
+    ///
+    /// After the last two the host stops. The parts of the round up to one port or hub were done.
+    /// Nothing is entered there. At most what was known there, or at a hub on its way, and below it
+    /// is forgotten.
     pub fn round(&mut self) -> Result<Round, HostFault>
         ensures any_bus { RoundsAnyBus B.modelled self.old result self.new }
         ensures stopped { StopsAsRound self.old result self.new }
@@ -201,11 +203,14 @@ impl<B: Bus> Host<B> {
     ///
     /// # Errors
     ///
-    /// `Stopped` if an earlier call failed. `Transfer` with `NoDevice` if no accepted device is at the
-    /// path, `NoEndpoint` if it is a hub or has no such endpoint, and `Broken` if the pipe must be
-    /// cleared first; then nothing is attempted. `Transfer` with `Stalled` if the endpoint answers
-    /// STALL, `Busy` if NAKs and repeats of one transaction reach 256, and `NoAnswer` after three
-    /// errors in a row. `Bus` if the bus has failed; the host then stops.
+    /// - `Stopped`: an earlier call failed.
+    /// - `Transfer` with `NoDevice`: no accepted device is at the path. Nothing is attempted.
+    /// - `Transfer` with `NoEndpoint`: the device is a hub, or has no such endpoint. With `Broken`:
+    ///   the pipe must be cleared first. Nothing is attempted.
+    /// - `Transfer` with `Stalled`: the endpoint answered STALL.
+    /// - `Transfer` with `Busy`: NAKs and repeats of one transaction reached 256. With `NoAnswer`:
+    ///   three errors in a row.
+    /// - `Bus`: the bus has failed; the host then stops.
     pub fn send(&mut self, path: &PortPath, bytes: &[u8]) -> Result<(), HostFault>
         ensures any_bus { TransfersAnyBus B.modelled (transaction_bound * length bytes.now)
             self.old result self.new }
@@ -225,7 +230,14 @@ impl<B: Bus> Host<B> {
     ///
     /// # Errors
     ///
-    /// Those of `send`, and `Memory` if the bytes find no room; the host then stops.
+    /// - `Stopped`: an earlier call failed.
+    /// - `Transfer` with `NoDevice`: no accepted device is at the path. Nothing is attempted.
+    /// - `Transfer` with `NoEndpoint`: the device is a hub, or has no such endpoint. With `Broken`:
+    ///   the pipe must be cleared first. Nothing is attempted.
+    /// - `Transfer` with `Stalled`: the endpoint answered STALL.
+    /// - `Transfer` with `Busy`: NAKs and repeats of one transaction reached 256. With `NoAnswer`:
+    ///   three errors in a row.
+    /// - `Bus`: the bus has failed. `Memory`: the bytes find no room. After both the host stops.
     pub fn receive(&mut self, path: &PortPath, packets: u16) -> Result<Vec<u8>, HostFault>
         ensures any_bus { TransfersAnyBus B.modelled (transaction_bound * packets)
             self.old result self.new }
@@ -245,8 +257,14 @@ impl<B: Bus> Host<B> {
     ///
     /// # Errors
     ///
-    /// Those of `send` but `Broken`. `NoEndpoint` if the device has neither endpoint, `Stalled` if it
-    /// refuses the request.
+    /// - `Stopped`: an earlier call failed.
+    /// - `Transfer` with `NoDevice`: no accepted device is at the path. Nothing is attempted.
+    /// - `Transfer` with `NoEndpoint`: the device is a hub, or has neither endpoint. Nothing is
+    ///   attempted.
+    /// - `Transfer` with `Stalled`: the device refused the request.
+    /// - `Transfer` with `Busy`: NAKs and repeats of one transaction reached 256. With `NoAnswer`:
+    ///   three errors in a row.
+    /// - `Bus`: the bus has failed; the host then stops.
     pub fn clear_halt(&mut self, path: &PortPath) -> Result<(), HostFault>
         ensures any_bus { TransfersAnyBus B.modelled clear_bound self.old result self.new }
         ensures stopped { StopsAsTransfer self.old result self.new }

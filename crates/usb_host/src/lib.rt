@@ -1,31 +1,25 @@
-//! The host: rounds over the ports of its root and of the hubs that it knows, looks at one port, transfers to the
-//! devices that it found, and news of those that left and arrived (9.1.2, 11.12).
+//! The host: rounds over the ports of its root and of the hubs that it knows (9.1.2, 11.12). It
+//! also looks at one port, makes transfers to the devices that it found, and reports which devices
+//! left and arrived.
 //!
 //! # What is proved
 //!
-//! - **One holder.** At no attempt do two reachable devices hold one address, 0 included. Each reachable device holds
-//!   the address of the entry at its path, as long as host and bus go on (*HostMapHolds*, `specs/Ownership.antt`).
-//!   `Host::new` gives it, each call keeps it.
-//! - **What the host knows is so.** Each call keeps *HostInvariant* (`specs/Soundness.antt`). A host with nothing left
-//!   to do lists what is plugged (`settled_matches`). What is left to do pays for the attempts (`specs/Budget.antt`).
-//! - **A driver's device is the same as long as its number is.** Over any bus, an accepted device that stays listed
-//!   keeps its number, and no number is given twice (`KeepsNumbers`, `specs/Progress.antt`; `Host::device`,
+//! - **One holder.** At no attempt do two reachable devices hold one address, 0 included. Each
+//!   reachable device holds the address of the entry at its path (*HostMapHolds*; `Host::new` and
+//!   each call).
+//! - **What the host knows is so.** Each call keeps *HostInvariant*, and a host with nothing left
+//!   to do lists what is plugged (`settled_matches`).
+//! - **A device is the same as long as its number is.** Over any bus, an accepted device that stays
+//!   listed keeps its number, and no number is given twice (`KeepsNumbers`; `Host::device`,
 //!   `next_news`).
 //!
-//! What one call promises is one record: `specs/HostCalls.antt`, `Looks.antt`, `Controls.antt`, `NewsReports.antt`.
-//! What names no world holds over any bus (`CallsAnyBus`).
+//! One record has what a call promises: `specs/HostCalls.antt`, `Looks.antt`, `Controls.antt`,
+//! `NewsReports.antt`. What does not mention the simulated world holds over any bus
+//! (`CallsAnyBus`).
 //!
-//! # Words
-//!
-//! - A port is *served* if its status is read, and what that shows is done (`ServedAt`, `specs/Service.antt`).
-//! - It is *tidied* if the status shows no change of connection: its other changes are cleared, and entries stay.
-//! - It is *looked at* if the status shows one, or if a caller asks: the change is cleared, and the status read again.
-//!   What was known there and below is forgotten, and what is connected is enumerated.
-//!
-//! # What is only tested
-//!
-//! What the host does to hubs whose own changes are set, and that it comes to rest with a root port whose change no
-//! clearing takes away (`usb_host_tests`). The map is `docs/ARCHITECTURE.md`.
+//! *Only tested*: what the host does to hubs whose own changes are set, and that it comes to rest
+//! if a root port's change cannot be cleared (`usb_host_tests`). `docs/PROVED.md` has the rest,
+//! `docs/ARCHITECTURE.md` the words.
 #![tactic(auto)]
 
 mod control;

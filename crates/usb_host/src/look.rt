@@ -39,10 +39,10 @@ impl<B: Bus> Host<B> {
     ///
     /// # Errors
     ///
-    /// `Stopped` if an earlier call failed. `Transfer` with `NoPort` if the path is no root port, and
-    /// no port of a listed hub: before the look, and then nothing is attempted; or after it, since its
-    /// hub was dropped. `Bus` if the bus has failed and `Memory` if memory was refused; the host then
-    /// stops.
+    /// - `Stopped`: an earlier call failed.
+    /// - `Transfer` with `NoPort`: the path is no root port, and no port of a listed hub. It was
+    ///   none before the look, and nothing is attempted; or its hub was dropped in it.
+    /// - `Bus`: the bus has failed. `Memory`: memory was refused. After both the host stops.
     pub fn look(&mut self, path: &PortPath) -> Result<Look, HostFault>
         ensures any_bus { LooksAnyBus B.modelled path.now self.old result self.new }
         ensures stopped { StopsAsLook self.old result self.new }

@@ -1,5 +1,5 @@
-//! Tests of the host's requests, of the enumerator and of the host's rounds, also over a hub that tells what no
-//! simulated one does.
+//! Tests of the host's requests, of the enumerator and of the host's rounds, also over a hub that
+//! reports what no simulated one does.
 #![tactic(auto)]
 
 #[cfg(test)]

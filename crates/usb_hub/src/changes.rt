@@ -25,7 +25,10 @@ use usb_request::hub_feature::{C_HUB_LOCAL_POWER, C_HUB_OVER_CURRENT};
 ///
 /// # Errors
 ///
-/// Those of `control_none` but `Stalled`.
+/// A STALL counts as done.
+///
+/// - `Busy`, `NoAnswer`: a transaction ended so ([`PipeFault`]). The change may be cleared.
+/// - `Bus`: the bus has failed.
 pub fn clear_port_change<B: Bus>(bus: &mut B, port: HubPort, feature: u16) -> Result<(), PipeFault>
     requires { IsAsked B.modelled (B.world bus.old) port }
     ensures uses { UsesBus B.modelled (Steps B.world B.trace) B.spent B.ports B.failed
@@ -50,8 +53,13 @@ pub fn clear_port_change<B: Bus>(bus: &mut B, port: HubPort, feature: u16) -> Re
 ///
 /// # Errors
 ///
-/// Those of `control_in`, and `Stalled` where the status is not four bytes long: each hub has to
-/// give its status (11.24.2.6). Of a clearing those of `control_none` but `Stalled`.
+/// A STALL of a clearing counts as done.
+///
+/// - `Stalled`: the hub refused to give its status, which each has to give (11.24.2.6), or gave one
+///   that is not four bytes long.
+/// - `Busy`, `NoAnswer`: a transaction ended so ([`PipeFault`]).
+/// - `Memory`: the status finds no room.
+/// - `Bus`: the bus has failed.
 #[tactic(auto, using(usb_address::proofs::Interface::keeps_then, usb_bus::proofs::Interface::went_wider))]
 pub fn clear_hub_changes<B: Bus>(alloc: Global, bus: &mut B, hub: Target) -> Result<(), PipeFault>
     requires { IsTarget hub }

@@ -20,7 +20,10 @@ use usb_pipe::{Bus, PipeFault, Setup, Target};
 ///
 /// # Errors
 ///
-/// Those of `control_in`, and `Stalled` where the answer is not four bytes long.
+/// - `Stalled`: the hub refused the request, or its answer is not four bytes long.
+/// - `Busy`, `NoAnswer`: a transaction ended so ([`PipeFault`]).
+/// - `Memory`: the answer's bytes find no room.
+/// - `Bus`: the bus has failed.
 pub fn hub_port_status<B: Bus>(
     alloc: Global,
     bus: &mut B,
@@ -43,7 +46,9 @@ pub fn hub_port_status<B: Bus>(
 ///
 /// # Errors
 ///
-/// Those of `control_none`; after `Busy` and `NoAnswer` the feature may be set.
+/// - `Stalled`: the device refused the request.
+/// - `Busy`, `NoAnswer`: a transaction ended so ([`PipeFault`]). The feature may be set.
+/// - `Bus`: the bus has failed.
 #[tactic(auto, using(crate::proofs::AddressesKept::set_keeps, crate::proofs::Devices::set_stays))]
 pub fn set_hub_port<B: Bus>(
     bus: &mut B,
@@ -68,7 +73,9 @@ pub fn set_hub_port<B: Bus>(
 ///
 /// # Errors
 ///
-/// Those of `control_none`; after `Busy` and `NoAnswer` the feature may be cleared.
+/// - `Stalled`: the device refused the request.
+/// - `Busy`, `NoAnswer`: a transaction ended so ([`PipeFault`]). The feature may be cleared.
+/// - `Bus`: the bus has failed.
 #[tactic(auto, using(crate::proofs::AddressesKept::cleared_keeps, crate::proofs::Devices::clear_feature_keeps))]
 pub fn clear_hub_port<B: Bus>(
     bus: &mut B,

@@ -33,8 +33,13 @@ pub enum HubPort {
 ///
 /// # Errors
 ///
-/// None at a root port that there is, and `Stalled` at another. At a hub's port those of
-/// `control_in`, and `Stalled` where the answer is not four bytes long.
+/// - `Stalled`: the bus has no such root port, the hub refused the request, or its answer is not
+///   four bytes long.
+/// - `Busy`, `NoAnswer`: a transaction ended so ([`PipeFault`]).
+/// - `Memory`: the answer's bytes find no room.
+/// - `Bus`: the bus has failed.
+///
+/// A root port that there is has no error.
 pub fn port_status<B: Bus>(
     alloc: Global,
     bus: &mut B,
@@ -65,8 +70,11 @@ pub fn port_status<B: Bus>(
 ///
 /// # Errors
 ///
-/// None at a root port that there is, and `Stalled` at another. At a hub's port those of
-/// `control_none`; after `Busy` and `NoAnswer` the feature may be set.
+/// - `Stalled`: the bus has no such root port, or the hub refused the request.
+/// - `Busy`, `NoAnswer`: a transaction ended so ([`PipeFault`]). The feature may be set.
+/// - `Bus`: the bus has failed.
+///
+/// A root port that there is has no error.
 #[tactic(auto, using(crate::proofs::AddressesKept::root_set_keeps, crate::proofs::AddressesKept::hub_set_keeps))]
 pub fn set_port<B: Bus>(bus: &mut B, port: HubPort, feature: u16) -> Result<(), PipeFault>
     requires port { IsAsked B.modelled (B.world bus.old) port }
@@ -99,8 +107,11 @@ pub fn set_port<B: Bus>(bus: &mut B, port: HubPort, feature: u16) -> Result<(), 
 ///
 /// # Errors
 ///
-/// None at a root port that there is, and `Stalled` at another. At a hub's port those of
-/// `control_none`; after `Busy` and `NoAnswer` the feature may be cleared.
+/// - `Stalled`: the bus has no such root port, or the hub refused the request.
+/// - `Busy`, `NoAnswer`: a transaction ended so ([`PipeFault`]). The feature may be cleared.
+/// - `Bus`: the bus has failed.
+///
+/// A root port that there is has no error.
 #[tactic(auto, using(crate::proofs::AddressesKept::hub_clear_keeps))]
 pub fn clear_port<B: Bus>(bus: &mut B, port: HubPort, feature: u16) -> Result<(), PipeFault>
     requires port { IsAsked B.modelled (B.world bus.old) port }

@@ -24,7 +24,10 @@ use usb_pipe::{Bus, PipeFault, Setup, Target};
 ///
 /// # Errors
 ///
-/// Those of `control_in`.
+/// - `Stalled`: the device refused the request.
+/// - `Busy`, `NoAnswer`: a transaction ended so ([`PipeFault`]).
+/// - `Memory`: the answer's bytes find no room.
+/// - `Bus`: the bus has failed.
 #[tactic(auto, using(crate::proofs::GivenAnswers::device_asked, crate::proofs::GivenAnswers::device_why))]
 pub fn get_device<B: Bus>(
     alloc: Global,
@@ -54,7 +57,10 @@ pub fn get_device<B: Bus>(
 ///
 /// # Errors
 ///
-/// Those of `control_in`.
+/// - `Stalled`: the device refused the request.
+/// - `Busy`, `NoAnswer`: a transaction ended so ([`PipeFault`]).
+/// - `Memory`: the answer's bytes find no room.
+/// - `Bus`: the bus has failed.
 #[tactic(auto, using(crate::proofs::GivenAnswers::config_asked, crate::proofs::GivenAnswers::config_why))]
 pub fn get_config<B: Bus>(
     alloc: Global,
@@ -89,7 +95,10 @@ pub fn get_config<B: Bus>(
 ///
 /// # Errors
 ///
-/// Those of `control_in`.
+/// - `Stalled`: the device refused the request.
+/// - `Busy`, `NoAnswer`: a transaction ended so ([`PipeFault`]).
+/// - `Memory`: the answer's bytes find no room.
+/// - `Bus`: the bus has failed.
 #[tactic(auto, using(crate::proofs::GivenAnswers::string_asked, crate::proofs::GivenAnswers::string_why))]
 pub fn get_string<B: Bus>(
     alloc: Global,
@@ -122,7 +131,10 @@ pub fn get_string<B: Bus>(
 ///
 /// # Errors
 ///
-/// Those of `control_in`.
+/// - `Stalled`: the device refused the request.
+/// - `Busy`, `NoAnswer`: a transaction ended so ([`PipeFault`]).
+/// - `Memory`: the answer's bytes find no room.
+/// - `Bus`: the bus has failed.
 #[tactic(auto, using(crate::proofs::GivenAnswers::hub_asked, crate::proofs::GivenAnswers::hub_why))]
 pub fn hub_descriptor<B: Bus>(
     alloc: Global,
@@ -148,7 +160,10 @@ pub fn hub_descriptor<B: Bus>(
 ///
 /// # Errors
 ///
-/// Those of `control_in`, and `Stalled` where the answer is not two bytes long.
+/// - `Stalled`: the device refused the request, or its answer is not two bytes long.
+/// - `Busy`, `NoAnswer`: a transaction ended so ([`PipeFault`]).
+/// - `Memory`: the answer's bytes find no room.
+/// - `Bus`: the bus has failed.
 pub fn get_status<B: Bus>(
     alloc: Global,
     bus: &mut B,
@@ -175,7 +190,9 @@ pub fn get_status<B: Bus>(
 ///
 /// # Errors
 ///
-/// Those of `control_none`; after `Busy` and `NoAnswer` the device may have the address.
+/// - `Stalled`: the device refused the request.
+/// - `Busy`, `NoAnswer`: a transaction ended so ([`PipeFault`]). The device may have the address.
+/// - `Bus`: the bus has failed.
 #[tactic(auto, using(crate::proofs::AddressesKept::address_given, crate::proofs::Settings::address_asked, crate::proofs::Settings::address_why))]
 pub fn set_address<B: Bus>(bus: &mut B, target: Target, address: u8) -> Result<(), PipeFault>
     requires target { IsTarget target }
@@ -202,7 +219,9 @@ pub fn set_address<B: Bus>(bus: &mut B, target: Target, address: u8) -> Result<(
 ///
 /// # Errors
 ///
-/// Those of `control_none`; after `Busy` and `NoAnswer` the device may be configured.
+/// - `Stalled`: the device refused the request.
+/// - `Busy`, `NoAnswer`: a transaction ended so ([`PipeFault`]). The device may be configured.
+/// - `Bus`: the bus has failed.
 #[tactic(auto, using(crate::proofs::AddressesKept::configured, crate::proofs::Settings::configuration_asked, crate::proofs::Settings::configuration_why))]
 pub fn set_configuration<B: Bus>(bus: &mut B, target: Target, value: u8) -> Result<(), PipeFault>
     requires target { IsTarget target }

@@ -1,5 +1,5 @@
-//! Tests of the crates up to simulated devices: check fields, packets, requests, descriptors, ports, lines,
-//! resources and devices.
+//! Tests of the crates up to simulated devices: check fields, packets, requests, descriptors,
+//! ports, lines, resources and devices.
 #![tactic(auto)]
 
 #[cfg(test)]

@@ -38,7 +38,9 @@ pub enum LineFault {
 /// The next line of a reader. Nothing behind its newline is read.
 ///
 /// # Errors
-/// Read where the reader failed, Cut where the input ended in mid-line.
+///
+/// - `Read`: the reader failed.
+/// - `Cut`: the input ended within the line.
 pub fn read_line<R: Read>(reader: &mut Watched<R>) -> Result<Line, LineFault>
     ensures line { IsNextLine (R.remaining (inner_of reader.old))
         (R.remaining (inner_of reader.new)) result }
@@ -65,7 +67,9 @@ pub fn read_line<R: Read>(reader: &mut Watched<R>) -> Result<Line, LineFault>
 /// Reads the rest of a line, with its newline.
 ///
 /// # Errors
-/// Read where the reader failed, Cut where the input ended first, or 2 ^ 64 - 1 bytes had no newline.
+///
+/// - `Read`: the reader failed.
+/// - `Cut`: the input ended first, or 2 ^ 64 - 1 bytes had no newline.
 pub fn skip_line<R: Read>(reader: &mut Watched<R>) -> Result<(), LineFault>
     ensures line { EndsLine (R.remaining (inner_of reader.old)) (R.remaining (inner_of reader.new))
         result }
@@ -116,8 +120,9 @@ fn next_byte<R: Read>(reader: &mut Watched<R>) -> Result<Option<u8>, LineFault>
 /// Writes lines with their newlines, and flushes.
 ///
 /// # Errors
-/// The writer failed, and is marked: a write did, and a front of the lines has gone out; or the flush did, and all
-/// have.
+///
+/// The writer failed, and is marked. If a write failed, a prefix of the lines is written; if the
+/// flush failed, all are.
 pub fn put_lines<W: Write>(writer: &mut Watched<W>, lines: &[u8]) -> Result<(), WriteFailed>
     ensures { PutsLines (out_pipe_of W.contents writer.old) lines.now result
         (out_pipe_of W.contents writer.new) }

@@ -163,6 +163,7 @@ impl<R: Read, W: Write, B: Begun> CourseBus<R, W, B> {
     /// Asks what is wanted; where something is owed, that is nothing.
     ///
     /// # Errors
+    ///
     /// The bus's fault.
     pub(crate) fn wait(&mut self) -> Result<Answer, LiveFault> {
         if !is_nothing(&self.owed) {
@@ -192,6 +193,7 @@ impl<R: Read, W: Write, B: Begun> CourseBus<R, W, B> {
     /// Tells an item that is owed, whose text is this.
     ///
     /// # Errors
+    ///
     /// The bus's fault.
     pub(crate) fn tell(&mut self, item: &Item, text: &[u8]) -> Result<(), LiveFault>
         requires owed { settles self.old.owed item.now ≡ true }

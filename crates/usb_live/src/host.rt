@@ -29,6 +29,7 @@ type LiveHost<R, W, B> = Host<CourseBus<R, W, B>>;
 /// `limit` questions are asked. Hands the reader and the writer back.
 ///
 /// # Errors
+///
 /// - `Line`: the bus has this fault. After it nothing is asked or reported.
 /// - `Rounds`: `limit` questions were asked, in as many rounds. No controller side has caused it.
 /// - `Memory`: memory was refused. It may be returned at any time.

@@ -1,4 +1,5 @@
-//! Tests of the lines between a host and a far end: `usb_stream`, `usb_far` and `usb_live`.
+//! Tests of the lines between a host and the controller side: `usb_stream`, `usb_far` and
+//! `usb_live`.
 #![tactic(auto)]
 
 #[cfg(test)]

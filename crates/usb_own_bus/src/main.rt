@@ -1,9 +1,10 @@
-//! The host over a bus of one's own: one that counts what goes over a simulated bus, where a device puts the host off.
+//! The host over your own bus: one that counts what goes over a simulated bus, where a device keeps
+//! the host waiting.
 //!
 //! # What is proved
 //!
-//! `CountedBus` meets `trait Bus` around any bus, with the world and the trace of that one, begins with no count, and
-//! counts each attempt that was made by its answer (`counts_behind`).
+//! `CountedBus` meets `trait Bus` around any bus, with the world and the trace of that one. It
+//! begins with no count, and counts each attempt that was made by its answer (`counts_behind`).
 #![tactic(auto)]
 
 mod counted;

@@ -84,10 +84,12 @@ impl BulkPipe {
     ///
     /// # Errors
     ///
-    /// `Stalled`, `Busy` and `NoAnswer` where the transaction of a packet ended so: the packets
-    /// before it were taken, and after `Busy` and `NoAnswer` perhaps it too. `Broken` where the
-    /// pipe is broken, also for no bytes. `Bus` where the bus makes no more steps: a front of the
-    /// bytes was taken, too. It never answers `Memory`.
+    /// - `Stalled`, `Busy`, `NoAnswer`: the transaction of a packet ended so. The packets before it
+    ///   were taken, and after `Busy` and `NoAnswer` perhaps it too.
+    /// - `Broken`: the pipe is broken, also for no bytes.
+    /// - `Bus`: the bus has failed. A prefix of the bytes was taken.
+    ///
+    /// It never returns `Memory`.
     #[tactic(auto, using(usb_bus::proofs::Interface::went_wider, usb_bus::proofs::Interface::went_none))]
     pub fn send<B: Bus>(&mut self, bus: &mut B, bytes: &[u8]) -> Result<(), PipeFault>
         requires writes { self.old.is_in ≡ false }
@@ -120,9 +122,12 @@ impl BulkPipe {
     ///
     /// # Errors
     ///
-    /// `Stalled`, `Busy` and `NoAnswer` where the transaction of a packet ended so, `Memory` where
-    /// the bytes find no room: what came before is dropped. `Broken` where the pipe is broken, also
-    /// for no packets. `Bus` where the bus makes no more steps.
+    /// What came before is dropped.
+    ///
+    /// - `Stalled`, `Busy`, `NoAnswer`: the transaction of a packet ended so.
+    /// - `Memory`: the bytes find no room.
+    /// - `Broken`: the pipe is broken, also for no packets.
+    /// - `Bus`: the bus has failed.
     #[tactic(auto, using(usb_bus::proofs::Interface::went_wider, usb_bus::proofs::Interface::went_none))]
     pub fn receive<B: Bus>(
         &mut self,
@@ -167,9 +172,12 @@ impl BulkPipe {
     ///
     /// # Errors
     ///
-    /// `Stalled`, and then the pipe is as it was; `Busy` and `NoAnswer`, and then it is broken, as
-    /// the device may have cleared its halt; `Bus` where the bus makes no more steps. It never
-    /// answers `Broken` or `Memory`.
+    /// - `Stalled`: the device refused the request. The pipe is as it was.
+    /// - `Busy`, `NoAnswer`: a transaction ended so. The pipe is broken, as the device may have
+    ///   cleared its halt.
+    /// - `Bus`: the bus has failed.
+    ///
+    /// It never returns `Broken` or `Memory`.
     #[tactic(auto, using(usb_bus::proofs::Interface::went_wider, usb_bus::proofs::Interface::went_none))]
     pub fn clear_halt<B: Bus>(&mut self, bus: &mut B) -> Result<(), PipeFault>
         ensures same { bulk_made self.new ≡ bulk_made self.old }

@@ -24,8 +24,11 @@ use usb_transaction::{Bus, Target, data_in, data_out, setup as send_setup};
 ///
 /// # Errors
 ///
-/// `Stalled`, `Busy` and `NoAnswer` where a transaction ended so, `Memory` where the answer's
-/// bytes find no room, `Bus` where the bus makes no more steps. It never answers `Broken`.
+/// - `Stalled`, `Busy`, `NoAnswer`: a transaction ended so.
+/// - `Memory`: the answer's bytes find no room.
+/// - `Bus`: the bus has failed.
+///
+/// It never returns `Broken`.
 #[tactic(auto, using(usb_bus::proofs::Interface::went_wider), unfolding(crate::specs::Control::control_bound))]
 pub fn control_in<B: Bus>(
     alloc: Global,
@@ -60,9 +63,11 @@ pub fn control_in<B: Bus>(
 ///
 /// # Errors
 ///
-/// `Stalled`, `Busy` and `NoAnswer` where a transaction ended so, `Bus` where the bus makes no more
-/// steps. It never answers `Broken` or `Memory`. After `Busy` and `NoAnswer` the device may have
-/// done what was asked.
+/// - `Stalled`: the device refused the request.
+/// - `Busy`, `NoAnswer`: a transaction ended so. The device may have done what was requested.
+/// - `Bus`: the bus has failed.
+///
+/// It never returns `Broken` or `Memory`.
 #[tactic(auto, using(usb_bus::proofs::Interface::went_wider))]
 pub fn control_none<B: Bus>(bus: &mut B, target: Target, setup: Setup) -> Result<(), PipeFault>
     requires target { IsTarget target }

@@ -59,8 +59,12 @@ impl InterruptPipe {
     ///
     /// # Errors
     ///
-    /// `Stalled` at STALL, `Busy` at the 256th repeat, `NoAnswer` after three errors running, `Bus`
-    /// where the bus makes no more steps. It never answers `Broken` or `Memory`.
+    /// - `Stalled`: the endpoint answered STALL.
+    /// - `Busy`: it gave 256 repeats.
+    /// - `NoAnswer`: there were three errors in a row.
+    /// - `Bus`: the bus has failed.
+    ///
+    /// It never returns `Broken` or `Memory`.
     pub fn poll<B: Bus>(&mut self, bus: &mut B) -> Result<Option<ArrayVec<u8, 64>>, PipeFault>
         ensures same { interrupt_made self.new ≡ interrupt_made self.old }
         ensures any_bus { Spends B.spent B.ports transaction_bound bus.old bus.new

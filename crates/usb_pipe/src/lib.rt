@@ -1,22 +1,21 @@
 //! Pipes: transfers over transactions.
 //!
 //! A control transfer (8.5.3) is a SETUP, a data stage if the request has data, and a status stage
-//! the other way. An `InterruptPipe` (5.7) asks its endpoint whether there is a packet. A `BulkPipe`
-//! (5.8) moves bytes one way, cut into packets.
+//! the other way. An `InterruptPipe` (5.7) asks its endpoint whether there is a packet. A
+//! `BulkPipe` (5.8) moves bytes one way, cut into packets.
 //!
 //! # What is proved
 //!
-//! Each call has one record (`specs/Transfers.antt`). It says which transactions were made, what the
-//! call left of each device, why it failed and who answered.
+//! Each call has one record (`specs/Transfers.antt`): which transactions it made, what it left of
+//! each device, why it failed and who answered.
 //!
-//! - `control_in`: the bytes are the first ones of the answer that the device had for the request
-//!   when it accepted it.
+//! - `control_in`: the bytes are the first ones of the device's answer when it accepted the
+//!   request.
 //! - `control_out`: the device has taken the data once; if the call failed, all of them or none.
 //! - `BulkPipe`: each byte that was sent or received went once, in order, and none was left out.
 //!
-//! *Stages*: the transactions of a control transfer. *Moves*: the packets of a bulk transfer. A bulk
-//! pipe *fits* its endpoint if their toggles are level, and the endpoint is halted if the pipe was
-//! stalled. `docs/PROVED.md` has the other theorems.
+//! A bulk pipe *fits* its endpoint if their toggles are level, and the endpoint is halted if the
+//! pipe was stalled. `docs/PROVED.md` has the other theorems.
 #![tactic(auto)]
 
 mod bulk;

@@ -1,11 +1,11 @@
-//! The plan of a run, read from a TOML text, and how many attempts are enough for it.
+//! The plan of a run, read from a TOML text, and the number of attempts that is enough for it.
 //!
 //! # What is proved
 //!
-//! - *The plan* (`read_plan`): it is the plan that the text spells, or the error is the text's first
-//!   fault (`spelled_plan`, `specs/Plan.antt`), over the document that `toml` reads.
-//! - *The bound* (`bound`): it is its formula (`bound_of`, `specs/Attempts.antt`). That a run needs
-//!   no more attempts is a theorem of usb_run.
+//! - `read_plan` returns the plan that the text spells, or the text's first fault (`spelled_plan`,
+//!   `specs/Plan.antt`), over the document that `toml` reads.
+//! - `bound` is its formula (`bound_of`, `specs/Attempts.antt`). That a run needs no more attempts
+//!   is a theorem of usb_run.
 //!
 //! *Only tested*: the words of the faults. `docs/PROVED.md` has the place of these theorems among
 //! the others.

@@ -1,4 +1,5 @@
-//! Tests of usb_plan and usb_diagnosis: which texts are plans, what is read of them, and which faults are told.
+//! Tests of usb_plan and usb_diagnosis: which texts are plans, what is read of them, and which
+//! faults are reported.
 #![tactic(auto)]
 
 #[cfg(test)]

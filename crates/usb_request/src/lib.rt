@@ -3,8 +3,10 @@
 //!
 //! # What is proved
 //!
-//! Setup data and eight bytes agree both ways; each maker's fields; exactly which requests only the
-//! host itself may send (`is_reserved`).
+//! - Setup data and their eight bytes agree both ways (`Setup`), and each maker has the fields of
+//!   its request (`specs/Codes.antt`).
+//! - `is_reserved` says exactly which requests only the host itself may send
+//!   (`specs/Reserved.antt`).
 #![tactic(auto)]
 
 pub mod class_code;

@@ -2,8 +2,9 @@
 //!
 //! # What is proved
 //!
-//! `take` gives the least free address, None only where all 127 are taken; `release` frees that one alone; `supply`;
-//! `choose` is the first within the supply.
+//! - `take` returns the least free address, and None only if all 127 are taken. `release` frees one
+//!   address and no other.
+//! - `choose` returns the first configuration that the supply of the port allows.
 #![tactic(auto)]
 
 mod pool;

@@ -1,5 +1,6 @@
-//! Serves the rows of `data/`: plans, each in both modes and by a host before a far end, and packets in digits. Prints
-//! a line for each that is not as wanted, and how many rows there are and how many of them differ.
+//! Runs the rows of `data/`: plans, each in both modes and by a host over two pipes, and packets in
+//! digits. Prints a line for each that is not as expected, the number of rows, and the number of
+//! those that differ.
 #![tactic(auto)]
 
 mod live;

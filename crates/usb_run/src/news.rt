@@ -11,7 +11,7 @@ use usb_host::{Host, News};
 ///
 /// # Errors
 ///
-/// Memory is refused; what was asked for until then is lost.
+/// Memory was refused. The news that were returned until then are lost.
 pub fn all_news<B: Bus>(alloc: Global, host: &mut Host<B>) -> Result<Vec<News>, AllocError>
     ensures all { IfOk result (λ news. AllNews host.old news.items host.new) }
     ensures cut { OnErr result (SomeNews host.old host.new) }

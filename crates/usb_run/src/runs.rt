@@ -96,7 +96,9 @@ impl<T: Drop> From<AllocFailed<T>> for RunFault {
 /// Rounds until a quiet one in which no event was taken.
 ///
 /// # Errors
-/// The fault of the bus, or Memory where the host wanted memory.
+///
+/// - `LimitReached`, `TraceFailed`: the fault of the bus.
+/// - `Memory`: memory was refused.
 pub fn settle<T: Trace>(host: &mut Host<SimBus<T>>) -> Result<(), RunFault>
     requires running { host.old.stopped ≡ false }
     // Rounds, of which the last alone is quiet with no event taken in it.
@@ -156,7 +158,9 @@ pub struct Report {
 /// run goes on.
 ///
 /// # Errors
-/// LimitReached where the attempts made equal the plan's limit, Memory where memory was refused.
+///
+/// - `LimitReached`: the attempts made equal the plan's limit.
+/// - `Memory`: memory was refused.
 pub fn run(alloc: Global, plan: &Plan) -> Result<Report, RunFault>
     ensures limit { IfOk result (λ report. report.attempts ≤ plan.now.limit) }
     // No two devices that could be reached held one address at any attempt, what is told of a
@@ -197,7 +201,8 @@ impl<W: Write> Runner<Tracer<W>> {
     /// The run before its first attempt, with a writer that has not failed yet.
     ///
     /// # Errors
-    /// Memory is refused; the writer is handed back.
+    ///
+    /// Memory was refused; the writer is handed back.
     pub fn new(
         alloc: Global,
         plan: &Plan,
@@ -234,7 +239,8 @@ impl Runner<Untraced> {
     /// The same run, with no line of its trace made.
     ///
     /// # Errors
-    /// Memory is refused.
+    ///
+    /// Memory was refused.
     pub fn untraced(alloc: Global, plan: &Plan) -> Result<Runner<Untraced>, AllocError>
         ensures opened { IfOk result (λ runner. Opens plan.now None runner.host) }
         ensures begun { IfOk result (λ runner. IsBegun plan.now runner.host.world) }
@@ -249,7 +255,8 @@ impl<T: Trace> Runner<T> {
     /// The run before its first attempt, whose lines go to what has not failed yet.
     ///
     /// # Errors
-    /// Memory is refused; what the lines were to go to is handed back.
+    ///
+    /// Memory was refused; the tracer is handed back.
     pub fn traced(alloc: Global, plan: &Plan, tracer: T) -> Result<Runner<T>, (AllocError, T)>
         requires unfailed { T.failed tracer ≡ false }
         ensures opened { IfOk result (λ runner. Opens plan.now (T.text tracer) runner.host) }
@@ -293,7 +300,11 @@ impl<T: Trace> Runner<T> {
     /// Runs on to the next item, or answers None where the run is over: behind its last listing, or behind a fault.
     ///
     /// # Errors
-    /// The fault of the bus, or Memory where memory was refused; the run is then over.
+    ///
+    /// The run is then over.
+    ///
+    /// - `LimitReached`, `TraceFailed`: the fault of the bus.
+    /// - `Memory`: memory was refused.
     pub fn next_item(&mut self) -> Result<Option<Item>, RunFault>
         ensures next { (self.old.over ≡ false → Knows self.old.host)
             → Next self.old.over self.old.host result self.new.over self.new.host }
@@ -317,7 +328,9 @@ impl<T: Trace> Runner<T> {
     /// Runs on to the end, and tells what was made.
     ///
     /// # Errors
-    /// Those of `next_item`.
+    ///
+    /// - `LimitReached`, `TraceFailed`: the fault of the bus.
+    /// - `Memory`: memory was refused.
     pub fn finish(&mut self, alloc: Global) -> Result<Report, RunFault>
         ensures finishes { (self.old.over ≡ false → Knows self.old.host)
             → Finishes self.old.over self.old.host result self.new.host }
@@ -337,7 +350,9 @@ impl<T: Trace> Runner<T> {
     /// Writes one line of report into the trace.
     ///
     /// # Errors
-    /// Those of `SimBus::put_line`.
+    ///
+    /// - the fault that the bus reported before, and nothing is written;
+    /// - `Failed`: the writer failed. A prefix of the line is written.
     pub fn put_line(&mut self, line: &[u8]) -> Result<(), BusFault>
         ensures puts { PutsLine line.now self.old.host result self.new.host }
         ensures caused { IfErr result (λ fault. IsCaused (run_fault fault) self.new.host.world) }

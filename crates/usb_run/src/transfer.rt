@@ -6,6 +6,10 @@ use crate::RunFault;
 use usb_host::{HostFault, TransferFault};
 
 /// What a transfer came to; the error is one that ends the run.
+///
+/// # Errors
+///
+/// The fault of the bus, or `Memory`: these end the run.
 pub fn answered<T>(outcome: Result<T, HostFault>) -> Result<Result<T, TransferFault>, RunFault>
     ensures { result ≡ transfer_ended outcome }
 {
@@ -18,6 +22,10 @@ pub fn answered<T>(outcome: Result<T, HostFault>) -> Result<Result<T, TransferFa
 }
 
 /// How many bytes were sent, where they were.
+///
+/// # Errors
+///
+/// Why the transfer was not done.
 pub fn counted(count: usize, sent: Result<(), TransferFault>) -> Result<u64, TransferFault>
     ensures { result ≡ sent_count count sent }
 {

@@ -9,6 +9,10 @@ use usb_run::{Look, News, TransferFault};
 use usb_text::{Lines, push_cause, push_decimal, push_hex, push_path};
 
 /// `send PATH done N`, or `send PATH failed WORDS`.
+///
+/// # Errors
+///
+/// Memory was refused.
 #[tactic(auto, unfolding(usb_run::specs::TransferLines::sent_line))]
 pub fn sent_line(
     alloc: Global,
@@ -25,6 +29,10 @@ pub fn sent_line(
 }
 
 /// `receive PATH done HEX`, or `receive PATH failed WORDS`.
+///
+/// # Errors
+///
+/// Memory was refused.
 #[tactic(auto, unfolding(usb_run::specs::TransferLines::received_line))]
 pub fn received_line(
     alloc: Global,
@@ -41,6 +49,10 @@ pub fn received_line(
 }
 
 /// `clear PATH done`, or `clear PATH failed WORDS`.
+///
+/// # Errors
+///
+/// Memory was refused.
 #[tactic(auto, unfolding(usb_run::specs::TransferLines::cleared_line))]
 pub fn cleared_line(
     alloc: Global,
@@ -57,6 +69,10 @@ pub fn cleared_line(
 }
 
 /// `control PATH in done HEX`, or `control PATH in failed WORDS`.
+///
+/// # Errors
+///
+/// Memory was refused.
 #[tactic(auto, unfolding(usb_run::specs::TransferLines::read_line))]
 pub fn read_line(
     alloc: Global,
@@ -74,6 +90,10 @@ pub fn read_line(
 }
 
 /// `control PATH out done N`, or `control PATH out failed WORDS`.
+///
+/// # Errors
+///
+/// Memory was refused.
 #[tactic(auto, unfolding(usb_run::specs::TransferLines::written_line))]
 pub fn written_line(
     alloc: Global,
@@ -91,6 +111,10 @@ pub fn written_line(
 }
 
 /// `look PATH found`, `look PATH empty`, `look PATH refused CAUSE`, or `look PATH failed WORDS`.
+///
+/// # Errors
+///
+/// Memory was refused.
 #[tactic(auto, unfolding(usb_run::specs::TransferLines::look_line))]
 pub fn look_line(
     alloc: Global,
@@ -107,6 +131,10 @@ pub fn look_line(
 }
 
 /// `news`, a line for each device that left or arrived, and `end`.
+///
+/// # Errors
+///
+/// Memory was refused.
 #[tactic(auto, unfolding(usb_run::specs::TransferLines::news_lines))]
 pub fn news_lines(alloc: Global, news: &[News]) -> Result<Lines, AllocError>
     ensures { IfOk result (λ lines. lines ≡ news_lines news.now) }

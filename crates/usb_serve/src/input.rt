@@ -37,8 +37,10 @@ impl From<AllocError> for InputFault {
 /// Reads all there is, in at most one read more than the limit's bytes.
 ///
 /// # Errors
-/// Read if the reader failed, here or before; TooLong if there are more than the limit's bytes; Memory if memory was
-/// refused.
+///
+/// - `Read`: the reader failed, here or before.
+/// - `TooLong`: there are more than the limit's bytes.
+/// - `Memory`: memory was refused.
 pub fn read_text<R: Read>(alloc: Global, reader: &mut Watched<R>) -> Result<Vec<u8>, InputFault>
     ensures ok { IfOk result (λ text. (length text.items ≤ 1048576)
         × IfSome (R.remaining (inner_of reader.old)) (λ xs. text.items ≡ xs)) }

@@ -1,4 +1,4 @@
-//! What the program serves: the run of a plan (usb_run), from a reader to a writer.
+//! What the program writes for a plan: the run (usb_run), from a reader to a writer.
 //!
 //! `serve` reads a plan, runs it, and writes its trace or its report. `serve_through` does so
 //! through the buffer of an `Output`. To write something else of a run, use the parts of `serve`:
@@ -13,7 +13,7 @@
 //! - A plan of at most 127 plugs whose limit is its bound never comes to its limit (`serve`:
 //!   *NeverAtLimit*).
 //!
-//! `docs/PROVED.md` says what these rest on. *Only tested*: the rows of plans, byte for byte.
+//! *Only tested*: the rows of plans, byte for byte. `docs/PROVED.md` says what these rest on.
 #![tactic(auto)]
 
 mod answers;

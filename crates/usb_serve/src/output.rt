@@ -37,6 +37,7 @@ impl<W: Write + Drop> Output<W> {
     /// memory is taken.
     ///
     /// # Errors
+    ///
     /// Memory was refused.
     pub fn new(alloc: Global, room: usize, writer: W) -> Result<Self, AllocError>
         ensures held { IfOk result (λ output. Keeps (W.contents writer) (held W.contents output)) }
@@ -60,6 +61,7 @@ impl<W: Write + Drop> Output<W> {
     /// Lets out what waits, flushes the writer, and gives it back with its mark.
     ///
     /// # Errors
+    ///
     /// A write or a flush of the writer failed, here or before. What was held has gone out up to some byte.
     pub fn finish(self) -> (Result<(), WriteFailed>, Watched<W>)
         ensures ok { OnOk result.0 (Keeps (held W.contents self)
@@ -145,6 +147,7 @@ impl<W: Write + Drop> Output<W> {
     /// Takes a piece, part by part.
     ///
     /// # Errors
+    ///
     /// A write of the writer failed, here or before.
     pub(crate) fn put(&mut self, piece: &[u8]) -> Result<(), WriteFailed>
         ensures { PutsText (held W.contents) has_ended self.old result self.new piece.now }
@@ -187,6 +190,7 @@ impl<W: Write + Drop> Output<W> {
     /// Takes the pieces of a line, in their order. After the last line of a listing nothing waits.
     ///
     /// # Errors
+    ///
     /// A write or a flush of the writer failed, here or before.
     pub(crate) fn put_pieces(&mut self, pieces: &[&[u8]]) -> Result<(), WriteFailed>
         ensures puts { PutsText (held W.contents) has_ended self.old result self.new

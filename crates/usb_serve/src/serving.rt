@@ -100,10 +100,14 @@ impl From<WriteFailed> for ServeFault {
 /// reached hold one address. A plan of at most 127 plugs whose limit is its bound never comes to its limit.
 ///
 /// # Errors
-/// Read if the reader failed, TooLong for a text over the limit, Plan for a text that is no plan,
-/// Run if the run ended early: LimitReached if the attempts made equal the plan's limit, in mode Run TraceFailed if the
-/// writer failed at the line of an attempt or an event; Write if the writer failed in a line of report, Memory if
-/// memory was refused.
+///
+/// - `Read`: the reader failed.
+/// - `TooLong`: the text is over the limit.
+/// - `Plan`: the text is no plan.
+/// - `Run`: the run ended early. `LimitReached`: the attempts made equal the plan's limit.
+///   `TraceFailed`: in mode Run the writer failed at the line of an attempt or an event.
+/// - `Write`: the writer failed in a line of report.
+/// - `Memory`: memory was refused.
 pub fn serve<R: Read, W: Write>(
     alloc: Global,
     mode: Mode,
@@ -126,7 +130,9 @@ pub fn serve<R: Read, W: Write>(
 /// nothing is read.
 ///
 /// # Errors
-/// Those of `serve`; Write also if the writer failed before, or when what waited was let out.
+///
+/// - `Read`, `TooLong`, `Plan`, `Run`, `Memory`: as of [`serve`].
+/// - `Write`: as of [`serve`], or the writer failed before, or when what waited was let out.
 pub fn serve_through<R: Read, W: Write + Drop>(
     alloc: Global,
     mode: Mode,
@@ -182,8 +188,11 @@ fn serve_to<R: Read, T: Trace>(
 /// The plan that a reader's text spells.
 ///
 /// # Errors
-/// Read if the reader failed, here or before; TooLong for a text over the limit, Plan for a text that is no plan,
-/// Memory if memory was refused.
+///
+/// - `Read`: the reader failed, here or before.
+/// - `TooLong`: the text is over the limit.
+/// - `Plan`: the text is no plan.
+/// - `Memory`: memory was refused.
 pub fn plan_of<R: Read>(alloc: Global, reader: &mut Watched<R>) -> Result<Plan, ServeFault>
     ensures calls { calls_of reader.new ≤ calls_of reader.old + 1048577 }
     // Read and TooLong are reported exactly if the reader has failed, and only for a long text.
@@ -241,7 +250,11 @@ fn write_tree<T: Trace>(alloc: Global, plan: &Plan, writer: &mut T) -> Result<()
 /// The next item of a run in which no line is made.
 ///
 /// # Errors
-/// Those of `Runner::next_item`, but for TraceFailed.
+///
+/// The run is then over.
+///
+/// - `LimitReached`: the attempts made equal the plan's limit.
+/// - `Memory`: memory was refused.
 pub fn next_untraced(runner: &mut Runner<Untraced>) -> Result<Option<Item>, RunFault>
     ensures next { (runner.old.over ≡ false → Knows runner.old.host)
         → Next runner.old.over runner.old.host result runner.new.over runner.new.host }
@@ -268,6 +281,10 @@ pub fn number_of(item: &Item, number: u64) -> u64
 }
 
 /// The lines of an item; the number is that of a listing.
+///
+/// # Errors
+///
+/// Memory was refused.
 pub fn item_lines(alloc: Global, number: u64, item: &Item) -> Result<Lines, AllocError>
     ensures { IfOk result (λ lines. lines ≡ item_lines number item.now) }
 {
@@ -294,7 +311,8 @@ fn one_line(alloc: Global, line: Vec<u8>) -> Result<Lines, AllocError>
 /// Writes lines in their order.
 ///
 /// # Errors
-/// Write if the writer failed.
+///
+/// `Write`: the writer failed.
 pub fn write_lines<T: Trace>(writer: &mut T, lines: &[Vec<u8>]) -> Result<(), ServeFault>
     ensures front { AppendsFront (T.text writer.old) (T.text writer.new) (written_lines lines.now) }
     ensures ok { OnOk result (Appends (T.text writer.old) (T.text writer.new)

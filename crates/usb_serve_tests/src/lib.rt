@@ -1,4 +1,4 @@
-//! Tests of what the program serves and of its words: `usb_serve` and `usb_words`.
+//! Tests of what the program writes for a plan and of its words: `usb_serve` and `usb_words`.
 #![tactic(auto)]
 
 #[cfg(test)]

@@ -99,7 +99,7 @@ impl<W: Write> SimBus<Tracer<W>> {
     ///
     /// # Errors
     ///
-    /// Memory is refused; the writer is handed back.
+    /// Memory was refused; the writer is handed back.
     pub fn new(
         alloc: Global,
         plan: &Plan,
@@ -132,7 +132,7 @@ impl SimBus<Untraced> {
     ///
     /// # Errors
     ///
-    /// Memory is refused.
+    /// Memory was refused.
     pub fn untraced(alloc: Global, plan: &Plan) -> Result<SimBus<Untraced>, AllocError>
         ensures { IfOk result (λ bus. world_of bus ≡ opening plan.now) }
     {
@@ -148,7 +148,7 @@ impl<T: Trace> SimBus<T> {
     ///
     /// # Errors
     ///
-    /// Memory is refused; what the lines were to go to is handed back.
+    /// Memory was refused; the tracer is handed back.
     #[tactic(auto, using(usb_world::proofs::Interface::no_losses_yet))]
     pub fn traced(alloc: Global, plan: &Plan, tracer: T) -> Result<SimBus<T>, (AllocError, T)>
         requires unfailed { T.failed tracer ≡ false }

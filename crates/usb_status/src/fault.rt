@@ -125,7 +125,9 @@ impl From<LiveEnd> for Fault {
 /// What a look at a plan comes to: a plan that is refused is a fault, whose words are written.
 ///
 /// # Errors
-/// Refused if the plan is refused; Write, Memory as the look had them.
+///
+/// - `Refused`: the plan is refused.
+/// - `Serve` with `Write` or `Memory`: the fault of `check`.
 pub fn checked(look: Result<Verdict, CheckFault>) -> Result<(), Fault>
     ensures { result ≡ checked look }
 {

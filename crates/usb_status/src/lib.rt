@@ -2,8 +2,9 @@
 //!
 //! # What is proved
 //!
-//! `exit_status`: the status of each outcome is that of one table, `usb_status/specs/Statuses.antt`. What a command's
-//! own fault is to the program is the fault itself (the `From` of each). *Only tested*: the lines of faults.
+//! `exit_status` returns the status of each outcome by one table (`specs/Statuses.antt`). A
+//! command's fault becomes the program's unchanged (the `From` of each). *Only tested*: the lines
+//! of faults.
 #![tactic(auto)]
 
 mod fault;

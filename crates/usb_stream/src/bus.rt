@@ -76,6 +76,7 @@ impl<R: Read, W: Write> Bus for StreamBus<R, W> {
     /// Makes one attempt.
     ///
     /// # Errors
+    ///
     /// Limit where no more questions are left, Failed at any other fault.
     fn attempt(&mut self, attempt: &Attempt) -> Result<Outcome, BusFault>
         requires { IsAttempt (attempt_data attempt.now) }
@@ -230,6 +231,7 @@ impl<R: Read, W: Write> StreamBus<R, W> {
     /// # Errors
     ///
     /// The fault that is kept, or else:
+    ///
     /// - `LimitReached`: no question is left. Nothing is written or read.
     /// - `Write`: the writer failed. `Read`: the reader failed.
     /// - `Line`: a line has that fault.

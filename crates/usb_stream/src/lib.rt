@@ -1,21 +1,20 @@
-//! The host's end of the live protocol: a bus of which each attempt is a question.
+//! The host's end of the live protocol (`docs/LIVE.md`): a bus of which each attempt is a question.
 //!
 //! `StreamBus` is a `Bus` over a reader and a writer of the lines of `usb_wire`. It is not
-//! *modelled*: what devices do, and how long anything takes, is the controller side's.
+//! *modelled*: what devices do, and how long anything takes, is up to the controller side.
 //!
 //! # What is proved
 //!
 //! Of any controller side:
 //!
-//! - Each call is safe and returns. A question is one line, flushed before its answer is read. Each
-//!   line that comes is read once, in order (*AsksOnce*, `specs/Stream.antt`).
+//! - A question is one line, flushed before its answer is read. Each line that comes is read once,
+//!   in order (*AsksOnce*, `specs/Stream.antt`).
 //! - A fault has its cause (*CauseOf*), and is kept: after it nothing is read or written, and each
 //!   later call returns the same.
-//! - Data that an attempt gives fit the endpoint's maximum packet (`FitsMaximum`), and there are 1
-//!   to 7 root ports.
+//! - Data that an attempt returns fit the endpoint's maximum packet (`FitsMaximum`), and there are
+//!   1 to 7 root ports.
 //!
-//! *Only tested*: the words of the faults. `docs/LIVE.md` describes the protocol, and
-//! `docs/PROVED.md` says what rests on this.
+//! *Only tested*: the words of the faults. `docs/PROVED.md` says what rests on this.
 #![tactic(auto)]
 
 mod asked;

@@ -1,19 +1,17 @@
 //! Streams of a run: over its items the transfers to a device join end to end (5.8).
 //!
 //! usb_run says what a run reports of one transfer. These laws say what all transfers to one path
-//! come to, whatever else the run does between them: rounds, events, other items, text.
+//! come to, whatever else the run does between them.
 //!
 //! # What is proved
 //!
-//! - `transfers_join`: a device that is listed at the end of a stretch has stood at its path from
-//!   the beginning, or since the round or the look that found it anew. Since then the sends to it
-//!   join end to end, and so do the receives.
+//! - `transfers_join`: a device listed at the end of a *stretch* has been at its path since the
+//!   beginning, or since it was found anew. Since then the sends to it join end to end, and so do
+//!   the receives.
 //! - `control_moves_nothing`: attempts at endpoint 0 move nothing at any other endpoint.
 //! - `runs_are_stretches`: a run is a stretch, with its items.
 //!
-//! `docs/PROVED.md` says what rests on them.
-//!
-//! A *stretch* (`specs/Stretches.antt`) is a part of a run, from one of its hosts to a later one,
+//! A stretch (`specs/Stretches.antt`) is a part of a run, from one of its hosts to a later one,
 //! with its items.
 #![tactic(auto)]
 

@@ -23,9 +23,11 @@ impl DeviceTable {
     ///
     /// # Errors
     ///
-    /// `NoDevice` if no accepted device is at the path. `Stalled`, `Busy` and `NoAnswer` as
-    /// `control_in` tells them, and `Memory` if the answer's bytes find no room. `Bus` if the bus
-    /// has failed.
+    /// - `NoDevice`: no accepted device is at the path.
+    /// - `Stalled`: the device refused the request.
+    /// - `Busy`, `NoAnswer`: a transaction ended so.
+    /// - `Memory`: the answer's bytes find no room.
+    /// - `Bus`: the bus has failed.
     pub fn control_in<B: Bus>(
         &self,
         alloc: Global,
@@ -52,9 +54,11 @@ impl DeviceTable {
     ///
     /// # Errors
     ///
-    /// `NoDevice` if no accepted device is at the path, and then `Reserved` if the host alone may send
-    /// the request (`Setup::is_reserved`). `Stalled`, `Busy` and `NoAnswer` as `control_out` and
-    /// `control_none` report them. `Bus` if the bus has failed.
+    /// - `NoDevice`: no accepted device is at the path.
+    /// - `Reserved`: the host alone may send the request (`Setup::is_reserved`).
+    /// - `Stalled`: the device refused the request or its data.
+    /// - `Busy`, `NoAnswer`: a transaction ended so. The device has all of the data, or none.
+    /// - `Bus`: the bus has failed.
     pub fn control_out<B: Bus>(
         &self,
         bus: &mut B,

@@ -22,6 +22,10 @@ pub(crate) struct Indexes {
 impl Indexes {
     /// Enters a key under a path, and under an address where there is one. Where memory is
     /// refused, it enters neither.
+    ///
+    /// # Errors
+    ///
+    /// Memory was refused, and neither is entered.
     #[tactic(auto, using(crate::proofs::entries::Keys::taken_back))]
     pub fn insert(
         &mut self,

@@ -1,19 +1,18 @@
 //! The host's table: what is at each port, with the host's pipes to each device.
 //!
-//! - What is plugged has one right listing, but for the addresses (`one_listing`; *Lists*, `specs/Listing.antt`). A right
-//!   listing of a world of a plan's course is one of what the plan's events have left plugged
+//! # What is proved
+//!
+//! - What is plugged has one right listing, but for the addresses (`one_listing`; *Lists*,
+//!   `specs/Listing.antt`). Over a plan's course that is what the plan's events have left plugged
 //!   (`listed_is_what_the_events_left`).
-//! - A call through the pipes at a path moves nothing but at the device there, changes no address, description or port,
-//!   and leaves all other pipes level (`poll`, `send`, `receive`, `clear_halt`, `control_in`, `control_out`;
-//!   *KeepsMoved*, `specs/Levels.antt`).
-//! - A control transfer is made exactly if a device is accepted at the path and, of one that writes, if the host alone
-//!   need not send it. If a write with data is done, the device has taken the data once; if it failed, all of them or
-//!   none (`control_out`; *TableWrites*, `specs/Controls.antt`).
+//! - A call through the pipes at a path moves nothing but at the device there. It changes no
+//!   address, description or port, and leaves all other pipes level (`DeviceTable::send` and the
+//!   others; *KeepsMoved*, `specs/Levels.antt`).
+//! - A control write that is done gave the device the data once. If it failed, the device took all
+//!   of them or none (`control_out`; *TableWrites*, `specs/Controls.antt`).
 //!
-//! A pipe is *level* if it is as far as the endpoint at its other end (8.6). A *verdict* is what a host finds in a device
-//! of a description (`usb_enum/specs/Verdicts.antt`).
-//!
-//! docs/PROVED.md says what else is proved, docs/ARCHITECTURE.md what the crate stands on.
+//! A pipe is *level* if it is as far as the endpoint at its other end (8.6). `docs/PROVED.md` has
+//! the rest.
 #![tactic(auto)]
 
 mod control;

@@ -89,6 +89,11 @@ fn bulk_pipe(device: &Accepted, endpoint: Option<(u8, u8)>, is_in: bool) -> Opti
 
 impl Pipes {
     /// Asks a hub's status endpoint once; `None` of anything else.
+    ///
+    /// # Errors
+    ///
+    /// - `Stalled`, `Busy`, `NoAnswer`: the transaction ended so.
+    /// - `Bus`: the bus has failed.
     pub fn poll<B: Bus>(&mut self, bus: &mut B) -> Result<Option<ArrayVec<u8, 64>>, PipeFault>
         ensures any_bus { Spends B.spent B.ports transaction_bound bus.old bus.new
             × BusToldIt result (B.failed bus.new) }
@@ -105,6 +110,14 @@ impl Pipes {
     }
 
     /// Sends bytes to a function's bulk OUT endpoint.
+    ///
+    /// # Errors
+    ///
+    /// - `NoDevice`: the device was refused.
+    /// - `NoEndpoint`: there is no such pipe.
+    /// - `Broken`: the pipe must be cleared first.
+    /// - `Stalled`, `Busy`, `NoAnswer`: the transaction of a packet ended so.
+    /// - `Bus`: the bus has failed.
     pub fn send<B: Bus>(&mut self, bus: &mut B, bytes: &[u8]) -> Result<(), TableFault>
         requires { IfSome (pipe_out self.old) (λ pipe. pipe.is_in ≡ false) }
         ensures any_bus { Spends B.spent B.ports (transaction_bound * length bytes.now) bus.old bus.new
@@ -130,6 +143,15 @@ impl Pipes {
     }
 
     /// Receives packets from a function's bulk IN endpoint.
+    ///
+    /// # Errors
+    ///
+    /// - `NoDevice`: the device was refused.
+    /// - `NoEndpoint`: there is no such pipe.
+    /// - `Broken`: the pipe must be cleared first.
+    /// - `Stalled`, `Busy`, `NoAnswer`: the transaction of a packet ended so.
+    /// - `Memory`: the bytes find no room.
+    /// - `Bus`: the bus has failed.
     pub fn receive<B: Bus>(
         &mut self,
         alloc: Global,
@@ -160,6 +182,13 @@ impl Pipes {
     }
 
     /// Clears the halts of a function's bulk endpoints.
+    ///
+    /// # Errors
+    ///
+    /// - `NoDevice`: the device was refused.
+    /// - `NoEndpoint`: there is no such pipe.
+    /// - `Stalled`, `Busy`, `NoAnswer`: a transaction ended so.
+    /// - `Bus`: the bus has failed.
     pub fn clear_halt<B: Bus>(&mut self, bus: &mut B) -> Result<(), TableFault>
         ensures any_bus { Spends B.spent B.ports (2 * write_bound) bus.old bus.new
             × TransferTold result (B.failed bus.new) }
@@ -193,7 +222,13 @@ fn clear_through<B: Bus>(pipe: &mut Option<BulkPipe>, bus: &mut B) -> Result<(),
 }
 
 impl BulkPipes {
-    /// Clears the halt of both endpoints, of the one that writes first.
+    /// Clears the halt of both endpoints, OUT first.
+    ///
+    /// # Errors
+    ///
+    /// - `NoEndpoint`: there is neither.
+    /// - `Stalled`, `Busy`, `NoAnswer`: a transaction ended so.
+    /// - `Bus`: the bus has failed.
     pub fn clear_halt<B: Bus>(&mut self, bus: &mut B) -> Result<(), TableFault>
         ensures any_bus { Spends B.spent B.ports (2 * write_bound) bus.old bus.new
             × TransferTold result (B.failed bus.new) }

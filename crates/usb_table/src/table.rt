@@ -73,6 +73,10 @@ impl DeviceTable {
     }
 
     /// Enters what was just found at a path, where nothing stands at it or below it.
+    ///
+    /// # Errors
+    ///
+    /// Memory was refused, and nothing changes.
     pub fn insert(&mut self, path: PortPath, finding: Finding) -> Result<(), AllocError>
         requires away { has_at path self.old.entries ≡ false }
         requires sound { IsSoundFinding finding }
@@ -126,6 +130,10 @@ impl DeviceTable {
     }
 
     /// A second table's worth of entries, by rising path.
+    ///
+    /// # Errors
+    ///
+    /// Memory was refused.
     pub fn entries(&self, alloc: Global) -> Result<Vec<(PortPath, Finding)>, AllocError>
         ensures value { IfOk result (λ entries. entries.items ≡ self.now.entries) }
         ensures rising { Rises self.now.entries }
@@ -199,7 +207,9 @@ impl DeviceTable {
     ///
     /// # Errors
     ///
-    /// Those of `InterruptPipe::poll`.
+    /// - `Stalled`: the endpoint answered STALL.
+    /// - `Busy`, `NoAnswer`: the transaction ended so.
+    /// - `Bus`: the bus has failed.
     pub fn poll<B: Bus>(
         &mut self,
         bus: &mut B,
@@ -222,8 +232,11 @@ impl DeviceTable {
     ///
     /// # Errors
     ///
-    /// `NoDevice` where no accepted device stands there, `NoEndpoint` where it is a hub, is at low
-    /// speed or has no bulk OUT endpoint; else those of `BulkPipe::send`.
+    /// - `NoDevice`: no accepted device is at the path.
+    /// - `NoEndpoint`: the device is a hub, is at low speed or has no bulk OUT endpoint.
+    /// - `Broken`: the pipe must be cleared first.
+    /// - `Stalled`, `Busy`, `NoAnswer`: the transaction of a packet ended so.
+    /// - `Bus`: the bus has failed.
     pub fn send<B: Bus>(
         &mut self,
         bus: &mut B,
@@ -248,8 +261,12 @@ impl DeviceTable {
     ///
     /// # Errors
     ///
-    /// `NoDevice` where no accepted device stands there, `NoEndpoint` where it is a hub, is at low
-    /// speed or has no bulk IN endpoint; else those of `BulkPipe::receive`.
+    /// - `NoDevice`: no accepted device is at the path.
+    /// - `NoEndpoint`: the device is a hub, is at low speed or has no bulk IN endpoint.
+    /// - `Broken`: the pipe must be cleared first.
+    /// - `Stalled`, `Busy`, `NoAnswer`: the transaction of a packet ended so.
+    /// - `Memory`: the bytes find no room.
+    /// - `Bus`: the bus has failed.
     pub fn receive<B: Bus>(
         &mut self,
         alloc: Global,
@@ -275,8 +292,11 @@ impl DeviceTable {
     ///
     /// # Errors
     ///
-    /// `NoDevice` where no accepted device stands there, `NoEndpoint` where it is a hub, is at low
-    /// speed or has no bulk endpoint; else those of `BulkPipe::clear_halt`.
+    /// - `NoDevice`: no accepted device is at the path.
+    /// - `NoEndpoint`: the device is a hub, is at low speed or has no bulk endpoint.
+    /// - `Stalled`: the device refused the request.
+    /// - `Busy`, `NoAnswer`: a transaction ended so.
+    /// - `Bus`: the bus has failed.
     pub fn clear_halt<B: Bus>(&mut self, bus: &mut B, path: &PortPath) -> Result<(), TableFault>
         ensures any_bus { Spends B.spent B.ports (2 * write_bound) bus.old bus.new
             × TransferTold result (B.failed bus.new) }

@@ -29,6 +29,10 @@ pub enum TestBusFault {
 }
 
 /// The text of a plan with one root port: so many attempts at most, and these tables behind each other.
+///
+/// # Errors
+///
+/// Memory was refused.
 pub fn plan_text(alloc: Global, limit: u64, tables: &[&str]) -> Result<String, AllocError>
     ensures { IfOk result (λ s. string_bytes s
         ≡ codes "limit = " ++ decimal limit ++ codes "\nroots = 1\n"
@@ -45,7 +49,8 @@ pub fn plan_text(alloc: Global, limit: u64, tables: &[&str]) -> Result<String, A
 ///
 /// # Errors
 ///
-/// `Plan` where the text is no plan, `Memory` where memory was refused.
+/// - `Plan`: the text is no plan.
+/// - `Memory`: memory was refused.
 pub fn bus_on<W: Write + Drop>(
     alloc: Global,
     text: &str,
@@ -63,7 +68,8 @@ pub fn bus_on<W: Write + Drop>(
 ///
 /// # Errors
 ///
-/// As `bus_on`.
+/// - `Plan`: the text is no plan.
+/// - `Memory`: memory was refused.
 pub fn untraced_of(alloc: Global, text: &str) -> Result<SimBus<Untraced>, TestBusFault>
     ensures { OnOk result (IsOk (spelled_plan text.now)) }
 {
@@ -84,7 +90,8 @@ fn plan_of(alloc: Global, text: &str) -> Result<Plan, TestBusFault>
 ///
 /// # Errors
 ///
-/// As `bus_on`.
+/// - `Plan`: the text is no plan.
+/// - `Memory`: memory was refused.
 pub fn bus_of(alloc: Global, text: &str) -> Result<SimBus<Tracer<Vec<u8>>>, TestBusFault>
     ensures { OnOk result (IsOk (spelled_plan text.now)) }
 {
@@ -96,7 +103,9 @@ pub fn bus_of(alloc: Global, text: &str) -> Result<SimBus<Tracer<Vec<u8>>>, Test
 ///
 /// # Errors
 ///
-/// As `bus_on`; `Bus` where the event could not come.
+/// - `Plan`: the text is no plan.
+/// - `Memory`: memory was refused.
+/// - `Bus`: the event could not come.
 pub fn plugged(alloc: Global, text: &str) -> Result<SimBus<Tracer<Vec<u8>>>, TestBusFault>
     ensures { OnOk result (IsOk (spelled_plan text.now)) }
 {

@@ -1,13 +1,10 @@
-//! What is printed: a packet that is written in digits, and the lines of a listing and of a bound.
-//!
-//! `packet_line` gives the two lines of a packet, `listing_lines` those of a listing and `bound_line` that of a bound;
-//! `Lines` are lines in their order, and `push_cause`, `push_decimal`, `push_escaped`, `push_hex`, `push_path` and
-//! `push_units` the pieces that lines are made of.
+//! What is printed: the lines of a packet, a listing and a bound, and the pieces that lines are
+//! made of.
 //!
 //! # What is proved
 //!
-//! `packet_line` gives the packet's text and its bytes, and tells each fault only where its cause stands; each line of
-//! a listing and of a bound is its text.
+//! - `packet_line` writes a packet's text and its bytes, and returns each fault only for its cause.
+//! - Each line of `listing_lines` and `bound_line` is the text that the definition has for it.
 #![tactic(auto)]
 
 mod line;

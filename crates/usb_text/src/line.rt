@@ -25,7 +25,9 @@ pub enum LineFault {
 /// The text of the packet that the digits spell, and its bytes in upper-case digits, each on a line.
 ///
 /// # Errors
-/// BadHex where the text is no hexadecimal digits, Packet where the bytes spell no packet.
+///
+/// - `BadHex`: the text is no hexadecimal digits.
+/// - `Packet`: the bytes spell no packet.
 pub fn packet_line(alloc: Global, text: &str) -> Result<String, LineFault>
     ensures line { IfOk result (λ line. IsLineOf text.now (string_bytes line)) }
     ensures fault { IfErr result (λ fault. HasFault text.now fault) }

@@ -36,6 +36,10 @@ impl Lines {
     }
 
     /// Adds a line at the end.
+    ///
+    /// # Errors
+    ///
+    /// Memory was refused.
     pub fn push(&mut self, line: Vec<u8>) -> Result<(), AllocError>
         ensures { OnOk result (self.new ≡ self.old ++ line.items ∷ []) }
     {

@@ -23,6 +23,10 @@ fn listing_line(alloc: Global, number: u64) -> Result<Vec<u8>, AllocError>
 }
 
 /// `bound N`.
+///
+/// # Errors
+///
+/// Memory was refused.
 #[tactic(auto, unfolding(crate::specs::ListingLines::bound_line))]
 pub fn bound_line(alloc: Global, bound: u64) -> Result<Vec<u8>, AllocError>
     ensures { IfOk result (λ line. line.items ≡ bound_line bound) }
@@ -223,7 +227,7 @@ fn push_index(alloc: Global, line: &mut Vec<u8>, cause: Cause) -> Result<(), All
 ///
 /// # Errors
 ///
-/// Memory is refused.
+/// Memory was refused. Part of the text may have been added.
 pub fn push_cause(alloc: Global, line: &mut Vec<u8>, cause: Cause) -> Result<(), AllocError>
     ensures { OnOk result (line.new.items ≡ line.old.items ++ cause_text cause) }
 {
@@ -271,6 +275,10 @@ fn push_entries(
 }
 
 /// The lines of a listing, the first one number 1: of each entry, a path and what was found there.
+///
+/// # Errors
+///
+/// Memory was refused.
 #[tactic(auto, unfolding(crate::specs::ListingLines::listing_lines))]
 pub fn listing_lines(
     alloc: Global,

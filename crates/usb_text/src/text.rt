@@ -13,6 +13,10 @@ use usb_port::PortPath;
 const PIECE: usize = 64;
 
 /// Adds a number in decimal digits.
+///
+/// # Errors
+///
+/// Memory was refused. Part of the text may have been added.
 pub fn push_decimal(alloc: Global, out: &mut Vec<u8>, number: u64) -> Result<(), AllocError>
     ensures { OnOk result (out.new.items ≡ out.old.items ++ decimal number) }
 {
@@ -21,6 +25,10 @@ pub fn push_decimal(alloc: Global, out: &mut Vec<u8>, number: u64) -> Result<(),
 }
 
 /// Adds bytes in upper-case hexadecimal digits, a dash where there are none.
+///
+/// # Errors
+///
+/// Memory was refused. Part of the text may have been added.
 pub fn push_hex(out: &mut Vec<u8>, bytes: &[u8]) -> Result<(), AllocError>
     ensures { OnOk result (out.new.items ≡ out.old.items ++ hex_text bytes.now) }
 {
@@ -47,6 +55,10 @@ fn push_digits(out: &mut Vec<u8>, piece: &[u8]) -> Result<(), AllocError>
 }
 
 /// Adds the numbers of a path, joined by dots.
+///
+/// # Errors
+///
+/// Memory was refused. Part of the text may have been added.
 pub fn push_path(out: &mut Vec<u8>, path: &PortPath) -> Result<(), AllocError>
     ensures { OnOk result (out.new.items ≡ out.old.items ++ path_text path.now) }
 {
@@ -62,6 +74,10 @@ pub fn speed_word(low: bool) -> &'static str
 }
 
 /// Adds the units of a string: a printable unit as its character, any other as `\uXXXX`.
+///
+/// # Errors
+///
+/// Memory was refused. Part of the text may have been added.
 pub fn push_units(out: &mut Vec<u8>, units: &[u16]) -> Result<(), AllocError>
     ensures { OnOk result (out.new.items ≡ out.old.items ++ flat_map unit_text units.now) }
 {
@@ -88,6 +104,10 @@ fn push_unit(out: &mut Vec<u8>, unit: u16) -> Result<(), AllocError>
 }
 
 /// Adds a unit of these two bytes as `\uXXXX`.
+///
+/// # Errors
+///
+/// Memory was refused. Part of the text may have been added.
 pub fn push_escaped(out: &mut Vec<u8>, high: u8, low: u8) -> Result<(), AllocError>
     ensures { OnOk result (out.new.items ≡ out.old.items ++ escaped_text high low) }
 {

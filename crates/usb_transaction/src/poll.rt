@@ -21,8 +21,10 @@ use usb_packet::Toggle;
 ///
 /// # Errors
 ///
-/// `Stalled` at STALL, `Busy` at the 256th repeat, `NoAnswer` after three errors running, `Bus`
-/// where the bus makes no more steps.
+/// - `Stalled`: the endpoint answered STALL.
+/// - `Busy`: it gave 256 repeats.
+/// - `NoAnswer`: there were three errors in a row.
+/// - `Bus`: the bus has failed.
 pub fn poll_in<B: Bus>(
     bus: &mut B,
     target: Target,

@@ -20,8 +20,10 @@ use usb_packet::Toggle;
 ///
 /// # Errors
 ///
-/// `Stalled` at STALL, `Busy` at the 256th NAK or repeat, `NoAnswer` after three errors running,
-/// `Bus` where the bus makes no more steps.
+/// - `Stalled`: the endpoint answered STALL.
+/// - `Busy`: NAKs and repeats reached 256.
+/// - `NoAnswer`: there were three errors in a row.
+/// - `Bus`: the bus has failed.
 pub fn data_in<B: Bus>(
     bus: &mut B,
     target: Target,

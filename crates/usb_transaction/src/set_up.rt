@@ -17,8 +17,11 @@ use usb_bus::Bus;
 ///
 /// # Errors
 ///
-/// `NoAnswer` after three attempts none of which was answered by ACK: to SETUP every other answer
-/// is an error. `Bus` where the bus makes no more steps. It never answers `Stalled` or `Busy`.
+/// - `NoAnswer`: none of three attempts was answered by ACK. To SETUP every other answer is an
+///   error.
+/// - `Bus`: the bus has failed.
+///
+/// It never returns `Stalled` or `Busy`.
 pub fn setup<B: Bus>(bus: &mut B, target: Target, bytes: [u8; 8]) -> Result<Done, TransFault>
     requires { IsTarget target }
     ensures any_bus { Spends B.spent B.ports error_limit bus.old bus.new

@@ -20,8 +20,12 @@ use usb_packet::Toggle;
 ///
 /// # Errors
 ///
-/// `Stalled` at STALL, `Busy` at the 256th NAK, `NoAnswer` after three errors running, `Bus` where
-/// the bus makes no more steps. The data may have been taken all the same, where an ACK was lost.
+/// - `Stalled`: the endpoint answered STALL.
+/// - `Busy`: there were 256 NAKs.
+/// - `NoAnswer`: there were three errors in a row.
+/// - `Bus`: the bus has failed.
+///
+/// The data may have been taken all the same, if an ACK was lost.
 pub fn data_out<B: Bus>(
     bus: &mut B,
     target: Target,

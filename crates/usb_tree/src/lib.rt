@@ -1,12 +1,14 @@
-//! The tree of what is plugged: ways to a place in it, what a packet of an attempt leaves there, who holds an address.
+//! The tree of what is plugged: ways to a place in it, what an attempt's packets leave there, and
+//! who holds an address. It has definitions and lemmas, and no function.
 //!
-//! A tree is plain data (`usb_device/specs/Tree.antt`). Here stands what is asked of it, with no world, event or bus.
+//! A tree is plain data (`usb_device/specs/Tree.antt`). No world, event or bus is needed to read
+//! it.
 //!
 //! # What is proved
 //!
-//! - What a way says (`specs/Paths.antt`, `WayEffects.antt`): whether it is powered, what is pending on it, which call
-//!   or packet resets the device at its end, and which leaves it alone (`proofs/OnWays.antt`, `States.antt`).
-//! - Two devices at one address are found (`Holders.is_twice-one_path`, `twice_two`), and who holds one is told
-//!   (`HolderOfAddress`).
-//! - The packets of an attempt, and what a tree is once it has *settled* (`specs/AttemptPackets.antt`).
+//! - `specs/Paths.antt` and `specs/WayEffects.antt`: whether a way has power, what is pending on
+//!   it, and which call or packet resets the device at its end.
+//! - Two devices with one address are found (`twice_two`), and so is the device that holds an
+//!   address (`HolderOfAddress`).
+//! - A tree has *settled* if no device in it remembers a packet (`specs/AttemptPackets.antt`).
 #![tactic(auto)]

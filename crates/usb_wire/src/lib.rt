@@ -1,15 +1,13 @@
-//! The lines of the live protocol: each question of the host, and each answer to it.
-//!
-//! `docs/LIVE.md` describes the protocol. `question_line` and `said_line` write the lines,
-//! `read_question` and `read_said` read them. Nothing here allocates, reads or writes.
+//! The lines of the live protocol (`docs/LIVE.md`): each question of the host, and each answer to
+//! it. Nothing here takes memory, reads or writes.
 //!
 //! # What is proved
 //!
 //! - `question_line` and `said_line` write the line that the tables have for each value
 //!   (`specs/Questions.antt`, `specs/Answers.antt`).
-//! - `read_question` and `read_said` return a value exactly if the line says it, in digits of
-//!   either case, and it may be said there (*MaySay*). For any other line `read_said` returns the
-//!   first fault in the table of faults (`specs/Faults.antt`).
+//! - `read_question` and `read_said` return a value exactly if the line says it and may say it
+//!   there (*MaySay*). For any other line `read_said` returns the first fault in the table of
+//!   faults (`specs/Faults.antt`).
 //! - What is written is read back (`lines_are_read_back`).
 //!
 //! *Only tested*: the words of the faults. `docs/PROVED.md` says what rests on these lines.

@@ -27,7 +27,9 @@ const LINE_LIMIT: usize = 1024;
 /// the hello says it, so that before it any number will do.
 ///
 /// # Errors
+///
 /// The first of these that applies, in the order of [`WireFault`]:
+///
 /// - `LineTooLong`: it has more than 1,024 bytes.
 /// - `BadCharacter`: a byte is no printable ASCII.
 /// - `NoAnswer`: no answer to the question, and no status of a root port, has that first word and

@@ -1,9 +1,10 @@
-//! The words after the program's name: which command they ask for, and the program's help and version.
+//! The words after the program's name: which command they request, and the program's help and
+//! version.
 //!
 //! # What is proved
 //!
-//! `read_words`: an Ok is `clap`'s meaning of the words, the flag of `draw`, the name, file and ports of `device` and
-//! the limit of `live` too (`ReadsWords`). *Only tested*: texts of help, version and word faults.
+//! If `read_words` returns a command, it is `clap`'s meaning of the words, with every option
+//! (`ReadsWords`). *Only tested*: the texts of help, version and word faults.
 #![tactic(auto)]
 
 mod words;

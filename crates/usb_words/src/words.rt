@@ -64,7 +64,8 @@ pub enum WordFault {
 /// `run FILE`, `pcap FILE`, `device NAME FILE [--ports N]`, `far FILE`, `live [--limit N]` or none.
 ///
 /// # Errors
-/// Refused where `clap` reads no such command, or is asked for the help or the version.
+///
+/// `Refused`: `clap` reads no such command, or help or the version is requested.
 pub fn read_words<'a>(alloc: Global, words: &'a [&'a str]) -> Result<Words<'a>, WordFault>
     ensures { IfOk result (λ asked. ReadsWords (map (λ s. s.now) words.entry.now) asked) }
 {

@@ -68,7 +68,7 @@ impl Damages {
     ///
     /// # Errors
     ///
-    /// Memory is refused, and nothing changes.
+    /// Memory was refused, and nothing changes.
     pub fn push(&mut self, damage: Damage) -> Result<(), AllocError>
         requires room { length self.old < damage_most }
         ensures ok { OnOk result (self.new ≡ self.old ++ damage ∷ []) }

@@ -42,7 +42,7 @@ impl SentBytes {
     ///
     /// # Errors
     ///
-    /// Memory is refused.
+    /// Memory was refused.
     pub fn try_clone(&self, alloc: Global) -> Result<Self, AllocError>
         ensures { IfOk result (λ b. b ≡ self.now) }
     {
@@ -109,7 +109,7 @@ impl WriteRequest {
     ///
     /// # Errors
     ///
-    /// Memory is refused.
+    /// Memory was refused.
     pub fn try_clone(&self, alloc: Global) -> Result<Self, AllocError>
         ensures { IfOk result (λ r. r ≡ self.now) }
     {
@@ -237,7 +237,7 @@ impl Events {
     ///
     /// # Errors
     ///
-    /// Memory is refused, and nothing changes.
+    /// Memory was refused, and nothing changes.
     pub fn push(&mut self, event: Event) -> Result<(), AllocError>
         requires room { length self.old < event_most }
         ensures ok { OnOk result (self.new ≡ self.old ++ event ∷ []) }
@@ -264,7 +264,7 @@ fn plugs_at_port(action: &Action)
 ///
 /// # Errors
 ///
-/// Memory is refused.
+/// Memory was refused.
 pub fn event_copies(alloc: Global, events: &[Event]) -> Result<Vec<Event>, AllocError>
     ensures { IfOk result (λ v. v.items ≡ events.now) }
 {

@@ -30,7 +30,7 @@ use usb_request::request_type::{DEVICE_OUT, PORT_OUT};
 ///
 /// # Errors
 ///
-/// Memory is refused for the host's data.
+/// Memory was refused for the host's data.
 #[tactic(auto, using(crate::proofs::attempts::Silence::stays_plugged_refl))]
 pub fn make_exchange_by(
     roots: &mut Ports,

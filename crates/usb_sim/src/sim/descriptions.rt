@@ -24,6 +24,10 @@ impl Descriptions {
     ghost use Rattle.std.specs.Prelude.{◌≡◌, ◌<◌, length, slice_get, Some, IfOk};
 
     /// Copies of the descriptions.
+    ///
+    /// # Errors
+    ///
+    /// Memory was refused.
     pub fn copied(alloc: Global, specs: &[DeviceSpec]) -> Result<Self, AllocError>
         ensures { IfOk result (λ d. d ≡ specs.now) }
     {

@@ -31,8 +31,9 @@ impl<T: Trace> SimBus<T> {
     ///
     /// # Errors
     ///
-    /// The fault that was told before; `Memory` where the device could not be made, and the event did not
-    /// come; `Failed` where the writer failed in this call, and the event came.
+    /// - the fault that was reported before;
+    /// - `Memory`: the device could not be made, and the event did not come.
+    /// - `Failed`: the writer failed in this call, and the event came.
     pub fn apply_next_event(&mut self) -> Result<Option<Option<Ask>>, BusFault>
         ensures takes { TakesEvent (world_of self.old) (trace_of self.old) result
             (world_of self.new) (trace_of self.new) }

@@ -15,8 +15,8 @@ impl<T: Trace> SimBus<T> {
     ///
     /// # Errors
     ///
-    /// The fault that was told before, and then nothing is written; `Failed` where the writer failed
-    /// in this call, and then a front of the line was written.
+    /// - the fault that was reported before, and nothing is written;
+    /// - `Failed`: the writer failed in this call. A prefix of the line is written.
     pub fn put_line(&mut self, line: &[u8]) -> Result<(), BusFault>
         ensures step { PutLine (world_of self.old) result (world_of self.new) }
         ensures front { AppendsFront (trace_of self.old) (trace_of self.new)
