@@ -1,4 +1,4 @@
-//! What a line of the far end says.
+//! What a line of the controller side says.
 ghost use Rattle.std.specs.Prelude.{◌≡◌, IfOk, false};
 ghost use Rattle.usb_wire.specs.Answers.{IsSaidLine, MaySay};
 ghost use Rattle.usb_wire.specs.Faults.{line_fault};
