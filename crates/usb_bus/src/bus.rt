@@ -21,7 +21,7 @@ pub trait Bus {
     /// The world that the bus stands for.
     ghost world: { Self → World };
 
-    /// The text that its trace has, where that is known. Each attempt that is made, and each plug and unplug that
+    /// The text that its trace has, if that is known. Each attempt that is made, and each plug and unplug that
     /// comes, is a line; nothing else is written by these calls.
     ghost trace: { Self → Option (List ℕ) };
 
@@ -69,7 +69,7 @@ pub trait Bus {
         ensures { modelled ≡ true → result ≡ status_of (root_port_at (world self.now) port) };
 
     /// Sets a feature of a root port (11.24.2.13). PORT_RESET is over when the call returns: it is held for 50 ms, and
-    /// 10 ms pass behind it (7.1.7.5).
+    /// 10 ms pass after it (7.1.7.5).
     fn root_set(&mut self, port: u8, feature: u16)
         requires least { 1 ≤ port }
         requires most { port ≤ ports self.old }
@@ -93,9 +93,9 @@ pub trait Bus {
     /// A law: between two calls no device of the world remembers a packet.
     ghost settled: { modelled ≡ true → (s : Self) → IsSettled (world s).roots };
 
-    /// A law: as long as no fault was told, each port is consistent besides: what is attached is what is plugged there,
-    /// an enabled port is powered and has something attached, and only a powered port tells of a change (11.5); and
-    /// each device is as the rules say.
+    /// A law: as long as no fault was reported, each port is consistent besides: what is attached is what is plugged
+    /// there, an enabled port is powered and has something attached, and only a powered port reports a change (11.5);
+    /// and each device is as the rules say.
     ghost between: { modelled ≡ true → (s : Self) → (world s).fault ≡ None
         → WorldInvariant (world s) };
 }

@@ -52,7 +52,7 @@ pub fn events_are_pending()
         → UndisturbedOrPends w v p }
 {}
 
-/// A port that is powered on its whole way, and of which nothing is asked: it stands as it stood, with the same
+/// A port that is powered on its whole way, and of which nothing is asked: it is as it was, with the same
 /// device or none, reached as it was; or a change of connection is pending on its way.
 pub fn a_port_rests_or_is_pending()
     ensures rests { (p : List ℕ) (w v : World) → Course (LeavesPortAlone p) w v
@@ -64,7 +64,7 @@ pub fn a_port_rests_or_is_pending()
         → SameDeviceOrPending w v p }
 {}
 
-/// An attempt, where no address is held twice: each device that is reachable after it was reachable before, and did
+/// An attempt, if no address is held twice: each device that is reachable after it was reachable before, and did
 /// what its law says, if the attempt was for it; nothing, if not (8.5). Setup data may besides reset a device: of
 /// these nothing is said here.
 pub fn what_an_attempt_does_to_a_device()
@@ -88,8 +88,8 @@ pub fn control_courses_keep_addresses()
         → HoldsMapped f v × (v.shared ≡ false) × IsSettled v.roots }
 {}
 
-/// Where no address is held twice, at most one device answers an attempt, whatever is damaged; so no line of the
-/// trace tells of a collision.
+/// If no address is held twice, at most one device answers an attempt, whatever is damaged; so no line of the
+/// trace reports a collision.
 pub fn one_device_at_most_answers()
     ensures answers { (a : Attempt) (d : Option Damage) (k : Ports) → IsAttempt a → IsSettled k
         → repeats (held_addresses k) ≡ false
@@ -114,7 +114,7 @@ pub fn plugged_is_what_the_events_left()
         ≡ device_indexed plan.devices (index_at (plugged_by [] (take w.taken plan.events)) path) }
 {}
 
-/// Where no event between two worlds named a path or a port on its way, what is plugged there, and on the way, is
+/// If no event between two worlds named a path or a port on its way, what is plugged there, and on the way, is
 /// the same.
 pub fn undisturbed_keeps_what_is_plugged()
     ensures there { (p : List ℕ) (w v : World) → Course AnyStep w v → Undisturbed w v p
