@@ -7,7 +7,7 @@ use std::alloc::AllocError;
 use std::fmt;
 use thiserror::Error;
 
-/// The entry of a plan's text where a fault stands.
+/// The entry of a plan's text that has a fault.
 #[derive(Clone, Copy, Debug, PartialEq, Eq)]
 pub enum Place {
     /// The keys at the top.
@@ -36,7 +36,7 @@ impl fmt::Display for Place {
     }
 }
 
-/// Why a text is no plan. Of the faults in one entry the first in this order is told.
+/// Why a text is no plan. Of the faults in one entry the first in this order is reported.
 #[derive(Clone, Copy, Debug, PartialEq, Eq, Error)]
 pub enum PlanFault {
     /// The text is no TOML document, or has a number of more than 64 bits.

@@ -16,7 +16,7 @@ ghost use Rattle.usb_streams.specs.Heads.{MovesNothing};
 ghost use Rattle.usb_streams.specs.Streams.{StoodOrFound};
 ghost use Rattle.usb_streams.specs.Stretches.{IsStretch, Stretch, ToldItem};
 
-/// Over any stretch of a run up to a host whose bus works, a device that is listed in the end stood at its path from the
+/// Over any stretch of a run up to a host whose bus works, a device that is listed in the end was at its path from the
 /// beginning, or since a round or a look that found it anew and moved none of its bytes. From there on its sink got the
 /// bytes of the sends to it that are reported done, end to end, with at most a prefix of a failed one after them. The
 /// receives from it that are reported done returned the next bytes of its source, end to end, none twice and none left
@@ -29,14 +29,14 @@ pub fn transfers_join()
 {}
 
 /// Over a course of attempts at endpoint 0, calls of root ports and events nothing moves at any other endpoint: each
-/// device that is plugged, reached or not, has taken and given what the one that stood at its place had, or was plugged
+/// device that is plugged, reached or not, has taken and given what the one that was at its place had, or was plugged
 /// since, and has neither taken nor given.
 pub fn control_moves_nothing()
     ensures { (old new : World) → ControlCourse old new → IsSettled old.roots → MovesNothing old new }
 {}
 
-/// A run is a stretch, in which the items that events asked for are told; where it is over, its last listing stands
-/// behind them.
+/// A run is a stretch, in which the items that events asked for are reported; if it is over, its last listing comes
+/// after them.
 pub fn runs_are_stretches()
     ensures { (mode : Mode) (old new : HostState) (items : List Item) (over : Bool)
         → Transcript mode false old items over new → IsStretch items over old new }
