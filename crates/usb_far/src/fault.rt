@@ -31,7 +31,7 @@ pub enum FarFault {
     /// room for them.
     #[error("too much to send")]
     LongSend,
-    /// The simulated bus makes no more steps.
+    /// The simulated bus has failed.
     #[error("{0}")]
     Bus(BusFault),
     /// The writer failed.

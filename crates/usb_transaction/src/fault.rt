@@ -14,7 +14,7 @@ pub enum TransFault {
     /// There were three errors in a row.
     #[error("no answer")]
     NoAnswer,
-    /// The bus makes no more steps.
+    /// The bus has failed.
     #[error("{0}")]
     Bus(BusFault),
 }

@@ -85,7 +85,7 @@ pub enum Outcome {
     Nothing,
 }
 
-/// Why a bus makes no more steps, in the order in which the reasons are reported.
+/// Why a bus has failed, in the order in which the reasons are reported.
 #[derive(Clone, Copy, Debug, PartialEq, Eq, Error)]
 pub enum BusFault {
     /// The attempts made equal the limit.
