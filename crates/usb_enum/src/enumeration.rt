@@ -37,9 +37,9 @@ const LAST_TIER: u8 = 7;
 /// that is refused has its port disabled and leaves the pool as it was.
 ///
 /// The caller has let go of all that it knew at the port and below it: no device there holds an
-/// address that is taken in the pool, so a port that is still enabled is disabled before, and what
-/// was found there forgotten. At a port that is still enabled nothing is said of whose the finding
-/// is, of who holds which address in the end, nor of other devices and ports.
+/// address that is taken in the pool. So a port that is still enabled is disabled before, and what
+/// was found there is forgotten. At a port that is still enabled nothing is said of whose the
+/// finding is, of who holds which address in the end, nor of other devices and ports.
 ///
 /// # Errors
 ///

@@ -73,10 +73,10 @@ pub fn what_is_so_between_bulk_attempts()
         → now.shared ≡ false → EachWas (SinkBetween t ep toggle bytes) old now }
 {}
 
-/// The status stage of a request without data counts a loss exactly if the host got it, and the
-/// device, which was to take an address at the host's ACK, did not see that (9.4.6). OUT counts
-/// none, nor does IN of another endpoint, nor SETUP, unless it clears a change of connection: there
-/// the losses of another stretch begin.
+/// The status stage of a request without data counts a loss in exactly one case (9.4.6). The host
+/// got it, and the device did not see the host's ACK, at which it was to take an address. OUT
+/// counts none, nor does IN of another endpoint, nor SETUP, unless it clears a change of
+/// connection: there the losses of another stretch begin.
 pub fn address_losses_of_a_transaction()
     ensures into { (t : ATarget) (result : Result (List ℕ) AFault) (old new : World)
         → IsSettled old.roots → TransactionDone (heard_as One) (in_attempt t 0) old result new
