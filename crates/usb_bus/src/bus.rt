@@ -12,8 +12,9 @@ use crate::{Attempt, BusFault, Outcome};
 
 /// A bus with the host's root ports.
 ///
-/// Whoever implements this has the whole host half. Of a bus that does what its world does (`modelled`) each call is a
-/// step of that world; of another, as that of a real controller, only what names no world is said (`docs/PORTING.md`).
+/// Whoever implements this has the whole host half. If a bus does what its world does (`modelled`), each call is a step
+/// of that world. Of any other, such as a real controller, only what does not mention the world is said
+/// (`docs/PORTING.md`).
 pub trait Bus {
     /// Whether the bus does what its world does.
     ghost modelled: { Bool };
@@ -93,9 +94,9 @@ pub trait Bus {
     /// A law: between two calls no device of the world remembers a packet.
     ghost settled: { modelled ≡ true → (s : Self) → IsSettled (world s).roots };
 
-    /// A law: as long as no fault was reported, each port is consistent besides: what is attached is what is plugged
-    /// there, an enabled port is powered and has something attached, and only a powered port reports a change (11.5);
-    /// and each device is as the rules say.
+    /// A law: as long as no fault was reported, each device is as the rules say, and each port is consistent. What is
+    /// attached is what is plugged there. An enabled port is powered and has something attached, and only a powered
+    /// port reports a change (11.5).
     ghost between: { modelled ≡ true → (s : Self) → (world s).fault ≡ None
         → WorldInvariant (world s) };
 }

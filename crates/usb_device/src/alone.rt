@@ -214,9 +214,9 @@ fn unheard(heard: &mut Hearing, side: &mut DeviceSide)
 }
 
 impl Ports {
-    /// A whole attempt at the device at a path alone, which is `deep` if it is on a port of
-    /// a hub; `payload` is the host's data, for SETUP and OUT. What is heard of the answers is
-    /// reported, and what became of it. After it the device remembers no packet.
+    /// A whole attempt at the device at a path alone, which is `deep` if it is on a port of a hub.
+    /// `payload` is the host's data, for SETUP and OUT. What is heard of the answers is reported,
+    /// and what became of it. After it the device remembers no packet.
     ///
     /// # Errors
     ///

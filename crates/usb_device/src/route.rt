@@ -13,8 +13,8 @@ use crate::ports::{Place, Ports};
 use std::alloc::AllocError;
 
 impl Ports {
-    /// A packet at the device at a path alone, which is `deep` if it is on a port of a hub;
-    /// what is heard of its answer joins what was heard before.
+    /// A packet at the device at a path alone, which is `deep` if it is on a port of a hub. What is
+    /// heard of its answer joins what was heard before.
     ///
     /// # Errors
     ///

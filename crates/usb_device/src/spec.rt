@@ -103,8 +103,8 @@ impl Model for DeviceSpec {
 }
 
 impl DeviceSpec {
-    /// A full-speed function without strings that does nothing special: no request is refused, no NAK is given, it has
-    /// no requests of its own, its bulk IN has nothing to give, its bulk OUT never halts, and it has its power from the
+    /// A full-speed function without strings that does nothing special. It refuses no request, gives no NAK, and has no
+    /// requests of its own. Its bulk IN has nothing to give, its bulk OUT never halts, and it has its power from the
     /// bus. Its device descriptor (9.6.1) and the texts of its configurations (9.6.3) are any bytes.
     pub fn function(name: Name, descriptor: Bytes<255>, configs: ConfigTexts) -> Self
         ensures { result ≡ function name descriptor configs }

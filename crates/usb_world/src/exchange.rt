@@ -98,14 +98,12 @@ impl Exchange {
     }
 }
 
-/// Makes an attempt: the token, then the data, one of them; then what the host says to the answer.
-/// After it no device remembers a packet, also if memory was refused. Returns whether the devices
-/// that are reached, and all their addresses, are known to be as they were, but for those on a port
-/// of the device, by its number, and below it.
+/// Makes an attempt: the token, then the data, one of them; then what the host says to the answer. After it no device
+/// remembers a packet, also if memory was refused. Returns whether the devices that are reached, and all their
+/// addresses, are known to be as they were. Those on a port of the device, by its number, and below it are excepted.
 ///
-/// It goes straight to the device at a path, if no other reachable device holds the address: the
-/// others have nothing of it, so it costs the same in a large tree as in a small one. The empty path
-/// stands for the whole tree.
+/// It goes straight to the device at a path, if no other reachable device holds the address. The others have nothing of
+/// it, so it costs the same in a large tree as in a small one. The empty path stands for the whole tree.
 ///
 /// # Errors
 ///
@@ -170,8 +168,8 @@ fn exchange_whole(
     Ok(keeps_address(port, &side, attempt))
 }
 
-/// Whether a device that was at an attempt's address still is, and asked nothing of its ports that changes who
-/// is reached, but for those on its port of a number.
+/// Whether a device that was at an attempt's address still is, and asked nothing of its ports that changes who is
+/// reached. Those on its port of a number are excepted.
 fn keeps_address(port: u8, side: &DeviceSide, attempt: &Attempt) -> bool
     ensures { result ≡ keeps_address port side.now (attempt_data attempt.now).addr }
 {
