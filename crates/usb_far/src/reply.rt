@@ -23,8 +23,8 @@ impl<T: Trace> FarEnd<T> {
     ///
     /// # Errors
     ///
-    /// NoQuestion where it is the hello and not the first question, or the first one and not the hello; BadNumber where
-    /// there is no such root port; LongSend where an event sends more than 500 bytes; the fault of the bus.
+    /// `NoQuestion` if it is the hello and not the first question, or the first one and not the hello. `BadNumber` if
+    /// there is no such root port. `LongSend` if an event sends more than 500 bytes. Else the fault of the bus.
     pub(crate) fn reply(&mut self, question: Question) -> Result<Reply, FarFault>
         requires { IsQuestion question }
         ensures replied { IfOk result (λ reply.

@@ -45,8 +45,8 @@ pub enum PlanFault {
     /// The entry lacks a key that it needs.
     #[error("plan: {0}: missing key")]
     MissingKey(Place),
-    /// A key has no meaning there, a value is of a wrong kind or out of range, a device has the name
-    /// of an earlier one, or an entry is one too many.
+    /// A key has no meaning there, a value is of a wrong kind or out of range, a name is an earlier device's, or an
+    /// entry is one too many.
     #[error("plan: {0}: bad value")]
     BadValue(Place),
     /// A text is not hexadecimal digits, two for each byte.

@@ -184,7 +184,7 @@ pub fn run(alloc: Global, plan: &Plan) -> Result<Report, RunFault>
 
 /// A plan's run, made item by item.
 ///
-/// At no attempt did two devices that could be reached hold one address; and as long as the host goes on, each of them
+/// At no attempt did two devices that could be reached hold one address. As long as the host goes on, each of them
 /// holds the address that the host has for it.
 #[derive(Debug, Drop)]
 pub struct Runner<T: Trace> {

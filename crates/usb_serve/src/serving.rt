@@ -93,10 +93,10 @@ impl From<WriteFailed> for ServeFault {
 /// Reads a plan, runs it, and writes what the mode asks for, to a writer that has not failed yet. Hands the writer
 /// back.
 ///
-/// In mode Run that is the text of a run of the plan: the line of each attempt and event in their order, and the lines
-/// of each listing and transfer after the attempts that it took. In mode Tree it is the lines of the listings and
-/// transfers of a run, and the plan's bound after them. If the run ended early it is all that the run made so far,
-/// with no bound; if the writer failed it is a prefix of that. At no attempt of the run did two devices that could be
+/// In mode Run that is the text of a run of the plan. It has the line of each attempt and event in their order, and the
+/// lines of each listing and transfer after the attempts that it took. In mode Tree it is the lines of the listings and
+/// transfers of a run, and the plan's bound after them. If the run ended early it is all that the run made so far, with
+/// no bound; if the writer failed it is a prefix of that. At no attempt of the run did two devices that could be
 /// reached hold one address. A plan of at most 127 plugs whose limit is its bound never comes to its limit.
 ///
 /// # Errors

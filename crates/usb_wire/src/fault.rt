@@ -18,8 +18,8 @@ pub enum WireFault {
     /// In the place of bytes is neither pairs of hexadecimal digits nor a dash.
     #[error("bad hex")]
     BadHex,
-    /// There are more than 64 bytes of data, more than 500 to send, not 4 of a status, not 8 of
-    /// setup data, more than 480 to write, or not wLength of them.
+    /// There are over 64 bytes of data, 500 to send or 480 to write; not 4 of a status, 8 of setup
+    /// data, or wLength to write.
     #[error("bad length")]
     BadLength,
     /// In the place of a number is none, or one that is out of its range.
