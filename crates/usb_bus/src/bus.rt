@@ -12,8 +12,9 @@ use crate::{Attempt, BusFault, Outcome};
 
 /// A bus with the host's root ports.
 ///
-/// Whoever implements this has the whole host half. Of a bus that does what its world does (`modelled`) each call is a
-/// step of that world; of another, as that of a real controller, only what names no world is said (`docs/PORTING.md`).
+/// Whoever implements this has the whole host half. If a bus does what its world does (`modelled`), each call is a step
+/// of that world. Of any other, such as a real controller, only what does not mention the world is said
+/// (`docs/PORTING.md`).
 pub trait Bus {
     /// Whether the bus does what its world does.
     ghost modelled: { Bool };
@@ -21,7 +22,7 @@ pub trait Bus {
     /// The world that the bus stands for.
     ghost world: { Self → World };
 
-    /// The text that its trace has, where that is known. Each attempt that is made, and each plug and unplug that
+    /// The text that its trace has, if that is known. Each attempt that is made, and each plug and unplug that
     /// comes, is a line; nothing else is written by these calls.
     ghost trace: { Self → Option (List ℕ) };
 
@@ -69,7 +70,7 @@ pub trait Bus {
         ensures { modelled ≡ true → result ≡ status_of (root_port_at (world self.now) port) };
 
     /// Sets a feature of a root port (11.24.2.13). PORT_RESET is over when the call returns: it is held for 50 ms, and
-    /// 10 ms pass behind it (7.1.7.5).
+    /// 10 ms pass after it (7.1.7.5).
     fn root_set(&mut self, port: u8, feature: u16)
         requires least { 1 ≤ port }
         requires most { port ≤ ports self.old }
@@ -93,9 +94,9 @@ pub trait Bus {
     /// A law: between two calls no device of the world remembers a packet.
     ghost settled: { modelled ≡ true → (s : Self) → IsSettled (world s).roots };
 
-    /// A law: as long as no fault was told, each port is consistent besides: what is attached is what is plugged there,
-    /// an enabled port is powered and has something attached, and only a powered port tells of a change (11.5); and
-    /// each device is as the rules say.
+    /// A law: as long as no fault was reported, each device is as the rules say, and each port is consistent. What is
+    /// attached is what is plugged there. An enabled port is powered and has something attached, and only a powered
+    /// port reports a change (11.5).
     ghost between: { modelled ≡ true → (s : Self) → (world s).fault ≡ None
         → WorldInvariant (world s) };
 }

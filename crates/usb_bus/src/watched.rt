@@ -1,4 +1,4 @@
-//! A reader or writer with a mark that tells whether it has failed.
+//! A reader or writer with a mark that says whether it has failed.
 ghost use Rattle.std.specs.Prelude.{◌≡◌, ◌+◌, ◌-◌, ◌^◌, ◌||◌, ◌&&◌, min, false, true, flat_map, is_err, OnOk, OnErr, IfSome};
 ghost use Rattle.std.specs.Io.{ReadsAtMost, WritesAtMost};
 ghost use Rattle.std.specs.Io.KnownBytes.{Keeps, Appends, ReadConsumes, WriteAppends};
@@ -180,7 +180,7 @@ pub fn put_piece<W: Write>(writer: &mut Watched<W>, piece: &[u8]) -> Result<(), 
     Ok(())
 }
 
-/// Writes pieces in their order, as one piece where they fit into a line's room.
+/// Writes pieces in their order, as one piece if they fit into a line's room.
 ///
 /// # Errors
 ///
@@ -195,7 +195,7 @@ pub fn put_pieces<W: Write>(writer: &mut Watched<W>, pieces: &[&[u8]]) -> Result
     }
 }
 
-/// The pieces as one, where they fit into a line's room.
+/// The pieces as one, if they fit into a line's room.
 fn joined(pieces: &[&[u8]]) -> Option<ArrayVec<u8, LINE_ROOM>>
     ensures { IfSome result (λ line. line.items ≡ flat_map (λ p. p.now) pieces.now) }
 {

@@ -4,7 +4,7 @@ ghost use Rattle.usb_check.specs.Bits.{low_bits, bits_of_bytes};
 ghost use Rattle.usb_check.specs.Polynomial.{IsCheck, generator16};
 ghost use Rattle.usb_check.specs.Register.{run};
 
-/// The sixteen check bits of a data packet's bytes (8.3.5.2), 0 where there are none.
+/// The sixteen check bits of a data packet's bytes (8.3.5.2), 0 if there are none.
 ///
 /// The answer is held as it is sent, the lowest bit first, so its low byte goes first.
 pub fn check16(bytes: &[u8]) -> u16
@@ -17,7 +17,7 @@ pub fn check16(bytes: &[u8]) -> u16
     register ^ 0xffff
 }
 
-/// Eight bits go in. The register's highest coefficient stands in its lowest bit.
+/// Eight bits go in. The register's highest coefficient is in its lowest bit.
 ///
 /// The register's low byte and the bits that go in only choose what is added to its high byte.
 fn shift_byte(register: u16, byte: u8) -> u16

@@ -4,7 +4,7 @@ ghost use Rattle.usb_check.specs.Bits.{low_bits};
 ghost use Rattle.usb_check.specs.Polynomial.{IsCheck, generator5};
 ghost use Rattle.usb_check.specs.Register.{step};
 
-/// The five check bits of the eleven bits that a token carries behind its PID (8.3.5.1).
+/// The five check bits of the eleven bits that a token carries after its PID (8.3.5.1).
 ///
 /// `field` is below 2048. Field and answer are held as they are sent, the lowest bit first.
 pub fn check5(field: u16) -> u8
@@ -21,7 +21,7 @@ pub fn check5(field: u16) -> u8
     register ^ 0x1f
 }
 
-/// One bit goes in. The register's highest coefficient stands in its lowest bit.
+/// One bit goes in. The register's highest coefficient is in its lowest bit.
 fn shift5(register: u8, bit: bool) -> u8
     requires { register < 32 }
     ensures size { result < 32 }

@@ -24,7 +24,7 @@ const NO_CODES: ClassCodes = ClassCodes {
     protocol: 0,
 };
 
-/// The codes of a configuration text's first interface; 0 each where the bytes are no such text, or have no interface.
+/// The codes of a configuration text's first interface; 0 each if the bytes are no such text, or have no interface.
 #[tactic(auto, unfolding(crate::specs::Classes::text_codes))]
 pub fn text_codes(text: &[u8]) -> ClassCodes
     ensures { result ≡ text_codes text.now }
@@ -35,7 +35,7 @@ pub fn text_codes(text: &[u8]) -> ClassCodes
     }
 }
 
-/// The codes of a configuration's first interface; 0 each where it has none.
+/// The codes of a configuration's first interface; 0 each if it has none.
 pub fn first_codes(config: &ConfigView<'_>) -> ClassCodes
     ensures { result ≡ first_codes (items_of config.now) }
 {

@@ -100,7 +100,7 @@ impl HubView<'_> {
         self.bytes[6]
     }
 
-    /// DeviceRemovable: a bit for each port, from bit 1 on, that is set where the device stays.
+    /// DeviceRemovable: a bit for each port, from bit 1 on, that is set if the device stays.
     pub fn removable(&self) -> u8
         ensures { result ≡ slice_index self.now 7 }
     {

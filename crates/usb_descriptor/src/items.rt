@@ -8,7 +8,7 @@ use std::marker::Model;
 use usb_request::descriptor_length::{ENDPOINT_LENGTH, INTERFACE_LENGTH};
 use usb_request::descriptor_type::{ENDPOINT, INTERFACE};
 
-/// The length of the item at the front, where any bytes are left.
+/// The length of the next item, if any bytes are left.
 fn front(bytes: &[u8]) -> Result<usize, DescriptorFault>
     requires { 0 < length bytes.now }
     ensures ok { IfOk result (λ n. (2 ≤ n) × (n ≤ length bytes.now) × IsItem (take n bytes.now)) }

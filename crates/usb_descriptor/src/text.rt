@@ -26,8 +26,8 @@ impl<'a> Model for StringView<'a> {
         × (slice_index v.bytes.now 1 ≡ STRING) × (length v.bytes.now % 2 ≡ 0) };
 }
 
-/// The string descriptor that the bytes begin with (section 9.6.7). What stands after its bLength
-/// bytes is not looked at.
+/// The string descriptor that the bytes begin with (section 9.6.7). What comes after its bLength
+/// bytes is ignored.
 ///
 /// # Errors
 ///

@@ -18,7 +18,7 @@ use usb_packet::TokenKind;
 /// What the host has to say in an attempt, of which nothing is damaged.
 ///
 /// `low` says that its token and its ACK are at low speed, `pre` that PRE goes before each of them.
-/// It takes data of at most `max` bytes, and then answers by its ACK. Its own data stand beside.
+/// It takes data of at most `max` bytes, and then answers by its ACK. Its own data are beside.
 #[derive(Clone, Copy, Debug)]
 pub struct HostSide {
     pub low: bool,
@@ -38,7 +38,7 @@ pub struct DeviceSide {
     pub effect: Effect,
     /// The device awaits the ACK that would end its SET_ADDRESS, though the host sent one (9.4.6).
     pub address_lost: bool,
-    /// Its address then; None where no device was there.
+    /// Its address then; None if no device was there.
     pub address: Option<u8>,
 }
 
@@ -113,7 +113,7 @@ impl Device {
         }
     }
 
-    /// The host's data, where it sends some; what the device asks of its ports is told.
+    /// The host's data, if it sends some; what the device asks of its ports is reported.
     fn take_data(
         &mut self,
         payload: &Option<LentPacket<'_>>,
@@ -214,9 +214,9 @@ fn unheard(heard: &mut Hearing, side: &mut DeviceSide)
 }
 
 impl Ports {
-    /// A whole attempt at the device at a path alone, which is `deep` where it stands on a port of
-    /// a hub; `payload` is the host's data, for SETUP and OUT. What is heard of the answers is
-    /// told, and what became of it. After it the device remembers no packet.
+    /// A whole attempt at the device at a path alone, which is `deep` if it is on a port of a hub.
+    /// `payload` is the host's data, for SETUP and OUT. What is heard of the answers is reported,
+    /// and what became of it. After it the device remembers no packet.
     ///
     /// # Errors
     ///

@@ -38,7 +38,7 @@ impl Answer {
     }
 }
 
-/// The packet identifier of an answer (8.3.1). The bytes of data stand in a room beside it.
+/// The packet identifier of an answer (8.3.1). The bytes of data are in a room beside it.
 #[derive(Clone, Copy, Debug)]
 pub enum AnswerPid {
     /// ACK.

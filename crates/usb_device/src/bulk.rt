@@ -110,7 +110,7 @@ fn text_with(value: u16, configs: &[Bytes<65535>]) -> &[u8]
     }
 }
 
-/// wTotalLength of a text, its bytes 2 and 3 (9.6.3); 0 where it has no fourth byte.
+/// wTotalLength of a text, its bytes 2 and 3 (9.6.3); 0 if it has no fourth byte.
 fn total_of(text: &[u8]) -> usize
     ensures { result ≡ total_of text.now }
 {
@@ -168,7 +168,7 @@ fn is_end(index: u16, offset: u16, end: Option<(u8, u8)>) -> bool
     }
 }
 
-/// Whether IN 1 tells which ports changed (11.12.1): so it does of a configured hub.
+/// Whether IN 1 reports which ports changed (11.12.1): it does of a configured hub.
 pub fn tells_changes(spec: &DeviceSpec, registers: Registers) -> bool
     ensures { result ≡ tells_changes spec.now registers }
 {

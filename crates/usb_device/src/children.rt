@@ -44,7 +44,7 @@ pub trait Parent {
     fn has_child(&self, port: u8) -> bool
         ensures { result ≡ is_some (child_on self.now port) };
 
-    /// What is on a port where a device is, to write to. The port keeps its bits, whatever is
+    /// What is on a port with a device, to write to. The port keeps its bits, whatever is
     /// written.
     fn place_of(&mut self, port: u8) -> &mut Option<Device>
         requires { IsSome (child_on self.old port) }
@@ -52,7 +52,7 @@ pub trait Parent {
             (with_on self.old port)) }
         ensures value { result.now ≡ child_on self.old port };
 
-    /// The device on a port where one is, to write to.
+    /// The device on a port that has one, to write to.
     final fn taken_mut(&mut self, port: u8) -> &mut Device
         requires { IsSome (child_on self.old port) }
         ensures* lends { sem 𝓛 (Lends Self.row device_row self.entry result
@@ -62,7 +62,7 @@ pub trait Parent {
         taken(self.place_of(port))
     }
 
-    /// The device on a port, by its number, counted from 1, to write to; None where nothing is. The
+    /// The device on a port, by its number, counted from 1, to write to; None if nothing is. The
     /// port keeps its bits, whatever is written.
     final fn child_mut(&mut self, port: u8) -> Option<&mut Device>
         ensures* lends { sem 𝓛 (LendsIf Self.row device_row self.entry result

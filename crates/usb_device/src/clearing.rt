@@ -11,8 +11,8 @@ use crate::ports::{Place, Ports};
 
 impl Ports {
     /// Whether a device that a packet reaches clears a change of connection at one of its ports
-    /// (11.24.2.2): it has heard the SETUP token, and the packet is the data of ClearPortFeature of
-    /// C_PORT_CONNECTION. It is asked before the packet is delivered.
+    /// (11.24.2.2). It has then heard the SETUP token, and the packet is the data of
+    /// ClearPortFeature of C_PORT_CONNECTION. It is asked before the packet is delivered.
     pub fn clears_change(&self, sent: &LentPacket<'_>) -> bool
         ensures { result ≡ clears_change sent.now false self.now }
     {

@@ -61,7 +61,7 @@ pub enum Heard {
     Collision,
 }
 
-/// Whether a device of a speed hears a packet, which is `deep` where it stands on a port of a hub:
+/// Whether a device of a speed hears a packet, which is `deep` if it is on a port of a hub:
 /// there it hears low-speed packets only with PRE.
 pub(crate) fn is_heard(sent: &LentPacket<'_>, deep: bool, low: bool) -> bool
     ensures { result ≡ is_heard sent.now deep low }
@@ -94,7 +94,7 @@ impl Ports {
         Ok(heard.into_heard())
     }
 
-    /// The same behind another packet, of which something may have been heard: what is heard of
+    /// The same after another packet, of which something may have been heard: what is heard of
     /// this one joins it.
     ///
     /// # Errors
@@ -182,7 +182,7 @@ impl Place {
 }
 
 impl Device {
-    /// The devices below come first, by the enables as they stood, then the device itself, then
+    /// The devices below come first, by the enables as they were, then the device itself, then
     /// what it asks of its ports.
     #[cycle(deliver)]
     #[tactic(auto, using(crate::proofs::Deliveries::delivering, crate::proofs::Figures::figures))]

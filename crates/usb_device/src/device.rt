@@ -130,7 +130,7 @@ impl Device {
     }
 
     /// One packet in, its answer out (8.5.3), if there is one; the devices below do not get it.
-    /// Bytes that spell no packet have no answer. It wants memory only where a packet joins the
+    /// Bytes that spell no packet have no answer. It needs memory only if a packet joins the
     /// sink.
     ///
     /// # Errors
@@ -197,7 +197,7 @@ impl Device {
         self.ports.count()
     }
 
-    /// The device on a port, by its number, counted from 1; None where nothing is.
+    /// The device on a port, by its number, counted from 1; None if nothing is.
     pub fn child(&self, port: u8) -> Option<&Device>
         ensures { option_copied result ≡ child_of self.now port }
     {
@@ -221,7 +221,7 @@ impl Device {
         self.ports.plug(&[port], child);
     }
 
-    /// The device on a port is taken away, and handed back. Where none is there, nothing changes.
+    /// The device on a port is taken away, and handed back. If none is there, nothing changes.
     pub fn unplug_child(&mut self, port: u8) -> Option<Device>
         ensures before { result ≡ child_of self.old port }
         ensures after { self.new ≡ without_child self.old port }

@@ -28,8 +28,8 @@ impl Effect {
     }
 
     /// Whether the same devices are reached then, at the same addresses, but for those on the port
-    /// of a number, counted from 1, and below it: no other port is enabled or disabled by it, and
-    /// no other device reset. With 0 as the number it is so of all.
+    /// of a number, counted from 1, and below it. It enables or disables no other port, and resets
+    /// no other device. With 0 as the number it is so of all.
     pub fn keeps_others(self, port: u8) -> bool
         ensures { result ≡ keeps_others port self }
     {

@@ -19,7 +19,7 @@ pub enum HeardPid {
     Collision,
 }
 
-/// What is heard so far after a packet went out, as `Heard` has it; the bytes of data stand in one
+/// What is heard so far after a packet went out, as `Heard` has it; the bytes of data are in one
 /// room, into which the devices put them.
 #[derive(Debug, Drop)]
 pub struct Hearing {

@@ -60,7 +60,7 @@ fn path_copy(path: &ArrayVec<u8, 8>) -> ArrayVec<u8, 8>
 }
 
 /// Which device holds which address, of all that packets reach: an index of a tree of devices.
-/// `forget` before a change at one path and `note` after it keep it the index, and cost what stands
+/// `forget` before a change at one path and `note` after it keep it the index, and cost what is
 /// there; `renew` makes it anew after any change.
 #[derive(Debug, Drop)]
 pub struct Holders {
@@ -95,7 +95,7 @@ impl Holders {
         self.shared = index(self.holders.as_mut_slice(), roots);
     }
 
-    /// Makes it the index of the tree as it were with nothing at a path, and tells so: it takes out
+    /// Makes it the index of the tree as it were with nothing at a path, and says so: it takes out
     /// the devices there and below. Where two devices hold one address, nothing changes.
     pub fn forget(&mut self, roots: &Ports, path: &[u8]) -> bool
         requires { IsIndexOf self.old roots.now }
@@ -110,7 +110,7 @@ impl Holders {
         true
     }
 
-    /// Makes it the index of a tree where it was that of the tree with nothing at a path: it puts
+    /// Makes it the index of a tree, if it was that of the tree with nothing at a path: it puts
     /// in the devices there and below.
     pub fn note(&mut self, roots: &Ports, path: &[u8])
         requires { IsIndexWithout self.old roots.now path.now }
@@ -158,7 +158,7 @@ fn index(holders: &mut [Holder], roots: &Ports) -> bool
     roots.note(&Some(ArrayVec::new()), holders)
 }
 
-/// Takes what stands at a path, and below it, out of an index, where no address is held twice.
+/// Takes what is at a path, and below it, out of an index, if no address is held twice.
 #[tactic(auto, using(crate::proofs::places::PartedIndexes::parting))]
 fn index_without(holders: &mut [Holder], roots: &Ports, path: &[u8])
     requires length { length holders.old ≡ 256 }
@@ -171,7 +171,7 @@ fn index_without(holders: &mut [Holder], roots: &Ports, path: &[u8])
     release_at(holders, roots, path);
 }
 
-/// Puts what stands at a path, and below it, into an index of all else, in which some address is
+/// Puts what is at a path, and below it, into an index of all else, in which some address is
 /// held twice or not; whether one is then.
 #[tactic(auto, using(crate::proofs::places::PartedIndexes::parting))]
 fn index_with(holders: &mut [Holder], shared: bool, roots: &Ports, path: &[u8]) -> bool
@@ -281,7 +281,7 @@ fn note_device(device: &Device, path: &Option<ArrayVec<u8, 8>>, holders: &mut [H
     here || below
 }
 
-/// The same of the device at a path, and of those below it, where packets reach it.
+/// The same of the device at a path, and of those below it, if packets reach it.
 fn note_at_path(holders: &mut [Holder], roots: &Ports, path: &[u8]) -> bool
     requires { length holders.old ≡ 256 }
     ensures met { result ≡ meets_again (reached_at_path roots.now path.now) holders.old }
@@ -294,7 +294,7 @@ fn note_at_path(holders: &mut [Holder], roots: &Ports, path: &[u8]) -> bool
     }
 }
 
-/// The path of the port of a number below another path, where it is at most eight numbers long.
+/// The path of the port of a number below another path, if it is at most eight numbers long.
 fn path_below(above: &Option<ArrayVec<u8, 8>>, number: usize) -> Option<ArrayVec<u8, 8>>
     ensures { result ≡ path_below above.now number }
 {
@@ -308,7 +308,7 @@ fn path_below(above: &Option<ArrayVec<u8, 8>>, number: usize) -> Option<ArrayVec
     }
 }
 
-/// A path, where it is at most eight numbers long.
+/// A path, if it is at most eight numbers long.
 fn path_of(numbers: &[u8]) -> Option<ArrayVec<u8, 8>>
     ensures { result ≡ path_further (Some (record { items = [] })) numbers.now }
 {
@@ -320,7 +320,7 @@ fn path_of(numbers: &[u8]) -> Option<ArrayVec<u8, 8>>
 }
 
 impl Ports {
-    /// The device at a path, where packets reach it: each port on its way is enabled.
+    /// The device at a path, if packets reach it: each port on its way is enabled.
     #[cycle(reached_at)]
     #[tactic(auto, using(crate::proofs::places::NumberedPlaces::reaching))]
     fn reached_at(&self, path: &[u8]) -> Option<&Device>
@@ -377,7 +377,7 @@ fn release_row(places: &[Place], holders: &mut [Holder])
     }
 }
 
-/// The same of the device on a port and those below it, where the port is enabled.
+/// The same of the device on a port and those below it, if the port is enabled.
 #[cycle(releasing)]
 #[tactic(auto, using(crate::proofs::places::HolderIndexes::releasing))]
 fn release_place(place: &Place, holders: &mut [Holder])
@@ -402,7 +402,7 @@ fn release_device(device: &Device, holders: &mut [Holder])
     device.ports.release(holders);
 }
 
-/// The same of the device at a path and those below it, where packets reach it.
+/// The same of the device at a path and those below it, if packets reach it.
 fn release_at(holders: &mut [Holder], roots: &Ports, path: &[u8])
     requires { length holders.old ≡ 256 }
     ensures { holders.new ≡ released (held_from (reached_there roots.now path.now)) holders.old }

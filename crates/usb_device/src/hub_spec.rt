@@ -17,8 +17,8 @@ pub fn has_hub_class(descriptor: &[u8]) -> bool
     descriptor.get(4) == Some(&HUB_CLASS)
 }
 
-/// The ports of a hub, 1 to 7, and its hub descriptor (11.23.2.1), which can be any bytes; but
-/// where its first 9 bytes are the descriptor of a hub, that hub has so many ports.
+/// The ports of a hub, 1 to 7, and its hub descriptor (11.23.2.1), which can be any bytes. If its first 9 bytes are the
+/// descriptor of a hub, that hub has this number of ports.
 #[derive(Debug, Drop)]
 pub struct HubSpec {
     ports: u8,
@@ -37,8 +37,8 @@ impl Model for HubSpec {
 }
 
 impl HubSpec {
-    /// Whether a hub with so many ports can have this hub descriptor: its first 9 bytes are no
-    /// descriptor of a hub, or of one with so many ports.
+    /// Whether a hub with this number of ports can have this hub descriptor. Its first 9 bytes are no descriptor of a
+    /// hub, or of one with this number of ports.
     pub fn agrees(ports: u8, descriptor: &[u8]) -> bool
         ensures { result ≡ agrees ports descriptor.now }
     {

@@ -84,8 +84,8 @@ pub fn control_read_goes_on()
         → (in_law s row 0 max t1 t2 t3).0 ≡ Some Stall → ⊥ }
 {}
 
-/// OUT of endpoint 0 in a control write, and its status stage (8.5.3): each packet comes once, in
-/// order, whatever is lost; the bytes are kept once, when the last has come.
+/// OUT of endpoint 0 in a control write, and its status stage (8.5.3). Each packet comes once, in
+/// order, whatever is lost. The bytes are kept once, when the last has come.
 #[tactic(auto, using(crate::proofs::progress::WriteProgress::control_writes))]
 pub fn control_write_goes_on()
     ensures write { (old bytes : List ℕ) (w : Write) (s : State)

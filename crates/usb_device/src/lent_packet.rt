@@ -12,7 +12,7 @@ use usb_packet::Packet;
 pub struct LentPacket<'a> {
     low: bool,
     pre: bool,
-    /// None where it spells no packet.
+    /// None if it spells no packet.
     packet: Option<&'a Packet>,
 }
 
@@ -77,7 +77,7 @@ impl<'a> LentPacket<'a> {
         self.pre
     }
 
-    /// The packet; None where it spells none.
+    /// The packet; None if it spells none.
     pub(crate) fn packet(&self) -> Option<&Packet>
         ensures { content_of (option_copied result) ≡ self.now.content }
     {

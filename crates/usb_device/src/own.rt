@@ -47,7 +47,7 @@ pub struct FunctionState {
     memory: RememberedPacket,
     /// How many NAKs are still to be given in this transfer.
     naks: u8,
-    /// Where the control transfer stands.
+    /// How far the control transfer is.
     progress: Progress,
     bulk_out: EndpointState,
     bulk_in: EndpointState,
@@ -57,7 +57,7 @@ pub struct FunctionState {
     held: Option<u8>,
     /// What bulk OUT has taken since the plug.
     sink: Vec<u8>,
-    /// How many packets bulk OUT is still to take until it halts; None where it does not.
+    /// How many packets bulk OUT is still to take until it halts; None if it does not.
     until_halt: Option<u16>,
     /// How many bytes of its source the host has acknowledged.
     place: usize,
@@ -136,7 +136,7 @@ fn reading(source: Source, wanted: u16) -> Progress
     }
 }
 
-/// Where a transfer stands that a request begins.
+/// How far a transfer is that a request begins.
 #[tactic(auto, using(crate::proofs::Answers::answers))]
 fn first_progress(
     ports: &Ports,
@@ -319,7 +319,7 @@ impl FunctionState {
         }
     }
 
-    /// Whether a packet is for this device: a token with its address, data behind such a token, or
+    /// Whether a packet is for this device: a token with its address, data after such a token, or
     /// the ACK that it awaits.
     pub fn is_for(&self, packet: &Packet) -> bool
         ensures { result ≡ is_for self.now self.now.memory packet.now }
@@ -339,7 +339,7 @@ impl FunctionState {
         }
     }
 
-    /// A packet at the device, by what its ports tell. The bytes of its answer are put into `room`,
+    /// A packet at the device, by what its ports report. The bytes of its answer are put into `room`,
     /// and what it asks of the ports into `effect`.
     ///
     /// # Errors
@@ -669,7 +669,7 @@ impl FunctionState {
         effect_of(react(&self.spec, self.registers, setup))
     }
 
-    /// Puts a packet of the answer that the host reads into the room, and tells whether there is
+    /// Puts a packet of the answer that the host reads into the room, and returns whether there is
     /// one.
     fn put_packet(&self, source: Source, wanted: u16, k: u32, room: &mut ArrayVec<u8, 64>) -> bool
         ensures { let answer = source_bytes self.now.spec self.now.taken source in

@@ -86,7 +86,7 @@ impl Place {
         }
     }
 
-    /// Another device is plugged, or none stays there; what stood there before is unplugged first,
+    /// Another device is plugged, or none stays there; what was there before is unplugged first,
     /// and handed back.
     fn put(&mut self, device: &mut Option<Device>)
         ensures before { device.new ≡ device_of (stood self.old) }
@@ -168,7 +168,7 @@ impl Ports {
         self.places.len()
     }
 
-    /// A port by its number, counted from 1; None where there is none.
+    /// A port by its number, counted from 1; None if there is none.
     pub fn port(&self, number: u8) -> Option<&Port>
         ensures { option_copied result ≡ numbered (row_of self.now) number }
     {
@@ -192,7 +192,7 @@ impl Ports {
     }
 
     /// A call at the port of a number, counted from 1. PORT_RESET of a powered port with a device
-    /// resets the device, whose own ports are then off. Where there is no such port, nothing
+    /// resets the device, whose own ports are then off. If there is no such port, nothing
     /// changes.
     #[tactic(auto, using(crate::proofs::places::FirstPlaces::paths))]
     pub fn call(&mut self, number: u8, call: PortCall)
@@ -220,15 +220,15 @@ impl Ports {
         turn_off(self.places.as_mut_slice());
     }
 
-    /// A device is plugged at the port of a path. What stood there is unplugged first, with all
-    /// that was below it. Where there is no such port, nothing changes.
+    /// A device is plugged at the port of a path. What was there is unplugged first, with all
+    /// that was below it. If there is no such port, nothing changes.
     pub fn plug(&mut self, path: &[u8], device: Device)
         ensures { self.new ≡ changed (put (Some device)) self.old path.now }
     {
         let _ = self.put(path, Some(device));
     }
 
-    /// The port of a path is left empty, and what stood there is handed back. Where there is no
+    /// The port of a path is left empty, and what was there is handed back. If there is no
     /// such port, nothing changes.
     pub fn unplug(&mut self, path: &[u8]) -> Option<Device>
         ensures before { result ≡ device_there self.old path.now }
@@ -266,7 +266,7 @@ impl Ports {
         }
     }
 
-    /// The device at the port of a path; None where there is none.
+    /// The device at the port of a path; None if there is none.
     #[cycle(device_at)]
     #[tactic(auto, using(crate::proofs::places::NumberedPlaces::routing))]
     pub fn device_at(&self, path: &[u8]) -> Option<&Device>
@@ -281,7 +281,7 @@ impl Ports {
         }
     }
 
-    /// Bit N is set where port N, counted from 1, has a change bit set (11.12.4).
+    /// Bit N is set if port N, counted from 1, has a change bit set (11.12.4).
     #[tactic(auto, unfolding(crate::specs::Bulk::change_bits))]
     pub(crate) fn change_bits(&self) -> u8
         ensures { result ≡ change_bits (row_of self.now) }

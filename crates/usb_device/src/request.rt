@@ -25,7 +25,7 @@ use usb_request::{Setup, descriptor_type};
 pub struct Registers {
     /// 0 until SET_ADDRESS has ended.
     pub address: u8,
-    /// The value of a configuration, or 0 where none is set.
+    /// The value of a configuration, or 0 if none is set.
     pub configuration: u8,
 }
 
@@ -156,7 +156,7 @@ fn set_configuration(spec: &DeviceSpec, registers: Registers, setup: &Setup) -> 
     }
 }
 
-/// The endpoint that a CLEAR_FEATURE or SET_FEATURE of ENDPOINT_HALT names, where it is served.
+/// The endpoint that a CLEAR_FEATURE or SET_FEATURE of ENDPOINT_HALT names, if it is served.
 fn endpoint_of(spec: &DeviceSpec, registers: Registers, setup: &Setup) -> Option<ServedEndpoint>
     ensures { result ≡ endpoint_of spec.now registers setup.now }
 {

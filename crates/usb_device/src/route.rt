@@ -13,8 +13,8 @@ use crate::ports::{Place, Ports};
 use std::alloc::AllocError;
 
 impl Ports {
-    /// A packet at the device at a path alone, which is `deep` where it stands on a port of a hub;
-    /// what is heard of its answer joins what was heard before.
+    /// A packet at the device at a path alone, which is `deep` if it is on a port of a hub. What is
+    /// heard of its answer joins what was heard before.
     ///
     /// # Errors
     ///
@@ -44,7 +44,7 @@ impl Ports {
         self.places[i - 1].deliver_at(rest, sent, deep, heard)
     }
 
-    /// What the device at a path asks of its ports at a packet; nothing where none is there. It is
+    /// What the device at a path asks of its ports at a packet; nothing if none is there. It is
     /// asked before the packet is delivered.
     pub fn effect_at(&self, path: &[u8], sent: &LentPacket<'_>, deep: bool) -> Effect
         ensures { result ≡ effect_by sent.now deep (device_there self.now path.now) }
@@ -56,7 +56,7 @@ impl Ports {
     }
 
     /// The device at a path forgets a token that waits for data and data that wait for an ACK, and
-    /// its address is told.
+    /// its address is reported.
     #[cycle(forget_at)]
     #[tactic(auto, using(crate::proofs::places::NumberedPlaces::routing))]
     pub fn forget_at(&mut self, path: &[u8]) -> Option<u8>

@@ -103,10 +103,9 @@ impl Model for DeviceSpec {
 }
 
 impl DeviceSpec {
-    /// A full-speed function without strings that does nothing special: no request is refused, no
-    /// NAK is given, it has no requests of its own, its bulk IN has nothing to give, its bulk OUT
-    /// never halts, and it has its power from the bus. Its device descriptor (9.6.1) and the texts of its configurations
-    /// (9.6.3) are any bytes.
+    /// A full-speed function without strings that does nothing special. It refuses no request, gives no NAK, and has no
+    /// requests of its own. Its bulk IN has nothing to give, its bulk OUT never halts, and it has its power from the
+    /// bus. Its device descriptor (9.6.1) and the texts of its configurations (9.6.3) are any bytes.
     pub fn function(name: Name, descriptor: Bytes<255>, configs: ConfigTexts) -> Self
         ensures { result ≡ function name descriptor configs }
     {
@@ -172,7 +171,7 @@ impl DeviceSpec {
         self
     }
 
-    /// The same device, which begins each control transfer with so many NAKs, at most 200.
+    /// The same device, which begins each control transfer with this number of NAKs, at most 200.
     pub fn with_naks(mut self, naks: u8) -> Self
         requires { naks ≤ 200 }
         ensures { result ≡ record self { naks = naks } }
@@ -206,7 +205,7 @@ impl DeviceSpec {
         self
     }
 
-    /// The same device, whose bulk OUT endpoint halts once, when it has taken so many packets since
+    /// The same device, whose bulk OUT endpoint halts once, when it has taken this number of packets since
     /// the plug.
     pub fn with_halt_after(mut self, packets: u16) -> Self
         requires { 1 ≤ packets }
@@ -288,7 +287,7 @@ impl DeviceSpec {
         self.strings.as_slice()
     }
 
-    /// Whether it has its own power, as GET_STATUS tells (9.4.5).
+    /// Whether it has its own power, as GET_STATUS reports (9.4.5).
     pub fn is_self_powered(&self) -> bool
         ensures { result ≡ self.now.self_powered }
     {

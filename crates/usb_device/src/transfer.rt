@@ -1,4 +1,4 @@
-//! Where a control transfer stands, and the packets of an answer (8.5.3).
+//! How far a control transfer is, and the packets of an answer (8.5.3).
 ghost use Rattle.std.specs.Prelude.{◌≡◌, ◌≤◌, ◌<◌, ℕ, List, length, is_some};
 ghost use Rattle.usb_device.specs.Transfer.{packet_count, packet_at, put_if, toggle_at};
 
@@ -30,14 +30,14 @@ pub enum RememberedPacket {
     AckAwaited(InEndpoint),
 }
 
-/// Where a control transfer stands.
+/// How far a control transfer is.
 #[derive(Clone, Copy, Debug)]
 pub enum Progress {
     /// There is none, or one without a data stage is over.
     Idle,
     /// The request is refused.
     Refused,
-    /// A control read: the host wants so many bytes, and acknowledged so many packets.
+    /// A control read: the host requested n bytes, and acknowledged k packets.
     Reading {
         /// What is read.
         source: Source,
@@ -51,7 +51,7 @@ pub enum Progress {
     /// The status stage of a transfer without a data stage, and the address that is taken at its
     /// end.
     Ending(Option<u8>),
-    /// A control write: how far it is stands beside.
+    /// A control write; how far it is, is kept beside.
     Writing,
 }
 
@@ -68,7 +68,7 @@ fn packet_count(max: usize, wanted: usize, len: usize) -> usize
     }
 }
 
-/// The bytes stand in the room, in place of those that were there.
+/// The bytes are in the room, in place of those that were there.
 pub fn fill(room: &mut ArrayVec<u8, 64>, bytes: &[u8])
     requires { length bytes.now ≤ 64 }
     ensures { room.new.items ≡ bytes.now }
@@ -77,7 +77,7 @@ pub fn fill(room: &mut ArrayVec<u8, 64>, bytes: &[u8])
     let _ = room.try_extend_from_slice(bytes);
 }
 
-/// Puts the bytes of packet `k` of an answer, counted from 0, into the room, and tells whether
+/// Puts the bytes of packet `k` of an answer, counted from 0, into the room, and returns whether
 /// there is one.
 pub fn put_packet(
     max: usize,

@@ -98,7 +98,7 @@ impl ControlWrite {
         Progress::Writing
     }
 
-    /// What a packet is to it, where none may have more than `max` bytes.
+    /// What a packet is to it, if none may have more than `max` bytes.
     pub fn judged(&self, max: u8, toggle: Toggle, bytes: &[u8]) -> WriteData
         ensures { result ≡ judged max self.now toggle bytes.now }
     {

@@ -1,4 +1,4 @@
-//! The art in front of an entry, which shows what it stands below.
+//! The art before an entry, which shows what it is below.
 ghost use Rattle.std.specs.Prelude.{◌≡◌, ◌<◌, ◌++◌, length, OnOk};
 ghost use Rattle.usb_drawing.specs.Art.{art, branch, goes_on, is_beside, trunk, trunks};
 
@@ -27,7 +27,7 @@ impl Style {
     }
 }
 
-/// Adds the art of the entry at a path, with these entries behind it.
+/// Adds the art of the entry at a path, with these entries after it.
 #[tactic(auto, unfolding(crate::specs::Art::art))]
 pub(crate) fn push_art(
     out: &mut Vec<u8>,
@@ -42,7 +42,7 @@ pub(crate) fn push_art(
     out.extend_from_slice(branch(style, goes_on(path, level, behind)).as_bytes())
 }
 
-/// Adds the trunks of the first so many levels.
+/// Adds the trunks of this number of levels, from the first.
 fn push_trunks(
     out: &mut Vec<u8>,
     style: Style,
@@ -81,7 +81,7 @@ fn branch(style: Style, goes_on: bool) -> &'static str
     }
 }
 
-/// Whether an entry behind stands beside the path at a level. A listing has at most 896 entries, a port each of the
+/// Whether a later entry is beside the path at a level. A listing has at most 896 entries, a port each of the
 /// root and of 127 hubs.
 fn goes_on(path: &PortPath, level: usize, behind: &[(PortPath, Finding)]) -> bool
     requires { level < length path.now }

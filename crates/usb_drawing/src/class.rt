@@ -7,7 +7,7 @@ use usb_class::{ClassCodes, text_codes};
 use usb_enum::{Accepted, HubFacts};
 use usb_text::push_decimal;
 
-/// The codes of a device, or where its class is 0 those of its configuration's first interface.
+/// The codes of a device, or if its class is 0 those of its configuration's first interface.
 pub(crate) fn codes_of(device: &Accepted) -> ClassCodes
     ensures { result ≡ codes_of device.now }
 {

@@ -55,7 +55,7 @@ fn push_identity(alloc: Global, out: &mut Vec<u8>, device: &Accepted) -> Result<
     push_ports(alloc, out, &device.hub)
 }
 
-/// Adds the strings that there are, each behind its label.
+/// Adds the strings that there are, each after its label.
 #[tactic(auto, unfolding(crate::specs::Devices::strings_text))]
 fn push_strings(out: &mut Vec<u8>, style: Style, strings: &Strings) -> Result<(), AllocError>
     ensures { OnOk result (out.new.items ≡ out.old.items ++ strings_text style strings.now) }
@@ -103,7 +103,7 @@ fn push_ids(alloc: Global, out: &mut Vec<u8>, bytes: &[u8; 18]) -> Result<(), Al
     out.extend_from_slice(b" ")
 }
 
-/// Adds the word whose low byte stands at the index, in four digits.
+/// Adds the word whose low byte is at the index, in four digits.
 fn push_word(alloc: Global, out: &mut Vec<u8>, bytes: &[u8], at: usize) -> Result<(), AllocError>
     requires { at + 1 < length bytes.now }
     ensures { OnOk result (out.new.items ≡ out.old.items ++ word_digits bytes.now at) }

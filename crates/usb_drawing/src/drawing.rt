@@ -18,7 +18,7 @@ use usb_text::Lines;
 /// them.
 ///
 /// What is written is the drawings of the items of a run of the plan. Where the run ended early it is all that the run
-/// made so far; where the writer failed it is a front of that.
+/// made so far; if the writer failed it is a prefix of that.
 ///
 /// # Errors
 ///

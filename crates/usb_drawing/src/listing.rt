@@ -13,7 +13,7 @@ use usb_port::PortPath;
 use usb_resources::supply;
 use usb_text::{Lines, push_decimal, push_path};
 
-/// The lines of a drawn listing: its number, then a line for each entry, which says by its art what the entry stands
+/// The lines of a drawn listing: its number, then a line for each entry, which says by its art what the entry is
 /// below.
 ///
 /// # Errors
@@ -102,7 +102,7 @@ fn entry_line(
     Ok(line)
 }
 
-/// Adds the blanks behind the path of an entry that stands so many levels above the deepest.
+/// Adds the blanks after the path of an entry that is this number of levels above the deepest.
 fn push_gap(out: &mut Vec<u8>, levels: usize) -> Result<(), AllocError>
     ensures { OnOk result (out.new.items ≡ out.old.items ++ gap levels) }
 {
@@ -124,7 +124,7 @@ fn deepest(entries: &[(PortPath, Finding)]) -> usize
     if depth < further { further } else { depth }
 }
 
-/// What the port at a path gives, in mA, where the listing says it.
+/// What the port at a path gives, in mA, if the listing says it.
 fn granted_at(path: &PortPath, entries: &[(PortPath, Finding)]) -> Option<u16>
     ensures { result ≡ granted_at path.now entries.now }
 {

@@ -49,7 +49,7 @@ fn stall_words(request: Request) -> &'static str
     }
 }
 
-/// Adds the number behind the words of a cause: which configuration, or what the port gives.
+/// Adds the number after the words of a cause: which configuration, or what the port gives.
 fn push_number(
     alloc: Global,
     out: &mut Vec<u8>,

@@ -8,7 +8,7 @@ use std::alloc::AllocError;
 use usb_enum::StringUnits;
 use usb_text::{push_escaped, push_units};
 
-/// Adds a string behind its label, where there is one.
+/// Adds a string after its label, if there is one.
 pub(crate) fn push_labelled(
     out: &mut Vec<u8>,
     style: Style,
@@ -129,7 +129,7 @@ fn is_shown(c: char) -> bool
     !(c.is_control() || c == '"' || c == '\\' || is_layout(c as u32))
 }
 
-/// What ends a line, or turns the direction of the text around it.
+/// What ends a line, or changes the direction of the text around it.
 fn is_layout(c: u32) -> bool
     ensures { result ≡ is_layout c }
 {

@@ -77,7 +77,7 @@ fn read_text<B: Bus>(
     }
 }
 
-/// The configurations of a device that has so many. No two of them have the same value.
+/// The configurations of a device that has this number of them. No two of them have the same value.
 pub(crate) fn read_configurations<B: Bus>(
     alloc: Global,
     bus: &mut B,

@@ -27,7 +27,7 @@ use usb_hub::{HubPort, clear_port, set_configuration};
 use usb_request::feature::PORT_ENABLE;
 use usb_resources::{Address, AddressPool};
 
-/// The last tier in which a device may stand (4.1.1).
+/// The last tier in which a device may be (4.1.1).
 const LAST_TIER: u8 = 7;
 
 /// Enumerates the device at a port (9.1.2): the port is reset, and the device is given the least
@@ -37,9 +37,9 @@ const LAST_TIER: u8 = 7;
 /// that is refused has its port disabled and leaves the pool as it was.
 ///
 /// The caller has let go of all that it knew at the port and below it: no device there holds an
-/// address that is taken in the pool, so a port that is still enabled is disabled before, and what
-/// was found there forgotten. At a port that is still enabled nothing is said of whose the finding
-/// is, of who holds which address in the end, nor of other devices and ports.
+/// address that is taken in the pool. So a port that is still enabled is disabled before, and what
+/// was found there is forgotten. At a port that is still enabled nothing is said of whose the
+/// finding is, of who holds which address in the end, nor of other devices and ports.
 ///
 /// # Errors
 ///
@@ -81,7 +81,7 @@ pub fn enumerate<B: Bus>(
     }
 }
 
-/// Goes on as far as a device is given its address, where none is free.
+/// Goes on until a device would be given its address, if none is free.
 fn without_address<B: Bus>(alloc: Global, bus: &mut B, port: HubPort) -> Stop
     requires { IsAsked B.modelled (B.world bus.old) port }
     ensures any_bus { Spends B.spent B.ports (unaddressed_bound port) bus.old bus.new
@@ -197,7 +197,7 @@ fn fits_tier(device: &Addressed, tier: u8) -> Result<(), Stop>
     Ok(())
 }
 
-/// What a device says of its ports where it is a hub, which then have power.
+/// What a device says of its ports if it is a hub, which then have power.
 fn hub_facts<B: Bus>(
     alloc: Global,
     bus: &mut B,

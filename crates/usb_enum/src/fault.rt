@@ -14,7 +14,7 @@ pub enum EnumFault {
     /// A request to the hub that has the port failed.
     #[error("parent lost")]
     ParentLost,
-    /// The bus makes no more steps.
+    /// The bus has failed.
     #[error("{0}")]
     Bus(BusFault),
     /// Memory was refused.

@@ -95,7 +95,7 @@ fn port_supply<B: Bus>(alloc: Global, bus: &mut B, target: Target) -> Result<u16
     Ok(supply(false, status.self_powered))
 }
 
-/// Gives power to the first so many ports of a hub.
+/// Gives power to the ports of a hub up to this number.
 fn power_ports<B: Bus>(bus: &mut B, target: Target, ports: u8) -> Result<(), Stop>
     requires { IsTarget target }
     ensures any_bus { Spends B.spent B.ports (ports * write_bound) bus.old bus.new

@@ -70,7 +70,7 @@ fn read_status<B: Bus>(alloc: Global, bus: &mut B, port: HubPort) -> Result<Port
     at_port(port_status(alloc, bus, port))
 }
 
-/// Resets the port (11.5.1.5), and tells whether a low-speed device is there.
+/// Resets the port (11.5.1.5), and returns whether a low-speed device is there.
 fn reset<B: Bus>(alloc: Global, bus: &mut B, port: HubPort) -> Result<bool, Stop>
     requires port { IsAsked B.modelled (B.world bus.old) port }
     ensures any_bus { Spends B.spent B.ports (reset_bound port) bus.old bus.new
@@ -138,7 +138,7 @@ fn first_maximum<B: Bus>(alloc: Global, bus: &mut B, unaddressed: Target) -> Res
     }
 }
 
-/// The device descriptor, or `None` where the device gave no answer.
+/// The device descriptor, or `None` if the device gave no answer.
 #[tactic(auto, using(usb_pipe::proofs::Interface::bound_wide))]
 fn descriptor<B: Bus>(alloc: Global, bus: &mut B, target: Target) -> Result<Option<[u8; 18]>, Stop>
     requires target { IsTarget target }
@@ -163,7 +163,7 @@ fn descriptor<B: Bus>(alloc: Global, bus: &mut B, target: Target) -> Result<Opti
     }
 }
 
-/// The bytes, where they are the descriptor of a device at this speed.
+/// The bytes, if they are the descriptor of a device at this speed.
 fn device_bytes(bytes: &[u8; 18], low: bool) -> Result<Option<[u8; 18]>, Stop>
     ensures { result ≡ device_bytes low bytes.now }
 {
@@ -206,7 +206,7 @@ pub(crate) fn unaddressed<B: Bus>(alloc: Global, bus: &mut B, port: HubPort) -> 
     })
 }
 
-/// One pass, from the port's reset to the device descriptor; `None` where the device gave no
+/// One pass, from the port's reset to the device descriptor; `None` if the device gave no
 /// answer once it should have its address.
 fn pass<B: Bus>(
     alloc: Global,

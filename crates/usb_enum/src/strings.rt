@@ -65,7 +65,7 @@ pub(crate) struct StringIndexes {
     pub serial_number: u8,
 }
 
-/// The first language of string 0, where that is a string descriptor with one.
+/// The first language of string 0, if that is a string descriptor with one.
 fn first_language(bytes: &[u8]) -> Option<u16>
     ensures { result ≡ first_language_of bytes.now }
 {
@@ -75,7 +75,7 @@ fn first_language(bytes: &[u8]) -> Option<u16>
     }
 }
 
-/// The units of a string descriptor, or `None` where the bytes are none.
+/// The units of a string descriptor, or `None` if the bytes are none.
 fn units_of(alloc: Global, bytes: &[u8]) -> Result<Option<StringUnits>, AllocError>
     ensures { IfOk result (λ units. units ≡ string_units bytes.now) }
 {
@@ -85,7 +85,7 @@ fn units_of(alloc: Global, bytes: &[u8]) -> Result<Option<StringUnits>, AllocErr
     }
 }
 
-/// The bytes of a string descriptor, or `None` where the device answered by STALL.
+/// The bytes of a string descriptor, or `None` if the device answered by STALL.
 #[tactic(auto, using(usb_pipe::proofs::Interface::bound_wide))]
 fn string_bytes<B: Bus>(
     alloc: Global,

@@ -26,7 +26,7 @@ impl Model for ConfigText {
 }
 
 impl ConfigText {
-    /// The text, or `None` where the bytes are no configuration text.
+    /// The text, or `None` if the bytes are no configuration text.
     pub(crate) fn new(bytes: Vec<u8>) -> Option<ConfigText>
         ensures { result ≡ config_text_of bytes.items }
     {

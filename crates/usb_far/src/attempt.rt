@@ -71,7 +71,7 @@ pub(crate) fn is_poll(attempt: &Attempt, outcome: &Outcome) -> bool
     }
 }
 
-/// What the host got, as it is told.
+/// What the host got, as it is reported.
 pub(crate) fn answer_of(outcome: Outcome) -> Answer
     ensures { result ≡ outcome_answer outcome }
 {

@@ -1,4 +1,4 @@
-//! What the far end does at each question.
+//! What the controller side does at each question.
 ghost use Rattle.std.specs.Prelude.{◌≡◌, ◌⊎◌, ◌∷◌, [], false, true, IfErr, IfOk};
 ghost use Rattle.usb_world.specs.Steps.{after, opening, root_call};
 ghost use Rattle.usb_world.specs.PlainAttempts.{attempt_data};
@@ -36,11 +36,11 @@ pub enum Phase {
     Tells,
 }
 
-/// A simulated bus as a far end plays it.
+/// A simulated bus as the controller side.
 #[derive(Drop)]
 pub struct FarEnd<T: Trace> {
     pub(crate) bus: SimBus<T>,
-    /// What the status of each root port was when it was last told.
+    /// What the status of each root port was when it was last reported.
     pub(crate) told: Statuses,
     /// An event came in the polls that brought nothing since the last other question.
     pub(crate) came: bool,
@@ -50,7 +50,7 @@ pub struct FarEnd<T: Trace> {
 impl<W: Write + Drop> FarEnd<Tracer<W>> {
     ghost use Rattle.usb_far.specs.FarEnd.{far_begun, far_of, played_of};
 
-    /// The far end of a plan, before anything came: all root ports are off. Its trace goes to a writer.
+    /// The controller side of a plan, before anything came: all root ports are off. Its trace goes to a writer.
     ///
     /// # Errors
     ///
@@ -126,7 +126,7 @@ impl<T: Trace> FarEnd<T> {
         Ok(answer_of(outcome))
     }
 
-    /// Makes a call at a root port, where there is one of that number.
+    /// Makes a call at a root port, if there is one of that number.
     fn call(&mut self, number: u8, call: PortCall) -> Result<Answer, FarFault>
         ensures done { IfOk result (λ answer.
             IsDone (call_done number call (far_of self.old)) (played_of self.old) answer
@@ -142,7 +142,7 @@ impl<T: Trace> FarEnd<T> {
         Ok(Answer::Done)
     }
 
-    /// Tells what is wanted: nothing where an event came that the host may not have seen, else what the next event
+    /// Returns what is requested: nothing if an event came that the host may not have seen, else what the next event
     /// asks.
     fn wait(&mut self) -> Result<Answer, FarFault>
         ensures done { IfOk result (λ answer.
@@ -204,7 +204,7 @@ fn call_root<T: Trace>(bus: &mut SimBus<T>, port: u8, call: PortCall)
     }
 }
 
-/// What an event asks, as it is told; `None` if it sends or writes more than a line has room for.
+/// What an event asks, as it is reported; `None` if it sends or writes more than a line has room for.
 fn answer_of_due(due: Option<Option<Ask>>) -> Option<Answer>
     ensures { result ≡ due_answer due }
 {

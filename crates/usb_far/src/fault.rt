@@ -1,4 +1,4 @@
-//! Why the far end says no more.
+//! Why the controller side says no more.
 ghost use Rattle.std.specs.Prelude.{◌≡◌};
 ghost use Rattle.usb_far.specs.FarEnd.{reading_fault};
 
@@ -6,13 +6,13 @@ use thiserror::Error;
 use usb_bus::BusFault;
 use usb_lines::LineFault;
 
-/// Why the far end says no more.
+/// Why the controller side says no more.
 #[derive(Clone, Copy, Debug, PartialEq, Eq, Error)]
 pub enum FarFault {
     /// The reader failed.
     #[error("read failed")]
     Read,
-    /// A line that tells nothing has more than 1,024 bytes.
+    /// A line that reports nothing has more than 1,024 bytes.
     #[error("line too long")]
     LineTooLong,
     /// A byte of such a line is no printable ASCII.
@@ -31,7 +31,7 @@ pub enum FarFault {
     /// room for them.
     #[error("too much to send")]
     LongSend,
-    /// The simulated bus makes no more steps.
+    /// The simulated bus has failed.
     #[error("{0}")]
     Bus(BusFault),
     /// The writer failed.

@@ -1,4 +1,4 @@
-//! The lines that go out behind a question.
+//! The lines that go out after a question.
 ghost use Rattle.std.specs.Prelude.{◌≡◌, ◌+◌, ◌*◌, ◌≤◌, ◌∷◌, ◌++◌, [], length, IfErr, IfOk};
 ghost use Rattle.usb_wire.specs.Questions.{IsQuestion};
 ghost use Rattle.usb_far.specs.FarEnd.{ChangesTold, HasNoReply, Replies, behind_first, is_first, line_of, may_ask, pushes};
@@ -12,19 +12,19 @@ use usb_wire::{Asked, Question, Said, said_line};
 /// Room for the status of each root port and an answer: eight lines of 1,024 bytes.
 const ROOM: usize = 8200;
 
-/// The lines that go out behind a question.
+/// The lines that go out after a question.
 pub(crate) type Reply = ArrayVec<u8, ROOM>;
 
 impl<T: Trace> FarEnd<T> {
     ghost use Rattle.usb_far.specs.FarEnd.{far_of, played_of};
 
-    /// Does what is asked, and gives the lines to that: the statuses of root ports that are not what was last told, and
-    /// the answer.
+    /// Does what is asked, and gives the lines to that: the statuses of root ports that are not what was last reported,
+    /// and the answer.
     ///
     /// # Errors
     ///
-    /// NoQuestion where it is the hello and not the first question, or the first one and not the hello; BadNumber where
-    /// there is no such root port; LongSend where an event sends more than 500 bytes; the fault of the bus.
+    /// `NoQuestion` if it is the hello and not the first question, or the first one and not the hello. `BadNumber` if
+    /// there is no such root port. `LongSend` if an event sends more than 500 bytes. Else the fault of the bus.
     pub(crate) fn reply(&mut self, question: Question) -> Result<Reply, FarFault>
         requires { IsQuestion question }
         ensures replied { IfOk result (λ reply.
@@ -45,7 +45,7 @@ impl<T: Trace> FarEnd<T> {
         Ok(lines)
     }
 
-    /// The lines of root ports whose status is not what was last told, which it is then.
+    /// The lines of root ports whose status is not what was last reported, which it is then.
     fn changes(&mut self, asked: Asked) -> Reply
         ensures told { ChangesTold asked (far_of self.old) (far_of self.new) result.items }
         ensures bus { self.new.bus ≡ self.old.bus }
@@ -63,7 +63,7 @@ impl<T: Trace> FarEnd<T> {
     }
 }
 
-/// Whether the question may stand there: the hello first, and no other one.
+/// Whether the question may come there: the hello first, and no other one.
 fn may_ask(phase: Phase, question: &Question) -> bool
     ensures { result ≡ may_ask phase question.now }
 {
@@ -74,7 +74,7 @@ fn may_ask(phase: Phase, question: &Question) -> bool
     }
 }
 
-/// The lines of statuses that are not what was told, of the ports from a number on.
+/// The lines of statuses that are not what was reported, of the ports from a number on.
 #[tactic(auto, unfolding(crate::specs::FarEnd::pushes))]
 fn push_changes(lines: &mut Reply, number: u8, told: &[[u8; 4]], now: &[[u8; 4]])
     requires room { length lines.old.items + 1025 * length now.now ≤ 7175 }

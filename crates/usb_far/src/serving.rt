@@ -1,4 +1,4 @@
-//! The host's lines in, the far end's lines out.
+//! The host's lines in, the controller side's lines out.
 ghost use Rattle.std.specs.Prelude.{◌≡◌, ◌≤◌, ◌∷◌, ◌++◌, [], ℕ, length, IfErr, IfOk};
 ghost use Rattle.std.specs.Io.KnownBytes.{Consumes};
 ghost use Rattle.usb_lines.specs.Lines.{IsUnbroken};

@@ -8,7 +8,7 @@ use thiserror::Error;
 use usb_bus::BusFault;
 use usb_table::{TableFault, TransferFault};
 
-/// Why a call of the host failed, in the order in which the reasons are told.
+/// Why a call of the host failed, in the order in which the reasons are reported.
 #[derive(Clone, Copy, Debug, PartialEq, Eq, Error)]
 pub enum HostFault {
     /// An earlier call failed, and the host has stopped.
@@ -17,7 +17,7 @@ pub enum HostFault {
     /// A transfer was not done; the host goes on.
     #[error("{0}")]
     Transfer(TransferFault),
-    /// The bus makes no more steps.
+    /// The bus has failed.
     #[error("{0}")]
     Bus(BusFault),
     /// Memory was refused.

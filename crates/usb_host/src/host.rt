@@ -25,7 +25,7 @@ use usb_table::{DeviceTable, TableFault};
 /// Whether a round did anything.
 #[derive(Clone, Copy, Debug, PartialEq, Eq)]
 pub enum Round {
-    /// A port was handled, a hub told of a change, or one was dropped.
+    /// A port was handled, a hub reported a change, or one was dropped.
     Worked,
     /// No root port had changed, but those that are left alone (`Host::round`), and every hub answered
     /// that none of its ports had.
@@ -76,7 +76,7 @@ impl<B: Bus> Host<B> {
     ghost use Rattle.usb_host.specs.contracts.host.Host.{the_row};
 
     /// The host of a bus, which knows of no device. It takes the power of each root port and gives
-    /// it again (11.24.2.2, 11.24.2.13): a device there is disabled, and told as plugged (11.5.1). So
+    /// it again (11.24.2.2, 11.24.2.13): a device there is disabled, and reported as plugged (11.5.1). So
     /// the bus may be one that another host had, also one that has stopped (`into_bus`).
     pub fn new(alloc: Global, bus: B) -> Host<B>
         ensures any_bus { (result.entries ≡ []) × ((result.stopped ≡ false)
@@ -164,16 +164,16 @@ impl<B: Bus> Host<B> {
     }
 
     /// One round (11.12). First each root port whose connection has changed is handled, by rising
-    /// number. Then each hub that is known is polled, by rising path, and each port of which it tells
-    /// is handled. At last each device that waits for an address is looked at again, as long as one
+    /// number. Then each hub that is known is polled, by rising path, and each port that it reports
+    /// is handled. At last each device that waits for an address is enumerated again, as long as one
     /// is free.
     ///
-    /// A hub that does not answer is dropped: its port is disabled, and what stood below it is
-    /// forgotten. So is one whose port is enabled and still tells the change of connection that was
+    /// A hub that does not answer is dropped: its port is disabled, and what was below it is
+    /// forgotten. So is one whose port is enabled and still reports the change of connection that was
     /// just cleared.
     ///
     /// A root port that does so is handled once: what is there is found and stays listed. Then it is
-    /// left alone as long as it shows the status (11.24.2.7) that it shows behind that, each bit of
+    /// left alone as long as it shows the status (11.24.2.7) that it shows after that, each bit of
     /// it, and counts as one without a change.
     ///
     /// # Errors
@@ -225,7 +225,7 @@ impl<B: Bus> Host<B> {
         sent
     }
 
-    /// Receives so many packets from the bulk IN endpoint of the device at a path, or fewer where
+    /// Receives this number of packets from the bulk IN endpoint of the device at a path, or fewer if
     /// one of them is shorter than the maximum (5.8). No packets are received with no attempt.
     ///
     /// # Errors
@@ -279,7 +279,7 @@ impl<B: Bus> Host<B> {
     }
 }
 
-/// What a transfer gave, as the host tells it.
+/// What a transfer gave, as the host reports it.
 pub(crate) fn as_host_fault<T>(outcome: Result<T, TableFault>) -> Result<T, HostFault>
     ensures { result ≡ host_told outcome }
 {

@@ -5,7 +5,7 @@ ghost use Rattle.usb_host.specs.LeftPorts.{none_left};
 use std::marker::{Model, PhantomData};
 use usb_bus::Bus;
 
-/// The status (11.24.2.7) at which each root port is left alone, where it is. Of a bus that does what its world does
+/// The status (11.24.2.7) at which each root port is left alone, if it is. Of a bus that does what its world does
 /// none ever is: a clearing there takes the change away.
 #[derive(Debug, Drop)]
 pub(crate) struct LeftPorts<B: Bus> {

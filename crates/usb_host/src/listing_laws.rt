@@ -26,8 +26,8 @@ pub fn known_stays()
 {}
 
 /// An event that comes through `Host::bus_mut` by `SimBus::apply_next_event` leaves a host as it was but for its bus:
-/// what it knows stays so, and each reachable device holds the address that the host has for it, also where the bus
-/// told a fault.
+/// what it knows stays so, and each reachable device holds the address that the host has for it, also if the bus
+/// reported a fault.
 pub fn known_stays_at_events()
     ensures sound { (old new : HostState) (due : Option (Option Ask))
         → Agrees old.entries old.addresses
@@ -38,7 +38,7 @@ pub fn known_stays_at_events()
         → OnlyBusSteps old new → HostMapHolds old → HostMapHolds new }
 {}
 
-/// Where nothing is left to do, a host that knows its ports, and of which each accepted device and each cause is so,
+/// If nothing is left to do, a host that knows its ports, and of which each accepted device and each cause is so,
 /// lists what is plugged.
 pub fn settled_matches()
     ensures { (w : World) (entries : Entries) (addresses : Addresses)

@@ -31,7 +31,7 @@ pub enum Look {
 impl<B: Bus> Host<B> {
     /// Enumerates a port anew, as if its connection had changed: rescans a port, resets a device, and
     /// tries a refused or lost one again. It clears C_PORT_CONNECTION (11.24.2.7.2.1), reads the
-    /// status, disables the port if it is enabled, and forgets what stood at it and below it. Then it
+    /// status, disables the port if it is enabled, and forgets what was at it and below it. Then it
     /// enumerates what is connected (9.1.2). Below a hub that is found again, rounds find all again.
     ///
     /// If a request to the port's hub fails, that hub is dropped, as in a round. A look at a root port

@@ -47,7 +47,7 @@ pub(crate) fn enter(
     entered
 }
 
-/// Releases an address, where there is one.
+/// Releases an address, if there is one.
 pub(crate) fn release(pool: &mut AddressPool, address: Option<Address>)
     ensures { (f : Finding) → address_found f ≡ address → Frees f pool.old pool.new }
 {

@@ -60,8 +60,8 @@ impl<B: Bus> Host<B> {
         PortStatus::from_bytes(status).connection_changed
     }
 
-    /// Leaves a root port alone where a clearing has not taken its change of connection away, as this status tells
-    /// that was read behind it. A hub does not keep a change so.
+    /// Leaves a root port alone if a clearing has not taken its change of connection away, as this status says
+    /// that was read after it. A hub does not keep a change so.
     fn leave(&mut self, path: &PortPath, port: HubPort, cleared: PortStatus)
         requires { B.modelled ≡ true → IsCleared port cleared }
         ensures { OnlyLeaves B.modelled self.old self.new }
@@ -76,9 +76,9 @@ impl<B: Bus> Host<B> {
         }
     }
 
-    /// Leaves a root port alone at the status that it shows, where that tells the change and fits what was found:
+    /// Leaves a root port alone at the status that it shows, if that has the change and fits what was found:
     /// something is connected or nothing, as it was, and the port of an accepted device is enabled. Else the next
-    /// round looks once more; a status that does not fit then either is the port's for good.
+    /// round handles it once more; a status that does not fit then either is the port's for good.
     fn leave_root(&mut self, number: u8, connected: bool, has_device: bool)
         requires { B.modelled ≡ false }
         ensures { OnlyLeaves B.modelled self.old self.new }
@@ -132,7 +132,7 @@ impl<B: Bus> Host<B> {
         self.service_port(&root_path(number), port)
     }
 
-    /// Handles a port of a hub, where that is known and has the port.
+    /// Handles a port of a hub, if that is known and has the port.
     pub(crate) fn handle_below(&mut self, hub: &PortPath, number: u8) -> Result<Round, HostFault>
         requires { IsPath hub.now }
         ensures spends { HostSpends handling_bound self.old self.new }
@@ -173,7 +173,7 @@ impl<B: Bus> Host<B> {
         self.handle_own(&path, port)
     }
 
-    /// Clears the changes of the hub that has a port. Where it does not answer, it is dropped.
+    /// Clears the changes of the hub that has a port. If it does not answer, it is dropped.
     fn handle_own(&mut self, path: &PortPath, port: KnownPort) -> Result<(), HostFault>
         requires { IsPortAt B.modelled path.now port self.old }
         ensures spends { HostSpends handling_bound self.old self.new }
@@ -222,7 +222,7 @@ impl<B: Bus> Host<B> {
         Ok(Round::Worked)
     }
 
-    /// The port at a path, where it is one of the root or of a hub that is known.
+    /// The port at a path, if it is one of the root or of a hub that is known.
     pub(crate) fn port_at(&self, path: &PortPath) -> Option<KnownPort>
         ensures some { IfSome result (λ port. IsPortAt B.modelled path.now port self.now) }
         ensures none { B.modelled ≡ true → IfNone result (StandsNowhere path.now self.now) }
@@ -238,7 +238,7 @@ impl<B: Bus> Host<B> {
         }
     }
 
-    /// Handles a port. Where a request to its hub fails, that hub is dropped.
+    /// Handles a port. If a request to its hub fails, that hub is dropped.
     fn service_port(&mut self, path: &PortPath, port: KnownPort) -> Result<(), HostFault>
         requires { IsPortAt B.modelled path.now port self.old }
         ensures spends { HostSpends handling_bound self.old self.new }
@@ -252,7 +252,7 @@ impl<B: Bus> Host<B> {
         self.drop_lost_parent(path, served)
     }
 
-    /// Drops the hub of a port, where a request to it failed.
+    /// Drops the hub of a port, if a request to it failed.
     pub(crate) fn drop_lost_parent(
         &mut self,
         path: &PortPath,
@@ -279,7 +279,7 @@ impl<B: Bus> Host<B> {
         }
     }
 
-    /// Where the connection of a port has changed, or its hub has disabled it on an error, what is
+    /// If the connection of a port has changed, or its hub has disabled it on an error, what is
     /// there is forgotten and found anew; else its changes are cleared.
     fn serve(&mut self, path: &PortPath, port: KnownPort) -> Result<(), EnumFault>
         requires { IsPortAt B.modelled path.now port self.old }
@@ -343,7 +343,7 @@ impl<B: Bus> Host<B> {
         at_port(clear_port(&mut self.bus, port, feature))
     }
 
-    /// Clears a feature of a port, where that is asked for.
+    /// Clears a feature of a port, if this is set.
     fn clear_where(&mut self, asked: bool, port: HubPort, feature: u16) -> Result<(), EnumFault>
         requires port { IsAsked B.modelled self.old.world port }
         requires named { IsClearFeature feature }
@@ -360,7 +360,7 @@ impl<B: Bus> Host<B> {
         }
     }
 
-    /// Clears a change of a port that asks for nothing else, where that is asked for.
+    /// Clears a suspend or over-current change of a port, if this is set.
     fn clear_other(&mut self, asked: bool, port: HubPort, feature: u16) -> Result<(), EnumFault>
         requires { IsAsked B.modelled self.old.world port }
         ensures spends { HostSpends write_bound self.old self.new }
@@ -453,7 +453,7 @@ impl<B: Bus> Host<B> {
     }
 
     /// Clears a port's change of connection, reads its status, and disables it where it is enabled.
-    /// Where a hub has not cleared the change, it is lost.
+    /// If a hub has not cleared the change, it is lost.
     fn clear_change(&mut self, port: HubPort) -> Result<PortStatus, EnumFault>
         requires port { IsAsked B.modelled self.old.world port }
         requires askable { IsAskable port }
@@ -536,7 +536,7 @@ impl<B: Bus> Host<B> {
         )?)
     }
 
-    /// Drops a hub that failed: its port is disabled, what stood there and below is forgotten, and
+    /// Drops a hub that failed: its port is disabled, what was there and below is forgotten, and
     /// it is listed as lost. Where its port cannot be disabled, its own hub is dropped in its place.
     pub(crate) fn drop_hub(&mut self, hub: PortPath) -> Result<(), HostFault>
         ensures goes { HostGoes drop_bound self.old self.new }
@@ -623,7 +623,7 @@ impl<B: Bus> Host<B> {
     }
 }
 
-/// Whether a hub has not cleared a change of connection that it tells right behind its clearing: a
+/// Whether a hub has not cleared a change of connection that it reports right after its clearing: a
 /// plug or unplug that came between would have disabled the port (11.5.1).
 fn is_stuck(port: HubPort, status: PortStatus) -> bool
     ensures { result ≡ is_stuck port status }
@@ -634,7 +634,7 @@ fn is_stuck(port: HubPort, status: PortStatus) -> bool
     }
 }
 
-/// What a request at a port gave: where a hub does not serve it, that is lost.
+/// What a request at a port gave: if a hub does not serve it, that is lost.
 fn at_port<T>(outcome: Result<T, PipeFault>) -> Result<T, EnumFault>
     ensures { result ≡ at_port outcome }
 {

@@ -64,7 +64,7 @@ impl<B: Bus> Host<B> {
         Ok(round)
     }
 
-    /// Polls each hub that is known, by rising path, and handles the ports of which it tells.
+    /// Polls each hub that is known, by rising path, and handles the ports that it reports.
     fn serve_hubs(&mut self) -> Result<Round, HostFault>
         ensures goes { HostGoes hubs_bound self.old self.new }
         ensures quiet { QuietKeeps result self.old self.new }
@@ -83,7 +83,7 @@ impl<B: Bus> Host<B> {
         Ok(round)
     }
 
-    /// Polls a hub, and handles the ports of which it tells; where it does not answer, it is dropped.
+    /// Polls a hub, and handles the ports that it reports; if it does not answer, it is dropped.
     fn serve_hub(&mut self, hub: &PortPath) -> Result<Round, HostFault>
         requires { IsSome (hub_facts_at hub.now self.old.entries) }
         ensures goes { HostGoes hub_poll_bound self.old self.new }
@@ -108,7 +108,7 @@ impl<B: Bus> Host<B> {
         }
     }
 
-    /// Serves what a hub told: its ports, and the hub itself where none of them has a change.
+    /// Handles a hub's status-change bitmap: its ports, and the hub itself if none of them has a change.
     fn service_reported(&mut self, hub: &PortPath, bits: u8) -> Result<(), HostFault>
         requires { IsPath hub.now }
         ensures spends { HostSpends told_bound self.old self.new }
@@ -141,7 +141,7 @@ impl<B: Bus> Host<B> {
         Ok(())
     }
 
-    /// Looks again at each device that waits for an address, by rising path, while one is free.
+    /// Enumerates each device again that waits for an address, by rising path, while one is free.
     fn retry_waiting(&mut self) -> Result<Round, HostFault>
         ensures goes { HostGoes looks_bound self.old self.new }
         ensures quiet { QuietKeeps result self.old self.new }
@@ -169,7 +169,7 @@ impl<B: Bus> Host<B> {
         self.table.next_hub(last.as_ref())
     }
 
-    /// The next device that waits for an address; none where no address is free.
+    /// The next device that waits for an address; none if no address is free.
     fn next_waiting(&self, last: &Option<PortPath>) -> Option<PortPath>
         ensures some { IfSome result (λ path. Waits path self.now × ComesAfter last.now path) }
         ensures none { IfNone result

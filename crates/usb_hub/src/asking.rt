@@ -12,7 +12,7 @@ ghost use Rattle.usb_hub.specs.Requests.{Queried, ReadAs, Commanded};
 use std::alloc::Global;
 use usb_pipe::{Bus, PipeFault, Setup, Target, control_in, control_none};
 
-/// Asks for data: at most as many bytes as the request's length says.
+/// Asks for data: at most the bytes that the request's length says.
 ///
 /// # Errors
 ///
@@ -37,11 +37,11 @@ pub(crate) fn ask<B: Bus>(
     control_in(alloc, bus, target, setup)
 }
 
-/// Asks for data of just as many bytes as the request's length says.
+/// Asks for data of exactly the bytes that the request's length says.
 ///
 /// # Errors
 ///
-/// Those of `control_in`, and `Stalled` where the answer has another length.
+/// A fault of `control_in`, or `Stalled` if the answer has another length.
 pub(crate) fn ask_all<B: Bus, const N: usize>(
     alloc: Global,
     bus: &mut B,

@@ -20,7 +20,7 @@ use std::alloc::Global;
 use usb_pipe::{Bus, Setup, Target};
 use usb_request::hub_feature::{C_HUB_LOCAL_POWER, C_HUB_OVER_CURRENT};
 
-/// Clears C_PORT_SUSPEND or C_PORT_OVER_CURRENT of a hub's port (11.24.2.2). A root port tells
+/// Clears C_PORT_SUSPEND or C_PORT_OVER_CURRENT of a hub's port (11.24.2.2). A root port reports
 /// neither.
 ///
 /// # Errors
@@ -49,7 +49,7 @@ pub fn clear_port_change<B: Bus>(bus: &mut B, port: HubPort, feature: u16) -> Re
     }
 }
 
-/// Asks a hub for its own status (11.24.2.6), and clears each change that it tells (11.24.2.1).
+/// Asks a hub for its own status (11.24.2.6), and clears each change that it reports (11.24.2.1).
 ///
 /// # Errors
 ///
@@ -89,7 +89,7 @@ fn own_status<B: Bus>(alloc: Global, bus: &mut B, hub: Target) -> Result<HubStat
     Ok(HubStatus::from_bytes(bytes))
 }
 
-/// Clears each change that a hub told of itself (11.24.2.1).
+/// Clears each change that a hub reported of itself (11.24.2.1).
 #[tactic(auto, using(usb_address::proofs::Interface::keeps_then, usb_bus::proofs::Interface::went_wider))]
 fn clear_each<B: Bus>(bus: &mut B, hub: Target, status: HubStatus) -> Result<(), PipeFault>
     requires { IsTarget hub }
@@ -104,7 +104,7 @@ fn clear_each<B: Bus>(bus: &mut B, hub: Target, status: HubStatus) -> Result<(),
     clear_told(bus, hub, status.over_current_changed, C_HUB_OVER_CURRENT)
 }
 
-/// Clears a change of a hub where it was told (11.24.2.1).
+/// Clears a change of a hub if it was reported (11.24.2.1).
 #[tactic(auto, using(usb_address::proofs::Interface::keeps_none, usb_bus::proofs::Interface::went_wider, usb_bus::proofs::Interface::went_none))]
 fn clear_told<B: Bus>(bus: &mut B, hub: Target, told: bool, feature: u16) -> Result<(), PipeFault>
     requires { IsTarget hub }
@@ -122,7 +122,7 @@ fn clear_told<B: Bus>(bus: &mut B, hub: Target, told: bool, feature: u16) -> Res
     done_or_unknown(cleared)
 }
 
-/// What is told of a request that clears a change: a STALL counts as done.
+/// What is reported of a request that clears a change: a STALL counts as done.
 fn done_or_unknown(cleared: Result<(), PipeFault>) -> Result<(), PipeFault>
     ensures { result ≡ done_or_unknown cleared }
 {

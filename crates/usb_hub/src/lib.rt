@@ -4,8 +4,8 @@
 //!
 //! - Each typed call makes its own request with what it was given, and at most the attempts of its
 //!   control transfer (`uses`).
-//! - Over a modelled bus, what a call read is so of the device that answered (`get_device`,
-//!   `get_config`, `get_string`, `hub_descriptor`, `get_status`).
+//! - Over a modelled bus, and if no address was held twice, what a call read is so of the device's
+//!   description (`get_device`, `get_config`, `get_string`, `hub_descriptor`, `get_status`).
 //! - If no address was held twice, only SET_ADDRESS gives a device another one, and only PORT_RESET
 //!   sets address 0 (`set_address`, `set_port`). A device at or below a port that is not enabled is
 //!   not reachable (`port_status`, `clear_port`).

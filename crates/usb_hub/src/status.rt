@@ -13,7 +13,7 @@ pub struct DeviceStatus {
 }
 
 impl DeviceStatus {
-    /// Reads the status, low byte first. Bits that no field stands for are not looked at.
+    /// Reads the status, low byte first. Bits that no field stands for are ignored.
     #[tactic(auto, unfolding(usb_port::specs::Status::has_bit))]
     pub fn from_bytes(bytes: [u8; 2]) -> DeviceStatus
         ensures { result ≡ device_status bytes }

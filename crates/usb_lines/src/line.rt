@@ -35,7 +35,7 @@ pub enum LineFault {
     Cut,
 }
 
-/// The next line of a reader. Nothing behind its newline is read.
+/// The next line of a reader. Nothing after its newline is read.
 ///
 /// # Errors
 ///
@@ -88,7 +88,7 @@ pub fn skip_line<R: Read>(reader: &mut Watched<R>) -> Result<(), LineFault>
     Err(LineFault::Cut)
 }
 
-/// What the end of the input is, behind the front of a line.
+/// What the end of the input is, after a prefix of a line.
 fn at_end(line: &ArrayVec<u8, LINE_LIMIT>) -> Result<Line, LineFault>
     ensures ok { OnOk result (line.now.items ≡ []) }
     ensures err { OnErr result (line.now.items ≢ []) }
@@ -101,7 +101,7 @@ fn at_end(line: &ArrayVec<u8, LINE_LIMIT>) -> Result<Line, LineFault>
     }
 }
 
-/// The next byte of a reader, None where the input ended.
+/// The next byte of a reader, None if the input ended.
 fn next_byte<R: Read>(reader: &mut Watched<R>) -> Result<Option<u8>, LineFault>
     ensures byte { ReadsByte (R.remaining (inner_of reader.old)) (R.remaining (inner_of reader.new))
         result }

@@ -35,13 +35,13 @@ impl Begun for Brand {
     ghost before = { record { bytes = None; failed = false; pending = false } };
 }
 
-/// A bus behind a stream of lines, with its course so far, whoever asks over it.
+/// A bus over a stream of lines, with its course so far.
 #[derive(Drop)]
 pub(crate) struct CourseBus<R: Read, W: Write, B: Begun> {
     bus: StreamBus<R, W>,
     stage: Stage,
     owed: Owed,
-    /// How many listings were told.
+    /// How many listings were reported.
     listings: u64,
     begun: PhantomData<B>,
     ghost bounded: { B.limit < 2 ^ 64 },
@@ -160,7 +160,7 @@ impl<R: Read, W: Write, B: Begun> CourseBus<R, W, B> {
         }
     }
 
-    /// Asks what is wanted; where something is owed, that is nothing.
+    /// Asks what is requested; if something is owed, that is nothing.
     ///
     /// # Errors
     ///
@@ -182,7 +182,7 @@ impl<R: Read, W: Write, B: Begun> CourseBus<R, W, B> {
         settles(&self.owed, item)
     }
 
-    /// How many listings were told once an item that is owed is.
+    /// How many listings were reported once an item that is owed is.
     pub(crate) fn number(&self, item: &Item) -> u64
         requires { settles self.now.owed item.now ≡ true }
         ensures { result ≡ number_of item.now self.now.listings }
@@ -190,7 +190,7 @@ impl<R: Read, W: Write, B: Begun> CourseBus<R, W, B> {
         number_of(item, self.listings)
     }
 
-    /// Tells an item that is owed, whose text is this.
+    /// Reports an item that is owed, whose text is this.
     ///
     /// # Errors
     ///

@@ -1,4 +1,4 @@
-//! Why a course ended before its end was wanted.
+//! Why a course ended before its end was requested.
 ghost use Rattle.std.specs.Prelude.{◌≡◌};
 ghost use Rattle.usb_live.specs.declared.end.LiveEnd.TheVariants.{Memory as NoMemory};
 ghost use Rattle.usb_live.specs.Course.{EndsBy};
@@ -8,13 +8,14 @@ use std::alloc::AllocError;
 use thiserror::Error;
 use usb_stream::LiveFault;
 
-/// Why a course ended before its end was wanted.
+/// Why a course ended before its end was requested.
 #[derive(Clone, Copy, Debug, PartialEq, Eq, Error)]
 pub enum LiveEnd {
     /// The bus has a fault, and the number of the line that was read last, or awaited, is this.
     #[error("line {0}: {1}")]
     Line(u64, LiveFault),
-    /// As many questions were asked as may be, in as many rounds; the number of the line that was read last is this.
+    /// The questions that may be asked were asked, in the same number of rounds; the number of the line that was read
+    /// last is this.
     #[error("line {0}: limit reached")]
     Rounds(u64),
     /// Memory was refused.
@@ -30,8 +31,8 @@ impl From<AllocError> for LiveEnd {
     }
 }
 
-/// Why a course ended whose bus has this fault, of which so many lines were read, and that may ask so many questions
-/// more.
+/// Why a course ended whose bus has this fault, of which this number of lines were read, and that may ask this number
+/// of questions more.
 pub(crate) fn end_of(
     fault: Option<LiveFault>,
     lines: u64,

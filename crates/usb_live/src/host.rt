@@ -18,20 +18,20 @@ use usb_serve::item_lines;
 use usb_wire::Answer;
 
 /// The number of rounds in a row that may work before the one after which the host asks what is
-/// wanted in any case.
+/// requested in any case.
 const BUSY_ROUNDS: u16 = 256;
 
-/// A host over a far end.
+/// A host over a controller side.
 type LiveHost<R, W, B> = Host<CourseBus<R, W, B>>;
 
-/// Says the hello to the controller side, finds its devices, and does what is wanted until the end
+/// Says the hello to the controller side, finds its devices, and does what is requested until the end
 /// is. Listings, transfers, looks and news are reported in the lines of `usbplan tree`. At most
 /// `limit` questions are asked. Hands the reader and the writer back.
 ///
 /// # Errors
 ///
 /// - `Line`: the bus has this fault. After it nothing is asked or reported.
-/// - `Rounds`: `limit` questions were asked, in as many rounds. No controller side has caused it.
+/// - `Rounds`: `limit` questions were asked, in the same number of rounds. No controller side has caused it.
 /// - `Memory`: memory was refused. It may be returned at any time.
 pub fn live<R: Read + Drop, W: Write + Drop>(
     alloc: Global,
@@ -64,7 +64,7 @@ fn course<R: Read + Drop, W: Write + Drop, B: Begun>(
     host.into_bus().finish(ran)
 }
 
-/// Makes rounds. After a quiet one, or 257 in a row that worked, it does what is wanted, until that is
+/// Makes rounds. After a quiet one, or 257 in a row that worked, it does what is requested, until that is
 /// the end.
 fn run<R: Read + Drop, W: Write + Drop, B: Begun>(
     alloc: Global,
@@ -92,7 +92,7 @@ fn run<R: Read + Drop, W: Write + Drop, B: Begun>(
     Err(LiveEnd::Rounds(lines_of(host)))
 }
 
-/// Whether another round is made before the host asks what is wanted: this one worked, and fewer than
+/// Whether another round is made before the host asks what is requested: this one worked, and fewer than
 /// 256 in a row did before it.
 fn goes_on(round: Round, busy: u16) -> bool
     ensures { result ≡ goes_on round busy }
@@ -131,7 +131,7 @@ fn bus_end<R: Read + Drop, W: Write + Drop, B: Begun>(host: &LiveHost<R, W, B>) 
     }
 }
 
-/// What is wanted.
+/// What is requested.
 fn wanted<R: Read + Drop, W: Write + Drop, B: Begun>(
     host: &mut LiveHost<R, W, B>,
 ) -> Result<Answer, LiveEnd> {
@@ -141,7 +141,7 @@ fn wanted<R: Read + Drop, W: Write + Drop, B: Begun>(
     }
 }
 
-/// Does what is wanted, once. Returns the item that is reported of it, if there is one.
+/// Does what is requested, once. Returns the item that is reported of it, if there is one.
 fn done<R: Read + Drop, W: Write + Drop, B: Begun>(
     alloc: Global,
     host: &mut LiveHost<R, W, B>,

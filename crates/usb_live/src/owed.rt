@@ -1,4 +1,4 @@
-//! What is wanted, and was not reported yet.
+//! What is requested, and was not reported yet.
 ghost use Rattle.std.specs.Prelude.{◌≡◌};
 ghost use Rattle.usb_live.specs.Course.{is_count, is_nothing, is_within, owed_by, settles};
 
@@ -7,22 +7,22 @@ use usb_run::{Item, TransferFault};
 use usb_stream::LiveFault;
 use usb_wire::Answer;
 
-/// What is wanted, and was not reported yet.
+/// What is requested, and was not reported yet.
 #[derive(Debug, Drop)]
 pub(crate) enum Owed {
     /// Nothing.
     Nothing,
     /// A listing.
     Listing,
-    /// How many bytes were sent to the device at a path, which are so many.
+    /// The number of bytes that were sent to the device at a path.
     Send(PortPath, u64),
     /// What was received from the device at a path.
     Receive(PortPath),
     /// That the halts of the device at a path were cleared.
     Clear(PortPath),
-    /// What was read from the device at a path, at most so many bytes.
+    /// What was read from the device at a path, at most this number of bytes.
     Read(PortPath, u16),
-    /// How many bytes were written to endpoint 0 of the device at a path, which are so many.
+    /// The number of bytes that were written to endpoint 0 of the device at a path.
     Write(PortPath, u64),
     /// What is found at a port.
     Look(PortPath),
@@ -81,7 +81,7 @@ pub(crate) fn settles(owed: &Owed, item: &Item) -> bool
     }
 }
 
-/// Whether so many bytes were sent, if the transfer did not fail.
+/// Whether this number of bytes were sent, if the transfer did not fail.
 fn is_count(count: u64, sent: &Result<u64, TransferFault>) -> bool
     ensures { result ≡ is_count count sent.now }
 {
@@ -91,7 +91,7 @@ fn is_count(count: u64, sent: &Result<u64, TransferFault>) -> bool
     }
 }
 
-/// Whether at most so many bytes were read, if the transfer did not fail.
+/// Whether at most this number of bytes were read, if the transfer did not fail.
 fn is_within(most: u16, read: &Result<Vec<u8>, TransferFault>) -> bool
     ensures { result ≡ is_within most read.now }
 {

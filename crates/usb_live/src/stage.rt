@@ -9,15 +9,15 @@ use usb_wire::Answer;
 /// How far a course is.
 #[derive(Clone, Copy, Debug, PartialEq, Eq)]
 pub(crate) enum Stage {
-    /// The host asks and tells.
+    /// The host asks and reports.
     Asks,
-    /// It asked last what is wanted, and that was the end.
+    /// It asked last what is requested, and that was the end.
     EndWanted,
-    /// Behind that it told a listing.
+    /// After that it reported a listing.
     Over,
 }
 
-/// How far it is behind an answer to what is wanted.
+/// How far it is after an answer to what is requested.
 pub(crate) fn stage_of(answer: &Result<Answer, LiveFault>) -> Stage
     ensures { result ≡ stage_behind_answer answer.now }
 {
@@ -27,7 +27,7 @@ pub(crate) fn stage_of(answer: &Result<Answer, LiveFault>) -> Stage
     }
 }
 
-/// How far it is behind an item that was told.
+/// How far it is after an item that was reported.
 pub(crate) fn stage_behind(stage: Stage, item: &Item) -> Stage
     ensures { result ≡ stage_behind stage item.now }
 {

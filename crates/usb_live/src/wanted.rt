@@ -1,4 +1,4 @@
-//! What is wanted of the host, done over any bus.
+//! What is requested of the host, done over any bus.
 ghost use Rattle.std.specs.Prelude.{◌≡◌, IfOk, IfSome, true};
 ghost use Rattle.usb_live.specs.Course.{IsShown, ListsEntries};
 ghost use Rattle.usb_live.specs.Wanted.{DoesWanted, IsOwed};
@@ -9,7 +9,7 @@ use usb_host::Host;
 use usb_run::{Item, RunFault, all_news, answered, counted};
 use usb_wire::Answer;
 
-/// Does what is wanted, once. Returns the item that is reported of it, if there is one.
+/// Does what is requested, once. Returns the item that is reported of it, if there is one.
 ///
 /// # Errors
 ///

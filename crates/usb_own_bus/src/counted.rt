@@ -87,7 +87,7 @@ impl<B: Bus> CountedBus<B> {
 }
 
 /// Its world and its trace are those of the bus below, so the contract of each call is the one that the call below
-/// keeps; and all that is proved of a host over any bus is so over this one.
+/// keeps. All that is proved of a host over any bus is so over this one.
 impl<B: Bus> Bus for CountedBus<B> {
     ghost modelled = { B.modelled };
 

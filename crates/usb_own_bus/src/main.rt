@@ -1,5 +1,5 @@
-//! The host over your own bus: one that counts what goes over a simulated bus, where a device keeps
-//! the host waiting.
+//! The host over your own bus: one that counts what goes over a simulated bus, with a device that
+//! keeps the host waiting.
 //!
 //! # What is proved
 //!

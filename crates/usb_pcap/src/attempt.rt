@@ -8,14 +8,14 @@ use crate::text::Text;
 use usb_packet::{Packet, TokenKind};
 use usb_world::{Exchange, ExchangeAnswer, Mark, Outgoing};
 
-/// An attempt, as its line in a trace tells it.
+/// An attempt, as its line in a trace has it.
 #[derive(Debug, Drop)]
 pub struct TracedAttempt {
     /// Its number.
     pub number: u64,
-    /// Whether PRE stands before each packet of the host (8.6.5).
+    /// Whether PRE is before each packet of the host (8.6.5).
     pub pre: bool,
-    /// Its packets. What no line tells is false.
+    /// Its packets. What no line says is false.
     pub exchange: Exchange,
 }
 
@@ -103,7 +103,7 @@ fn host_in(pre: bool, text: &mut Text<'_>) -> Option<Outgoing>
     Some(Outgoing { packet, mark })
 }
 
-/// Whether PRE, where it is lost, was sent, and whether a flipped bit is one of the packet's.
+/// Whether PRE, if it is lost, was sent, and whether a flipped bit is one of the packet's.
 fn may_be_marked(pre: bool, mark: Mark, packet: &Packet) -> bool
     ensures { result ≡ may_be_marked pre mark packet.now }
 {

@@ -1,4 +1,4 @@
-//! Items of a text that stand one behind the other.
+//! Items of a text, one after the other.
 ghost use Rattle.std.specs.Prelude.{◌≡◌, option_map};
 ghost use Rattle.usb_port.specs.Path.{is_port_digit};
 ghost use Rattle.usb_pcap.specs.Grammar.{behind_byte, behind_escape, behind_item, behind_items, behind_letter, behind_port, is_escape, is_plain};
@@ -16,7 +16,7 @@ pub(crate) enum Item {
     Letter,
 }
 
-/// What stands behind as many items as there are, up to a number of them.
+/// What follows all items that there are, up to a number of them.
 #[tactic(auto, unfolding(crate::specs::Grammar::behind_items))]
 pub(crate) fn behind_items(kind: Item, most: usize, text: &[u8]) -> &[u8]
     ensures { result.now ≡ behind_items kind most text.now }
@@ -31,7 +31,7 @@ pub(crate) fn behind_items(kind: Item, most: usize, text: &[u8]) -> &[u8]
     rest
 }
 
-/// What stands behind an item.
+/// What follows an item.
 #[tactic(auto, unfolding(crate::specs::Grammar::behind_item))]
 pub(crate) fn behind_item(kind: Item, text: &[u8]) -> Option<&[u8]>
     ensures { option_map (λ r. r.now) result ≡ behind_item kind text.now }
@@ -71,7 +71,7 @@ fn behind_letter(text: &[u8]) -> Option<&[u8]>
     }
 }
 
-/// What stands behind `uXXXX`.
+/// What follows `uXXXX`.
 fn behind_escape(text: &[u8]) -> Option<&[u8]>
     ensures { option_map (λ r. r.now) result ≡ behind_escape text.now }
 {

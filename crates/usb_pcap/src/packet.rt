@@ -86,7 +86,7 @@ fn data_in(toggle: Toggle, text: &mut Text<'_>) -> Option<Packet>
     Some(Packet::Payload { toggle, bytes })
 }
 
-/// Reads the mark behind a packet.
+/// Reads the mark after a packet.
 #[tactic(auto, unfolding(crate::specs::Packet::packet_mark_in))]
 pub(crate) fn packet_mark_in(text: &mut Text<'_>) -> Option<Mark>
     ensures { packet_mark_in text.old ≡ option_map (λ m. (m, text.new)) result }

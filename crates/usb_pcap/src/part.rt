@@ -24,7 +24,7 @@ pub(crate) enum Part {
     Name,
 }
 
-/// Whether a text is of these parts, one behind the other.
+/// Whether a text is of these parts, one after the other.
 #[tactic(auto, unfolding(crate::specs::Grammar::fits_form))]
 pub(crate) fn fits_form(form: &[Part], text: &[u8]) -> bool
     ensures { result ≡ fits_form (map piece_of form.now) text.now }
@@ -38,7 +38,7 @@ pub(crate) fn fits_form(form: &[Part], text: &[u8]) -> bool
     }
 }
 
-/// What stands behind a part.
+/// What follows a part.
 #[tactic(auto, unfolding(crate::specs::Grammar::behind_piece))]
 fn behind_part<'a>(part: &Part, text: &'a [u8]) -> Option<&'a [u8]>
     ensures { option_map (λ r. r.now) result ≡ behind_piece (piece_of part.now) text.now }
@@ -54,7 +54,7 @@ fn behind_part<'a>(part: &Part, text: &'a [u8]) -> Option<&'a [u8]>
     }
 }
 
-/// What stands behind the first of the words that the text begins with.
+/// What follows the first of the words that the text begins with.
 #[tactic(auto, unfolding(crate::specs::Text::strip_any))]
 fn behind_any<'a>(words: &[&str], text: &'a [u8]) -> Option<&'a [u8]>
     ensures { option_map (λ r. r.now) result ≡ strip_any (map (λ w. w.now) words.now) text.now }

@@ -90,7 +90,7 @@ fn own_mark(mark: Mark) -> Mark
     }
 }
 
-/// A further packet of the host, where there is one.
+/// A further packet of the host, if there is one.
 fn push_next(records: &mut Records, number: u64, pre: bool, sent: &Option<Outgoing>)
     requires room { length records.old.items ≤ 415 }
     requires timed { number < 2 ^ 32 * 1000000 }

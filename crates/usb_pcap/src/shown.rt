@@ -55,7 +55,7 @@ fn is_plain_char(bytes: &[u8]) -> bool
     }
 }
 
-/// Whether bytes are `\u` and the four digits of a character that stands as them.
+/// Whether bytes are `\u` and the four digits of a character that is shown as them.
 #[tactic(auto, unfolding(crate::specs::Shown::is_escape_of))]
 fn is_escape(bytes: &[u8]) -> bool
     ensures { result ≡ is_escape_of bytes.now }
@@ -78,7 +78,7 @@ fn pair_value(high: u8, low: u8) -> Option<u32>
     }
 }
 
-/// Whether two numbers of two digits are those of a character that stands as its number.
+/// Whether two numbers of two digits are those of a character that is shown as its number.
 fn is_escaped_pair(high: Option<u32>, low: Option<u32>) -> bool
     requires high { IfSome high (λ pair. pair < 256) }
     requires low { IfSome low (λ pair. pair < 256) }
@@ -90,7 +90,7 @@ fn is_escaped_pair(high: Option<u32>, low: Option<u32>) -> bool
     }
 }
 
-/// Whether a character stands as its number: one that may end a line, or the backslash.
+/// Whether a character is shown as its number: one that may end a line, or the backslash.
 fn is_escaped(number: u32) -> bool
     ensures { result ≡ is_escaped number }
 {

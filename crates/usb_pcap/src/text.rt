@@ -46,7 +46,7 @@ impl<'a> Text<'a> {
         self.rest
     }
 
-    /// Goes behind a word, and says whether it stood next. Where it did not, nothing changes.
+    /// Goes past a word, and says whether it came next. If it did not, nothing changes.
     pub(crate) fn skip(&mut self, word: &[u8]) -> bool
         ensures found { strip word.now self.old ≡ (if result then Some self.new else None) }
         ensures kept { result ≡ false → self.new ≡ self.old }
@@ -60,7 +60,7 @@ impl<'a> Text<'a> {
         }
     }
 
-    /// Whether a word stands next.
+    /// Whether a word comes next.
     pub(crate) fn begins_with(&self, word: &[u8]) -> bool
         ensures { result ≡ is_some (strip word.now self.now) }
     {
@@ -115,7 +115,7 @@ fn bytes_on(mut bytes: ArrayVec<u8, 64>, text: &[u8]) -> Option<(ArrayVec<u8, 64
     bytes_on(bytes, rest)
 }
 
-/// The value of the digits that a text begins with; None where it is 2 ^ 64 or more.
+/// The value of the digits that a text begins with; None if it is 2 ^ 64 or more.
 fn number_of(text: &[u8]) -> Option<u64>
     ensures { result ≡ number_on 0 text.now }
 {
@@ -132,7 +132,7 @@ fn number_of(text: &[u8]) -> Option<u64>
     Some(value)
 }
 
-/// A value with a digit more; None where it is 2 ^ 64 or more.
+/// A value with a digit more; None if it is 2 ^ 64 or more.
 fn with_digit(value: u64, digit: u8) -> Option<u64>
     requires { is_ascii_digit digit ≡ true }
     ensures { result ≡ with_digit value digit }

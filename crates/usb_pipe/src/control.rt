@@ -95,7 +95,7 @@ pub fn control_none<B: Bus>(bus: &mut B, target: Target, setup: Setup) -> Result
 ///
 /// - `Stalled`: the device refused the request, or its data when all had come.
 /// - `Busy`, `NoAnswer`: a transaction ended so. The device has taken all of the data, or none.
-/// - `Bus`: the bus makes no more steps. The device has taken all of the data, or none.
+/// - `Bus`: the bus has failed. The device has taken all of the data, or none.
 ///
 /// It never returns `Broken` or `Memory`.
 #[tactic(auto, using(usb_bus::proofs::Interface::went_wider), unfolding(crate::specs::Control::control_bound))]

@@ -15,7 +15,7 @@ use std::alloc::Global;
 use toml::{Table, Value};
 use usb_world::{Damage, Damages, Harm};
 
-/// The last attempt that a number of the document can tell.
+/// The last attempt that a number of the document can name.
 const LAST_ATTEMPT: u64 = (1 << 63) - 1;
 
 /// The most damages of a plan.
@@ -142,7 +142,7 @@ fn damage_with(
     })
 }
 
-/// The damage that a table describes, after so many others.
+/// The damage that a table describes, after this number of others.
 #[tactic(auto, unfolding(crate::specs::Damage::read_damage))]
 fn read_damage(last: u64, count: usize, table: &Table) -> Result<Damage, EntryFault>
     requires { last < 2 ^ 63 }

@@ -141,7 +141,7 @@ struct Identity {
     /// It is of low speed.
     low: bool,
     descriptor: Bytes<255>,
-    /// The ports that it has, where it is a hub.
+    /// The ports that it has, if it is a hub.
     hub: Option<HubSpec>,
 }
 

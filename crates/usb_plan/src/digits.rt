@@ -28,7 +28,7 @@ static DIGITS: [u8; 256] = [
 /// The greatest value of a digit.
 const MOST: u8 = 15;
 
-/// Puts the bytes that pairs of digits spell, and tells whether all are digits.
+/// Puts the bytes that pairs of digits spell, and returns whether all are digits.
 fn put_pairs(digits: &[u8], bytes: &mut [u8]) -> bool
     requires { length digits.now ≡ 2 * length bytes.old }
     ensures { MatchResult (decode_of digits.now)
@@ -46,7 +46,8 @@ fn put_pairs(digits: &[u8], bytes: &mut [u8]) -> bool
     true
 }
 
-/// The bytes that a text's pairs of digits spell; the library tells what is wrong with other texts.
+/// The bytes that a text's pairs of digits spell; the library reports what is wrong with other
+/// texts.
 pub(crate) fn decoded(alloc: Global, text: &str) -> Result<Vec<u8>, FromHexError>
     ensures ok { IfOk result (λ bytes. decode_of text.now ≡ Ok bytes.items) }
     ensures err { IfErr result (λ e. (e ≡ OutOfMemory) ⊎ (decode_of text.now ≡ Err e)) }

@@ -1,4 +1,4 @@
-//! The faults of one entry, and which of several is told.
+//! The faults of one entry, and which of several is reported.
 
 ghost use Rattle.std.specs.Prelude.{◌≡◌, Some};
 ghost use Rattle.usb_plan.specs.EntryFault.{fault_in_part, sooner, least_fault, entry_at};
@@ -72,7 +72,7 @@ pub(crate) fn fault_in_part<A>(part: &Result<A, EntryFault>) -> Option<EntryFaul
     part.as_ref().err().copied()
 }
 
-/// A fault beside what is told of the parts after it.
+/// A fault beside what is reported of the parts after it.
 #[tactic(auto, unfolding(crate::specs::EntryFault::sooner, crate::specs::EntryFault::least))]
 fn sooner(fault: EntryFault, others: Result<(), EntryFault>) -> Result<(), EntryFault>
     ensures { result ≡ sooner (Some fault) others }
@@ -83,7 +83,7 @@ fn sooner(fault: EntryFault, others: Result<(), EntryFault>) -> Result<(), Entry
     }
 }
 
-/// Refuses an entry with faults in its parts, and tells the first in order.
+/// Refuses an entry with faults in its parts, and reports the first in order.
 #[tactic(auto, unfolding(crate::specs::EntryFault::least_fault, crate::specs::EntryFault::sooner))]
 pub(crate) fn least_fault(faults: &[Option<EntryFault>]) -> Result<(), EntryFault>
     ensures { result ≡ least_fault faults.now }

@@ -70,7 +70,7 @@ fn event_with(
     })
 }
 
-/// The event of a table whose `do` is that verb, in the scene, after so many others.
+/// The event of a table whose `do` is that verb, in the scene, after this number of others.
 #[tactic(auto, using(crate::proofs::MemoryRefusals::event_unless), unfolding(crate::specs::Event::event_given))]
 fn event_given(
     alloc: Global,
@@ -87,7 +87,7 @@ fn event_given(
     event_with(action, after, keys, event_room(count))
 }
 
-/// Where `do` is absent or unknown nothing else of the event is looked at.
+/// If `do` is absent or unknown, the rest of the event is ignored.
 #[tactic(auto, unfolding(crate::specs::Event::event_in))]
 fn event_in(
     alloc: Global,

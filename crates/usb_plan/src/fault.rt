@@ -7,7 +7,7 @@ use std::alloc::AllocError;
 use std::fmt;
 use thiserror::Error;
 
-/// The entry of a plan's text where a fault stands.
+/// The entry of a plan's text that has a fault.
 #[derive(Clone, Copy, Debug, PartialEq, Eq)]
 pub enum Place {
     /// The keys at the top.
@@ -36,7 +36,7 @@ impl fmt::Display for Place {
     }
 }
 
-/// Why a text is no plan. Of the faults in one entry the first in this order is told.
+/// Why a text is no plan. Of the faults in one entry the first in this order is reported.
 #[derive(Clone, Copy, Debug, PartialEq, Eq, Error)]
 pub enum PlanFault {
     /// The text is no TOML document, or has a number of more than 64 bits.
@@ -45,8 +45,8 @@ pub enum PlanFault {
     /// The entry lacks a key that it needs.
     #[error("plan: {0}: missing key")]
     MissingKey(Place),
-    /// A key has no meaning there, a value is of a wrong kind or out of range, a device has the name
-    /// of an earlier one, or an entry is one too many.
+    /// A key has no meaning there, a value is of a wrong kind or out of range, a name is an earlier device's, or an
+    /// entry is one too many.
     #[error("plan: {0}: bad value")]
     BadValue(Place),
     /// A text is not hexadecimal digits, two for each byte.

@@ -23,7 +23,7 @@ fn no_hub(descriptor: Option<&Value>) -> Result<Option<HubSpec>, EntryFault>
     }
 }
 
-/// The hub with so many ports and this hub descriptor.
+/// The hub with this number of ports and this hub descriptor.
 #[tactic(auto, unfolding(crate::specs::Hub::hub_with))]
 fn hub_with(
     ports: u8,

@@ -6,7 +6,7 @@ ghost use Rattle.usb_plan.specs.EventMembers.{event_values, found, with_value};
 
 use toml::{Table, Value};
 
-/// What stands at each key that an event may have.
+/// What is at each key that an event may have.
 #[derive(Drop)]
 pub(crate) struct EventMembers<'a> {
     /// The key `do`.

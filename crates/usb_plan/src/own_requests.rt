@@ -329,7 +329,7 @@ fn with_row(
     Ok(rows)
 }
 
-/// The rows of so many values at most, or the first fault of them in the order of faults.
+/// The rows of at most this number of values, or the first fault of them in the order of faults.
 fn rows_of(alloc: Global, values: &[Value]) -> Result<OwnRequests, EntryFault>
     requires { length values.now ≤ 64 }
     ensures { EqualUnless Memory result (items_from row_in (Ok []) (map view values.now)) }

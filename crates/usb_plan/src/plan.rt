@@ -73,7 +73,7 @@ fn entries_at(value: Option<&Value>) -> Result<(), EntryFault>
     }
 }
 
-/// The values of an array, none where it is absent.
+/// The values of an array, none if it is absent.
 #[tactic(auto, using(crate::proofs::Steps::data_list_view), unfolding(crate::specs::Plan::values_at))]
 fn values_at<'a>(value: Option<&'a Value>) -> &'a [Value]
     ensures { map view result.now ≡ values_at (option_map (λ v. view v.now) value.entry) }

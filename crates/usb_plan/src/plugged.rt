@@ -44,7 +44,7 @@ impl Plugged {
         self.places.get(path).copied()
     }
 
-    /// The first place at the path or below it. They stand together, from the path on.
+    /// The first place at the path or below it. They are together, from the path on.
     fn first_through(&self, path: &PortPath) -> Option<PortPath>
         ensures { result ≡ first_through path.now self.now }
     {

@@ -29,7 +29,7 @@ fn with_text<const COUNT: usize, const MAX: usize>(
     Ok(texts)
 }
 
-/// The texts of so many values at most, or the fault of them that is told first.
+/// The texts of at most this number of values, or their first fault.
 fn texts_of<const COUNT: usize, const MAX: usize>(
     alloc: Global,
     values: &[Value],
@@ -45,7 +45,7 @@ fn texts_of<const COUNT: usize, const MAX: usize>(
     texts
 }
 
-/// The texts of an array of so many at most.
+/// The texts of an array of at most this number.
 #[tactic(auto, unfolding(crate::specs::Texts::texts_in))]
 pub(crate) fn texts_in<const COUNT: usize, const MAX: usize>(
     alloc: Global,

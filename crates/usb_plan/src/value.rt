@@ -94,7 +94,7 @@ pub(crate) fn number_or(
     }
 }
 
-/// The bytes of a hex text, at most so many.
+/// The bytes of a hex text, at most this number.
 #[tactic(auto, unfolding(crate::specs::Value::hex_in, crate::specs::Value::hex_bytes))]
 pub(crate) fn hex_in<const MAX: usize>(
     alloc: Global,

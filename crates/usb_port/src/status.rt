@@ -28,7 +28,7 @@ pub struct PortStatus {
 
 impl PortStatus {
     /// Reads wPortStatus and wPortChange, each low byte first. Bits that no field stands for are
-    /// not looked at.
+    /// ignored.
     #[tactic(auto, unfolding(crate::specs::Status::status_in, crate::specs::Status::has_bit))]
     pub fn from_bytes(bytes: [u8; 4]) -> PortStatus
         ensures bits { result ≡ status_in bytes }

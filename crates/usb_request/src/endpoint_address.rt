@@ -3,5 +3,5 @@
 /// Bit 7: data go to the host. It says the same in bmRequestType (9.3.1).
 pub const DIRECTION_IN: u8 = 0x80;
 
-/// The interrupt IN endpoint by which a hub tells changes at its ports (11.12.1).
+/// The interrupt IN endpoint by which a hub reports changes at its ports (11.12.1).
 pub const STATUS_ENDPOINT: u8 = 0x81;

@@ -1,4 +1,4 @@
-//! Feature selectors of changes that a hub tells and that ask for nothing but their clearing
+//! Feature selectors of changes that a hub reports and that only need to be cleared
 //! (table 11-17).
 
 /// C_HUB_LOCAL_POWER: the hub's own supply came or went.

@@ -61,7 +61,7 @@ impl Setup {
         }
     }
 
-    /// GetHubDescriptor (11.24.2.5): as many bytes as that of a hub of at most 7 ports has.
+    /// GetHubDescriptor (11.24.2.5): the bytes of that of a hub of at most 7 ports.
     #[tactic(auto, unfolding(crate::specs::Requests::get_hub_descriptor))]
     pub fn get_hub_descriptor() -> Setup
         ensures setup { result ≡ get_hub_descriptor }

@@ -1,6 +1,6 @@
-//! Values of bmRequestType (9.3.1, 11.24): bit 7 is set where the data go to the host, bits 6 and
-//! 5 are the type (0 standard, 1 class), bits 4 to 0 the recipient (0 device, 1 interface,
-//! 2 endpoint, 3 other).
+//! Values of bmRequestType (9.3.1, 11.24): bit 7 is set if the data go to the host. Bits 6 and 5
+//! are the type (0 standard, 1 class), bits 4 to 0 the recipient (0 device, 1 interface, 2
+//! endpoint, 3 other).
 
 /// To the host, standard, device.
 pub const DEVICE_IN: u8 = 0x80;

@@ -5,9 +5,9 @@ ghost use Rattle.usb_request.specs.Layout.{bytes_of, setup_of};
 /// The setup data of a control transfer (9.3).
 #[derive(Clone, Copy, Debug, PartialEq, Eq)]
 pub struct Setup {
-    /// bmRequestType: bit 7 is set where the data go to the host, bits 6 and 5 are the type
-    /// (0 standard, 1 class, 2 vendor), bits 4 to 0 the recipient (0 device, 1 interface,
-    /// 2 endpoint, 3 other).
+    /// bmRequestType: bit 7 is set if the data go to the host. Bits 6 and 5 are the type (0
+    /// standard, 1 class, 2 vendor), bits 4 to 0 the recipient (0 device, 1 interface, 2 endpoint,
+    /// 3 other).
     pub request_type: u8,
     /// bRequest: one of the request codes.
     pub request: u8,
@@ -15,7 +15,7 @@ pub struct Setup {
     pub value: u16,
     /// wIndex: its meaning is the request's.
     pub index: u16,
-    /// wLength: the most bytes of the data stage; 0 where there is none.
+    /// wLength: the most bytes of the data stage; 0 if there is none.
     pub length: u16,
 }
 

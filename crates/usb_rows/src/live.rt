@@ -1,4 +1,4 @@
-//! A host before the far end that plays a plan, both in memory.
+//! A host against the controller side that plays a plan, both in memory.
 use std::alloc::{AllocError, Global};
 use std::cell::RefCell;
 use std::io;
@@ -11,15 +11,15 @@ use usb_sim::{Plan, Tracer};
 /// The most questions.
 const LIMIT: u64 = 1_000_000;
 
-/// A far end, and the lines between it and a host.
+/// A controller side, and the lines between it and a host.
 #[derive(Drop)]
 struct Link {
     alloc: Global,
     far: FarEnd<Tracer<Vec<u8>>>,
-    /// What the far end has said, and how much of that was read.
+    /// What the controller side has said, and how much of that was read.
     answers: Vec<u8>,
     read: usize,
-    /// What the host has told.
+    /// What the host has reported.
     told: Vec<u8>,
 }
 
@@ -70,16 +70,16 @@ impl Write for Ends<'_> {
     }
 }
 
-/// What a host told a far end, and how that ended.
+/// What a host reported to a controller side, and how that ended.
 #[derive(Drop)]
 pub(crate) struct Course {
     /// How it ended.
     pub(crate) ended: Result<(), LiveEnd>,
-    /// The lines that were told.
+    /// The lines that were reported.
     pub(crate) told: Vec<u8>,
 }
 
-/// The course of a host before a far end that plays a plan.
+/// The course of a host against a controller side that plays a plan.
 pub(crate) fn course_of(alloc: Global, plan: &Plan) -> Result<Course, AllocError> {
     let link = RefCell::new(Link {
         alloc,

@@ -15,10 +15,10 @@ use usb_serve::{ServeFault, plan_of, serve};
 use usb_text::packet_line;
 
 /// A line for each row of a plan: its NAME. The plan is NAME.toml; NAME.run.txt and NAME.tree.txt are what is written
-/// of it; NAME.status has the exit status and, on a second line, the fault that is told.
+/// of it; NAME.status has the exit status and, on a second line, the fault that is reported.
 const NAMES: &str = "names.txt";
 
-/// A line for each packet: digits, and behind a tab each its lines or the fault that is told.
+/// A line for each packet: digits, and after a tab each its lines or the fault that is reported.
 const PACKETS: &str = "packets.tsv";
 
 /// How many rows there were, and how many of them differed.
@@ -55,7 +55,7 @@ fn serve_plans<R: Files + Print + AllocGlobal>(rt: &R, tally: &mut Tally) -> io:
     Ok(())
 }
 
-/// Whether a row's plan is served as wanted. Prints a line where it is not.
+/// Whether a row's plan is served as expected. Prints a line where it is not.
 fn is_as_wanted<R: Files + Print + AllocGlobal>(
     rt: &R,
     name: &str,
@@ -86,8 +86,8 @@ fn is_as_wanted<R: Files + Print + AllocGlobal>(
     Ok(true)
 }
 
-/// Whether a host before the far end of a row's plan tells what is wanted in mode Tree, but for the bound. Rows that do
-/// not end well are left out.
+/// Whether a host against the controller side of a row's plan reports what is expected in mode Tree, but for the bound.
+/// Rows that do not end well are left out.
 fn is_told_live<R: Files + Print + AllocGlobal>(rt: &R, name: &str) -> io::Result<bool> {
     let alloc = rt.alloc();
     let status = fs::read_to_string(rt, format!(in alloc; "{name}.status")?)?;
@@ -112,7 +112,7 @@ fn is_told_live<R: Files + Print + AllocGlobal>(rt: &R, name: &str) -> io::Resul
     Ok(true)
 }
 
-/// The lines of listings and transfers, without that of the bound, which stands last.
+/// The lines of listings and transfers, without that of the bound, which comes last.
 fn unbound(text: &str) -> &str {
     match text.rfind("bound ") {
         Some(at) => text.get(..at).unwrap_or(text),
@@ -136,7 +136,7 @@ fn mode_word(mode: Mode) -> &'static str {
     }
 }
 
-/// The fault that is told, empty where there is none.
+/// The fault that is reported, empty if there is none.
 fn fault_text(alloc: Global, ended: Result<(), ServeFault>) -> Result<String, AllocError> {
     match ended {
         Ok(()) => Ok(String::new(alloc)),
@@ -144,7 +144,7 @@ fn fault_text(alloc: Global, ended: Result<(), ServeFault>) -> Result<String, Al
     }
 }
 
-/// The second line of a row's status, empty where there is none.
+/// The second line of a row's status, empty if there is none.
 fn wanted_fault(status: &str) -> &str {
     match status.lines().nth(1) {
         Some(fault) => fault,
@@ -167,7 +167,7 @@ fn read_packets<R: Files + Print + AllocGlobal>(rt: &R, tally: &mut Tally) -> io
     Ok(())
 }
 
-/// The lines of the packet that the digits spell, or the fault that is told.
+/// The lines of the packet that the digits spell, or the fault that is reported.
 fn packet_text(alloc: Global, digits: &str) -> Result<String, AllocError> {
     match packet_line(alloc, digits) {
         Ok(lines) => Ok(lines),

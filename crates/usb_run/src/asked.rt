@@ -54,7 +54,7 @@ pub(crate) fn look<T: Trace>(host: &mut Host<SimBus<T>>, path: PortPath) -> Resu
     Ok(Item::Looked(path, looked))
 }
 
-/// Tells which devices left and which arrived since this was last asked.
+/// Reports which devices left and which arrived since this was last asked.
 pub(crate) fn news<T: Trace>(alloc: Global, host: &mut Host<SimBus<T>>) -> Result<Item, RunFault>
     requires running { host.old.stopped ≡ false }
     ensures on { RunsOn (Gives Ask.News) host.old result host.new }

@@ -3,7 +3,7 @@
 /// What is written of a plan's run.
 #[derive(Clone, Copy, Debug, PartialEq, Eq)]
 pub enum Mode {
-    /// The lines of report, and the plan's bound behind them.
+    /// The lines of report, and the plan's bound after them.
     Tree,
     /// The lines of trace and of report, each as it happens.
     Run,

@@ -51,7 +51,7 @@ pub enum Item {
     News(Vec<News>),
 }
 
-/// Why a run ended early, in the order in which the reasons are told.
+/// Why a run ended early, in the order in which the reasons are reported.
 #[derive(Clone, Copy, Debug, PartialEq, Eq, Error)]
 pub enum RunFault {
     /// The attempts made equal the plan's limit.
@@ -150,7 +150,7 @@ pub struct Report {
     /// How often a device did not see the host's ACK of SET_ADDRESS.
     pub address_losses: u64,
     /// The greatest number of those losses between two steps that clear a change of connection, or before the first
-    /// or behind the last of these steps.
+    /// or after the last of these steps.
     pub worst_address_run: u32,
 }
 
@@ -184,7 +184,7 @@ pub fn run(alloc: Global, plan: &Plan) -> Result<Report, RunFault>
 
 /// A plan's run, made item by item.
 ///
-/// At no attempt did two devices that could be reached hold one address; and as long as the host goes on, each of them
+/// At no attempt did two devices that could be reached hold one address. As long as the host goes on, each of them
 /// holds the address that the host has for it.
 #[derive(Debug, Drop)]
 pub struct Runner<T: Trace> {
@@ -297,7 +297,7 @@ impl<T: Trace> Runner<T> {
         }
     }
 
-    /// Runs on to the next item, or answers None where the run is over: behind its last listing, or behind a fault.
+    /// Runs on to the next item, or returns None if the run is over: after its last listing, or after a fault.
     ///
     /// # Errors
     ///
@@ -325,7 +325,7 @@ impl<T: Trace> Runner<T> {
         Ok(Some(listing(&self.host)?))
     }
 
-    /// Runs on to the end, and tells what was made.
+    /// Runs on to the end, and returns what was made.
     ///
     /// # Errors
     ///
@@ -383,7 +383,7 @@ impl<T: Trace> Runner<T> {
     }
 
     /// The greatest number of those losses between two steps that clear a change of connection, or before the first
-    /// or behind the last of these steps.
+    /// or after the last of these steps.
     pub fn worst_address_run(&self) -> u32
         ensures { result ≡ self.now.host.world.losses.worst }
     {
@@ -391,7 +391,7 @@ impl<T: Trace> Runner<T> {
     }
 }
 
-/// Lets events come up to one of which an item is made; None where none is left.
+/// Lets events come up to one of which an item is made; None if none is left.
 fn item_of_events<T: Trace>(
     alloc: Global,
     host: &mut Host<SimBus<T>>,
@@ -413,7 +413,7 @@ fn item_of_events<T: Trace>(
     }
 }
 
-/// Settles, and lets the next event come; None where none is left.
+/// Settles, and lets the next event come; None if none is left.
 fn next_due<T: Trace>(host: &mut Host<SimBus<T>>) -> Result<Option<Option<Ask>>, RunFault>
     requires running { host.old.stopped ≡ false }
     ensures on { RunsOn (Knowing NextEvent) host.old result host.new }
@@ -478,7 +478,7 @@ fn send<T: Trace>(
     Ok(Item::Sent(path, counted(bytes.len(), sent)))
 }
 
-/// Receives at most so many packets from the device at a path.
+/// Receives at most this number of packets from the device at a path.
 fn receive<T: Trace>(
     host: &mut Host<SimBus<T>>,
     path: PortPath,

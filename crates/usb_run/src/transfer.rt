@@ -21,7 +21,7 @@ pub fn answered<T>(outcome: Result<T, HostFault>) -> Result<Result<T, TransferFa
     }
 }
 
-/// How many bytes were sent, where they were.
+/// How many bytes were sent, if they were.
 ///
 /// # Errors
 ///

@@ -261,7 +261,7 @@ fn write_out<W: Write>(writer: &mut Watched<W>, bytes: &[u8]) -> usize
     gone
 }
 
-/// Removes so many bytes from the front.
+/// Removes this number of bytes from the beginning.
 fn remove_front(bytes: &mut Vec<u8>, n: usize)
     requires { n ≤ length bytes.old.items }
     ensures { bytes.new.items ≡ drop n bytes.old.items }

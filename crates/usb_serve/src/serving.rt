@@ -31,7 +31,7 @@ use usb_run::{Item, Mode, RunFault, Runner};
 use usb_sim::{Plan, Trace, Tracer, Untraced, untraced_fault};
 use usb_text::{Lines, bound_line, listing_lines};
 
-/// Why a plan was not served to its end, in the order in which the reasons are told.
+/// Why a plan was not served to its end, in the order in which the reasons are reported.
 #[derive(Clone, Copy, Debug, PartialEq, Eq, Error)]
 pub enum ServeFault {
     /// The reader failed.
@@ -93,10 +93,10 @@ impl From<WriteFailed> for ServeFault {
 /// Reads a plan, runs it, and writes what the mode asks for, to a writer that has not failed yet. Hands the writer
 /// back.
 ///
-/// In mode Run that is the text of a run of the plan: the line of each attempt and event in their order, and the lines
-/// of each listing and transfer behind the attempts that it took. In mode Tree it is the lines of the listings and
-/// transfers of a run, and the plan's bound behind them. Where the run ended early it is all that the run made so far,
-/// with no bound; where the writer failed it is a front of that. At no attempt of the run did two devices that could be
+/// In mode Run that is the text of a run of the plan. It has the line of each attempt and event in their order, and the
+/// lines of each listing and transfer after the attempts that it took. In mode Tree it is the lines of the listings and
+/// transfers of a run, and the plan's bound after them. If the run ended early it is all that the run made so far, with
+/// no bound; if the writer failed it is a prefix of that. At no attempt of the run did two devices that could be
 /// reached hold one address. A plan of at most 127 plugs whose limit is its bound never comes to its limit.
 ///
 /// # Errors
@@ -225,7 +225,7 @@ fn serve_tree<T: Trace>(alloc: Global, plan: &Plan, tracer: T) -> (Result<(), Se
     (result, tracer)
 }
 
-/// Writes the lines of each item when it is made, and the bound behind the last.
+/// Writes the lines of each item when it is made, and the bound after the last.
 fn write_tree<T: Trace>(alloc: Global, plan: &Plan, writer: &mut T) -> Result<(), ServeFault>
     ensures reader { IsOfRun result }
     ensures write { IsErrOf result ServeFault.Write → T.failed writer.new ≡ true }
@@ -327,7 +327,7 @@ pub fn write_lines<T: Trace>(writer: &mut T, lines: &[Vec<u8>]) -> Result<(), Se
     Ok(())
 }
 
-/// Writes a line, and a newline behind it.
+/// Writes a line, and a newline after it.
 fn write_line<T: Trace>(writer: &mut T, line: &[u8]) -> Result<(), ServeFault>
     ensures front { AppendsFront (T.text writer.old) (T.text writer.new) (line.now ++ 10 ∷ []) }
     ensures ok { OnOk result (Appends (T.text writer.old) (T.text writer.new)

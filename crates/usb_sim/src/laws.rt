@@ -10,12 +10,12 @@ ghost use Rattle.usb_world.specs.declared.types.BusFault.TheVariants.{Failed};
 
 use crate::{SimBus, Trace, Untraced};
 
-/// The trace has failed exactly where this is the fault that was told.
+/// The trace has failed exactly if this is the fault that was reported.
 pub fn trace_fault<T: Trace>(bus: &SimBus<T>)
     ensures { T.failed (tracer_of bus.now) ≡ tells_failure (world_of bus.now).fault }
 {}
 
-/// A bus that is untraced never told that its trace failed.
+/// A bus that is untraced never reported that its trace failed.
 pub fn untraced_fault(bus: &SimBus<Untraced>)
     ensures { (world_of bus.now).fault ≢ Some Failed }
 {}

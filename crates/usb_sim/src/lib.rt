@@ -9,9 +9,9 @@
 //!   never does (`untraced_fault`).
 //! - A plug is one line of the trace, whatever its device's name holds (`plug_is_one_line`).
 //!
-//! If memory is refused, each device keeps its address, configuration and ports. Nothing at all
-//! changes if no address is held twice. After a fault nothing changes, and each call reports the
-//! fault again. `docs/PROVED.md` says what rests on this.
+//! If memory is refused in an attempt, each device keeps its address, configuration and ports.
+//! Nothing at all changes if no address is held twice. After a fault every later attempt, event and
+//! line of report reports it again, and changes nothing. `docs/PROVED.md` says what rests on this.
 #![tactic(auto)]
 
 mod laws;

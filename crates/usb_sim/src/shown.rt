@@ -9,7 +9,7 @@ use std::marker::Model;
 use usb_device::DeviceSpec;
 use usb_packet::hex_digits;
 
-/// A device's name as it stands in a line of the trace.
+/// A device's name as it is in a line of the trace.
 #[derive(Debug, Drop)]
 pub(crate) struct ShownName {
     bytes: Vec<u8>,
@@ -80,7 +80,7 @@ fn push_letter(out: &mut Vec<u8>, letter: char) -> Result<(), AllocError>
     out.extend_from_slice(letter.encode_utf8(&mut buffer).as_bytes())
 }
 
-/// A character that stands as its number: one that may end a line, or the backslash.
+/// A character that is shown as its number: one that may end a line, or the backslash.
 fn is_marked(letter: char) -> bool
     ensures value { result ≡ is_escaped letter }
     ensures range { IsTrue result → letter < 2 ^ 16 }

@@ -34,8 +34,8 @@ use usb_world::{BusFault, Exchange, Losses, event_copies};
 /// A bus that a plan describes. Each attempt, plug and unplug is a line of the trace, which goes to a writer at once
 /// where the bus is `Tracer`.
 ///
-/// After a fault every later attempt, event and line of report tells the same fault again and changes nothing. Its
-/// trace has failed exactly where `Failed` was told; so that is never told of a bus that is `Untraced`.
+/// After a fault every later attempt, event and line of report reports the same fault again and changes nothing. Its
+/// trace has failed exactly if `Failed` was reported; so an `Untraced` bus never reports it.
 #[derive(Debug, Drop)]
 pub struct SimBus<T: Trace> {
     alloc: Global,
@@ -116,7 +116,7 @@ impl<W: Write> SimBus<Tracer<W>> {
         }
     }
 
-    /// Hands the writer back. It has failed exactly where this is the fault that was told.
+    /// Hands the writer back. It has failed exactly if this is the fault that was reported.
     pub fn into_writer(self) -> Watched<W>
         ensures writer { result ≡ writer_of self }
         ensures failed { has_failed result ≡ tells_failure (world_of self).fault }
@@ -179,7 +179,7 @@ impl<T: Trace> SimBus<T> {
         }
     }
 
-    /// Hands back what the lines of the trace went to. It has failed exactly where this is the fault that was told.
+    /// Hands back what the lines of the trace went to. It has failed exactly if this is the fault that was reported.
     pub fn into_tracer(self) -> T
         ensures tracer { result ≡ tracer_of self }
         ensures failed { T.failed result ≡ tells_failure (world_of self).fault }
@@ -218,14 +218,14 @@ impl<T: Trace> SimBus<T> {
     }
 
     /// The greatest number of those losses between two steps that clear a change of connection, or before the first
-    /// or behind the last of these steps.
+    /// or after the last of these steps.
     pub fn worst_address_run(&self) -> u32
         ensures { result ≡ (world_of self.now).losses.worst }
     {
         self.losses.worst
     }
 
-    /// The address and the configuration of the device at the path; None where none is there.
+    /// The address and the configuration of the device at the path; None if none is there.
     pub fn registers(&self, path: &PortPath) -> Option<(u8, u8)>
         ensures { result ≡ option_map registers_of (device_at self.now path.now) }
     {
@@ -233,7 +233,7 @@ impl<T: Trace> SimBus<T> {
         Some((device.address(), device.configuration()))
     }
 
-    /// All bytes that the bulk OUT endpoint of the device at the path has taken since its plug; None where none is
+    /// All bytes that the bulk OUT endpoint of the device at the path has taken since its plug; None if none is
     /// there.
     pub fn sink(&self, path: &PortPath) -> Option<&[u8]>
         ensures { option_map (λ s. s.now) result

@@ -9,7 +9,7 @@ use usb_world::{Exchange, ExchangeAnswer, Mark, Outgoing};
 /// Room for the longest line of an attempt.
 pub type Line = ArrayString<700>;
 
-/// Writes an attempt's number, its packets and the end of the line into an empty line. `pre` says that PRE stands
+/// Writes an attempt's number, its packets and the end of the line into an empty line. `pre` says that PRE is
 /// before each of the host's packets.
 pub fn push_attempt(line: &mut Line, number: u64, pre: bool, exchange: &Exchange)
     requires { line.old.bytes ≡ [] }
@@ -26,7 +26,7 @@ pub fn push_attempt(line: &mut Line, number: u64, pre: bool, exchange: &Exchange
     line.push('\n');
 }
 
-/// PRE, where it stands before a packet of the host.
+/// PRE, if it is before a packet of the host.
 fn push_pre(line: &mut Line, pre: bool)
     requires { length line.old.bytes ≤ 696 }
     ensures text { line.new.bytes ≡ line.old.bytes ++ pre_text pre }
@@ -48,7 +48,7 @@ fn push_host(line: &mut Line, pre: bool, packet: &Outgoing)
     push_mark(line, packet.mark);
 }
 
-/// A further packet of the host, where there is one.
+/// A further packet of the host, if there is one.
 fn push_next(line: &mut Line, pre: bool, packet: &Option<Outgoing>)
     requires { length line.old.bytes ≤ 527 }
     ensures text { line.new.bytes ≡ line.old.bytes ++ next_text pre packet.now }

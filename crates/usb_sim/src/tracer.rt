@@ -10,7 +10,7 @@ use usb_world::Exchange;
 
 /// What a simulated bus hands the lines of its trace to.
 pub trait Trace {
-    /// The text that it has, where that is known.
+    /// The text that it has, if that is known.
     ghost text: { Self → Option (List ℕ) };
 
     /// Whether it has failed.
@@ -20,7 +20,7 @@ pub trait Trace {
     ///
     /// # Errors
     ///
-    /// It failed in this call, and has a front of the line.
+    /// It failed in this call, and has a prefix of the line.
     fn put_attempt(
         &mut self,
         number: u64,
@@ -34,7 +34,7 @@ pub trait Trace {
     ///
     /// # Errors
     ///
-    /// It failed in this call, and has a front of the line.
+    /// It failed in this call, and has a prefix of the line.
     fn put_pieces(&mut self, pieces: &[&[u8]]) -> Result<(), WriteFailed>
         ensures { PutsText text failed self.old result self.new
             (flat_map (λ p. p.now) pieces.now) };

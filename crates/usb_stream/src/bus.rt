@@ -1,4 +1,4 @@
-//! The bus behind a stream of lines.
+//! The bus over a stream of lines.
 ghost use Rattle.std.specs.Prelude.{◌≡◌, ◌≢◌, ◌+◌, ◌-◌, ◌^◌, ◌<◌, ◌≤◌, ◌∷◌, ◌++◌, [], slice_set, IfErr, IfOk, None, Some, Ok, Err, option_map};
 ghost use Rattle.usb_bus.specs.Traces.{Spends};
 ghost use Rattle.usb_lines.specs.Pipes.{out_pipe_of, pipe_of};
@@ -33,7 +33,7 @@ pub struct StreamBus<R, W> {
     statuses: [[u8; 4]; 7],
     /// How many more questions may be asked.
     left: u64,
-    /// For how many attempts a question went out, or a front of one.
+    /// For how many attempts a question went out, or a prefix of one.
     attempts: u64,
     /// How many lines were read, up to the greatest `u64`.
     lines: u64,
@@ -106,7 +106,7 @@ impl<R: Read, W: Write> Bus for StreamBus<R, W> {
         self.roots
     }
 
-    /// The status of a root port as it was told last (11.24.2.7).
+    /// The status of a root port as it was reported last (11.24.2.7).
     fn root_status(&self, port: u8) -> [u8; 4]
         requires least { 1 ≤ port }
         requires most { port ≤ (kept_of self.now).roots }
@@ -226,7 +226,7 @@ impl<R: Read, W: Write> StreamBus<R, W> {
         self.attempts
     }
 
-    /// Asks what is wanted.
+    /// Asks what is requested.
     ///
     /// # Errors
     ///
@@ -273,7 +273,7 @@ impl<R: Read, W: Write> StreamBus<R, W> {
         }
     }
 
-    /// Makes a call at a root port, where there is one of that number.
+    /// Makes a call at a root port, if there is one of that number.
     fn call(&mut self, port: u8, call: PortCall)
         ensures again { (kept_of self.old).fault ≢ None → self.new ≡ self.old }
         ensures asks { (kept_of self.old).fault ≡ None → Calls port (Some call)
@@ -360,7 +360,7 @@ impl<R: Read, W: Write> StreamBus<R, W> {
         Err(LiveFault::TooManyPushes)
     }
 
-    /// What the next line says. The end of the input is the end, in place of what is wanted.
+    /// What the next line says. The end of the input is the end, in place of what is requested.
     fn next_said(&mut self, asked: Asked) -> Result<Said, LiveFault>
         ensures ok { IfOk result (Says asked self.old.roots (unread_of R.remaining self.old)
             (unread_of R.remaining self.new)) }

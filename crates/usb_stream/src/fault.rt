@@ -18,7 +18,7 @@ pub enum LiveFault {
     /// More than 64 statuses of root ports came before an answer.
     #[error("too many port lines")]
     TooManyPushes,
-    /// The input ended, but not in place of what is wanted.
+    /// The input ended, but not in place of what is requested.
     #[error("far end gone")]
     Gone,
     /// The writer failed.

@@ -16,11 +16,11 @@ ghost use Rattle.usb_streams.specs.Heads.{MovesNothing};
 ghost use Rattle.usb_streams.specs.Streams.{StoodOrFound};
 ghost use Rattle.usb_streams.specs.Stretches.{IsStretch, Stretch, ToldItem};
 
-/// Over any stretch of a run up to a host whose bus works, a device that is listed in the end stood at its path from the
-/// beginning, or since a round or a look that found it anew and moved none of its bytes. From there on its sink got the
-/// bytes of the sends to it that are reported done, end to end, with at most a prefix of a failed one after them. The
-/// receives from it that are reported done returned the next bytes of its source, end to end, none twice and none left
-/// out. Each is so as long as no halt of the endpoint is cleared.
+/// This is over any stretch of a run up to a host whose bus works. A device that is listed in the end was at its path
+/// from the beginning. Or it was there since a round or a look that found it anew and moved none of its bytes. From
+/// then on its sink got the bytes of the sends to it that are reported done, end to end. At most a prefix of a failed
+/// send comes after them. The receives from it that are reported done returned the next bytes of its source, end to
+/// end, none twice and none left out. Each is so as long as no halt of the endpoint is cleared.
 pub fn transfers_join()
     ensures { (old new : HostState) (told : List ToldItem) → Stretch old told new → Knows old
         → new.world.fault ≡ None
@@ -28,15 +28,15 @@ pub fn transfers_join()
         → StoodOrFound path device told old new }
 {}
 
-/// Over a course of attempts at endpoint 0, calls of root ports and events nothing moves at any other endpoint: each
-/// device that is plugged, reached or not, has taken and given what the one that stood at its place had, or was plugged
-/// since, and has neither taken nor given.
+/// Over a course of attempts at endpoint 0, calls of root ports and events nothing moves at any other endpoint. Each
+/// device that is plugged, reached or not, has taken and given what the one at its place had. Or it was plugged since,
+/// and has neither taken nor given.
 pub fn control_moves_nothing()
     ensures { (old new : World) → ControlCourse old new → IsSettled old.roots → MovesNothing old new }
 {}
 
-/// A run is a stretch, in which the items that events asked for are told; where it is over, its last listing stands
-/// behind them.
+/// A run is a stretch, in which the items that events asked for are reported; if it is over, its last listing comes
+/// after them.
 pub fn runs_are_stretches()
     ensures { (mode : Mode) (old new : HostState) (items : List Item) (over : Bool)
         → Transcript mode false old items over new → IsStretch items over old new }

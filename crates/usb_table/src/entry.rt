@@ -1,4 +1,4 @@
-//! What stands at a port, with the host's pipes to it.
+//! What is at a port, with the host's pipes to it.
 ghost use Rattle.std.specs.Prelude.{◌≡◌};
 ghost use Rattle.usb_table.specs.Findings.{IsSoundFinding};
 ghost use Rattle.usb_table.specs.TablePipes.{ArePipesOf, new_pipes};

@@ -6,7 +6,7 @@ use thiserror::Error;
 use usb_bus::BusFault;
 use usb_pipe::PipeFault;
 
-/// Why a transfer was not done, in the order in which the reasons are told.
+/// Why a transfer was not done, in the order in which the reasons are reported.
 #[derive(Clone, Copy, Debug, PartialEq, Eq, Error)]
 pub enum TransferFault {
     /// No device that was accepted is at the path.
@@ -27,7 +27,7 @@ pub enum TransferFault {
     /// NAKs and discarded repeats of one transaction together reached 256.
     #[error("busy")]
     Busy,
-    /// There were three errors running in one transaction.
+    /// There were three errors in a row in one transaction.
     #[error("no answer")]
     NoAnswer,
     /// The pipe has to be cleared first.
@@ -41,7 +41,7 @@ pub enum TableFault {
     /// The transfer was not done.
     #[error("{0}")]
     Transfer(TransferFault),
-    /// The bus makes no more steps.
+    /// The bus has failed.
     #[error("{0}")]
     Bus(BusFault),
     /// Memory was refused.

@@ -1,4 +1,4 @@
-//! What findings are told apart by.
+//! What distinguishes findings.
 ghost use Rattle.std.specs.Prelude.{◌≡◌};
 ghost use Rattle.usb_table.specs.Findings.{address_found, is_accepted, is_hub, is_waiting};
 

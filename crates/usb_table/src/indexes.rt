@@ -62,7 +62,7 @@ impl Indexes {
         Ok(())
     }
 
-    /// Takes out the key of an address, where there is one.
+    /// Takes out the key of an address, if there is one.
     pub fn remove_address(&mut self, address: Option<u8>)
         ensures paths { self.new.by_path ≡ self.old.by_path }
         ensures entries { self.new.by_address.entries

@@ -29,7 +29,7 @@ pub(crate) fn fits(kind: Kind, finding: &Finding) -> bool
     }
 }
 
-/// Where the paths after the last one begin, or all paths where there is none.
+/// The place at which the paths after the last one begin, or all paths if there is none.
 pub(crate) fn start_after(last: Option<&PortPath>) -> Bound<PortPath>
     ensures { result ≡ start_after (option_copied last.entry) }
 {

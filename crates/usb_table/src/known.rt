@@ -36,7 +36,8 @@ pub(crate) fn root_port(number: u8) -> KnownPort
     }
 }
 
-/// A port of a hub, by its number from 1; `None` where it is no accepted hub with so many ports.
+/// A port of a hub, by its number from 1; `None` if it is no accepted hub with this number of
+/// ports.
 pub(crate) fn port_of_finding(finding: &Finding, below_hub: bool, number: u8) -> Option<KnownPort>
     requires sound { IsSoundFinding finding.now }
     requires number { IsPortNumber number }

@@ -10,7 +10,7 @@ ghost use Rattle.usb_table.specs.TableEntries.{Entries};
 ghost use Rattle.usb_table.specs.Listing.{SpecTree, tree_after, Lists, ListsLike, Matches, NoneWaits};
 
 /// Two right listings of what is plugged list the same findings at the same paths, but for the
-/// addresses, where no device waits for one.
+/// addresses, if no device waits for one.
 pub fn one_listing()
     ensures { (roots : ℕ) (tree : SpecTree) (a b : Entries)
         → Lists roots tree a → Lists roots tree b → NoneWaits a → NoneWaits b → ListsLike a b }

@@ -23,7 +23,7 @@ use usb_bus::Bus;
 use usb_enum::Accepted;
 use usb_pipe::{BulkPipe, InterruptPipe, PipeFault};
 
-/// The host's pipes to what stands at a port.
+/// The host's pipes to what is at a port.
 #[derive(Debug, Drop)]
 pub(crate) enum Pipes {
     /// To a hub's status endpoint (11.12.1).

@@ -1,4 +1,4 @@
-//! What stands at each port.
+//! What is at each port.
 ghost use Rattle.std.specs.Prelude.{◌≡◌, ℕ, ◌*◌, List, length, false, true, option_copied};
 ghost use Rattle.std.specs.Prelude.{IfSome, IfNone, IfOk, IfErr, OnOk, OnErr};
 ghost use Rattle.std.specs.BTreeMap.{is_at};
@@ -36,7 +36,7 @@ use usb_pipe::PipeFault;
 use usb_port::PortPath;
 use usb_resources::Address;
 
-/// What stands at each port, by the port's path, with the host's pipes to it.
+/// What is at each port, by the port's path, with the host's pipes to it.
 #[derive(Debug, Drop)]
 pub struct DeviceTable {
     entries: Slab<Entry>,
@@ -72,7 +72,7 @@ impl DeviceTable {
         }
     }
 
-    /// Enters what was just found at a path, where nothing stands at it or below it.
+    /// Enters what was just found at a path, if nothing is at it or below it.
     ///
     /// # Errors
     ///
@@ -203,7 +203,7 @@ impl DeviceTable {
         None
     }
 
-    /// Asks the status endpoint of the hub at a path once; `None` also where no hub stands there.
+    /// Asks the status endpoint of the hub at a path once; `None` also if no hub is there.
     ///
     /// # Errors
     ///
@@ -256,8 +256,8 @@ impl DeviceTable {
         }
     }
 
-    /// Receives so many packets from the bulk IN endpoint of the function at a path, or fewer where
-    /// one of them is short.
+    /// Receives this number of packets from the bulk IN endpoint of the function at a path, or
+    /// fewer if one of them is short.
     ///
     /// # Errors
     ///

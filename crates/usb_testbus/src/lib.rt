@@ -28,7 +28,7 @@ pub enum TestBusFault {
     Memory,
 }
 
-/// The text of a plan with one root port: so many attempts at most, and these tables behind each other.
+/// The text of a plan with one root port: at most this number of attempts, and these tables one after the other.
 ///
 /// # Errors
 ///

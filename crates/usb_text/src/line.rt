@@ -8,7 +8,7 @@ use std::alloc::{AllocError, Global};
 use thiserror::Error;
 use usb_packet::{PacketFault, decode, packet_text};
 
-/// Why digits give no lines, in the order in which the reasons are told.
+/// Why digits give no lines, in the order in which the reasons are reported.
 #[derive(Clone, Copy, Debug, PartialEq, Eq, Error)]
 pub enum LineFault {
     /// The text is no hexadecimal digits, or an odd number of them.

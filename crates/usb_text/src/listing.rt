@@ -54,14 +54,14 @@ fn address_line(alloc: Global, path: &PortPath, device: &Accepted) -> Result<Vec
     Ok(line)
 }
 
-/// What stands behind the chosen configuration.
+/// What follows the chosen configuration.
 fn star(chosen: bool) -> &'static str
     ensures { result.now ≡ star chosen }
 {
     if chosen { " *" } else { "" }
 }
 
-/// `PATH config I HEX`, and a star behind the chosen one.
+/// `PATH config I HEX`, and a star after the chosen one.
 #[tactic(auto, unfolding(crate::specs::ListingLines::config_line))]
 fn config_line(
     alloc: Global,

@@ -24,7 +24,7 @@ pub fn push_decimal(alloc: Global, out: &mut Vec<u8>, number: u64) -> Result<(),
     out.extend_from_slice(digits.as_bytes())
 }
 
-/// Adds bytes in upper-case hexadecimal digits, a dash where there are none.
+/// Adds bytes in upper-case hexadecimal digits, a dash if there are none.
 ///
 /// # Errors
 ///

@@ -11,10 +11,10 @@ pub enum TransFault {
     /// NAKs and discarded repeats together reached 256.
     #[error("busy")]
     Busy,
-    /// There were three errors running.
+    /// There were three errors in a row.
     #[error("no answer")]
     NoAnswer,
-    /// The bus makes no more steps.
+    /// The bus has failed.
     #[error("{0}")]
     Bus(BusFault),
 }

@@ -23,7 +23,7 @@ ghost use Rattle.usb_transaction.specs.Leaves.{SourceBetween, SinkBetween};
 ghost use Rattle.usb_transaction.specs.AttemptLogs.{AttemptLog, KeepsTrying, TransactionDone, Transacted, Polled};
 ghost use Rattle.usb_transaction.specs.Transactions.{setup_attempt, in_attempt, out_attempt};
 
-/// A transaction makes one attempt, again and again, and no other step. Where the bus gave up, it
+/// A transaction makes one attempt, again and again, and no other step. If the bus gave up, it
 /// was this attempt that it refused.
 pub fn what_a_transaction_attempts()
     ensures trail { (a : AnAttempt) (outcomes : List AnOutcome) (old new : World)
@@ -60,7 +60,7 @@ pub fn who_had_the_address()
 {}
 
 /// Between any two attempts of a bulk transaction the two ends are level or one is a packet ahead
-/// (5.8, 8.6), where no address was ever held twice.
+/// (5.8, 8.6), if no address was ever held twice.
 pub fn what_is_so_between_bulk_attempts()
     ensures into { (t : ATarget) (ep : ℕ) (awaited : Toggle) (outcomes : List AnOutcome)
         (old now : World) → IsSettled old.roots
@@ -73,10 +73,10 @@ pub fn what_is_so_between_bulk_attempts()
         → now.shared ≡ false → EachWas (SinkBetween t ep toggle bytes) old now }
 {}
 
-/// The status stage of a request without data counts a loss exactly where the host got it, and the
-/// device, which was to take an address at the host's ACK, did not see that (9.4.6). OUT counts
-/// none, nor does IN of another endpoint, nor SETUP, unless it clears a change of connection: there
-/// the losses of another stretch begin.
+/// The status stage of a request without data counts a loss in exactly one case (9.4.6). The host
+/// got it, and the device did not see the host's ACK, at which it was to take an address. OUT
+/// counts none, nor does IN of another endpoint, nor SETUP, unless it clears a change of
+/// connection: there the losses of another stretch begin.
 pub fn address_losses_of_a_transaction()
     ensures into { (t : ATarget) (result : Result (List ℕ) AFault) (old new : World)
         → IsSettled old.roots → TransactionDone (heard_as One) (in_attempt t 0) old result new

@@ -11,7 +11,7 @@
 //! - `setup` makes at most 3 attempts; `data_in`, `data_out` and `poll_in` make at most 768. A
 //!   transaction makes the same attempt each time, and no other step
 //!   (`what_a_transaction_attempts`).
-//! - Over any bus, the toggle flips exactly if a packet was moved (`data_in`, `data_out`).
+//! - Over any bus, the toggle flips exactly if the call is done (`data_in`, `data_out`).
 //! - If no address was held twice, and host and device were as far as each other, the packet that
 //!   came is the next one. Between attempts they are level, or one end is a packet ahead
 //!   (`what_is_so_between_bulk_attempts`).

@@ -1,4 +1,4 @@
-//! IN, where NAK is an answer.
+//! IN, with NAK as an answer.
 ghost use Rattle.std.specs.Prelude.{◌≡◌, ◌<◌, ◌≤◌, true, length, IfOk, IfSome};
 ghost use Rattle.usb_bus.specs.Traces.{Spends, Steps};
 ghost use Rattle.usb_transaction.specs.Calls.{PollsIn};
@@ -15,9 +15,9 @@ use usb_packet::Toggle;
 /// Asks an endpoint, 0 to 15, whether it has a data packet (5.7, 8.5.4): None at NAK.
 ///
 /// It asks again after an error or a packet of the other toggle, which is a repeat and discarded.
-/// The toggle changes exactly where a packet came. Where no address was ever held twice, and no
-/// earlier poll failed, a hub's byte is what its ports told at one of the attempts, and at None
-/// they told of nothing.
+/// The toggle changes exactly if a packet came. If no address was ever held twice, and no earlier
+/// poll failed, a hub's byte is what its ports reported at one of the attempts. At None they
+/// reported nothing.
 ///
 /// # Errors
 ///

@@ -14,8 +14,8 @@ use usb_packet::Toggle;
 
 /// Asks an endpoint, 0 to 15, for one data packet (8.5), until one of the awaited toggle comes.
 ///
-/// A packet of the other toggle is a repeat: it is discarded. The toggle changes exactly where the
-/// call is done. Where no address was ever held twice, the packet is the next one that the device
+/// A packet of the other toggle is a repeat: it is discarded. The toggle changes exactly if the
+/// call is done. If no address was ever held twice, the packet is the next one that the device
 /// at the target's address has for the endpoint: each comes once.
 ///
 /// # Errors

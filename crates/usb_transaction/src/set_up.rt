@@ -12,8 +12,8 @@ use usb_bus::Bus;
 
 /// Sends setup data (8.5.3), in at most three attempts.
 ///
-/// Where no address was ever held twice, `Ok` means that the device at the target's address
-/// accepted them at the last attempt; otherwise it did so at some or at none.
+/// If no address was ever held twice, `Ok` means that the device at the target's address accepted
+/// them at the last attempt. Otherwise it did so at some or at none.
 ///
 /// # Errors
 ///

@@ -5,13 +5,13 @@ ghost use Rattle.usb_transaction.specs.Transactions.{error_limit, wait_limit};
 
 use crate::TransFault;
 
-/// So many errors running end a transaction.
+/// This number of errors in a row ends a transaction.
 pub(crate) const ERROR_LIMIT: u8 = 3;
 
 /// So many NAKs and discarded repeats together end it.
 const WAIT_LIMIT: u16 = 256;
 
-/// The errors running, and the NAKs and discarded repeats together, of one transaction.
+/// The errors in a row, and the NAKs and discarded repeats together, of one transaction.
 #[derive(Drop)]
 pub(crate) struct Tries {
     errors: u8,
@@ -42,7 +42,7 @@ impl Tries {
         Ok(())
     }
 
-    /// Counts a NAK or a discarded repeat, after which no errors are running. It may end the
+    /// Counts a NAK or a discarded repeat, after which there are no errors in a row. It may end the
     /// transaction.
     pub(crate) fn wait(&mut self) -> Result<(), TransFault>
         requires { self.old.waits < wait_limit }

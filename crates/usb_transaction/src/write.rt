@@ -15,7 +15,7 @@ use usb_packet::Toggle;
 /// Sends one data packet of at most the target's maximum to an endpoint, 0 to 15 (8.5), again
 /// with the same toggle until it is acknowledged.
 ///
-/// The toggle changes exactly where the call is done. Where no address was ever held twice, the
+/// The toggle changes exactly if the call is done. If no address was ever held twice, the
 /// device at the target's address has taken the data then, once.
 ///
 /// # Errors

@@ -1,4 +1,4 @@
-//! What the far end says, and its lines.
+//! What the controller side says, and its lines.
 ghost use Rattle.std.specs.Prelude.{◌≡◌, ◌∷◌, ◌++◌, ◌+◌, ◌*◌, ◌<◌, ◌≤◌, [], decimal, length};
 ghost use Rattle.hex.specs.Hex.{encode_upper};
 ghost use Rattle.usb_packet.specs.Text.{hex_text};
@@ -13,7 +13,7 @@ use usb_packet::{hex_digits, push_decimal};
 use usb_port::PortPath;
 use usb_request::{ReadRequest, Setup};
 
-/// The most bytes of a transfer that is wanted: so many find room in each line that wants one.
+/// The most bytes of a transfer that is requested: each line that requests one has room for them.
 pub const SEND_LIMIT: usize = 500;
 
 /// The answer to a question.
@@ -31,52 +31,52 @@ pub enum Answer {
     Nothing,
     /// To an attempt: the data that came.
     Data(DataPacket),
-    /// To a call at a root port: it was made. Where the host asks what is wanted: nothing.
+    /// To a call at a root port: it was made. If the host asks what is requested: nothing.
     Done,
-    /// What is wanted: a listing.
+    /// What is requested: a listing.
     Show,
-    /// What is wanted: the end.
+    /// What is requested: the end.
     End,
-    /// What is wanted: to send bytes to the bulk endpoint of the device at a port (5.8).
+    /// What is requested: to send bytes to the bulk endpoint of the device at a port (5.8).
     Send {
         /// The port.
         path: PortPath,
         /// 0 to 500 bytes.
         bytes: ArrayVec<u8, SEND_LIMIT>,
     },
-    /// What is wanted: to receive from the bulk endpoint of the device at a port (5.8).
+    /// What is requested: to receive from the bulk endpoint of the device at a port (5.8).
     Receive {
         /// The port.
         path: PortPath,
         /// The most packets, 0 to 1,000.
         packets: u16,
     },
-    /// What is wanted: to clear the halts of the bulk endpoints of the device at a port (9.4.1).
+    /// What is requested: to clear the halts of the bulk endpoints of the device at a port (9.4.1).
     Clear(PortPath),
-    /// What is wanted: to read from endpoint 0 of the device at a port (9.3).
+    /// What is requested: to read from endpoint 0 of the device at a port (9.3).
     ControlIn {
         /// The port.
         path: PortPath,
         /// The request.
         request: ReadRequest,
     },
-    /// What is wanted: to write to endpoint 0 of the device at a port (9.3).
+    /// What is requested: to write to endpoint 0 of the device at a port (9.3).
     ControlOut {
         /// The port.
         path: PortPath,
         /// The request, with 0 to 480 bytes.
         request: ControlWrite,
     },
-    /// What is wanted: to enumerate again whatever is at a port.
+    /// What is requested: to enumerate again whatever is at a port.
     Look(PortPath),
-    /// What is wanted: which devices left and which arrived since this was last wanted.
+    /// What is requested: which devices left and which arrived since this was last requested.
     News,
 }
 
-/// What one line of the far end says.
+/// What one line of the controller side says.
 #[derive(Debug, Drop)]
 pub enum Said {
-    /// The status of a root port is another than it was when it was last told.
+    /// The status of a root port is another than it was when it was last reported.
     Changed {
         /// The root port's number, from 1 on.
         number: u8,
@@ -195,7 +195,7 @@ fn push_path(line: &mut ArrayString<1024>, word: &str, path: &PortPath)
     line.push_str(path.text().as_str());
 }
 
-/// Bytes in upper-case hexadecimal digits, a dash where there are none.
+/// Bytes in upper-case hexadecimal digits, a dash if there are none.
 fn push_bytes(line: &mut ArrayString<1024>, bytes: &[u8])
     requires { length line.old.bytes + 2 * length bytes.now < 1024 }
     ensures { line.new.bytes ≡ line.old.bytes ++ hex_text bytes.now }

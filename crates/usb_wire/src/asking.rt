@@ -51,14 +51,14 @@ fn asked_in(text: &str) -> Option<Question>
     }
 }
 
-/// What stands before the first space, and behind it.
+/// What comes before the first space, and after it.
 fn cut_space(text: &str) -> Option<(&str, &str)>
     ensures { cut_at 32 text.now ≡ option_map (λ cut. (cut.0.now, cut.1.now)) result }
 {
     text.split_once(' ')
 }
 
-/// What stands before the first dot, and behind it.
+/// What comes before the first dot, and after it.
 fn cut_dot(text: &str) -> Option<(&str, &str)>
     ensures { cut_at 46 text.now ≡ option_map (λ cut. (cut.0.now, cut.1.now)) result }
 {
@@ -144,7 +144,7 @@ fn endpoint_in(word: &str) -> Option<Endpoint>
     })
 }
 
-/// The toggle and the digits of the host's data, behind a token and a space.
+/// The toggle and the digits of the host's data, after a token and a space.
 #[tactic(auto, unfolding(crate::specs::QuestionReading::data_behind))]
 fn data_behind(speed: Speed, text: &str) -> Option<(Toggle, &str)>
     ensures { data_behind speed text.now ≡ option_map (λ sent. (sent.0, sent.1.now)) result }
@@ -159,7 +159,7 @@ fn data_behind(speed: Speed, text: &str) -> Option<(Toggle, &str)>
     Some((toggle, digits))
 }
 
-/// What stands behind PRE, where it has to stand.
+/// What follows PRE, if it has to be there.
 #[tactic(auto, unfolding(crate::specs::QuestionReading::after_pre))]
 fn after_pre(speed: Speed, text: &str) -> Option<&str>
     ensures { after_pre speed text.now ≡ option_map (λ rest. rest.now) result }

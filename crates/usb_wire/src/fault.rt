@@ -1,7 +1,7 @@
 //! What is wrong with a line.
 use thiserror::Error;
 
-/// Why a line of the far end says nothing, in the order in which the reasons are told.
+/// Why a line of the controller side says nothing, in the order in which the reasons are reported.
 #[derive(Clone, Copy, Debug, PartialEq, Eq, Error)]
 pub enum WireFault {
     /// It has more than 1,024 bytes.
@@ -15,17 +15,18 @@ pub enum WireFault {
     /// whose request has some (9.3.1).
     #[error("no answer")]
     NoAnswer,
-    /// Where bytes stand is neither pairs of hexadecimal digits nor a dash.
+    /// In the place of bytes is neither pairs of hexadecimal digits nor a dash.
     #[error("bad hex")]
     BadHex,
-    /// There are more than 64 bytes of data, more than 500 to send, not 4 of a status, not 8 of
-    /// setup data, more than 480 to write, or not wLength of them.
+    /// There are over 64 bytes of data, 500 to send or 480 to write; not 4 of a status, 8 of setup
+    /// data, or wLength to write.
     #[error("bad length")]
     BadLength,
-    /// Where a number stands is none, or one that is out of its range.
+    /// In the place of a number is none, or one that is out of its range.
     #[error("bad number")]
     BadNumber,
-    /// Where a path stands is none: 1 to 7 numbers of ports, each 1 to 7, with dots between them.
+    /// In the place of a path is none: 1 to 7 numbers of ports, each 1 to 7, with dots between
+    /// them.
     #[error("bad path")]
     BadPath,
 }

@@ -14,7 +14,7 @@ use usb_port::PortPath;
 use usb_request::Setup;
 use usb_request::endpoint_address::DIRECTION_IN;
 
-/// At most so many bytes.
+/// At most this number of bytes.
 #[tactic(auto, unfolding(crate::specs::Reading::bytes_of_word))]
 pub(crate) fn bytes_of_word<const MOST: usize>(word: &str) -> Result<ArrayVec<u8, MOST>, WireFault>
     ensures { bytes_of_word MOST word.now ≡ result_map (λ b. b.items) result }
@@ -33,7 +33,7 @@ pub(crate) fn bytes_of_word<const MOST: usize>(word: &str) -> Result<ArrayVec<u8
     Ok(few_bytes(&decoded[..count]))
 }
 
-/// Decodes pairs of digits into so many bytes at the front, and says whether they are as many.
+/// Decodes pairs of digits into this number of bytes, and says whether they are that many.
 fn decode_into(word: &str, count: usize, decoded: &mut [u8]) -> bool
     requires { count ≤ length decoded.old }
     ensures { MatchResult (decode_sized word.now count)
@@ -42,7 +42,7 @@ fn decode_into(word: &str, count: usize, decoded: &mut [u8]) -> bool
     hex::decode_to_slice(word.as_bytes(), &mut decoded[..count]).is_ok()
 }
 
-/// At most so many bytes as they are.
+/// At most this number of bytes, as they are.
 pub(crate) fn few_bytes<const MOST: usize>(bytes: &[u8]) -> ArrayVec<u8, MOST>
     requires { length bytes.now ≤ MOST }
     ensures { result.items ≡ bytes.now }

@@ -1,4 +1,4 @@
-//! What the host asks the far end, and its lines.
+//! What the host asks the controller side, and its lines.
 ghost use Rattle.std.specs.Prelude.{◌≡◌, ◌++◌, ◌+◌, ◌≤◌, [], length};
 ghost use Rattle.usb_packet.specs.declared.Toggle.TheVariants.{Zero};
 ghost use Rattle.usb_packet.specs.Text.{hex_text};
@@ -29,7 +29,7 @@ pub struct DataPacket {
     pub bytes: ArrayVec<u8, 64>,
 }
 
-/// What the host asks: one attempt, one call at a root port, or what is wanted.
+/// What the host asks: one attempt, one call at a root port, or what is requested.
 #[derive(Debug, Drop)]
 pub enum Question {
     /// The first question, with the protocol's version.
@@ -68,7 +68,7 @@ pub enum Question {
         /// The call.
         call: PortCall,
     },
-    /// The host has nothing left to do, and asks what is wanted.
+    /// The host has nothing left to do, and asks what is requested.
     Wait,
 }
 
@@ -81,7 +81,7 @@ pub enum Asked {
     Attempt,
     /// That of a call at a root port.
     Port,
-    /// What may be wanted.
+    /// What may be requested.
     Wait,
 }
 
@@ -155,7 +155,7 @@ fn push_token(line: &mut ArrayString<700>, speed: Speed, kind: TokenKind, endpoi
     push_packet(line, &token);
 }
 
-/// What stands between a token and the host's data.
+/// What comes between a token and the host's data.
 fn push_between(line: &mut ArrayString<700>, speed: Speed)
     requires { length line.old.bytes ≤ 560 }
     ensures text { line.new.bytes ≡ line.old.bytes ++ between_text speed }

@@ -1,4 +1,4 @@
-//! What a line of the far end says.
+//! What a line of the controller side says.
 ghost use Rattle.std.specs.Prelude.{◌≡◌, IfOk, false};
 ghost use Rattle.usb_wire.specs.Answers.{IsSaidLine, MaySay};
 ghost use Rattle.usb_wire.specs.Faults.{line_fault};
@@ -33,11 +33,11 @@ const LINE_LIMIT: usize = 1024;
 /// - `LineTooLong`: it has more than 1,024 bytes.
 /// - `BadCharacter`: a byte is no printable ASCII.
 /// - `NoAnswer`: no answer to the question, and no status of a root port, has that first word and
-///   that number of words, or a `control` has BYTES and no request with bytes for the device, or
-///   none and such a request. Bit 7 of its first byte is clear, and wLength is not 0 (9.3.1).
+///   that number of words. Or the BYTES of a `control` do not fit its request. Bit 7 of its first
+///   byte is clear, and wLength is not 0 (9.3.1).
 /// - `BadHex`: in the place of bytes is neither pairs of hexadecimal digits nor a dash.
-/// - `BadLength`: there are more than 64 bytes of data, more than 500 to send, not 4 of a status,
-///   not 8 of setup data, more than 480 to write, or not wLength of them.
+/// - `BadLength`: there are over 64 bytes of data, 500 to send or 480 to write; not 4 of a status,
+///   8 of setup data, or wLength to write.
 /// - `BadNumber`: in the place of a number is none, or one out of its range.
 /// - `BadPath`: in the place of a path is none.
 pub fn read_said(asked: Asked, roots: u8, line: &[u8]) -> Result<Said, WireFault>

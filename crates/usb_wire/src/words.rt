@@ -31,7 +31,7 @@ pub(crate) fn words_of(line: &str) -> Words<'_>
     }
 }
 
-/// The first word, and what stands behind the space that follows it; None where there is one word.
+/// The first word, and what comes after the space that follows it; None if there is one word.
 fn first_word(line: &str) -> Option<(&str, &str)>
     ensures { MatchOption result (words line.now ≡ line.now ∷ [])
         (λ cut. words line.now ≡ cut.0.now ∷ words cut.1.now) }

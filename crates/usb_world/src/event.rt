@@ -136,7 +136,7 @@ pub enum Ask {
     Show,
     /// To send these bytes to the bulk endpoint of the device at a port (5.8).
     Send(PortPath, SentBytes),
-    /// To receive at most so many packets, 0 to 1,000, from the bulk endpoint of the device at a port (5.8).
+    /// To receive at most this number of packets, 0 to 1,000, from the bulk endpoint of the device at a port (5.8).
     Receive(PortPath, u16),
     /// To clear the halts of the bulk endpoints of the device at a port (9.4.1).
     Clear(PortPath),
@@ -170,7 +170,7 @@ impl Action {
         }
     }
 
-    /// What it asks, where it asks.
+    /// What it asks, if it asks.
     #[tactic(auto, unfolding(crate::specs::Steps::ask_of))]
     pub fn into_ask(self) -> Option<Ask>
         ensures { result ≡ ask_of self }

@@ -70,7 +70,7 @@ pub struct Exchange {
     pub answer: ExchangeAnswer,
     /// What damage did to the answer of one device.
     pub answer_mark: Mark,
-    /// The host's ACK, where it took data.
+    /// The host's ACK, if it took data.
     pub reply: Option<Outgoing>,
     /// A device did not see the ACK at which it was to take its address (9.4.6).
     pub address_lost: bool,
@@ -98,14 +98,12 @@ impl Exchange {
     }
 }
 
-/// Makes an attempt: the token, then the data, one of them; then what the host says to the answer.
-/// After it no device remembers a packet, also where memory was refused. Tells whether the devices
-/// that are reached, and all their addresses, are known to be as they were, but for those on a port
-/// of the device, by its number, and below it.
+/// Makes an attempt: the token, then the data, one of them; then what the host says to the answer. After it no device
+/// remembers a packet, also if memory was refused. Returns whether the devices that are reached, and all their
+/// addresses, are known to be as they were. Those on a port of the device, by its number, and below it are excepted.
 ///
-/// It goes straight to the device at a path, where no other reachable device holds the address: the
-/// others have nothing of it, so it costs the same in a large tree as in a small one. The empty path
-/// stands for the whole tree.
+/// It goes straight to the device at a path, if no other reachable device holds the address. The others have nothing of
+/// it, so it costs the same in a large tree as in a small one. The empty path stands for the whole tree.
 ///
 /// # Errors
 ///
@@ -170,8 +168,8 @@ fn exchange_whole(
     Ok(keeps_address(port, &side, attempt))
 }
 
-/// Whether a device that was at an attempt's address still is, and asked nothing of its ports that changes who
-/// is reached, but for those on its port of a number.
+/// Whether a device that was at an attempt's address still is, and asked nothing of its ports that changes who is
+/// reached. Those on its port of a number are excepted.
 fn keeps_address(port: u8, side: &DeviceSide, attempt: &Attempt) -> bool
     ensures { result ≡ keeps_address port side.now (attempt_data attempt.now).addr }
 {
@@ -221,7 +219,7 @@ fn exchange_by_packets(
 }
 
 /// Every device forgets what it remembers: all of them, or the one at a path where no other
-/// remembers anything; then its address is told.
+/// remembers anything; then its address is reported.
 fn end_attempt(roots: &mut Ports, path: &[u8]) -> Option<u8>
     requires { AloneAt None roots.old path.now }
     ensures over { roots.new ≡ all_forgotten roots.old }
@@ -249,7 +247,7 @@ fn is_deep(path: &[u8]) -> bool
     path.len() > 1
 }
 
-/// Sends the packets of an attempt, and notes what is answered. `quiet` tells whether what the
+/// Sends the packets of an attempt, and notes what is answered. `quiet` says whether what the
 /// device at the path asks of its ports is known to leave the same devices reached, but for those on
 /// its port of a number.
 fn send_packets(
@@ -334,7 +332,7 @@ fn answer_mark(harm: Option<Harm>, answer: &ExchangeAnswer) -> Mark
     }
 }
 
-/// A packet as damage leaves it, on its way to the devices; None where it is lost.
+/// A packet as damage leaves it, on its way to the devices; None if it is lost.
 fn goes_out<'a>(attempt: &Attempt, packet: &'a Outgoing) -> Option<LentPacket<'a>>
     requires fields { HasFields packet.now.packet }
     requires bit { has_its_bit packet.now.mark packet.now.packet ≡ true }
@@ -365,7 +363,7 @@ fn broken<'a>(speed: Speed, packet: &Packet, bit: u16) -> LentPacket<'a>
     }
 }
 
-/// The same, where there is a packet.
+/// The same, if there is a packet.
 fn some_goes_out<'a>(attempt: &Attempt, packet: &'a Option<Outgoing>) -> Option<LentPacket<'a>>
     requires fields { IfSome packet.now (λ s. HasFields s.packet) }
     requires bit { IfSome packet.now (λ s. has_its_bit s.mark s.packet ≡ true) }
@@ -396,7 +394,7 @@ fn send(
 }
 
 /// Whether a hub will clear a change of connection of one of its ports at what goes out. `quiet`
-/// tells whether what the device at the path asks of its ports is known to leave the same devices
+/// says whether what the device at the path asks of its ports is known to leave the same devices
 /// reached, but for those on its port of a number.
 #[tactic(auto, using(crate::proofs::ways::Routes::route_clears))]
 fn clears_change(
@@ -440,7 +438,7 @@ fn has_loss(roots: &Ports, path: &[u8]) -> bool
     }
 }
 
-/// Sends the host's ACK, where there is one, and tells whether a device did not read it that awaits
+/// Sends the host's ACK, if there is one, and returns whether a device did not read it that awaits
 /// it to take its address.
 #[tactic(auto, using(crate::proofs::ways::Routes::alone_less))]
 fn send_reply(
@@ -467,7 +465,7 @@ fn send_reply(
     }
 }
 
-/// The same, where there is one.
+/// The same, if there is one.
 fn acknowledge(
     roots: &mut Ports,
     path: &[u8],
@@ -518,7 +516,7 @@ fn put_token(attempt: &Attempt, damage: Option<Damage>, token: &mut Outgoing)
     token.mark = mark_of(harm_to(damage, 1), to.speed.has_pre(), &token.packet);
 }
 
-/// The token, where it is not damaged.
+/// The token, if it is not damaged.
 #[tactic(auto, unfolding(crate::specs::Exchanges::token_of, crate::specs::Wire::marked, crate::specs::Wire::harm_to, crate::specs::Wire::mark_of))]
 fn put_whole_token(attempt: &Attempt, token: &mut Outgoing)
     requires { IsAttempt (attempt_data attempt.now) }
@@ -534,7 +532,7 @@ fn put_whole_token(attempt: &Attempt, token: &mut Outgoing)
     token.mark = Mark::Whole;
 }
 
-/// The host's data, where it sends some and they are not damaged.
+/// The host's data, if it sends some and they are not damaged.
 #[tactic(auto, unfolding(crate::specs::Exchanges::payload_of, crate::specs::Wire::marked_some, crate::specs::Wire::marked, crate::specs::Wire::harm_to, crate::specs::Wire::mark_of, crate::specs::Wire::has_its_bit))]
 fn put_whole_payload(attempt: &Attempt, payload: &mut Option<Outgoing>)
     ensures value { payload.new ≡ marked_some None 2 (attempt_data attempt.now).pre
@@ -570,7 +568,7 @@ fn whole_data(toggle: Toggle, bytes: &[u8]) -> Outgoing
     }
 }
 
-/// The host's data as damage leaves them, where it sends some.
+/// The host's data as damage leaves them, if it sends some.
 #[tactic(auto, unfolding(crate::specs::Exchanges::payload_of, crate::specs::Wire::marked_some))]
 fn put_payload(attempt: &Attempt, damage: Option<Damage>, payload: &mut Option<Outgoing>)
     ensures value { payload.new ≡ marked_some damage 2 (attempt_data attempt.now).pre
@@ -627,7 +625,7 @@ fn is_acknowledged(answer: &ExchangeAnswer, mark: Mark, attempt: &Attempt) -> bo
     }
 }
 
-/// The host's ACK as damage leaves it, where it answers by one.
+/// The host's ACK as damage leaves it, if it answers by one.
 #[tactic(auto, unfolding(crate::specs::Wire::marked_some))]
 fn put_reply(
     attempt: &Attempt,
@@ -649,7 +647,7 @@ fn put_reply(
     }
 }
 
-/// What an attempt gives the host: data of at most `max` bytes, or a handshake, where it reads the
+/// What an attempt gives the host: data of at most `max` bytes, or a handshake, if it reads the
 /// answer.
 #[tactic(auto, unfolding(crate::specs::Exchanges::outcome_of))]
 pub fn outcome_of(answer: &ExchangeAnswer, mark: Mark, max: u8) -> Outcome

@@ -52,8 +52,8 @@ pub fn events_are_pending()
         → UndisturbedOrPends w v p }
 {}
 
-/// A port that is powered on its whole way, and of which nothing is asked: it stands as it stood, with the same
-/// device or none, reached as it was; or a change of connection is pending on its way.
+/// A port that is powered on its whole way, and of which nothing is asked, is as it was, with the same device or none,
+/// reached as it was. Or a change of connection is pending on its way.
 pub fn a_port_rests_or_is_pending()
     ensures rests { (p : List ℕ) (w v : World) → Course (LeavesPortAlone p) w v
         → has_power w.roots p ≡ true → UnchangedOrPending w v p }
@@ -64,9 +64,9 @@ pub fn a_port_rests_or_is_pending()
         → SameDeviceOrPending w v p }
 {}
 
-/// An attempt, where no address is held twice: each device that is reachable after it was reachable before, and did
-/// what its law says, if the attempt was for it; nothing, if not (8.5). Setup data may besides reset a device: of
-/// these nothing is said here.
+/// This is of an attempt, if no address is held twice (8.5). Each device that is reachable after it was reachable
+/// before. It did what its law says if the attempt was for it, and else nothing. Setup data may besides reset a device:
+/// of these nothing is said here.
 pub fn what_an_attempt_does_to_a_device()
     ensures into { (a : Attempt) (w : World) → IsMade a w → IsIn a
         → (after (attempt a) w).shared ≡ false → EachWas (DidIn a w) w (after (attempt a) w) }
@@ -80,16 +80,16 @@ pub fn what_an_attempt_does_to_a_device()
         → state_on (after (attempt a) w).roots x ≡ Some s → Was (DidSetup a bytes w) w x s }
 {}
 
-/// The addresses stay, and nothing is shared, over a course of control transfers: steps that neither reset a device
-/// nor give one an address, whatever is lost and whatever is plugged.
+/// The addresses stay, and nothing is shared, over a course of control transfers, whatever is lost and whatever is
+/// plugged. Its steps neither reset a device nor give one an address.
 pub fn control_courses_keep_addresses()
     ensures { (f : List ℕ → Option ℕ) → Injective f → (w v : World) → Course GivesNoAddress w v
         → IsSettled w.roots → HoldsMapped f w → w.shared ≡ false
         → HoldsMapped f v × (v.shared ≡ false) × IsSettled v.roots }
 {}
 
-/// Where no address is held twice, at most one device answers an attempt, whatever is damaged; so no line of the
-/// trace tells of a collision.
+/// If no address is held twice, at most one device answers an attempt, whatever is damaged; so no line of the
+/// trace reports a collision.
 pub fn one_device_at_most_answers()
     ensures answers { (a : Attempt) (d : Option Damage) (k : Ports) → IsAttempt a → IsSettled k
         → repeats (held_addresses k) ≡ false
@@ -114,7 +114,7 @@ pub fn plugged_is_what_the_events_left()
         ≡ device_indexed plan.devices (index_at (plugged_by [] (take w.taken plan.events)) path) }
 {}
 
-/// Where no event between two worlds named a path or a port on its way, what is plugged there, and on the way, is
+/// If no event between two worlds named a path or a port on its way, what is plugged there, and on the way, is
 /// the same.
 pub fn undisturbed_keeps_what_is_plugged()
     ensures there { (p : List ℕ) (w v : World) → Course AnyStep w v → Undisturbed w v p
@@ -126,8 +126,8 @@ pub fn undisturbed_keeps_what_is_plugged()
         → Undisturbed w v x }
 {}
 
-/// Ports are consistent in a plan's world before anything came, and every step keeps them so; and in consistent ports
-/// each device that is plugged has as many ports as its description says.
+/// Ports are consistent in a plan's world before anything came, and every step keeps them so. In consistent ports each
+/// device that is plugged has the number of ports that its description says.
 pub fn devices_have_their_ports()
     ensures opening { (plan : PlanData) → IsPlan plan → WorldInvariant (opening plan) }
     ensures kept { (w v : World) → Course AnyStep w v → WorldInvariant w → WorldInvariant v }

@@ -2,7 +2,7 @@
 ghost use Rattle.std.specs.Prelude.{◌≡◌, ◌+◌, ◌<◌, ◌^◌};
 ghost use Rattle.usb_world.specs.Losses.{no_losses, one_more, counted, after_clearing};
 
-/// Address losses. A stretch of them begins where a change of connection is cleared.
+/// Address losses. A stretch of them begins when a change of connection is cleared.
 #[derive(Clone, Copy, Debug)]
 pub struct Losses {
     /// How many in all.
@@ -39,7 +39,7 @@ impl Losses {
         }
     }
 
-    /// A new stretch where a change of connection is cleared.
+    /// A new stretch when a change of connection is cleared.
     pub fn after_clearing(self, cleared: bool) -> Self
         ensures { result ≡ after_clearing cleared self }
     {
@@ -50,7 +50,7 @@ impl Losses {
         }
     }
 
-    /// Counts what an attempt did: a new stretch where it cleared a change of connection, then one more where an address
+    /// Counts what an attempt did: a new stretch if it cleared a change of connection, then one more if an address
     /// was lost.
     pub fn count(&mut self, cleared: bool, lost: bool)
         requires all { self.old.all + 1 < 2 ^ 32 }

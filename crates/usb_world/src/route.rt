@@ -1,4 +1,4 @@
-//! The way of an attempt: straight to the device that holds its address, where one does.
+//! The way of an attempt: straight to the device that holds its address, if one does.
 ghost use Rattle.std.specs.Prelude.{◌≡◌, ◌≤◌, ◌++◌, ◌∷◌, [], length, true, IfOk, OnOk, OnErr};
 ghost use Rattle.usb_device.specs.HolderIndex.{IsIndexOf};
 ghost use Rattle.usb_world.specs.PlainAttempts.{attempt_data};
@@ -21,12 +21,12 @@ use usb_request::request_code::{CLEAR_FEATURE, SET_CONFIGURATION, SET_FEATURE};
 use usb_request::request_type::{DEVICE_OUT, PORT_OUT};
 
 /// Makes an attempt: the token, then the data, one of them; then what the host says to the answer.
-/// After it no device remembers a packet, also where memory was refused.
+/// After it no device remembers a packet, also if memory was refused.
 ///
 /// `holders` is the index of the tree, before the attempt and after it. It goes straight to the
-/// device that holds its address, or to none; where some address is held twice, through the whole
-/// tree. Where it is seen to come that the device takes another address, or changes who is reached
-/// below it, the index is written there alone; else it is made anew where it may have changed.
+/// device that holds its address, or to none; if some address is held twice, through the whole
+/// tree. If it is foreseen that the device takes another address, or changes who is reached below
+/// it, the index is written there alone. Else it is made anew if it may have changed.
 ///
 /// # Errors
 ///
@@ -80,7 +80,7 @@ pub fn make_exchange_by(
     }
 }
 
-/// Makes the index anew behind an attempt, unless that is known to have left it as it was.
+/// Makes the index anew after an attempt, unless that is known to have left it as it was.
 fn renew_unless_kept(made: &Result<bool, AllocError>, roots: &Ports, holders: &mut Holders)
     requires { IfOk made.now (λ kept. kept ≡ true → IsIndexOf holders.old roots.now) }
     ensures { IsIndexOf holders.new roots.now }
@@ -182,7 +182,7 @@ enum Change {
     AtPort(u8),
 }
 
-/// An IN of endpoint 0 at address 0 may end SET_ADDRESS (9.4.6), and SET_CONFIGURATION turns all
+/// An IN of endpoint 0 at address 0 may end SET_ADDRESS (9.4.6), and SET_CONFIGURATION resets all
 /// ports off (9.4.7).
 fn change_of(attempt: &Attempt, roots: &Ports, way: &[u8]) -> Change {
     match attempt {
@@ -239,7 +239,7 @@ fn copied(path: &[u8]) -> ArrayVec<u8, 8>
 }
 
 /// The path of the one device that holds an attempt's address; the empty path, which stands for the
-/// whole tree, where none is known.
+/// whole tree, if none is known.
 fn way<'a>(holders: &'a Holders, attempt: &Attempt) -> &'a [u8]
     ensures value { result.now ≡ way_in holders.now (attempt_data attempt.now).addr }
     ensures most { length result.now ≤ 8 }

@@ -14,7 +14,7 @@ pub struct Destination {
     pub address: u8,
     /// The endpoint's number, 0 to 15.
     pub number: u8,
-    /// How fast the device is, and whether it stands below a hub (8.6.5).
+    /// How fast the device is, and whether it is below a hub (8.6.5).
     pub speed: Speed,
     /// The endpoint's maximum packet in bytes, 1 to 64.
     pub max: u8,
@@ -85,7 +85,7 @@ pub enum Outcome {
     Nothing,
 }
 
-/// Why a bus makes no more steps, in the order in which the reasons are told.
+/// Why a bus has failed, in the order in which the reasons are reported.
 #[derive(Clone, Copy, Debug, PartialEq, Eq, Error)]
 pub enum BusFault {
     /// The attempts made equal the limit.
@@ -94,7 +94,7 @@ pub enum BusFault {
     /// Memory was refused.
     #[error("out of memory")]
     Memory,
-    /// The bus itself failed: the trace's writer of a simulated one, the far end of one behind two pipes, the
+    /// The bus itself failed: the trace's writer of a simulated one, the controller side of one over two pipes, the
     /// controller of a real one.
     #[error("trace failed")]
     Failed,

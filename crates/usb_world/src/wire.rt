@@ -82,7 +82,7 @@ fn bit_count(packet: &Packet) -> usize
     }
 }
 
-/// The mark that a harm leaves: none where the packet has no PRE, or has not the bit.
+/// The mark that a harm leaves: none if the packet has no PRE, or has not the bit.
 #[tactic(auto, unfolding(crate::specs::Wire::mark_of, crate::specs::Wire::has_its_bit))]
 pub(crate) fn mark_of(harm: Option<Harm>, pre: bool, packet: &Packet) -> Mark
     ensures value { result ≡ mark_of harm pre packet.now }

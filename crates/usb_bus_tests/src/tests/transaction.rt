@@ -47,9 +47,9 @@ struct Row {
     keys: &'static str,
     damages: &'static str,
     steps: &'static [Step],
-    /// Whether the trace is told too.
+    /// Whether the trace is reported too.
     traced: bool,
-    /// A line for each step: the bytes or the fault, the toggle behind it, and the attempts made by then; what the
+    /// A line for each step: the bytes or the fault, the toggle after it, and the attempts made by then; what the
     /// bulk OUT endpoint took; and the trace.
     told: &'static str,
 }
@@ -137,7 +137,7 @@ fn text_of(alloc: Global, answer: Result<Option<Done>, TransFault>) -> Result<St
     }
 }
 
-/// The line that a step tells.
+/// The line that a step reports.
 fn line_of(
     alloc: Global,
     bus: &mut SimBus<Tracer<Vec<u8>>>,
@@ -148,7 +148,7 @@ fn line_of(
     format!(in alloc; "{answer} {toggle:?} {}\n", bus.attempts())
 }
 
-/// The line that tells what the bulk OUT endpoint took.
+/// The line that reports what the bulk OUT endpoint took.
 fn sink_line(alloc: Global, bus: &SimBus<Tracer<Vec<u8>>>) -> Result<String, AllocError> {
     let path = PortPath::root(1).unwrap();
     let taken = hex_of(alloc, bus.sink(&path).unwrap_or(&[]))?;
@@ -168,7 +168,7 @@ fn lines_of(
     Ok(lines)
 }
 
-/// What a row's function tells.
+/// What a row's function reports.
 fn told_by(alloc: Global, row: &Row) -> Result<String, Fail> {
     let text = plan_text(alloc, row.limit, &[FUNCTION, row.keys, row.damages])?;
     let mut bus = plugged(alloc, text.as_str())?;

@@ -1,4 +1,4 @@
-//! What is written of real devices is an entry of a plan with just their bytes, and what is no device is told.
+//! What is written of real devices is an entry of a plan with exactly their bytes, and what is no device is reported.
 mod faults;
 mod plans;
 mod tables;
@@ -6,7 +6,7 @@ mod writers;
 
 use std::alloc::{AllocError, Global};
 
-/// The bytes that these digits spell, one text behind the other; none where they are no digits.
+/// The bytes that these digits spell, one text after the other; none if they are no digits.
 pub(crate) fn bytes_of(alloc: Global, digits: &[&str]) -> Result<Vec<u8>, AllocError> {
     let text = digits.concat(alloc)?;
     match hex::decode(alloc, text.as_str()) {

@@ -6,7 +6,7 @@ use usb_port::PortPath;
 use usb_sim::{SimBus, Tracer};
 use usb_testbus::{bus_of, plan_text};
 
-/// A hub with a function at its first port, their plugs, and damage behind the attempts that find them: an acknowledged
+/// A hub with a function at its first port, their plugs, and damage after the attempts that find them: an acknowledged
 /// SETUP that the host does not see, and an IN that never comes.
 const PLAN: &str = "[[device]]
 name = \"hub\"
@@ -47,7 +47,7 @@ packet = 1
 how = \"lose\"
 ";
 
-/// A read, what it tells, and the attempts made so far.
+/// A read, what it reports, and the attempts made so far.
 struct Row {
     about: &'static str,
     path: &'static str,
@@ -160,7 +160,7 @@ fn settled(alloc: Global) -> Result<TestHost, Fail> {
     Ok(host)
 }
 
-/// What a read tells: its bytes in hexadecimal digits, or its fault.
+/// What a read reports: its bytes in hexadecimal digits, or its fault.
 fn told(alloc: Global, host: &mut TestHost, row: &Row) -> Result<String, Fail> {
     let setup = Setup::from_bytes(row.setup);
     let Some(path) = PortPath::from_text(row.path) else {

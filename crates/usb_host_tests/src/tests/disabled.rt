@@ -1,4 +1,4 @@
-//! Root port 1 is disabled behind the host's back: what the call behind it tells, and what is known then.
+//! Root port 1 is disabled behind the host's back: what the call after it reports, and what is known then.
 use std::alloc::{AllocError, Global};
 use std::str;
 use std::test::Fail;
@@ -67,7 +67,7 @@ struct Row {
     lines: usize,
     /// The calls once the port is disabled.
     calls: &'static [Call],
-    /// What they tell, each attempt of theirs, and what is known at last.
+    /// What they report, each attempt of theirs, and what is known at last.
     told: &'static str,
 }
 
@@ -162,7 +162,7 @@ Err(Transfer(NoAnswer))
 
 type TestHost = Host<SimBus<Tracer<Vec<u8>>>>;
 
-/// A host that has made so many rounds since the first event came.
+/// A host that has made n rounds since the first event came.
 fn host_for(alloc: Global, row: &Row) -> Result<TestHost, Fail> {
     let text = plan_text(alloc, 10000, &[row.devices])?;
     let mut host = Host::new(alloc, bus_of(alloc, text.as_str())?);
@@ -181,7 +181,7 @@ fn disable(bus: &mut SimBus<Tracer<Vec<u8>>>) {
     bus.root_clear(1, PORT_ENABLE);
 }
 
-/// What a call tells; of a receive that is done nothing.
+/// What a call reports; of a receive that is done nothing.
 fn call_told(alloc: Global, host: &mut TestHost, call: Call) -> Result<String, AllocError> {
     let Some(path) = PortPath::root(1) else {
         return Ok(String::new(alloc));
@@ -224,7 +224,7 @@ fn known(alloc: Global, host: &TestHost) -> Result<String, HostFault> {
     Ok(text)
 }
 
-/// The lines of a trace behind so many.
+/// The lines of a trace after n.
 fn lines_behind(alloc: Global, trace: &[u8], count: usize) -> Result<String, AllocError> {
     let mut text = String::new(alloc);
     for line in str::from_utf8(trace).unwrap_or("").lines().skip(count) {
@@ -234,7 +234,7 @@ fn lines_behind(alloc: Global, trace: &[u8], count: usize) -> Result<String, All
     Ok(text)
 }
 
-/// What is told and known once the port is disabled, and the attempts between.
+/// What is reported and known once the port is disabled, and the attempts between.
 fn told(alloc: Global, row: &Row) -> Result<String, Fail> {
     let mut host = host_for(alloc, row)?;
     disable(host.bus_mut());

@@ -121,7 +121,7 @@ fn put_device(alloc: Global, text: &mut String, device: &Accepted) -> Result<(),
     Ok(())
 }
 
-/// What a copy of a finding tells.
+/// What a copy of a finding reports.
 fn finding_told(alloc: Global, finding: &Finding) -> Result<String, Fail> {
     let mut text = String::new(alloc);
     match finding.try_clone(alloc)? {
@@ -154,7 +154,7 @@ fn found(alloc: Global, bus: &mut SimBus<Tracer<Vec<u8>>>, supply: u16) -> Resul
     Ok(format!(in alloc; "{text}; {attempts} attempts, enabled: {enabled}, next address {next}")?)
 }
 
-/// The same, where the device is plugged if the port has power.
+/// The same; the device is plugged if the port has power.
 fn found_for(alloc: Global, bus: &mut SimBus<Tracer<Vec<u8>>>, row: &Row) -> Result<String, Fail> {
     if row.powered {
         power(bus)?;

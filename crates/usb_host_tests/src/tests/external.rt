@@ -67,7 +67,8 @@ enum Call {
     Port(u8),
 }
 
-/// Calls on a hub, and what each tells: the bits of a status, the bytes that were read, or a fault.
+/// Calls on a hub, and what each reports: the bits of a status, the bytes that were read, or a
+/// fault.
 struct Row {
     hub: &'static str,
     calls: &'static [(Call, &'static str)],
@@ -194,7 +195,7 @@ fn told(
     }
 }
 
-/// The first call of a row that tells something else, and what it tells.
+/// The first call of a row that reports something else, and what it reports.
 fn first_other(
     alloc: Global,
     bus: &mut SimBus<Tracer<Vec<u8>>>,

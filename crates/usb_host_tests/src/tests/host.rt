@@ -31,9 +31,9 @@ enum Step {
     Round,
     /// The next event of the plan comes.
     Event,
-    /// The attempts made so far are told.
+    /// The attempts made so far are reported.
     Attempts,
-    /// The paths and the findings are told.
+    /// The paths and the findings are reported.
     Tree,
 }
 
@@ -43,7 +43,7 @@ struct Row {
     /// The device's speed.
     speed: &'static str,
     steps: &'static [Step],
-    /// What the steps tell, and how many attempts the bus has made at last.
+    /// What the steps report, and how many attempts the bus has made at last.
     told: &'static str,
 }
 
@@ -98,7 +98,7 @@ fn put_entries(text: &mut String, entries: &[(PortPath, Finding)]) -> Result<(),
     Ok(())
 }
 
-/// Adds what a step tells.
+/// Adds what a step reports.
 fn put_step(text: &mut String, host: &mut TestHost, step: Step) -> Result<(), Fail> {
     match step {
         Step::Round => write!(text, "{:?}; ", host.round())?,
@@ -115,7 +115,7 @@ fn put_step(text: &mut String, host: &mut TestHost, step: Step) -> Result<(), Fa
     Ok(())
 }
 
-/// What the steps tell.
+/// What the steps report.
 fn steps_told(alloc: Global, host: &mut TestHost, steps: &[Step]) -> Result<String, Fail> {
     let mut text = String::new(alloc);
     for step in steps {
@@ -124,7 +124,7 @@ fn steps_told(alloc: Global, host: &mut TestHost, steps: &[Step]) -> Result<Stri
     Ok(text)
 }
 
-/// What the steps of a row tell, and how many attempts were made at last.
+/// What the steps of a row report, and how many attempts were made at last.
 fn told(alloc: Global, row: &Row) -> Result<String, Fail> {
     let mut host = host_for(alloc, row)?;
     let text = steps_told(alloc, &mut host, row.steps);

@@ -53,7 +53,7 @@ enum Call {
     Text,
 }
 
-/// A call, and what it tells: the bits of the status, the bytes that were read, or a fault.
+/// A call, and what it reports: the bits of the status, the bytes that were read, or a fault.
 struct Row {
     call: Call,
     told: &'static str,
@@ -227,7 +227,7 @@ fn told(
     }
 }
 
-/// The first call that tells something else than its row, and what it tells.
+/// The first call that reports something else than its row, and what it reports.
 fn first_other(
     alloc: Global,
     bus: &mut SimBus<Tracer<Vec<u8>>>,

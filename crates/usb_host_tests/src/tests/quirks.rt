@@ -1,6 +1,6 @@
-//! A hub with one device, which is listed, tells a change; the host clears it, or drops a hub that does not or refuses
-//! its status, and comes to rest. A device at another port stays listed. So it is too where a root port tells a change
-//! for good.
+//! A hub with one device, which is listed, reports a change; the host clears it, or drops a hub that does not or
+//! refuses its status, and comes to rest. A device at another port stays listed. So it is too where a root port reports
+//! a change for good.
 mod held;
 mod quirk;
 
@@ -48,14 +48,14 @@ after = 0
 struct Row {
     about: &'static str,
     tells: Told,
-    /// What is told once the hub has told that.
+    /// What is reported once the hub has reported that.
     told: &'static str,
 }
 
 /// All devices are listed; the change was cleared, and the port passes packets on.
 const CLEARED: &str = "quiet, 1 device, 1.1 device, 2 device; cleared 1, disabled false";
 
-/// The hub is dropped behind one try.
+/// The hub is dropped after one try.
 const DROPPED: &str = "quiet, 1 lost, 2 device; cleared 1, disabled false";
 
 /// The hub is dropped with no try.
@@ -132,7 +132,7 @@ fn put_settled(text: &mut String, host: &mut TestHost) -> Result<(), Fail> {
     Ok(())
 }
 
-/// What is told before the change and after it, how often it was cleared, and whether the port is disabled at last.
+/// What is reported before the change and after it, how often it was cleared, and whether the port is disabled at last.
 fn told(alloc: Global, row: &Row) -> Result<String, Fail> {
     let plan = format!(in alloc; "limit = 100000\nroots = 2\n{PLAN}{BESIDE}")?;
     let mut bus = bus_of(alloc, plan.as_str())?;

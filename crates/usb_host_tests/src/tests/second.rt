@@ -43,7 +43,7 @@ after = 90000
 
 struct Row {
     about: &'static str,
-    /// The attempts behind which the first host's bus fails.
+    /// The attempts after which the first host's bus fails.
     attempts: u64,
     first: &'static str,
 }
@@ -104,7 +104,7 @@ fn put_settled<B: Bus>(text: &mut String, host: &mut Host<B>) -> Result<(), Fail
     Ok(())
 }
 
-/// What the first host tells, and then the second one.
+/// What the first host reports, and then the second one.
 fn told(alloc: Global, row: &Row) -> Result<String, Fail> {
     let mut bus = untraced_of(alloc, PLAN)?;
     bus.apply_next_event()?;

@@ -1,5 +1,5 @@
-//! Descriptors read: what each reader tells of bytes, the first fault among it, and the items of a
-//! configuration.
+//! Descriptors read: what each reader reports of bytes, the first fault among it, and the items of
+//! a configuration.
 use arrayvec::ArrayVec;
 use usb_descriptor::DescriptorFault::{
     Length, MaxPacket, NoConfiguration, Short, Total, WrongType,
@@ -35,10 +35,10 @@ const HUB: &[u8] = &[
 /// A configuration with one item, neither an interface nor an endpoint.
 const OTHER: &[u8] = &[9, 2, 12, 0, 0, 1, 0, 0, 0, 3, 0x24, 7];
 
-/// Numbers that a reader tells.
+/// Numbers that a reader reports.
 type Numbers = ArrayVec<u16, 14>;
 
-/// The numbers as a list, empty where they are more than it holds.
+/// The numbers as a list, empty if they are more than it holds.
 fn list(numbers: &[u16]) -> Numbers {
     let mut list = ArrayVec::new();
     let _ = list.try_extend_from_slice(numbers);
@@ -169,7 +169,7 @@ fn told_by(reader: Reader, bytes: &[u8]) -> Result<Numbers, DescriptorFault> {
     }
 }
 
-/// Bytes, and what the reader tells of them: numbers, or the first fault.
+/// Bytes, and what the reader reports of them: numbers, or the first fault.
 const READINGS: &[(Reader, &[u8], Result<&[u16], DescriptorFault>)] = &[
     (
         Reader::DeviceHead,
@@ -331,7 +331,7 @@ fn readings(rt: HostRuntime) {
     }
 }
 
-/// What an item of a configuration and its view tell.
+/// What an item of a configuration and its view report.
 #[derive(Drop)]
 struct ItemTold {
     item: &'static [u8],
@@ -394,7 +394,7 @@ fn endpoint_numbers(endpoint: &EndpointView<'_>) -> Numbers {
     ])
 }
 
-/// The item of this place from 0, None behind the last.
+/// The item of this place from 0, None after the last.
 fn told_at(config: &'static [u8], place: u8) -> Option<ItemTold> {
     let config = read_config(config).ok()?;
     let mut items = config.items();
@@ -405,7 +405,7 @@ fn told_at(config: &'static [u8], place: u8) -> Option<ItemTold> {
     Some(item_told(&item))
 }
 
-/// An item by its place from 0; behind the last there are no bytes.
+/// An item by its place from 0; after the last there are no bytes.
 struct ItemRow {
     config: &'static [u8],
     place: u8,

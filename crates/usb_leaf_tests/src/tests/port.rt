@@ -132,7 +132,7 @@ fn a_status_read(rt: HostRuntime) {
 }
 
 /// A feature, whether a call sets it, and whether the call that clears it clears a change of
-/// connection; None where no call clears it.
+/// connection; None if no call clears it.
 const FEATURES: &[(u16, bool, Option<bool>)] = &[
     (0, false, None),
     (1, false, Some(false)),
@@ -153,7 +153,7 @@ fn calls_by_their_features(rt: HostRuntime) {
     }
 }
 
-/// The text of the path, empty where there is none.
+/// The text of the path, empty if there is none.
 fn text_of(path: Option<PortPath>) -> ArrayString<13> {
     match path {
         Some(path) => path.text(),
@@ -161,7 +161,7 @@ fn text_of(path: Option<PortPath>) -> ArrayString<13> {
     }
 }
 
-/// A text, and that of the path that it spells, empty where it spells none.
+/// A text, and that of the path that it spells, empty if it spells none.
 const TEXTS: &[(&str, &str)] = &[
     ("1", "1"),
     ("7", "7"),
@@ -297,7 +297,7 @@ enum Relation {
     Below,
 }
 
-/// Whether the one path is that to the other; None where a text spells no path.
+/// Whether the one path is that to the other; None if a text spells no path.
 fn holds(path: &str, relation: Relation, other: &str) -> Option<bool> {
     let path = PortPath::from_text(path)?;
     let other = PortPath::from_text(other)?.duplicate();

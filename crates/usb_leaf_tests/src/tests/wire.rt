@@ -1,4 +1,4 @@
-//! The lines of a host and its far end: questions, what is said to them, and lines that say nothing.
+//! The lines of a host and its controller side: questions, what is said to them, and lines that say nothing.
 use arrayvec::{ArrayString, ArrayVec};
 use std::fmt::Write;
 use usb_packet::Toggle;
@@ -184,7 +184,7 @@ fn lines_that_ask_nothing(rt: HostRuntime) {
     }
 }
 
-/// A line that is said behind a question where there are three root ports, and the line that is written of what it
+/// A line that is said after a question where there are three root ports, and the line that is written of what it
 /// says.
 struct SaidRow {
     asked: Asked,
@@ -312,7 +312,7 @@ fn lines_that_are_said(rt: HostRuntime) {
     }
 }
 
-/// A line that says nothing behind a question where there are three root ports, and its fault.
+/// A line that says nothing after a question where there are three root ports, and its fault.
 struct FaultRow {
     asked: Asked,
     line: &'static [u8],
@@ -545,7 +545,7 @@ fn long_lines(rt: HostRuntime) {
     }
 }
 
-/// How many bytes are to be sent, and the fault that is told of the line.
+/// How many bytes are to be sent, and the fault that is reported of the line.
 const SENDS: &[(usize, Option<WireFault>)] = &[
     (64, None),
     (65, None),
@@ -571,7 +571,7 @@ fn transfers_that_are_wanted(rt: HostRuntime) {
     }
 }
 
-/// How many bytes are to be written, by wLength and in fact, and the fault that is told of the line.
+/// How many bytes are to be written, by wLength and in fact, and the fault that is reported of the line.
 const WRITES: &[(&str, usize, Option<WireFault>)] = &[
     (
         "control 1.2.3.4.5.6.7 40010000000040E0 ",

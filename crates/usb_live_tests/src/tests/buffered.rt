@@ -1,4 +1,4 @@
-//! A host before the far end that plays a plan, where each side sees of the other what that one has flushed.
+//! A host against the controller side that plays a plan, where each side sees of the other what that one has flushed.
 use std::alloc::{AllocError, Global};
 use std::cell::RefCell;
 use std::io::{Error, ErrorKind, Read, Write};
@@ -34,7 +34,7 @@ do = "clear"
 path = "1"
 "#;
 
-/// What the host tells of that.
+/// What the host reports of that.
 const TOLD: &str = "listing 1\n\
                     1 address 1 full 120100020000004034127856000100000001\n\
                     1 config 0 0902120001010080320904000000FF000000 *\n\
@@ -74,22 +74,22 @@ impl Write for Buffered {
     }
 }
 
-/// A far end, and the lines between it and a host.
+/// A controller side, and the lines between it and a host.
 #[derive(Drop)]
 struct Link {
     alloc: Global,
     far: FarEnd<Tracer<Vec<u8>>>,
     /// What the host has written since it flushed.
     waiting: Vec<u8>,
-    /// What the far end has flushed, and how much of that was read.
+    /// What the controller side has flushed, and how much of that was read.
     answers: Vec<u8>,
     read: usize,
-    /// What the host has told.
+    /// What the host has reported.
     told: Vec<u8>,
 }
 
 impl Link {
-    /// The far end reads the lines that the host has flushed.
+    /// The controller side reads the lines that the host has flushed.
     fn take(&mut self) -> io::Result<()> {
         let lines = mem::replace(&mut self.waiting, Vec::new(self.alloc));
         let mut reader = Watched::new(lines.as_slice());

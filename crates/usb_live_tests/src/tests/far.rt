@@ -1,4 +1,4 @@
-//! A test is a loop over rows: what a host says, and what the far end of a plan says to it.
+//! A test is a loop over rows: what a host says, and what the controller side of a plan says to it.
 use std::alloc::{AllocError, Global};
 use std::io;
 use std::io::{Error, ErrorKind, Read, Write};
@@ -161,7 +161,7 @@ struct Row {
     ended: Result<(), (u64, FarFault)>,
 }
 
-/// A course with each question, a push before some answers, and told lines.
+/// A course with each question, a push before some answers, and reported lines.
 const COURSE: Row = Row {
     plan: PLAN,
     host: "usbplan live 1\n\
@@ -391,7 +391,7 @@ struct Played {
     ended: Result<(), (u64, FarFault)>,
 }
 
-/// What is written to a writer that fails behind so many writes, of what a reader gives.
+/// What is written to a writer that fails after n writes, of what a reader gives.
 fn play<R: Read + Drop>(
     alloc: Global,
     plan: &str,
@@ -414,7 +414,7 @@ fn play<R: Read + Drop>(
     })
 }
 
-/// A writer that fails behind so many writes.
+/// A writer that fails after n writes.
 #[derive(Drop)]
 struct Frail {
     taken: Vec<u8>,
@@ -436,7 +436,7 @@ impl Write for Frail {
     }
 }
 
-/// A reader that fails behind a text.
+/// A reader that fails after a text.
 #[derive(Drop)]
 struct Torn(&'static [u8]);
 
@@ -459,7 +459,7 @@ fn courses(rt: HostRuntime) -> Result<(), Fail> {
     Ok(())
 }
 
-/// A told line may be longer than any other one.
+/// A reported line may be longer than any other one.
 #[test]
 fn long_lines(rt: HostRuntime) -> Result<(), Fail> {
     for (begin, ended) in [
@@ -480,7 +480,7 @@ fn long_lines(rt: HostRuntime) -> Result<(), Fail> {
     Ok(())
 }
 
-/// The input ends, or fails, behind each number of bytes: what has gone out are the replies to whole lines.
+/// The input ends, or fails, after each number of bytes: what has gone out are the replies to whole lines.
 #[test]
 fn cut(rt: HostRuntime) -> Result<(), Fail> {
     let host = COURSE.host.as_bytes();
@@ -510,7 +510,7 @@ fn cut(rt: HostRuntime) -> Result<(), Fail> {
     Ok(())
 }
 
-/// Each write fails in turn: a front of the text has gone out.
+/// Each write fails in turn: a prefix of the text has gone out.
 #[test]
 fn writes(rt: HostRuntime) -> Result<(), Fail> {
     let whole = play(rt.alloc(), PLAN, COURSE.host.as_bytes(), u64::MAX)?;

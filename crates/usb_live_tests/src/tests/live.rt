@@ -1,4 +1,4 @@
-//! A test is a loop over rows: what a far end says, and what the host says to it.
+//! A test is a loop over rows: what a controller side says, and what the host says to it.
 use std::alloc::{AllocError, Global};
 use std::io;
 use std::io::{Error, ErrorKind, Read, Write};
@@ -6,7 +6,7 @@ use std::test::Fail;
 use usb_bus::Watched;
 use usb_live::{LiveEnd, LiveFault, WireFault, live};
 
-/// What a far end with one device says up to its second `wait`: the course of docs/LIVE.md.
+/// What a controller side with one device says up to its second `wait`: the course of docs/LIVE.md.
 const FAR: &str = "roots 1\n\
                    ok\n\
                    port 1 00010000\nok\n\
@@ -37,12 +37,12 @@ const HOST: &str = "usbplan live 1\n\
                     SETUP 1.0 / DATA0 0009010000000000\nIN 1.0 64\n\
                     wait\n";
 
-/// What it tells of that device.
+/// What it reports of that device.
 const LISTED: &str = "1 address 1 full 120100020000004034127856000100000001\n\
                       1 config 0 0902120001010080320904000000FF000000 *\n\
                       end\n";
 
-/// What a far end says behind that, and what the host says to it.
+/// What the controller side says after that, and what the host says to it.
 #[derive(Clone, Copy)]
 struct Wanted {
     far: &'static str,
@@ -103,7 +103,8 @@ const WANTED: &[Wanted] = &[
     },
 ];
 
-/// What a far end says, how many questions may be asked, how that ends, and how many lines the host has written.
+/// What a controller side says, how many questions may be asked, how that ends, and how many lines the host has
+/// written.
 #[derive(Clone, Copy)]
 struct Row {
     far: &'static str,
@@ -195,7 +196,7 @@ struct Played {
     ended: Result<(), LiveEnd>,
 }
 
-/// The course of a host over a reader, whose writer fails behind so many writes.
+/// The course of a host over a reader, whose writer fails after n writes.
 fn play<R: Read + Drop>(alloc: Global, reader: R, writes: u64, limit: u64) -> Played {
     let writer = Frail {
         taken: Vec::new(alloc),
@@ -208,7 +209,7 @@ fn play<R: Read + Drop>(alloc: Global, reader: R, writes: u64, limit: u64) -> Pl
     }
 }
 
-/// A writer that fails behind so many writes.
+/// A writer that fails after n writes.
 #[derive(Drop)]
 struct Frail {
     taken: Vec<u8>,
@@ -230,7 +231,7 @@ impl Write for Frail {
     }
 }
 
-/// A reader that fails behind a text.
+/// A reader that fails after a text.
 #[derive(Drop)]
 struct Torn(&'static [u8]);
 
@@ -247,7 +248,7 @@ fn newlines(text: &[u8]) -> usize {
     text.iter().filter(|byte| **byte == b'\n').count()
 }
 
-/// The course up to its second `wait`, and what is wanted there.
+/// The course up to its second `wait`, and what is requested there.
 #[test]
 fn courses(rt: HostRuntime) -> Result<(), Fail> {
     for row in WANTED {
@@ -275,7 +276,7 @@ fn ends(rt: HostRuntime) -> Result<(), Fail> {
     Ok(())
 }
 
-/// A line of so many bytes, and whether a newline stands behind it.
+/// A line of n bytes, and whether a newline follows it.
 #[test]
 fn long_lines(rt: HostRuntime) -> Result<(), Fail> {
     for (bytes, is_whole, fault) in [
@@ -298,7 +299,7 @@ fn long_lines(rt: HostRuntime) -> Result<(), Fail> {
     Ok(())
 }
 
-/// The input fails, or ends, behind each number of bytes: nothing is told but where the end stands for `end`.
+/// The input fails, or ends, after each number of bytes: nothing is reported unless the end takes the place of `end`.
 #[test]
 fn cut(rt: HostRuntime) -> Result<(), Fail> {
     for count in 0..FAR.len() {
@@ -344,7 +345,7 @@ fn writes(rt: HostRuntime) -> Result<(), Fail> {
     Ok(())
 }
 
-/// What a far end answers of a hub with one port, until it is asked what is wanted a second time: a listing.
+/// What a controller side answers of a hub with one port, until it is asked what is requested a second time: a listing.
 const HUB: &str = "\
 roots 1
 ok
@@ -387,10 +388,11 @@ NAK
 show
 ";
 
-/// What it answers in a round, behind the poll's toggle: port 1 has changed, and so it has behind the clearing.
+/// What it answers in a round, after the poll's toggle: port 1 has changed, and so it has after the clearing.
 const ROUND: &str = " 02\nACK\nDATA1 00010100\nACK\nACK\nDATA1 -\nACK\nDATA1 00010100\nACK\n";
 
-/// A hub of which an empty port never stops to report a change keeps the host busy, and it still asks what is wanted.
+/// A hub of which an empty port never stops to report a change keeps the host busy, and it still asks what is
+/// requested.
 #[test]
 fn busy(rt: HostRuntime) -> Result<(), Fail> {
     let mut far = String::from_str(rt.alloc(), HUB)?;
@@ -413,7 +415,7 @@ fn busy(rt: HostRuntime) -> Result<(), Fail> {
     Ok(())
 }
 
-/// A root port whose change no clearing takes away is left alone: the host asks at once what is wanted.
+/// A root port whose change no clearing takes away is left alone: the host asks at once what is requested.
 #[test]
 fn left(rt: HostRuntime) -> Result<(), Fail> {
     let far = "roots 1\nok\nport 1 00010100\nok\nok\nok\nend\n";

@@ -1,4 +1,4 @@
-//! A test is a loop over rows: what a far end says, and what the bus before it asks and gives.
+//! A test is a loop over rows: what a controller side says, and what the bus over it asks and gives.
 ghost use Rattle.std.specs.Prelude.{◌≡◌};
 ghost use Rattle.usb_world.specs.PlainAttempts.{attempt_data};
 ghost use Rattle.usb_world.specs.Worlds.{IsAttempt};
@@ -25,7 +25,7 @@ const HOST: &str = "usbplan live 1\n\
                     wait\n\
                     listing 1\nend\n";
 
-/// What a far end may say to it, and what is given of that.
+/// What a controller side may say to it, and what is given of that.
 const FAR: &str = "roots 2\n\
                    port 1 01010100\nport 2 00010000\nport 1 01010000\nACK\n\
                    DATA1 1122\n\
@@ -38,7 +38,7 @@ const FAR: &str = "roots 2\n\
 const GIVEN: &str =
     "roots 2; ACK; DATA1 1122; none; NAK; port 1 03011000; port 2 00010000; send 1.2 FF; told; ";
 
-/// What a far end says, how many questions may be asked, how many lines of the host go out, and why no more do.
+/// What a controller side says, how many questions may be asked, how many lines of the host go out, and why no more do.
 #[derive(Clone, Copy)]
 struct Row {
     far: &'static str,
@@ -124,7 +124,7 @@ const FAULTS: &[Row] = &[
     },
 ];
 
-/// What was asked of a far end, what it gave, how many attempts were counted, and why no more was asked.
+/// What was asked of a controller side, what it gave, how many attempts were counted, and why no more was asked.
 #[derive(Drop)]
 struct Played {
     host: Vec<u8>,
@@ -183,7 +183,7 @@ fn out() -> Attempt
     }
 }
 
-/// Makes an attempt; what the host got is put behind what it got before.
+/// Makes an attempt; what the host got is put after what it got before.
 fn make<R: Read + Drop, W: Write + Drop>(
     bus: &mut StreamBus<R, W>,
     given: &mut String,
@@ -197,7 +197,7 @@ fn make<R: Read + Drop, W: Write + Drop>(
     }
 }
 
-/// What the host got, as a far end says it.
+/// What the host got, as a controller side says it.
 fn push_outcome(given: &mut String, outcome: Outcome) -> Result<(), AllocError> {
     let answer = match outcome {
         Outcome::Payload(toggle, bytes) => Answer::Data(DataPacket { toggle, bytes }),
@@ -214,7 +214,7 @@ fn push_said(given: &mut String, said: &Said) -> Result<(), AllocError> {
     given.push_str("; ")
 }
 
-/// All that a bus is asked over a reader, whose writer fails behind so many writes.
+/// All that a bus is asked over a reader, whose writer fails after n writes.
 fn play<R: Read + Drop>(
     alloc: Global,
     reader: R,
@@ -257,7 +257,7 @@ fn play<R: Read + Drop>(
     })
 }
 
-/// A writer that fails behind so many writes.
+/// A writer that fails after n writes.
 #[derive(Drop)]
 struct Frail {
     taken: Vec<u8>,
@@ -279,7 +279,7 @@ impl Write for Frail {
     }
 }
 
-/// A reader that fails behind a text.
+/// A reader that fails after a text.
 #[derive(Drop)]
 struct Torn(&'static [u8]);
 
@@ -315,7 +315,7 @@ fn courses(rt: HostRuntime) -> Result<(), Fail> {
     Ok(())
 }
 
-/// The input ends, or fails, behind each number of bytes: nothing more is asked.
+/// The input ends, or fails, after each number of bytes: nothing more is asked.
 #[test]
 fn cut(rt: HostRuntime) -> Result<(), Fail> {
     for count in 0..FAR.len() {
@@ -355,7 +355,7 @@ fn writes(rt: HostRuntime) -> Result<(), Fail> {
     Ok(())
 }
 
-/// No more than 64 statuses stand before an answer.
+/// At most 64 statuses come before an answer.
 #[test]
 fn many_pushes(rt: HostRuntime) -> Result<(), Fail> {
     for (count, fault) in [

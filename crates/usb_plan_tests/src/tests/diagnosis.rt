@@ -1,4 +1,4 @@
-//! What is told of plans and of texts that are none.
+//! What is reported of plans and of texts that are none.
 mod devices;
 mod entries;
 mod events;
@@ -11,7 +11,7 @@ use std::process::Abort;
 use usb_diagnosis::{Verdict, check_text};
 use usb_plan::read_plan;
 
-/// A text, and all that is told of it.
+/// A text, and all that is reported of it.
 struct Row {
     text: &'static str,
     told: &'static str,
@@ -21,7 +21,7 @@ struct Row {
 const FUNCTION: &str =
     "limit = 10000\nroots = 1\n[[device]]\nname = \"fn\"\nspeed = \"full\"\ndescriptor = \"120100020000004034127856000100000001\"\nconfigs = [\"0902120001010080320904000000FF000000\"]\n";
 
-/// Compares what is told of each row's text, behind the text before it, and its verdict with what `read_plan` says.
+/// Compares what is reported of each row's text, after the text before it, and its verdict with what `read_plan` says.
 fn check_rows(
     rt: &impl Abort,
     alloc: Global,

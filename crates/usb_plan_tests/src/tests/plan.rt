@@ -1,4 +1,4 @@
-//! Which texts are plans, what is read of them, and which fault of the others is told.
+//! Which texts are plans, what is read of them, and which fault of the others is reported.
 mod cuts;
 mod damages;
 mod devices;
@@ -16,13 +16,13 @@ use usb_plan::{PlanFault, read_plan};
 const FUNCTION: &str =
     "limit = 10000\nroots = 1\n\n[[device]]\nname = \"fn\"\nspeed = \"full\"\ndescriptor = \"120100020000004034127856000100000001\"\nconfigs = [\"0902120001010080320904000000FF000000\"]\n";
 
-/// Texts that are told to be the same: a plan, or one fault in words.
+/// Texts that are reported to be the same: a plan, or one fault in words.
 struct Cases {
     told: &'static str,
     texts: &'static [&'static str],
 }
 
-/// What a text is told to be: a plan, or its fault in words.
+/// What a text is reported to be: a plan, or its fault in words.
 fn told(alloc: Global, text: &str) -> Result<String, AllocError> {
     match read_plan(alloc, text) {
         Ok(_) => String::from_str(alloc, "plan"),
@@ -38,7 +38,7 @@ fn told_of(alloc: Global, before: &[&str], last: &str) -> Result<String, AllocEr
     told(alloc, text.as_str())
 }
 
-/// Compares what each of these texts is told to be, after the pieces before it.
+/// Compares what each of these texts is reported to be, after the pieces before it.
 fn check_cases(
     rt: &impl Abort,
     alloc: Global,

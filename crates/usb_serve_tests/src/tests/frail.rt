@@ -13,7 +13,7 @@ pub(super) enum Trouble {
     TakesOne,
 }
 
-/// A writer of so many bytes at once, with trouble behind so many calls. The calls after that are as those before.
+/// A writer of n bytes at once, with trouble after n calls. The calls after that are as those before.
 #[derive(Drop)]
 pub(super) struct Frail {
     pub(super) taken: Vec<u8>,
@@ -48,7 +48,7 @@ impl Write for Frail {
     }
 }
 
-/// A writer that keeps what it takes up to its next flush, one of whose flushes fails, behind so many. The flushes after
+/// A writer that keeps what it takes up to its next flush, one of whose flushes fails, after n. The flushes after
 /// that are as those before.
 #[derive(Drop)]
 pub(super) struct Late {
@@ -75,7 +75,7 @@ impl Write for Late {
     }
 }
 
-/// A reader of so many bytes at once, one of whose calls fails, behind so many. The calls after that are as those
+/// A reader of n bytes at once, one of whose calls fails, after n. The calls after that are as those
 /// before.
 #[derive(Drop)]
 pub(super) struct Torn {
@@ -96,7 +96,7 @@ impl Read for Torn {
     }
 }
 
-/// A reader of so many bytes at once: those of a text, and then so many number signs.
+/// A reader of n bytes at once: those of a text, and then n number signs.
 #[derive(Drop)]
 pub(super) struct Long {
     pub(super) text: &'static [u8],

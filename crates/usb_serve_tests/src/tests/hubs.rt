@@ -236,7 +236,7 @@ fn trees_of_hubs_are_listed(rt: HostRuntime) -> Result<(), Fail> {
     Ok(())
 }
 
-/// A hub with a function at its second port, behind the limit.
+/// A hub with a function at its second port, after the limit.
 const HUB_WITH_A_FUNCTION: &str = r#"
 roots = 1
 
@@ -342,7 +342,7 @@ const LIMITS: [(u64, usize); 9] = [
     (58, 60),
 ];
 
-/// The first so many lines of a text.
+/// The first n lines of a text.
 fn first_lines(alloc: Global, text: &str, count: usize) -> Result<String, AllocError> {
     let mut first = String::new(alloc);
     for line in text.lines().take(count) {

@@ -1,4 +1,4 @@
-//! Writers behind a buffer that fail once: what went out of each row, and the fault that is told.
+//! Writers behind a buffer that fail once: what went out of each row, and the fault that is reported.
 use super::frail::{Frail, Late, Trouble};
 use super::rows::{ROWS, Row};
 use super::writers::{fault_in_line, text_of};
@@ -12,8 +12,8 @@ use usb_serve::{Output, ROOM, ServeFault, serve_through};
 /// More than any text of these rows has.
 const WHOLE: usize = 65_536;
 
-/// How serving through a buffer ended, the mark of its writer, how many bytes went out, and whether they are a front of
-/// the row's text.
+/// How serving through a buffer ended, the mark of its writer, how many bytes went out, and whether they are a prefix
+/// of the row's text.
 #[derive(Clone, Copy, Debug, PartialEq)]
 struct Outcome {
     ended: Result<(), ServeFault>,
@@ -22,7 +22,7 @@ struct Outcome {
     is_front: bool,
 }
 
-/// What is served through a buffer of this room to a writer with trouble behind so many calls, and none after that.
+/// What is served through a buffer of this room to a writer with trouble after n calls, and none after that.
 fn served(
     alloc: Global,
     row: &Row,
@@ -49,7 +49,7 @@ fn served(
     })
 }
 
-/// How many bytes a text has in front of its line behind so many.
+/// How many bytes a text has before its line n + 1.
 fn bytes_of(text: &str, lines: usize) -> usize {
     let Some(last) = lines.checked_sub(1) else {
         return 0;
@@ -61,7 +61,7 @@ fn bytes_of(text: &str, lines: usize) -> usize {
         .unwrap_or(text.len())
 }
 
-/// How many lines of a text go out in so many calls of a writer: one behind each listing, and one at the end.
+/// How many lines of a text go out in n calls of a writer: one after each listing, and one at the end.
 fn lines_out(text: &str, calls: usize) -> usize {
     let Some(last) = calls.checked_sub(1) else {
         return 0;
@@ -72,7 +72,7 @@ fn lines_out(text: &str, calls: usize) -> usize {
         .unwrap_or(text.lines().count())
 }
 
-/// What is wanted where the writer fails in the call behind so many, in the last line of a listing or at the end.
+/// What is expected where the writer fails in call n + 1, in the last line of a listing or at the end.
 fn wanted(row: &Row, mode: Mode, turn: usize) -> Outcome {
     let text = text_of(row, mode);
     let lines = lines_out(text, turn);
@@ -127,7 +127,7 @@ fn each_listing_goes_out_at_once(rt: HostRuntime) -> Result<(), Fail> {
     Ok(())
 }
 
-/// What is wanted where nothing waits, and the writer fails in the line behind so many.
+/// What is expected where nothing waits, and the writer fails in line n + 1.
 fn wanted_in_line(row: &Row, mode: Mode, turn: usize) -> Outcome {
     let text = text_of(row, mode);
     let fails = turn < text.lines().count();
@@ -164,7 +164,7 @@ fn each_line_goes_out_at_once_where_nothing_waits(rt: HostRuntime) -> Result<(),
     Ok(())
 }
 
-/// Whether all went out and nothing is told, or a front did and the writer is told to have failed.
+/// Whether all went out and nothing is reported, or a prefix did and the writer is reported to have failed.
 fn is_told(row: &Row, outcome: Outcome) -> bool {
     let is_whole = outcome.taken == row.run.len();
     let is_failure = matches!(
@@ -180,7 +180,7 @@ fn is_told(row: &Row, outcome: Outcome) -> bool {
         })
 }
 
-/// The first turn of a failed write that is not told, where there is this room.
+/// The first turn of a failed write that is not reported, if there is this room.
 fn first_untold_turn(alloc: Global, row: &Row, room: usize) -> Result<Option<usize>, AllocError> {
     for turn in 0..=row.run.lines().count() {
         let outcome = served(alloc, row, Mode::Run, room, (Trouble::Fails, turn))?;
@@ -191,7 +191,7 @@ fn first_untold_turn(alloc: Global, row: &Row, room: usize) -> Result<Option<usi
     Ok(None)
 }
 
-/// The first row of which a failed write is not told, and its turn.
+/// The first row of which a failed write is not reported, and its turn.
 fn first_untold(alloc: Global, room: usize) -> Result<Option<(&'static str, usize)>, AllocError> {
     for row in &ROWS {
         if let Some(turn) = first_untold_turn(alloc, row, room)? {
@@ -209,7 +209,7 @@ fn a_failed_write_is_told_with_any_room(rt: HostRuntime) -> Result<(), Fail> {
     Ok(())
 }
 
-/// What is served through a buffer to a writer that keeps what it takes up to its next flush. The flush behind so many
+/// What is served through a buffer to a writer that keeps what it takes up to its next flush. The flush n + 1
 /// fails.
 fn flushed(alloc: Global, row: &Row, mode: Mode, turn: usize) -> Result<Outcome, AllocError> {
     let writer = Late {
@@ -230,7 +230,7 @@ fn flushed(alloc: Global, row: &Row, mode: Mode, turn: usize) -> Result<Outcome,
     })
 }
 
-/// What is wanted where the flush behind so many fails: one is made behind each listing, and one at the end.
+/// What is expected where the flush n + 1 fails: one is made after each listing, and one at the end.
 fn wanted_flushed(row: &Row, mode: Mode, turn: usize) -> Outcome {
     let text = text_of(row, mode);
     let listings = text.lines().filter(|line| *line == "end").count();

@@ -1,4 +1,4 @@
-//! Readers that give little, fail or never end: the fault that is told, and that nothing goes out.
+//! Readers that give little, fail or never end: the fault that is reported, and that nothing goes out.
 use super::frail::{Long, Torn};
 use super::rows::{ONE_FUNCTION, ROWS, Row};
 use std::alloc::Global;
@@ -13,7 +13,7 @@ const PIECE: usize = 16_384;
 const LIMIT: usize = 1_048_576;
 
 /// How serving ended, the mark and the calls of the reader, and whether a row's lines went out, each in a call of its
-/// own; nothing where there is no row.
+/// own; nothing if there is no row.
 #[derive(Clone, Copy, Debug, PartialEq)]
 struct Outcome {
     ended: Result<(), ServeFault>,
@@ -22,7 +22,7 @@ struct Outcome {
     is_text: bool,
 }
 
-/// What is served of a row's plan by a reader of so many bytes at once, one of whose calls fails, behind so many.
+/// What is served of a row's plan by a reader of n bytes at once, one of whose calls fails, after n.
 fn served(alloc: Global, row: &Row, mode: Mode, at_once: usize, reads_left: u64) -> Outcome {
     let mut reader = Watched::new(Torn {
         text: row.plan.as_bytes(),
@@ -45,7 +45,7 @@ fn served(alloc: Global, row: &Row, mode: Mode, at_once: usize, reads_left: u64)
     }
 }
 
-/// What is wanted of it, where this many reads give all of the plan and its end.
+/// What is expected of it, if this many reads give all of the plan and its end.
 fn wanted(reads: u64, reads_left: u64) -> Outcome {
     let fails = reads_left < reads;
     Outcome {
@@ -90,7 +90,7 @@ fn each_read_fails_in_turn(rt: HostRuntime) {
     }
 }
 
-/// A plan and a comment behind it, of so many bytes in all or without an end, in pieces of so many; what is told of it,
+/// A plan and a comment after it, of n bytes in all or without an end, in pieces of n; what is reported of it,
 /// and how many reads there are at most.
 #[derive(Clone, Copy)]
 struct Length {
@@ -127,7 +127,8 @@ const LENGTHS: [Length; 4] = [
     },
 ];
 
-/// Whether a text of this length is served as wanted, with no line where it is too long, and its reader is not marked.
+/// Whether a text of this length is served as expected, with no line where it is too long, and its reader is not
+/// marked.
 fn is_as_wanted(alloc: Global, length: Length) -> bool {
     let plan = ONE_FUNCTION.plan;
     let mut reader = Watched::new(Long {

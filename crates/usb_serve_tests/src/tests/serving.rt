@@ -7,7 +7,7 @@ use usb_plan::read_plan;
 use usb_run::{Mode, run};
 use usb_serve::{ServeFault, serve};
 
-/// How what is written of a plan compares with what is wanted.
+/// How what is written of a plan compares with what is expected.
 #[derive(Clone, Copy, Debug, PartialEq)]
 pub(super) enum Shown {
     AsWanted,
@@ -22,7 +22,7 @@ fn served(alloc: Global, mode: Mode, plan: &str) -> (Vec<u8>, Result<(), ServeFa
     (writer.into_inner(), ended)
 }
 
-/// The fault that is told, empty where there is none.
+/// The fault that is reported, empty if there is none.
 fn fault_text(alloc: Global, ended: Result<(), ServeFault>) -> Result<String, AllocError> {
     match ended {
         Ok(()) => Ok(String::new(alloc)),
@@ -30,7 +30,7 @@ fn fault_text(alloc: Global, ended: Result<(), ServeFault>) -> Result<String, Al
     }
 }
 
-/// Whether this text is written of a plan, and this fault told.
+/// Whether this text is written of a plan, and this fault reported.
 pub(super) fn compared(
     alloc: Global,
     mode: Mode,
@@ -124,7 +124,7 @@ how = "lose"
     },
 ];
 
-/// What a plan's report counts; None where the plan is not served to its end.
+/// What a plan's report counts; None if the plan is not served to its end.
 fn counted(alloc: Global, text: &str) -> Option<Counts> {
     let Ok(plan) = read_plan(alloc, text) else {
         return None;

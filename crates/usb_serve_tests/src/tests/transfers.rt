@@ -1,4 +1,4 @@
-//! What is told of transfers: the lines that `serve` writes, and the items of `run`.
+//! What is reported of transfers: the lines that `serve` writes, and the items of `run`.
 use std::alloc::{AllocError, Global};
 use std::str;
 use std::test::Fail;
@@ -60,7 +60,7 @@ configs = ["090219000101008032090400000109000000070581030100FF"]
 ports = 2
 "#;
 
-/// The events and the damages of a plan, and the lines that are told of its transfers.
+/// The events and the damages of a plan, and the lines that are reported of its transfers.
 #[derive(Clone, Copy)]
 struct Row {
     name: &'static str,
@@ -430,7 +430,7 @@ fn item_text(alloc: Global, item: &Item) -> Result<String, AllocError> {
     }
 }
 
-/// Bytes as they are printed, a dash where there are none.
+/// Bytes as they are printed, a dash if there are none.
 fn digits(alloc: Global, bytes: &[u8]) -> Result<String, AllocError> {
     if bytes.is_empty() {
         return String::from_str(alloc, "-");

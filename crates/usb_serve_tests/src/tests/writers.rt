@@ -1,4 +1,4 @@
-//! Writers that take little, and fail: what went out of each row, and the fault that is told.
+//! Writers that take little, and fail: what went out of each row, and the fault that is reported.
 use super::frail::{Frail, Trouble};
 use super::rows::{ONE_FUNCTION, ROWS, Row};
 use std::alloc::Global;
@@ -9,7 +9,7 @@ use usb_serve::{ServeFault, serve};
 /// Room for every line.
 const WHOLE: usize = 4096;
 
-/// How a writer takes the texts of these rows: so many bytes at once, with trouble at one call.
+/// How a writer takes the texts of these rows: n bytes at once, with trouble at one call.
 #[derive(Clone, Copy)]
 struct Manner {
     rows: &'static [Row],
@@ -41,7 +41,7 @@ const MANNERS: [Manner; 4] = [
 ];
 
 /// What a row's writer was left with: how serving ended, the mark and the calls of the writer, how many bytes or lines
-/// it took, and whether they are a front of the row's text.
+/// it took, and whether they are a prefix of the row's text.
 #[derive(Clone, Copy, Debug, PartialEq)]
 struct Outcome {
     ended: Result<(), ServeFault>,
@@ -70,7 +70,7 @@ fn pieces(at_once: usize, bytes: &[u8]) -> usize {
     line_ends(bytes)
 }
 
-/// What is served to a writer of this manner, with its trouble behind so many calls.
+/// What is served to a writer of this manner, with its trouble after n calls.
 fn served(alloc: Global, row: &Row, mode: Mode, manner: Manner, turn: usize) -> Outcome {
     let writer = Frail {
         taken: Vec::new(alloc),
@@ -104,7 +104,7 @@ fn fault_at(row: &Row, mode: Mode, at_once: usize, turn: usize) -> ServeFault {
     fault_in_line(row, mode, number)
 }
 
-/// The fault of a writer that failed in the line behind so many lines of a row's text, or behind the last.
+/// The fault of a writer that failed in line n + 1 of a row's text, or after the last.
 pub(super) fn fault_in_line(row: &Row, mode: Mode, lines: usize) -> ServeFault {
     match text_of(row, mode).lines().nth(lines) {
         Some(line) if !row.tree.lines().any(|other| other == line) => {
@@ -114,7 +114,7 @@ pub(super) fn fault_in_line(row: &Row, mode: Mode, lines: usize) -> ServeFault {
     }
 }
 
-/// What is wanted of it.
+/// What is expected of it.
 fn wanted(row: &Row, mode: Mode, manner: Manner, turn: usize) -> Outcome {
     let all = pieces(manner.at_once, text_of(row, mode).as_bytes());
     let is_whole = turn == all || matches!(manner.trouble, Trouble::TakesOne);

@@ -26,8 +26,8 @@ impl<T: Trace> SimBus<T> {
     ghost use Rattle.usb_sim.specs.Sim.{world_of, tracer_of, trace_of};
     ghost use Rattle.usb_sim.specs.Parts.{OneEventCame, EventsCame};
 
-    /// Lets the next event come at once, however many attempts it would wait for, and tells what it asks, where it
-    /// asks; None where no event is left.
+    /// Lets the next event come at once, however many attempts it would wait for, and returns what it asks, if it
+    /// asks; None if no event is left.
     ///
     /// # Errors
     ///
@@ -61,8 +61,8 @@ impl<T: Trace> SimBus<T> {
         Ok(())
     }
 
-    /// Whether the next event comes by itself: it does not wait for the host, and so many attempts were made since
-    /// the former event.
+    /// Whether the next event comes by itself: it does not wait for the host, and this number of attempts was made
+    /// since the former event.
     #[tactic(auto, unfolding(usb_world::specs::Steps::has_due))]
     fn is_due(&self) -> bool
         ensures value { result ≡ has_due (world_of self.now) }
@@ -160,7 +160,7 @@ fn plug(
     Ok(())
 }
 
-/// Unplugs what stands at a port, if anything does.
+/// Unplugs what is at a port, if anything is.
 fn unplug(roots: &mut Ports, holders: &mut Holders, path: &PortPath)
     requires { IsIndexOf holders.old roots.old }
     ensures unplugged { roots.new ≡ changed (replaced None) roots.old path.now }

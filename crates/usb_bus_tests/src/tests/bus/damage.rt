@@ -10,7 +10,7 @@ use usb_packet::Speed::Full;
 use usb_sim::{Damage, Harm, SimBus, Tracer};
 use usb_testbus::{plugged, trace_of};
 
-/// The damage to a packet of one of the attempts SETUP, IN and OUT, and what that attempt tells and its line.
+/// The damage to a packet of one of the attempts SETUP, IN and OUT, and what that attempt reports and its line.
 #[derive(Clone, Copy)]
 struct Damaged {
     damage: Damage,
@@ -273,7 +273,7 @@ const DAMAGES: &[Damaged] = &[
     },
 ];
 
-/// Makes three attempts; what the one of a number told.
+/// Makes three attempts; what the one of a number reported.
 fn attempt_told(
     alloc: Global,
     bus: &mut SimBus<Tracer<Vec<u8>>>,
@@ -293,7 +293,7 @@ fn attempt_told(
     Ok(words)
 }
 
-/// What the damaged attempt told, and its line.
+/// What the damaged attempt reported, and its line.
 fn damaged_told(alloc: Global, damage: Damage) -> Result<String, Fail> {
     let text = plan_text(alloc, ONE_FUNCTION, &[damage])?;
     let mut bus = plugged(alloc, text.as_str())?;
@@ -324,7 +324,7 @@ fn each_packet_is_damaged(rt: HostRuntime) -> Result<(), Fail> {
     Ok(())
 }
 
-/// The damage to a packet of SET_ADDRESS, what its two attempts tell, and what is counted and registered then.
+/// The damage to a packet of SET_ADDRESS, what its two attempts report, and what is counted and registered then.
 #[derive(Clone, Copy)]
 struct Lost {
     damage: Damage,
@@ -338,7 +338,7 @@ const NEVER: &str = "attempts 2, events 1 of 1, losses 0, worst 0";
 
 const ONCE: &str = "attempts 2, events 1 of 1, losses 1, worst 1";
 
-/// An address is lost only where the device gave the status stage and did not see the ACK.
+/// An address is lost only if the device gave the status stage and did not see the ACK.
 const LOSSES: &[Lost] = &[
     Lost {
         damage: Damage {
@@ -408,7 +408,7 @@ const LOSSES: &[Lost] = &[
     },
 ];
 
-/// What the attempts of a row told otherwise than it wants.
+/// What the attempts of a row reported otherwise than expected.
 fn lost_otherwise(alloc: Global, row: &Lost) -> Result<String, Fail> {
     let text = plan_text(alloc, ONE_FUNCTION, &[row.damage])?;
     let opening = [(Step::Event, "changed"), (Step::Reset(1), "")];

@@ -138,7 +138,7 @@ plug 1.1 low
 8 IN 1.0 / DATA1 - / ACK
 ";
 
-/// A low-speed packet goes down behind PRE alone, and through an enabled port alone; the PRE of the first attempt here
+/// A low-speed packet goes down after PRE alone, and through an enabled port alone; the PRE of the first attempt here
 /// is lost.
 const WITHOUT_PRE: &[Told<'static>] = &[
     (Step::Setup(LowBelowHub, 0, GET_DEVICE), "none"),
@@ -307,7 +307,7 @@ const LOST_ACKS: &[LostAck] = &[
     },
 ];
 
-/// What a row's steps told otherwise than it wants, and then the trace.
+/// What a row's steps reported otherwise than expected, and then the trace.
 fn lost_ack(alloc: Global, row: &LostAck) -> Result<String, Fail> {
     let steps = [
         (Step::Asks(LowBelowHub, 0, SET_ADDRESS_5), "data"),
@@ -332,7 +332,7 @@ fn an_address_is_lost_below_a_hub(rt: HostRuntime) -> Result<(), Fail> {
     Ok(())
 }
 
-/// A request to the hub between two losses, what its second attempt tells, and what is counted then.
+/// A request to the hub between two losses, what its second attempt reports, and what is counted then.
 #[derive(Clone, Copy)]
 struct Between {
     request: [u8; 8],
@@ -340,7 +340,7 @@ struct Between {
     counts: &'static str,
 }
 
-/// A stretch begins where the hub clears a change of connection of one of its ports.
+/// A stretch begins when the hub clears a change of connection of one of its ports.
 const BETWEEN: &[Between] = &[
     Between {
         request: [0x23, 1, 16, 0, 1, 0, 0, 0],
@@ -383,7 +383,7 @@ const TWO_LOST_ACKS: &[Damage] = &[
     },
 ];
 
-/// What a row's steps told otherwise than it wants.
+/// What a row's steps reported otherwise than expected.
 fn between_otherwise(alloc: Global, row: &Between) -> Result<String, Fail> {
     let text = plan_text(alloc, HUB, TWO_LOST_ACKS)?;
     let steps = [

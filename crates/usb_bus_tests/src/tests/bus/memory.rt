@@ -25,7 +25,7 @@ const CONFIGURED: &[Told<'static>] = &[
     (Step::Registers("1"), "Some((1, 1))"),
 ];
 
-/// What the OUT told, and the steps behind it. Where the sink was refused memory, the attempt was not made; a fault
+/// What the OUT reported, and the steps after it. If the sink was refused memory, the attempt was not made; a fault
 /// stays.
 #[derive(Clone, Copy)]
 struct Sent {
@@ -79,7 +79,7 @@ const CALLS: &[Told<'static>] = &[
     (Step::Registers("1"), "Some((0, 0))"),
 ];
 
-/// The steps behind the OUT that told this; None where no row wants it.
+/// The steps after the OUT that reported this; None if no row wants it.
 fn steps_behind(words: &str) -> Option<&'static [Told<'static>]> {
     for row in SENT {
         if words == row.told {
@@ -89,7 +89,7 @@ fn steps_behind(words: &str) -> Option<&'static [Told<'static>]> {
     None
 }
 
-/// Sends two bytes to the function; what went otherwise than the row of what this told wants.
+/// Sends two bytes to the function; what went otherwise than expected.
 fn sent_otherwise(alloc: Global, bus: &mut SimBus<Tracer<Vec<u8>>>) -> Result<String, AllocError> {
     let words = otherwise(alloc, bus, CONFIGURED, &[])?;
     if !words.is_empty() {

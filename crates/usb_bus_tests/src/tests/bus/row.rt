@@ -1,4 +1,4 @@
-//! A row: a plan, the steps of a host at its bus with what each tells, and the trace.
+//! A row: a plan, the steps of a host at its bus with what each reports, and the trace.
 
 use super::step::{Step, told};
 use std::alloc::{AllocError, Global};
@@ -7,7 +7,7 @@ use std::test::Fail;
 use usb_sim::{Damage, Harm, SimBus, Trace};
 use usb_testbus::{bus_of, trace_of};
 
-/// A step and what it tells.
+/// A step and what it reports.
 pub(super) type Told<'a> = (Step, &'a str);
 
 #[derive(Clone, Copy)]
@@ -28,7 +28,7 @@ pub(super) fn row_went(alloc: Global, row: &Row) -> Result<String, Fail> {
     went(alloc, row.plan, row.damages, row.opening, row.steps)
 }
 
-/// What the steps told otherwise than wanted, and then the trace.
+/// What the steps reported otherwise than expected, and then the trace.
 pub(super) fn went(
     alloc: Global,
     plan: &[&str],
@@ -45,7 +45,7 @@ pub(super) fn went(
     Ok(all)
 }
 
-/// What the steps at the bus of a plan's text told otherwise than wanted.
+/// What the steps at the bus of a plan's text reported otherwise than expected.
 pub(super) fn went_otherwise(
     alloc: Global,
     text: &str,
@@ -58,7 +58,7 @@ pub(super) fn went_otherwise(
     Ok(words?)
 }
 
-/// Does the steps, and tells which of them told otherwise than wanted.
+/// Does the steps, and reports which of them reported otherwise than expected.
 pub(super) fn otherwise<T: Trace>(
     alloc: Global,
     bus: &mut SimBus<T>,
@@ -86,7 +86,7 @@ fn push_otherwise<T: Trace>(
     Ok(())
 }
 
-/// The parts behind each other.
+/// The parts one after the other.
 pub(super) fn joined(alloc: Global, parts: &[&str]) -> Result<String, AllocError> {
     let mut all = String::new(alloc);
     for part in parts {

@@ -1,4 +1,4 @@
-//! What a host does at a bus, step by step, and what each step tells.
+//! What a host does at a bus, step by step, and what each step reports.
 ghost use Rattle.std.specs.Prelude.{◌<◌, ◌≤◌};
 
 use arrayvec::ArrayVec;
@@ -21,15 +21,15 @@ pub(super) enum Step {
     In(Speed, u8),
     /// IN at address 0 for at most 7 bytes.
     ShortIn(Speed),
-    /// IN at endpoint 1, where a hub tells which of its ports changed.
+    /// IN at endpoint 1, where a hub reports which of its ports changed.
     Poll(u8),
     /// OUT without data.
     Out(Speed, u8),
     /// OUT of two bytes at endpoint 2 of address 1.
     BulkOut,
-    /// A request whose answer comes in so many packets; the last attempt is told.
+    /// A request whose answer comes in n packets; the last attempt is reported.
     Reads(Speed, u8, [u8; 8], u8),
-    /// A request without data; the last attempt is told.
+    /// A request without data; the last attempt is reported.
     Asks(Speed, u8, [u8; 8]),
     /// A line of report.
     Line(&'static str),
@@ -43,7 +43,7 @@ pub(super) enum Step {
     Sink(&'static str),
 }
 
-/// Does a step, and tells what came of it.
+/// Does a step, and reports what came of it.
 pub(super) fn told<T: Trace>(
     alloc: Global,
     bus: &mut SimBus<T>,

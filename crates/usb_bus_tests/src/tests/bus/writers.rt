@@ -20,7 +20,7 @@ use usb_testbus::{bus_on, untraced_of};
 #[derive(Clone, Copy)]
 struct Writes {
     writes: u64,
-    /// Whether the trace fails; then each later step tells so again.
+    /// Whether the trace fails; then each later step says so again.
     is_cut: bool,
     /// How many bytes were taken.
     taken: usize,
@@ -89,7 +89,7 @@ const WRITES: &[Writes] = &[
     },
 ];
 
-/// What each step tells once the trace failed.
+/// What each step reports once the trace failed.
 const AGAIN: &[Told<'static>] = &[
     (Step::Line("end"), "trace failed"),
     (Step::Event, "trace failed"),
@@ -106,7 +106,7 @@ struct Ended {
     is_front: bool,
 }
 
-/// A writer of one byte at a time, and so many bytes at most.
+/// A writer of one byte at a time, and n bytes at most.
 fn frail(alloc: Global, writes_left: u64) -> Watched<Frail>
     ensures { has_failed result ≡ false }
 {
@@ -120,9 +120,9 @@ fn frail(alloc: Global, writes_left: u64) -> Watched<Frail>
 /// How an enumeration goes.
 #[derive(Clone, Copy)]
 enum Course {
-    /// Each step tells what is wanted.
+    /// Each step reports what is expected.
     Whole,
-    /// The trace fails, and each step behind tells so again.
+    /// The trace fails, and each later step says so again.
     Cut,
     Otherwise,
 }
@@ -191,7 +191,8 @@ fn each_line_is_one_write(rt: HostRuntime) -> Result<(), Fail> {
     Ok(())
 }
 
-/// What the way to a low-speed device tells otherwise than wanted, and the trace that a writer of single bytes took.
+/// What the way to a low-speed device reports otherwise than expected, and the trace that a writer of single bytes
+/// took.
 fn to_low_device(alloc: Global) -> Result<String, Fail> {
     let text = joined(alloc, HUB)?;
     let mut bus = bus_on(alloc, text.as_str(), frail(alloc, 10000))?;
@@ -208,7 +209,7 @@ fn a_low_speed_device_below_a_hub_is_read(rt: HostRuntime) -> Result<(), Fail> {
     Ok(())
 }
 
-/// An untraced bus tells what one that is traced tells.
+/// An untraced bus reports what one that is traced reports.
 #[test]
 fn untraced_bus_tells_the_same(rt: HostRuntime) -> Result<(), Fail> {
     let text = joined(rt.alloc(), ONE_FUNCTION)?;

@@ -11,11 +11,11 @@ use usb_sim::{SimBus, Tracer};
 /// A call of one of the two pipes to an endpoint.
 #[derive(Clone, Copy)]
 enum Call {
-    /// Sends the bytes 1 to so many.
+    /// Sends the bytes 1 to n.
     Send(u8),
     /// Clears the halt of the pipe that sends.
     ClearOut,
-    /// Receives at most so many packets.
+    /// Receives at most n packets.
     Receive(u16),
     /// Clears the halt of the pipe that receives.
     ClearIn,
@@ -24,7 +24,7 @@ enum Call {
 use Call::{ClearIn, ClearOut, Receive, Send};
 
 /// A device, what else its plan says of it, an endpoint and its maximum, the limit and the damaged packets; the calls
-/// with their answers, how many attempts are made in all, and the trace without its NAKs behind the 16 attempts that
+/// with their answers, how many attempts are made in all, and the trace without its NAKs after the 16 attempts that
 /// made the device ready.
 #[derive(Clone, Copy)]
 struct Row {
@@ -424,7 +424,7 @@ fn a_pipe_moves_bytes(rt: HostRuntime) -> Result<(), Fail> {
     Ok(())
 }
 
-/// What comes behind a first packet for which memory was refused: what a second `receive` answers, how many attempts it
+/// What comes after a first packet for which memory was refused: what a second `receive` answers, how many attempts it
 /// makes, and how many bytes come once the pipe was cleared.
 fn behind_a_refusal(
     alloc: Global,
@@ -440,7 +440,7 @@ fn behind_a_refusal(
     Ok((second, made, pipe.receive(alloc, bus, 1)?.len()))
 }
 
-/// Whether the first packet comes, or what comes behind a refusal is right.
+/// Whether the first packet comes, or what comes after a refusal is right.
 fn came(alloc: Global, bus: &mut SimBus<Tracer<Vec<u8>>>) -> Result<bool, PipeFault> {
     make_ready(alloc, bus, TARGET)?;
     let mut pipe = pipe_to(2, 8, true);

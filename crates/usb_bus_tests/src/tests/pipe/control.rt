@@ -368,7 +368,7 @@ fn a_device_is_made_ready(rt: HostRuntime) -> Result<(), Fail> {
     Ok(())
 }
 
-/// After so many attempts the bus makes no more.
+/// After n attempts the bus makes no more.
 const LIMITS: [u64; 7] = [0, 1, 2, 3, 4, 10, 15];
 
 /// Making a device ready, and then SET_ADDRESS.
@@ -403,7 +403,7 @@ fn the_limit_is_handed_on(rt: HostRuntime) -> Result<(), Fail> {
 }
 
 /// How many bytes of the device descriptor are asked for, those that come, and how many attempts are made with the 21
-/// that make the device ready. A packet that is as long as is wanted ends the data stage, also where it is a whole one.
+/// that make the device ready. A packet that is as long as is requested ends the data stage, also if it is a whole one.
 const LENGTHS: [(u16, &str, u64); 8] = [
     (1, "12", 24),
     (7, "12011001000000", 24),

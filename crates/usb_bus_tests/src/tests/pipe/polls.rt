@@ -12,7 +12,7 @@ use usb_request::feature::{C_PORT_CONNECTION, PORT_POWER};
 /// A call of the pipe, or a request to its hub.
 #[derive(Clone, Copy)]
 enum Call {
-    /// The pipe asks for a packet: `ok` tells that nothing changed, and `02` that port 1 did.
+    /// The pipe asks for a packet: `ok` reports that nothing changed, and `02` that port 1 did.
     Poll,
     /// CLEAR_FEATURE(C_PORT_CONNECTION) of port 1.
     ClearChange,
@@ -25,7 +25,7 @@ enum Call {
 use Call::{ClearChange, ClearHalt, Halt, Poll};
 
 /// The endpoint, the limit and the damaged packets; the calls with their answers, how many attempts are made in all,
-/// and the trace from the line behind so many on: 28 were written when the hub was ready.
+/// and the trace from line n + 1 on: 28 were written when the hub was ready.
 #[derive(Clone, Copy)]
 struct Row {
     name: &'static str,
@@ -236,7 +236,7 @@ fn called<B: Bus>(
     Ok(Vec::new(alloc))
 }
 
-/// The bytes of the packet, none where nothing changed.
+/// The bytes of the packet, none if nothing changed.
 fn polled<B: Bus>(
     alloc: Global,
     bus: &mut B,

@@ -1,4 +1,4 @@
-//! The requests that make a device ready, and what a row tells: its answers and its trace.
+//! The requests that make a device ready, and what a row reports: its answers and its trace.
 ghost use Rattle.usb_transaction.specs.Transactions.{IsTarget};
 
 use std::alloc::Global;
@@ -73,7 +73,7 @@ fn configure<B: Bus>(alloc: Global, bus: &mut B, target: Target) -> Result<(), P
     control_none(bus, target, Setup::set_configuration(1))
 }
 
-/// What making a device ready answers, as `tell` tells it.
+/// What making a device ready answers, as `tell` reports it.
 pub(super) fn made_ready<B: Bus>(alloc: Global, bus: &mut B, target: Target) -> Result<String, Fail>
     requires { IsTarget target }
 {
@@ -83,7 +83,7 @@ pub(super) fn made_ready<B: Bus>(alloc: Global, bus: &mut B, target: Target) -> 
     Ok(answer)
 }
 
-/// Tells an answer behind the earlier ones: its bytes in hexadecimal digits, `ok` where there are none, or its fault.
+/// Reports an answer after the earlier ones: its bytes in hexadecimal digits, `ok` where there are none, or its fault.
 pub(super) fn tell(
     alloc: Global,
     answers: &mut String,
@@ -112,7 +112,7 @@ pub(super) fn tell_done(
 /// The answers of a row, how many attempts were made, and lines of the trace.
 pub(super) type Told = (String, u64, String);
 
-/// What a row tells, with the trace from the line behind so many on.
+/// What a row reports, with the trace from line n + 1 on.
 pub(super) fn told(
     alloc: Global,
     answers: String,
@@ -127,7 +127,7 @@ pub(super) fn told(
     ))
 }
 
-/// The lines of a trace from the one behind so many on, without those of an IN that was answered by NAK.
+/// The lines of a trace from line n + 1 on, without those of an IN that was answered by NAK.
 fn lines(alloc: Global, trace: &[u8], from: usize) -> Result<String, Fail> {
     let mut lines = String::new(alloc);
     for line in str::from_utf8(trace)?.lines().skip(from) {

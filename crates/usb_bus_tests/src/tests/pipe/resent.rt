@@ -5,7 +5,7 @@ use std::alloc::Global;
 use std::test::Fail;
 
 /// A damaged packet of GET_DESCRIPTOR or SET_CONFIGURATION, how many attempts are made in all, and the trace's lines
-/// from the one behind so many on, of which the row names the first.
+/// from line n + 1 on, of which the row names the first.
 #[derive(Clone, Copy)]
 struct Row {
     hit: Hit,

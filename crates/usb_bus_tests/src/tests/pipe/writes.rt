@@ -5,8 +5,8 @@ use std::alloc::Global;
 use std::test::Fail;
 use usb_pipe::{Bus, PipeFault, Setup, control_out};
 
-/// A device that refuses a request with data, and the damaged packets; how many bytes are sent, what is told, how many
-/// attempts are made in all, and the trace's lines behind those that make the device ready.
+/// A device that refuses a request with data, and the damaged packets; how many bytes are sent, what is reported, how
+/// many attempts are made in all, and the trace's lines after those that make the device ready.
 #[derive(Clone, Copy)]
 struct Row {
     name: &'static str,

@@ -1,4 +1,4 @@
-//! What is drawn of plans, and how a plan that cannot be run to its end is told.
+//! What is drawn of plans, and how a plan that cannot be run to its end is reported.
 use super::rows::{A_TREE_OF_HUBS, ROWS};
 use std::alloc::{AllocError, Global};
 use std::test::Fail;
@@ -14,7 +14,7 @@ pub(super) fn drawn(alloc: Global, style: Style, plan: &str) -> (Vec<u8>, Result
     (writer.into_inner(), ended)
 }
 
-/// Whether just this text is drawn of a plan, to its end.
+/// Whether exactly this text is drawn of a plan, to its end.
 fn is_drawn(alloc: Global, style: Style, plan: &str, text: &str) -> bool {
     let (written, ended) = drawn(alloc, style, plan);
     ended == Ok(()) && written.as_slice() == text.as_bytes()
@@ -31,7 +31,7 @@ fn each_row_is_drawn_in_both_styles(rt: HostRuntime) -> Result<(), Fail> {
     Ok(())
 }
 
-/// What is told of a plan, empty where it is drawn to its end.
+/// What is reported of a plan, empty if it is drawn to its end.
 fn fault_text(alloc: Global, plan: &str) -> Result<String, AllocError> {
     match drawn(alloc, Style::Lines, plan).1 {
         Ok(()) => Ok(String::new(alloc)),

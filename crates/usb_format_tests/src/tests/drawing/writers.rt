@@ -1,4 +1,4 @@
-//! A writer that fails behind so many bytes: what went out of a row, and the fault that is told.
+//! A writer that fails after n bytes: what went out of a row, and the fault that is reported.
 use super::rows::{A_FUNCTION, Row};
 use std::alloc::Global;
 use std::io;
@@ -8,7 +8,7 @@ use usb_bus::Watched;
 use usb_drawing::{Style, draw};
 use usb_serve::ServeFault;
 
-/// A writer with room for so many bytes, which fails where it is full.
+/// A writer with room for n bytes, which fails where it is full.
 #[derive(Drop)]
 struct Narrow {
     taken: Vec<u8>,
@@ -35,7 +35,8 @@ impl Write for Narrow {
     }
 }
 
-/// Whether a writer of this room has just a front of the row's text, and is told to have failed where that is not all.
+/// Whether a writer of this room has exactly a prefix of the row's text, and is reported to have failed if that is not
+/// all.
 fn is_front(alloc: Global, row: &Row, room: usize) -> bool {
     let mut reader = Watched::new(row.plan.as_bytes());
     let mut writer = Watched::new(Narrow {

@@ -1,10 +1,10 @@
-//! What is told of bytes that are no device, and that nothing is written then.
+//! What is reported of bytes that are no device, and that nothing is written then.
 use super::bytes_of;
 use std::alloc::AllocError;
 use usb_bus::Watched;
 use usb_entry::write_entry;
 
-/// Bytes in digits, a name, and what is told.
+/// Bytes in digits, a name, and what is reported.
 struct Row {
     digits: &'static [&'static str],
     name: &'static str,

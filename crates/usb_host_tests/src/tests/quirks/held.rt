@@ -1,4 +1,4 @@
-//! A root port tells a change of connection for good: the host finds what is there, leaves the port alone as long as
+//! A root port reports a change of connection for good: the host finds what is there, leaves the port alone as long as
 //! its status stays the same, and comes to rest; the other ports go on.
 use super::quirk::{QuirkBus, Told};
 use super::{PLAN, TestHost, put_settled};
@@ -8,16 +8,16 @@ use usb_host::Host;
 use usb_port::PortPath;
 use usb_testbus::bus_of;
 
-/// What comes at root port 2 behind the two devices at port 1, if anything.
+/// What comes at root port 2 after the two devices at port 1, if anything.
 struct Row {
     about: &'static str,
-    /// The events behind the two plugs at port 1, each with a way to rest behind it.
+    /// The events after the two plugs at port 1, each with a way to rest after it.
     events: &'static str,
     count: u8,
     /// The root port whose change stays, and whether it is disabled once the hub there is configured.
     stuck: u8,
     dark: bool,
-    /// What the hub tells before the last event comes.
+    /// What the hub reports before the last event comes.
     tells: Option<Told>,
     /// The port that is looked at after that, if any.
     look: &'static str,
@@ -109,8 +109,8 @@ const ROWS: &[Row] = &[
     },
 ];
 
-/// What is told at rest, before the events and behind each of them, and at the end; and how often the change was to be
-/// cleared.
+/// What is reported at rest, before the events and after each of them, and at the end; and how often the change was to
+/// be cleared.
 fn told(alloc: Global, row: &Row) -> Result<String, Fail> {
     let plan = format!(in alloc; "limit = 100000\nroots = 2\n{PLAN}{}", row.events)?;
     let mut bus = bus_of(alloc, plan.as_str())?;

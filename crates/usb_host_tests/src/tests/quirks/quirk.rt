@@ -1,5 +1,5 @@
-//! A bus around another one, with a hub at address 1 that tells a change until that is cleared, or for good, and a root
-//! port whose change of connection no clearing takes away.
+//! A bus around another one, with a hub at address 1 that reports a change until that is cleared, or for good, and a
+//! root port whose change of connection no clearing takes away.
 ghost use Rattle.std.specs.Prelude.{◌≡◌, false, Some, IfErr};
 ghost use Rattle.usb_bus.specs.Traces.{Spends};
 ghost use Rattle.usb_world.specs.PlainAttempts.{attempt_data};
@@ -92,7 +92,7 @@ pub(super) struct QuirkBus<B: Bus> {
     /// The toggle of the next packet of the hub's status pipe.
     next: Toggle,
     cleared: u8,
-    /// The root port whose change of connection no clearing takes away; 0 where there is none.
+    /// The root port whose change of connection no clearing takes away; 0 if there is none.
     stuck: u8,
     /// Whether that port shows no longer that it is enabled, once the hub there is configured.
     dark: bool,
@@ -109,7 +109,7 @@ fn packet(toggle: Toggle, data: &[u8]) -> Outcome {
     Outcome::Payload(toggle, bytes)
 }
 
-/// No answer, where the data are more than the endpoint's maximum.
+/// No answer, if the data are more than the endpoint's maximum.
 fn fitting(max: u8, outcome: Outcome) -> Outcome
     ensures { FitsMaximum max result }
 {
@@ -160,7 +160,7 @@ impl<B: Bus> QuirkBus<B> {
         &mut self.bus
     }
 
-    /// The hub tells this from now on.
+    /// The hub reports this from now on.
     pub(super) fn tell(&mut self, told: Told) {
         self.told = Some(told);
         self.disabled = told == Told::Port(17);
@@ -238,7 +238,7 @@ impl<B: Bus> QuirkBus<B> {
         }
     }
 
-    /// The status of port 1 as it is told.
+    /// The status of port 1 as it is reported.
     fn with_change(&self, outcome: Outcome) -> Outcome {
         match outcome {
             Outcome::Payload(toggle, status) => match status.as_slice() {

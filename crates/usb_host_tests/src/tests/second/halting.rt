@@ -1,4 +1,4 @@
-//! A bus around another one, that fails behind so many attempts.
+//! A bus around another one, that fails after n attempts.
 ghost use Rattle.std.specs.Prelude.{false, Some, if◌then◌else◌};
 ghost use Rattle.usb_world.specs.declared.types.BusFault.TheVariants.{Failed};
 

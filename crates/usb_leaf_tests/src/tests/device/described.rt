@@ -133,7 +133,7 @@ fn is_low(alloc: Global, plan: &Plan) -> Result<bool, AllocError> {
     Ok(new_device(alloc, plan)?.is_low())
 }
 
-/// What a copy of a description tells, and whether a device that was plugged has the speed.
+/// What a copy of a description reports, and whether a device that was plugged has the speed.
 fn told(alloc: Global, plan: &Plan) -> Result<Told, AllocError> {
     let is_speed = is_low(alloc, plan)? == plan.low;
     let copy = copy_of(alloc, plan)?;
@@ -149,7 +149,7 @@ fn devices_are_described(rt: HostRuntime) -> Result<(), Fail> {
     Ok(())
 }
 
-/// Which hub descriptors a hub with so many ports can have.
+/// Which hub descriptors a hub with n ports can have.
 #[derive(Clone, Copy)]
 struct HubRow {
     about: &'static str,

@@ -35,7 +35,7 @@ const ADDRESSED_5: &[Exchange] = &[
     (Ack, "none"),
 ];
 
-/// What a hub tells of itself and of its changes.
+/// What a hub reports of itself and of its changes.
 const CHANGES: &[Row] = &[
     Row {
         about: "a hub tells its descriptor and its ports",

@@ -385,7 +385,7 @@ pub(super) const ODD: Plan = Plan {
     ..FUNCTION
 };
 
-/// The bytes themselves; none where there are too many.
+/// The bytes themselves; none if there are too many.
 fn bytes<const MAX: usize>(alloc: Global, bytes: &[u8]) -> Result<Bytes<MAX>, AllocError> {
     let all = bytes.to_vec(alloc)?;
     if all.len() <= MAX {
@@ -463,7 +463,7 @@ fn function(alloc: Global, plan: &Plan) -> Result<DeviceSpec, AllocError> {
     Ok(DeviceSpec::function(name, descriptor, configs).with_low_speed(plan.low))
 }
 
-/// The usual hub stands for one whose descriptor tells of other ports.
+/// The usual hub takes the place of one whose descriptor has other ports.
 fn hub_spec(alloc: Global, hub: HubText) -> Result<HubSpec, AllocError> {
     let ports = hub.ports.max(1).min(7);
     let descriptor = bytes(alloc, hub.descriptor)?;
@@ -481,7 +481,7 @@ fn ports(alloc: Global, hub: Option<HubText>) -> Result<Option<HubSpec>, AllocEr
     }
 }
 
-/// The same device with its ports, where it can have them.
+/// The same device with its ports, if it can have them.
 fn with_ports(spec: DeviceSpec, hub: Option<HubSpec>) -> DeviceSpec {
     match hub {
         Some(hub) => {

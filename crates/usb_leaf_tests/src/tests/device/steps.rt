@@ -10,7 +10,7 @@ use usb_device::{Device, Parent};
 pub(super) enum Step {
     /// A packet of the host has the printed answer.
     Gets(Host, &'static str),
-    /// The same; where memory is refused, the device is as it was, and the packet is given once more.
+    /// The same; if memory is refused, the device is as it was, and the packet is given once more.
     GetsAtLast(Host, &'static str),
     /// A request to an address, the SETUP token and its data, is acknowledged.
     Asks(u8, &'static [u8]),
@@ -30,9 +30,9 @@ pub(super) enum Step {
     Taken(&'static [u8]),
     /// A low-speed function is plugged at a port, after these packets came to it.
     Plugs(u8, &'static [Exchange]),
-    /// The device at port 1 is unplugged, where one is.
+    /// The device at port 1 is unplugged, if one is.
     Unplugs(bool),
-    /// The device at a port alone is reset, where one is.
+    /// The device at a port alone is reset, if one is.
     ResetsChild(u8, bool),
     PortBytes(u8, Option<[u8; 4]>),
     /// The address of the device at port 1.
@@ -91,7 +91,7 @@ fn plug(hub: &mut Device, port: u8, child: Device) {
     }
 }
 
-/// Plugs a low-speed function, and tells whether it answered before as it is printed.
+/// Plugs a low-speed function, and returns whether it answered before as it is printed.
 fn plugs(
     alloc: Global,
     hub: &mut Device,
@@ -111,7 +111,7 @@ fn child_address(hub: &Device) -> Option<u8> {
     }
 }
 
-/// Resets the device on a port, and tells whether one was there.
+/// Resets the device on a port, and returns whether one was there.
 fn resets_child(hub: &mut Device, port: u8) -> bool {
     match hub.child_mut(port) {
         Some(child) => {
@@ -134,7 +134,7 @@ fn is_so(device: &mut Device, step: Step) -> bool {
     tells(device, step)
 }
 
-/// Whether the device tells what a step says; other steps say nothing of that.
+/// Whether the device reports what a step says; other steps say nothing of that.
 fn tells(device: &Device, step: Step) -> bool {
     match step {
         Step::Registers(address, value) => {

@@ -23,7 +23,7 @@ enum TreeStep {
     /// Whether a packet of the host at full speed is to clear a change of connection.
     Clears(Host, bool),
     Plugs(&'static [u8], &'static Plan),
-    /// What stands at a path is unplugged, where a device is.
+    /// What is at a path is unplugged, if a device is.
     Unplugs(&'static [u8], bool),
     Calls(u8, PortCall),
     /// Whether a device is at a path.
@@ -165,7 +165,7 @@ fn is_enabled(ports: &Ports, number: u8) -> bool {
     }
 }
 
-/// Whether one device holds the address, at the path, or nobody does, where the path is empty.
+/// Whether one device holds the address, at the path, or nobody does, if the path is empty.
 fn finds(alloc: Global, ports: &Ports, address: u8, path: &[u8]) -> Result<bool, AllocError> {
     match Holders::of(alloc, ports)?.holder(address) {
         Holder::Nobody => Ok(path.is_empty()),
@@ -200,7 +200,7 @@ fn is_so(ports: &mut Ports, step: TreeStep) -> bool {
     tells(ports, step)
 }
 
-/// Whether the ports tell what a step says; other steps say nothing of that.
+/// Whether the ports report what a step says; other steps say nothing of that.
 fn tells(ports: &Ports, step: TreeStep) -> bool {
     match step {
         Clears(host, is) => ports.clears_change(&LentPacket::of(&going_out(Full, host))) == is,

@@ -198,7 +198,8 @@ fn a_device_of_bad_parts(rt: HostRuntime) -> Result<(), AllocError> {
     check_rows(&rt, rt.alloc(), FUNCTION, &PARTS)
 }
 
-/// Further lines of the hub with a value of this many bytes 00, one more than the key may have, and what is told of it.
+/// Further lines of the hub with a value of this many bytes 00, one more than the key may have, and what is reported of
+/// it.
 struct Long {
     before: &'static str,
     count: u32,

@@ -36,7 +36,7 @@ fn lines_of_entries_and_keys(rt: HostRuntime) -> Result<(), AllocError> {
     check_rows(&rt, rt.alloc(), "", &LAYOUTS)
 }
 
-/// Entries, each with its number between two texts, and what is told of the last one, which is one too many.
+/// Entries, each with its number between two texts, and what is reported of the last one, which is one too many.
 struct Excess {
     start: &'static str,
     end: &'static str,

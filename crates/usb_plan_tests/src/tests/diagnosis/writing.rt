@@ -1,4 +1,4 @@
-//! The lines as they are written, to writers that take so many bytes.
+//! The lines as they are written, to writers that take n bytes.
 use super::FUNCTION;
 use std::alloc::{AllocError, Global};
 use std::io;
@@ -7,10 +7,10 @@ use std::process::Abort;
 use usb_bus::Watched;
 use usb_diagnosis::{CheckFault, Verdict, check};
 
-/// All that is told of the plan.
+/// All that is reported of the plan.
 const TOLD: &str = "devices 1\nevents 0\ndamages 0\nbound 2\n";
 
-/// A writer that takes so many bytes, and then fails.
+/// A writer that takes n bytes, and then fails.
 #[derive(Drop)]
 struct Frail {
     taken: Vec<u8>,
@@ -40,7 +40,7 @@ impl Write for Frail {
     }
 }
 
-/// Checks what is told, and how much of it, of a writer with so much room.
+/// Checks what is reported, and how much of it, of a writer with so much room.
 fn check_room(rt: &impl Abort, alloc: Global, room: usize) -> Result<(), AllocError> {
     let mut writer = Watched::new(Frail {
         taken: Vec::new(alloc),

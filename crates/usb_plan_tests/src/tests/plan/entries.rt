@@ -1,4 +1,4 @@
-//! The keys at the top, and entries of each kind: which of two faults is told.
+//! The keys at the top, and entries of each kind: which of two faults is reported.
 use super::{Cases, check};
 use std::alloc::AllocError;
 

@@ -11,7 +11,7 @@ enum Piece {
     Numbered(&'static str, &'static str),
 }
 
-/// A piece that comes so many times, between the lines before it and those of each case.
+/// A piece that comes n times, between the lines before it and those of each case.
 struct Long {
     before: &'static str,
     piece: Piece,
@@ -175,7 +175,7 @@ const DAMAGES: Long = Long {
     ],
 };
 
-/// These pieces, and the long one so many times, each with its number.
+/// These pieces, and the long one n times, each with its number.
 fn repeated(alloc: Global, before: &[&str], long: &Long) -> Result<String, AllocError> {
     let mut text = before.concat(alloc)?;
     text.push_str(long.before)?;
@@ -188,7 +188,7 @@ fn repeated(alloc: Global, before: &[&str], long: &Long) -> Result<String, Alloc
     Ok(text)
 }
 
-/// Compares what the texts of a long piece are told to be, after these pieces.
+/// Compares what the texts of a long piece are reported to be, after these pieces.
 fn check_long(
     rt: &impl Abort,
     alloc: Global,

@@ -102,7 +102,7 @@ fn printed(alloc: Global, plan: &Plan) -> Result<String, AllocError> {
     Ok(text)
 }
 
-/// What a text is told to be: its fault in words, or all that the plan holds.
+/// What a text is reported to be: its fault in words, or all that the plan holds.
 pub(crate) fn read(alloc: Global, text: &str) -> Result<String, AllocError> {
     match read_plan(alloc, text) {
         Ok(plan) => printed(alloc, &plan),

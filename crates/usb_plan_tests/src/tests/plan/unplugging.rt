@@ -25,7 +25,7 @@ const BEFORE: &[Step] = &[
     Unplug("2"),
 ];
 
-/// Events after those, and what the text is told to be.
+/// Events after those, and what the text is reported to be.
 struct Later {
     steps: &'static [Step],
     told: &'static str,
@@ -118,7 +118,7 @@ fn put_events(text: &mut String, steps: &[Step]) -> Result<(), AllocError> {
     Ok(())
 }
 
-/// What the text with these steps after the first ones is told to be.
+/// What the text with these steps after the first ones is reported to be.
 fn told_after(alloc: Global, steps: &[Step]) -> Result<String, AllocError> {
     let mut text = String::from_str(alloc, HUB)?;
     put_events(&mut text, BEFORE)?;
