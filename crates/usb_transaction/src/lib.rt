@@ -27,9 +27,9 @@
 //!   the device that accepted them alone held the address there, and what they ask of its ports was done. Of a device
 //!   that the reset of a hub's port may have reached nothing is said.
 //! - Where host and device were as far as each other before, the packet that came is the next one, both ends are level,
-//!   or the host one ahead, or, for bulk OUT, the device. (Of OUTs to endpoint 0 this is said of the one that ends a
-//!   control read; of polls, of those of endpoint 1 of a hub.) A poll's byte is what the hub's ports told, and where
-//!   there is none they told of nothing, where no earlier poll failed.
+//!   or the host one ahead, or, for OUT with data, the device. (Of polls this is said of those of endpoint 1 of a hub.)
+//!   A poll's byte is what the hub's ports told, and where there is none they told of nothing, where no earlier poll
+//!   failed.
 //! - Data or a STALL of endpoint 0 come of no device that is silent or always busy, and a wait of none that is silent;
 //!   a STALL of endpoint 0 is a refusal; a bulk IN endpoint that is halted gives nothing.
 //! - What is done was answered by a device that had the target's address, and is still reachable (PORT_RESET sent to
@@ -44,9 +44,10 @@
 //! Each of these but the count (`went`) and the toggle (`toggle`) is a field of the call's one record (`SetsUp`,
 //! `AsksIn`, `SendsOut`, `PollsIn` in its specs/Calls): heard, ends, nothing or short, what, why, who, means
 //! (not of a poll). Lemmas give it again to whoever kept what was heard: `setup_leaves`, `control_leaves`,
-//! `status_leaves`, `source_leaves`, `sink_leaves` and `what_poll` of what is left, `set_up_why`, `control_in_why`,
-//! `read_status_why`, `source_why`, `sink_why` and `poll_why` of why it failed, `read_answered`, `write_answered`,
-//! `poll_answered` and `wait_answered` of who answered (`usb_transaction/proofs/Interface.antt`). By laws alone:
+//! `status_leaves`, `write_leaves`, `write_status_leaves`, `source_leaves`, `sink_leaves` and `what_poll` of what is
+//! left, `set_up_why`, `control_in_why`, `read_status_why`, `write_out_why`, `write_status_why`, `source_why`,
+//! `sink_why` and `poll_why` of why it failed, `read_answered`, `write_answered`, `poll_answered` and `wait_answered`
+//! of who answered (`usb_transaction/proofs/Interface.antt`). By laws alone:
 //!
 //! - Between any two attempts of a bulk transaction the two ends are level or one is a packet ahead
 //!   (`what_is_so_between_bulk_attempts`).
