@@ -75,7 +75,8 @@ pub record ControlWrite (t : Target) (request : Setup) (old : World)
 
 -- a request with data to the device: how few attempts were made, and which: a SETUP, one for each
 -- packet, and an IN; if it is done, the device has taken the data once, and if it failed, all or
--- none. It counts no address loss, as `ControlWrite`
+-- none. It counts no address loss; a request that clears a change of connection begins another
+-- stretch of losses
 pub record DataWrite (t : Target) (request : Setup) (bytes : List ℕ) (old : World)
     (result : Result (Unit {0}) PipeFault) (new : World) : Type 0 where
   pub ends : MatchResult result (λ _. AttemptsMade (div_ceil (length bytes) t.max + 2) old new)
