@@ -18,7 +18,8 @@ use Rattle.usb_transaction.specs.{NoThreeDamaged, SetupFailure, ControlInFailure
 use Rattle.usb_transaction.specs.{heard_as, ControlIn, SetupDone, is_at, ReadStatus}
 use Rattle.usb_transaction.specs.{IsNotOfBus as TransNotOfBus, begins_no_stretch, LossesIn}
 use Rattle.usb_transaction.specs.{LosesNone, EachSpared, IsSpared, TransactionDone, Transacted}
-use Rattle.usb_transaction.specs.{in_attempt, TransFault, Target}
+use Rattle.usb_transaction.specs.{in_attempt, TransFault, Target, WriteOut, WriteOutFailure}
+use Rattle.usb_transaction.specs.{WriteStatusFailure, WriteStatusIn}
 use Rattle.usb_transaction.specs.declared.fault.TransFault.TheVariants as trans
 use Rattle.usb_transaction.proofs.Interface.{at_end, control_leaves, each_device, over_in}
 use Rattle.usb_transaction.proofs.Interface.{set_up_why, setup_leaves, trail_damages, trail_settled}
@@ -26,7 +27,9 @@ use Rattle.usb_transaction.proofs.Interface.{trail_unshared, others_stay_then, s
 use Rattle.usb_transaction.proofs.Interface.{transacted_unshared, control_in_why, in_losses}
 use Rattle.usb_transaction.proofs.Interface.{set_up_losses, spared_joined, spared_wider}
 use Rattle.usb_transaction.proofs.Interface.{read_status_why, out_losses, read_losses, was_then}
-use Rattle.usb_pipe.specs.{as_pipe_fault, IsNoBusFault, SetUp, Asks, Confirms, PipeFault}
+use Rattle.usb_transaction.proofs.Interface.{write_leaves, write_out_why, write_status_leaves}
+use Rattle.usb_transaction.proofs.Interface.{write_status_why}
+use Rattle.usb_pipe.specs.{as_pipe_fault, IsNoBusFault, SetUp, Asks, Confirms, PipeFault, Puts}
 use Rattle.usb_pipe.proofs.TransactionFaults.{Fell}
 
 -- What a transaction's answer says of its worlds
@@ -44,11 +47,16 @@ pub sound_in : (A : Type 0) (fault : TransFault) → IsNoBusFault {A = A} (Err (
 sound_in A (trans.Bus fault) sound = sound
 sound_in A fault sound = tt
 
+pub sound_told : (A : Type 0) (why : PipeFault) (fault : TransFault) → why ≡ as_pipe_fault fault
+    → IsNoBusFault {A = A} (Err why) → TransNotOfBus {A = List ℕ} (Err fault)
+sound_told A why fault told sound =
+    sound_in A fault (subst (λ w. IsNoBusFault {A = A} (Err w)) told sound)
+
 pub transacted_ended : (A : Type 0) {hear : _} {a : Attempt} {old new : World} (why : PipeFault)
     (fault : TransFault) → why ≡ as_pipe_fault fault → IsNoBusFault {A = A} (Err why)
     → Transacted hear a old (Err fault) new → TransactionDone hear a old (Err fault) new
 transacted_ended A why fault told sound x =
-    ended_by (Err fault) (sound_in A fault (subst (λ w. IsNoBusFault {A = A} (Err w)) told sound)) x
+    ended_by (Err fault) (sound_told A why fault told sound) x
 
 -- one that was refused ended
 pub ended_stalled : {hear : _} {a : Attempt} {old new : World} (fault : TransFault)
@@ -208,6 +216,51 @@ confirmed_leaves t result old new x settled single j v on there =
           (read_status_why t result old new settled three (ended_by result sound x) single j v on
           there);
       kept = λ sound. out_losses t 0 One [] old new settled (ended_by result sound x).trail;
+    })
+
+-- an OUT of a control write
+pub record WritePacket (t : Target) (toggle : Toggle) (bytes : List ℕ)
+    (result : Result (List ℕ) TransFault) (old new : World) (j : Location) (s v : State) : Type 0
+  where
+    pub leaves : WriteOut t toggle bytes result j s v
+    pub why : NoThreeDamaged old → TransNotOfBus result → WriteOutFailure t bytes result j s v
+    pub kept : TransNotOfBus result → new.losses ≡ old.losses
+
+pub write_packet_leaves : (t : Target) (toggle : Toggle) (bytes : List ℕ)
+    (result : Result (List ℕ) TransFault) (old new : World)
+    → Puts t 0 toggle bytes old result new → IsSettled old.roots → new.shared ≡ false
+    → EachWas (WritePacket t toggle bytes result old new) old new
+write_packet_leaves t toggle bytes result old new x settled single j v on there =
+    let a : Was (WriteOut t toggle bytes result) old j v =
+    write_leaves t toggle bytes result old new settled x single j v on there in
+    was_then a (record {
+      leaves = a.so;
+      why = λ three sound. also (WriteOutFailure t bytes result) a
+          (write_out_why t toggle bytes result old new settled three (ended_by result sound x)
+          single j v on there);
+      kept = λ sound. out_losses t 0 toggle bytes old new settled (ended_by result sound x).trail;
+    })
+
+-- the IN that ends a control write
+pub record WriteStatus (t : Target) (result : Result (List ℕ) TransFault) (old new : World)
+    (j : Location) (s v : State) : Type 0 where
+  pub asked : ControlInAsked t One result old new j s v
+  pub write : WriteStatusIn t result j s v
+  pub why : NoThreeDamaged old → TransNotOfBus result → WriteStatusFailure t result j s v
+
+pub write_status_asked : (t : Target) (result : Result (List ℕ) TransFault) (old new : World)
+    → Asks t One old result new → IsSettled old.roots → new.shared ≡ false
+    → EachWas (WriteStatus t result old new) old new
+write_status_asked t result old new x settled single j v on there =
+    let a : Was (ControlInAsked t One result old new) old j v =
+    asked_leaves t One result old new x settled single j v on there in
+    was_then a (record {
+      asked = a.so;
+      write = also (WriteStatusIn t result) a
+          (write_status_leaves t result old new settled x single j v on there);
+      why = λ three sound. also (WriteStatusFailure t result) a
+          (write_status_why t result old new settled three (ended_by result sound x) single j v on
+          there);
     })
 
 -- a SETUP

@@ -217,7 +217,7 @@ least_by : (b : Bool) (m : ℕ) → (b ≡ true → 8 ≤ m) → 8 ≤ (if b the
 least_by true m h = h refl
 least_by false m h = omega arith
 
-at_least_8 : (s : Spec) → 8 ≤ max_packet s
+pub at_least_8 : (s : Spec) → 8 ≤ max_packet s
 at_least_8 s = let m = slice_index s.descriptor 7 in
     least_by (not s.low && (m == 16 || m == 32 || m == 64)) m
     (λ e. grind (arith, nat_tests, (and_parts (not s.low) (m == 16 || m == 32 || m == 64) e).1))

@@ -23,31 +23,34 @@ use Rattle.usb_device.specs.{stalled, takes, halts, unhalts, outcome, on_endpoin
 use Rattle.usb_device.specs.{first_stage, ends_if, writing, first_write, begun, accepted}
 use Rattle.usb_device.specs.{row_of, refused, Write, written_on, is_done, taken_with}
 use Rattle.usb_device.specs.{IsPacketOf, OnlyWrite, WritingAt, WriteAt, WriteEnded, level, ahead}
-use Rattle.usb_device.specs.{seen, unseen, OnlyControl}
-use Rattle.usb_world.specs.{Course, Relation, World, is_harmless}
-use Rattle.usb_world.proofs.Interface.{course_joined, each_both}
+use Rattle.usb_device.specs.{seen, unseen, OnlyControl, max_packet}
+use Rattle.usb_world.specs.{Course, World, is_harmless}
+use Rattle.usb_world.proofs.Interface.{course_joined}
 use Rattle.usb_tree.specs.{IsSettled}
 use Rattle.usb_tree.proofs.Interface.{decided}
-use Rattle.usb_transaction.specs.{Target, TransFault, AcceptedAt, CanAccept, ControlIn, EachSpared}
-use Rattle.usb_transaction.specs.{WriteEnds}
-use Rattle.usb_transaction.specs.{Answerer, AttemptsMade, WriteOut, WriteStatusEnds, WriteStatusIn}
-use Rattle.usb_transaction.specs.{heard_as}
-use Rattle.usb_transaction.specs.{heard_when_sent, in_attempt, is_at, out_attempt, refuses_in}
+use Rattle.usb_transaction.specs.{Target, TransFault, AcceptedAt, CanAccept, CanAnswer, EachSpared}
+use Rattle.usb_transaction.specs.{Answerer, AttemptsMade, Expects, Listens, NoThreeDamaged}
+use Rattle.usb_transaction.specs.{IsNotOfBus as TransNotOfBus, WriteEnds, WriteOut, WriteOutFailure}
+use Rattle.usb_transaction.specs.{WriteStatusEnds, begins_no_stretch, data_write, heard_as}
+use Rattle.usb_transaction.specs.{heard_when_sent, in_attempt, is_at, out_attempt, refusal}
+use Rattle.usb_transaction.specs.{refused_write, refuses_in}
 use Rattle.usb_transaction.specs.declared.fault.TransFault.TheVariants as trans
-use Rattle.usb_transaction.proofs.Interface.{at_from, control_leaves, spared_wider, write_leaves}
-use Rattle.usb_transaction.proofs.Interface.{write_status_leaves}
-use Rattle.usb_pipe.specs.{AcceptedIn, AllGone, Asks, DataRefused, DataTaken}
-use Rattle.usb_pipe.specs.{DataWrite, FaultAfter}
-use Rattle.usb_pipe.specs.{DataWriteLeaves, Gave, IsBehindData, PipeFault}
+use Rattle.usb_transaction.proofs.Interface.{at_from, listens_on, spared_wider}
+use Rattle.usb_pipe.specs.{AcceptedIn, AllGone, Asks, CanEnd, DataRefused, DataTaken}
+use Rattle.usb_pipe.specs.{DataWrite, DataWriteFailure, FaultAfter, IsMaximum, IsNoBusFault}
+use Rattle.usb_pipe.specs.{DataWriteLeaves, Gave, IsBehindData, LossesKept, PipeFault}
 use Rattle.usb_pipe.specs.{Puts, PutsData, SetUp, Unshared, as_pipe_fault}
 use Rattle.usb_pipe.specs.{stage_begun}
 use Rattle.usb_pipe.specs.declared.fault.PipeFault.TheVariants as pipe_fault
 use Rattle.usb_pipe.specs.Moves as moves
-use Rattle.usb_pipe.proofs.ControlSteps.{Only, Requested, RequestReached, either_way, only_first}
-use Rattle.usb_pipe.proofs.ControlSteps.{reached_first, reached_last, reached_more}
+use Rattle.usb_pipe.proofs.ControlSteps.{Only, Requested, RequestReached, WritePacket, WriteStatus}
+use Rattle.usb_pipe.proofs.ControlSteps.{either_way, never_three, only_first, reached_first}
+use Rattle.usb_pipe.proofs.ControlSteps.{reached_last, reached_more, sound_told}
+use Rattle.usb_pipe.proofs.ControlSteps.{write_packet_leaves, write_status_asked}
+use Rattle.usb_pipe.proofs.ControlTransfers.{at_least_8}
 use Rattle.usb_pipe.proofs.DataWrites.{asked_behind, gave_behind, put_behind, who_puts}
 use Rattle.usb_pipe.proofs.MovedPackets.{flips_more}
-use Rattle.usb_pipe.proofs.TransactionFaults.{Fell, fell_same_fault}
+use Rattle.usb_pipe.proofs.TransactionFaults.{Fell, could_accept, could_answer, fell_same_fault}
 
 -- What a request with data to the device asks: its data, or a refusal
 
@@ -182,14 +185,17 @@ data DataFar (wanted n : ℕ) (sent : List ℕ) (first : Stage) (s v : State) : 
   writes_data : (kept : Bool) → first ≡ writing (first_write wanted kept)
       → WritingAt s.taken (so_far wanted kept n sent) v → DataFar wanted n sent first s v
 
-record DataTold (t : Target) (request : Setup) (n : ℕ) (sent : List ℕ) (old first : World)
+record DataTold (t : Target) (request : Setup) (n : ℕ) (sent : List ℕ) (old first now : World)
     (j : Location) (s v : State) : Type 0 where
   row : List PortState
   accepts : AcceptedIn t request old first j row s
   frame : OnlyWrite s v
+  naks : v.naks ≤ s.spec.naks
+  losses : begins_no_stretch request ≡ true → now.losses ≡ old.losses
   far : DataFar request.length n sent (stage_begun row request s) s v
 
--- What a transfer says of the device that it was for
+-- What a transfer says of the device that it was for: what it leaves of it, why it fails, and what
+-- it loses
 record DataAsked (t : Target) (request : Setup) (bytes : List ℕ)
     (result : Result (Unit {0}) PipeFault) (old new : World) (j : Location) (s v : State) : Type 0
   where
@@ -197,6 +203,13 @@ record DataAsked (t : Target) (request : Setup) (bytes : List ℕ)
     done : (u : Unit {0}) → result ≡ Ok u → DataTaken t request bytes old new j s v
     failed : (v.taken ≡ s.taken) ⊎ (v.taken ≡ s.taken ++ bytes)
     refuses : result ≡ Err pipe_fault.Stalled → DataRefused t request old new j s
+    could : CanEnd s.spec result
+    answered : NoThreeDamaged old → IsNoBusFault result → Listens t j s
+        → IsMaximum t request.length s → result ≢ Err pipe_fault.NoAnswer
+    waited : NoThreeDamaged old → IsNoBusFault result → Listens t j s
+        → IsMaximum t request.length s → s.spec.busy ≡ false → s.spec.naks ≤ 200
+        → result ≢ Err pipe_fault.Busy
+    losses : begins_no_stretch request ≡ true → IsNoBusFault result → new.losses ≡ old.losses
 
 -- the bytes are taken when as many have come as the host said, and not before
 taken_by : (old bytes got : List ℕ) (w : Write) → w.got ≡ got → w.wanted ≡ length bytes
@@ -258,6 +271,14 @@ all_sent bytes sent rest max split e =
     ) in
     ap (λ x. sent ++ x) (take_all max rest (omega (arith, few, length-take max rest))) ∙ sym split
 
+-- no packet is longer than the maximum of a device that takes packets so long, or all of the data
+-- in one
+packet_within : (t : Target) (wanted : ℕ) (s : State) (rest : List ℕ) → IsMaximum t wanted s
+    → length rest ≤ wanted → length (take t.max rest) ≤ max_packet s.spec
+packet_within t wanted s rest (inl same) few = omega (arith, length-take t.max rest, same)
+packet_within t wanted s rest (inr little) few =
+    omega (arith, length-take t.max rest, few, little, at_least_8 s.spec)
+
 not_all_sent : (bytes sent rest : List ℕ) → bytes ≡ sent ++ rest → 0 < length rest
     → length sent ≡ length bytes → sent ≡ bytes
 not_all_sent bytes sent rest split some e =
@@ -280,7 +301,7 @@ module _ (t : Target) (request : Setup) (way : IsToDevice request) (some : 1 ≤
       (outcome-is_writing s.spec s.registers request way wants_some)
 
   told_data : {old first : World} (j : Location) (s u : State) → is_at s t ≡ true
-      → Requested t request (Ok []) old first j s u → DataTold t request 0 [] old first j s u
+      → Requested t request (Ok []) old first j s u → DataTold t request 0 [] old first first j s u
   told_data {old} {first} j s u at y =
       let x : AcceptedAt t (bytes_of request) old first j s u = y.done.done at [] refl in
       let e : u ≡ record s {
@@ -291,6 +312,8 @@ module _ (t : Target) (request : Setup) (way : IsToDevice request) (some : 1 ≤
         row = row_of x.holder.below;
         accepts = record { state = u; at = x; had = refl };
         frame = subst (λ d. OnlyWrite s d) (sym e) refl;
+        naks = subst (λ d. d.naks ≤ s.spec.naks) (sym e) (omega arith);
+        losses = λ plain. y.kept plain tt;
         far = elim (begins (row_of x.holder.below) s.taken request.length
             (outcome s.spec s.registers request)
             (outcome-is_writing s.spec s.registers request way wants_some) wants_some) [
@@ -302,8 +325,8 @@ module _ (t : Target) (request : Setup) (way : IsToDevice request) (some : 1 ≤
             ];
       }
 
-  module _ {n : ℕ} {sent : List ℕ} {old first : World} {j : Location} {s u : State}
-      (at : is_at s t ≡ true) (x : DataTold t request n sent old first j s u) where
+  module _ {n : ℕ} {sent : List ℕ} {old first now : World} {j : Location} {s u : State}
+      (at : is_at s t ≡ true) (x : DataTold t request n sent old first now j s u) where
     -- the next packet
     abbrev part : List ℕ → List ℕ
     part rest = take t.max rest
@@ -314,6 +337,19 @@ module _ (t : Target) (request : Setup) (way : IsToDevice request) (some : 1 ≤
     data_at : is_at u t ≡ true
     data_at = at_from t s u (ap (λ d. d.registers) x.frame) at
 
+    data_spec : u.spec ≡ s.spec
+    data_spec = ap (λ d. d.spec) x.frame
+
+    data_listens : Listens t j s → Listens t j u
+    data_listens l = listens_on t j s u data_spec (ap (λ d. d.registers) x.frame) l
+
+    data_calm : s.spec.busy ≡ false → u.spec.busy ≡ false
+    data_calm calm = ap (λ d. d.busy) data_spec ∙ calm
+
+    data_could : (result : Result (List ℕ) TransFault) → CanAnswer u.spec result
+        → CanAnswer s.spec result
+    data_could result c = subst (λ d. CanAnswer d result) data_spec c
+
     data_frame : (v : State) → OnlyWrite u v → OnlyWrite s v
     data_frame v f = f ∙ ap {A = State} (λ d. record d {
       memory = v.memory;
@@ -323,18 +359,21 @@ module _ (t : Target) (request : Setup) (way : IsToDevice request) (some : 1 ≤
     }) x.frame
 
     -- a packet that came
-    data_more : (bytes : List ℕ) {v : State} → WriteOut t (flips n One) bytes (Ok []) j u v
+    data_more : (bytes : List ℕ) {new : World} {v : State}
+        → WritePacket t (flips n One) bytes (Ok []) now new j u v
         → 1 ≤ length bytes → length sent + length bytes ≤ request.length
-        → DataTold t request (n + 1) (sent ++ bytes) old first j s v
-    data_more bytes {v} y more within = record {
+        → DataTold t request (n + 1) (sent ++ bytes) old first new j s v
+    data_more bytes {v = v} y more within = record {
       row = x.row;
       accepts = x.accepts;
-      frame = data_frame v y.frame;
+      frame = data_frame v y.leaves.frame;
+      naks = omega (arith, x.naks, y.leaves.naks);
+      losses = λ plain. y.kept tt ∙ x.losses plain;
       far = elim x.far [
-        | refuses_data f h k ↦ absurd ((y.refused h).2 data_at [] refl)
+        | refuses_data f h k ↦ absurd ((y.leaves.refused h).2 data_at [] refl)
         | writes_data kept f h ↦ writes_data kept f (subst (λ w. WritingAt s.taken w v)
             (so_far-more request.length kept n sent bytes)
-            (y.write data_at s.taken (so_far request.length kept n sent) refl
+            (y.leaves.write data_at s.taken (so_far request.length kept n sent) refl
             (record { some = more; within = within }) (level h)))
       ];
     }
@@ -352,11 +391,11 @@ module _ (t : Target) (request : Setup) (way : IsToDevice request) (some : 1 ≤
     -- a packet that did not come
     data_lost : (bytes rest : List ℕ) (fault : TransFault) (why : PipeFault)
         → why ≡ as_pipe_fault fault → request.length ≡ length bytes → bytes ≡ sent ++ rest
-        → 0 < length rest → 1 ≤ t.max → {new : World}
+        → 0 < length rest → 1 ≤ t.max → now.damages ≡ old.damages → {new : World}
         → (Fell fault trans.Stalled → Course (IsBehindData t) first new) → (v : State)
-        → WriteOut t (flips n One) (take t.max rest) (Err fault) j u v
+        → WritePacket t (flips n One) (take t.max rest) (Err fault) now new j u v
         → DataAsked t request bytes (Err why) old new j s v
-    data_lost bytes rest fault why told all split more least since v y = record {
+    data_lost bytes rest fault why told all split more least undamaged {new} since v z = record {
       frame = data_frame v y.frame;
       done = λ z e. cc e;
       failed = elim x.far [
@@ -371,8 +410,34 @@ module _ (t : Target) (request : Setup) (way : IsToDevice request) (some : 1 ≤
             | writes_data kept f h ↦
                 absurd (subst (λ r. WriteEnds s.taken (w kept) (part rest) r v) stall (ends kept h))
           ];
+      could = could_answer (Unit {0}) s.spec why fault told (data_could (Err fault) (y.could data_at));
+      answered = λ three sound l m e. (because three sound).answered (data_listens l) (expected m)
+          (fell_same_fault (Unit {0}) why fault trans.NoAnswer told e);
+      waited = λ three sound l m calm few e. (because three sound).waited (data_listens l)
+          (expected m) (data_calm calm) (omega (arith, x.naks, few))
+          (fell_same_fault (Unit {0}) why fault trans.Busy told e);
+      losses = λ plain sound. z.kept (sound_told (Unit {0}) why fault told sound) ∙ x.losses plain;
     }
       where
+        y : WriteOut t (flips n One) (part rest) (Err fault) j u v
+        y = z.leaves
+
+        because : NoThreeDamaged old → IsNoBusFault {A = Unit {0}} (Err why)
+            → WriteOutFailure t (part rest) (Err fault) j u v
+        because three sound = z.why (never_three old now undamaged three)
+            (sound_told (Unit {0}) why fault told sound)
+
+        expected : IsMaximum t request.length s → Expects (part rest) u
+        expected m =
+            let fits : length (part rest) ≤ max_packet u.spec =
+            subst (λ d. length (part rest) ≤ max_packet d) (sym data_spec)
+            (packet_within t request.length s rest m
+            (omega (arith, all, ap length split, length-append sent rest))) in
+            elim x.far [
+              | refuses_data f h k ↦ refused_write h
+              | writes_data kept f h ↦ data_write (w kept) h.stage fits
+            ]
+
         is_packet : (kept : Bool) → IsPacketOf (w kept) (part rest)
         is_packet kept = record {
           some = omega (arith, length-take t.max rest, more, least);
@@ -398,23 +463,29 @@ module _ (t : Target) (request : Setup) (way : IsToDevice request) (some : 1 ≤
 
     -- The status stage, where all bytes have come
 
-    abbrev StatusLeft : Result (List ℕ) TransFault → State → Type 0
-    StatusLeft result v = ControlIn t One result j u v × WriteStatusIn t result j u v
+    status_losses : {result : Result (List ℕ) TransFault} {new : World} {v : State}
+        → WriteStatus t result now new j u v → TransNotOfBus result → new.losses ≡ now.losses
+    status_losses y sound = y.asked.kept sound data_at (λ a e. elim x.far [
+      | refuses_data f h k ↦ cc (sym h ∙ e)
+      | writes_data kept f h ↦ cc (sym h.stage ∙ e)
+    ])
 
     data_unconfirmed : (bytes : List ℕ) (fault : TransFault) (why : PipeFault)
-        → why ≡ as_pipe_fault fault → request.length ≡ length bytes → sent ≡ bytes → {new : World}
+        → why ≡ as_pipe_fault fault → request.length ≡ length bytes → sent ≡ bytes
+        → now.damages ≡ old.damages → {new : World}
         → (Fell fault trans.Stalled → Course (IsBehindData t) first new) → (v : State)
-        → StatusLeft (Err fault) v → DataAsked t request bytes (Err why) old new j s v
-    data_unconfirmed bytes fault why told all is since v y = record {
-      frame = data_frame v (only_write u v y.0.frame (elim x.far [
-        | refuses_data f h k ↦ y.0.rests h
-        | writes_data kept f h ↦ y.1.rests data_at s.taken (w kept) h
+        → WriteStatus t (Err fault) now new j u v
+        → DataAsked t request bytes (Err why) old new j s v
+    data_unconfirmed bytes fault why told all is undamaged since v y = record {
+      frame = data_frame v (only_write u v y.asked.leaves.frame (elim x.far [
+        | refuses_data f h k ↦ y.asked.leaves.rests h
+        | writes_data kept f h ↦ y.write.rests data_at s.taken (w kept) h
       ]));
       done = λ z e. cc e;
       failed = elim x.far [
-        | refuses_data f h k ↦ inl (ap (λ d. d.taken) y.0.frame ∙ k)
+        | refuses_data f h k ↦ inl (ap (λ d. d.taken) y.asked.leaves.frame ∙ k)
         | writes_data kept f h ↦ taken_by s.taken bytes sent (w kept) refl all (λ e. is) v
-            (taken_failed s.taken (w kept) fault v (y.1.status data_at s.taken (w kept) h))
+            (taken_failed s.taken (w kept) fault v (y.write.status data_at s.taken (w kept) h))
       ];
       refuses = λ e.
           let stall = fell_same_fault (Unit {0}) why fault trans.Stalled told e in
@@ -422,20 +493,46 @@ module _ (t : Target) (request : Setup) (way : IsToDevice request) (some : 1 ≤
             | refuses_data f h k ↦ refused_data (since stall) (inl f)
             | writes_data kept f h ↦ refused_data (since stall)
                 (inr (f ∙ ap (λ k. writing (first_write request.length k))
-                (not_kept kept (sym (ap refuses_in h.stage) ∙ y.0.stalled data_at stall))))
+                (not_kept kept (sym (ap refuses_in h.stage)
+                ∙ y.asked.leaves.stalled data_at stall))))
           ];
+      could = could_answer (Unit {0}) s.spec why fault told
+          (data_could (Err fault) (y.asked.leaves.could data_at));
+      answered = λ three sound l m e.
+          let silent = fell_same_fault (Unit {0}) why fault trans.NoAnswer told e in
+          elim x.far [
+            | refuses_data f h k ↦ (y.asked.why (never three) (sound_then sound)).answered
+                (data_listens l) (refusal h) silent
+            | writes_data kept f h ↦ (y.why (never three) (sound_then sound)).answered
+                (data_listens l) (w kept) h.stage silent
+          ];
+      waited = λ three sound l m calm few e.
+          let busy = fell_same_fault (Unit {0}) why fault trans.Busy told e in
+          elim x.far [
+            | refuses_data f h k ↦ (y.asked.why (never three) (sound_then sound)).waited
+                (data_listens l) (refusal h) (data_calm calm) (omega (arith, x.naks, few)) busy
+            | writes_data kept f h ↦ (y.why (never three) (sound_then sound)).waited
+                (data_listens l) (w kept) h.stage (data_calm calm) (omega (arith, x.naks, few)) busy
+          ];
+      losses = λ plain sound. status_losses y (sound_then sound) ∙ x.losses plain;
     }
       where
+        never : NoThreeDamaged old → NoThreeDamaged now
+        never = never_three old now undamaged
+
+        sound_then : IsNoBusFault {A = Unit {0}} (Err why) → TransNotOfBus {A = List ℕ} (Err fault)
+        sound_then = sound_told (Unit {0}) why fault told
+
         not_kept : (kept : Bool) → not (is_done (w kept)) ≡ true → kept ≡ false
         not_kept true h = absurd (grind (arith, nat_tests, h, all, ap length is))
         not_kept false h = refl
 
     data_whole : (bytes given : List ℕ) → request.length ≡ length bytes → sent ≡ bytes
         → {new : World} → Course (IsBehindData t) first new → (v : State)
-        → StatusLeft (Ok given) v → DataAsked t request bytes (Ok tt) old new j s v
+        → WriteStatus t (Ok given) now new j u v → DataAsked t request bytes (Ok tt) old new j s v
     data_whole bytes given all is {new} since v y = elim x.far [
-      | refuses_data f h k ↦ absurd ((y.0.refused h).1 data_at given refl)
-      | writes_data kept f h ↦ ended kept f h (y.1.status data_at s.taken (w kept) h)
+      | refuses_data f h k ↦ absurd ((y.asked.leaves.refused h).1 data_at given refl)
+      | writes_data kept f h ↦ ended kept f h (y.write.status data_at s.taken (w kept) h)
     ]
       where
         is_kept : (kept : Bool) → is_done (w kept) ≡ true → kept ≡ true
@@ -450,8 +547,8 @@ module _ (t : Target) (request : Setup) (way : IsToDevice request) (some : 1 ≤
             let came : v.taken ≡ s.taken ++ bytes = taken_ended s.taken (w kept) v end
             ∙ ap (λ b. if b then s.taken ++ sent else s.taken) done ∙ ap (λ b. s.taken ++ b) is in
             record {
-              frame = data_frame v (only_write u v y.0.frame
-                  (y.1.rests data_at s.taken (w kept) h));
+              frame = data_frame v (only_write u v y.asked.leaves.frame
+                  (y.write.rests data_at s.taken (w kept) h));
               done = λ z e. record {
                 row = x.row;
                 moment = record { now = first; accepts = x.accepts; since = since };
@@ -460,6 +557,10 @@ module _ (t : Target) (request : Setup) (way : IsToDevice request) (some : 1 ≤
               };
               failed = inr came;
               refuses = λ e. cc e;
+              could = data_could (Ok given) (y.asked.leaves.could data_at);
+              answered = λ three sound l m e. cc e;
+              waited = λ three sound l m calm few e. cc e;
+              losses = λ plain sound. status_losses y tt ∙ x.losses plain;
             }
 
   -- a SETUP that was not acknowledged
@@ -479,54 +580,57 @@ module _ (t : Target) (request : Setup) (way : IsToDevice request) (some : 1 ≤
     ]);
     refuses = λ e. absurd (subst (λ r. CanAccept {A = List ℕ} s.spec r)
         (fell_same_fault (Unit {0}) why fault trans.Stalled told e) (y.done.could at));
+    could = could_accept (Unit {0}) s.spec why fault told (y.done.could at);
+    answered = λ three sound l m e.
+        (y.why three (sound_told (Unit {0}) why fault told sound)).answered l
+        (fell_same_fault (Unit {0}) why fault trans.NoAnswer told e);
+    waited = λ three sound l m calm few e. subst (λ r. CanAccept {A = List ℕ} s.spec r)
+        (fell_same_fault (Unit {0}) why fault trans.Busy told e) (y.done.could at);
+    losses = λ plain sound. y.kept plain (sound_told (Unit {0}) why fault told sound);
   }
 
   -- so many packets were acknowledged
   data_gone : {old first : World} {n : ℕ} {sent : List ℕ} {now : World}
       → Gave t 0 One first n sent now
-      → RequestReached t request (DataTold t request 0 [] old first) old first
+      → RequestReached t request (DataTold t request 0 [] old first first) old first
       → length sent ≤ request.length
-      → RequestReached t request (DataTold t request n sent old first) old now
+      → RequestReached t request (DataTold t request n sent old first now) old now
   data_gone moves.start r few = r
   data_gone {old} {first} (moves.packet {n} {sent} {mid} {new} bytes g full more fits puts) r few =
       let all : length (sent ++ bytes) ≡ length sent + length bytes = length-append sent bytes in
-      reached_more (WriteOut t (flips n One) bytes (Ok []))
-      (DataTold t request (n + 1) (sent ++ bytes) old first) [] (λ j s v y. y.others)
+      reached_more (WritePacket t (flips n One) bytes (Ok []) mid new)
+      (DataTold t request (n + 1) (sent ++ bytes) old first new) [] (λ j s v y. y.leaves.others)
       (λ j s u v at x y. data_more at x bytes y (omega (arith, more)) (omega (arith, few, all)))
       (data_gone g r (omega (arith, few, all))) puts
-      (λ settled single. write_leaves t (flips n One) bytes (Ok []) mid new settled puts single)
+      (write_packet_leaves t (flips n One) bytes (Ok []) mid new puts)
 
   module _ (bytes : List ℕ) (all : request.length ≡ length bytes) (least : 1 ≤ t.max)
       (old new : World) (settled : IsSettled old.roots) (single : new.shared ≡ false) where
     data_reached : {first : World} → SetUp t request old (Ok []) first
-        → RequestReached t request (DataTold t request 0 [] old first) old first
-    data_reached {first} set_up = reached_first t request (DataTold t request 0 [] old first) same
-        settled set_up told_data
+        → RequestReached t request (DataTold t request 0 [] old first first) old first
+    data_reached {first} set_up = reached_first t request (DataTold t request 0 [] old first first)
+        same settled set_up told_data
 
     -- at the end
     data_last : (result : Result (List ℕ) TransFault) (ended : Result (Unit {0}) PipeFault)
         {first second : World} → SetUp t request old (Ok []) first
         → (gone : AllGone t 0 One bytes first second) → Asks t One second result new
-        → ((j : Location) (s u v : State) → is_at s t ≡ true
-        → DataTold t request gone.packets bytes old first j s u
-        → ControlIn t One result j u v × WriteStatusIn t result j u v
+        → (second.damages ≡ old.damages → (j : Location) (s u v : State) → is_at s t ≡ true
+        → DataTold t request gone.packets bytes old first second j s u
+        → WriteStatus t result second new j u v
         → DataAsked t request bytes ended old new j s v)
         → EachSpared t request (Only t (DataAsked t request bytes ended old new)) old new
     data_last result ended {first} {second} set_up gone status f =
-        let both : Relation = λ j u v. ControlIn t One result j u v × WriteStatusIn t result j u v
-        in
-        reached_last both (DataAsked t request bytes ended old new) (heard_as One) (in_attempt t 0)
-        new result (λ j s v y. y.0.others) f
-        (data_gone gone.gone (data_reached set_up) (omega (arith, all))) status
-        (λ still alone. each_both (ControlIn t One result) (WriteStatusIn t result) second new
-        (control_leaves t One result second new still status alone)
-        (write_status_leaves t result second new still status alone)) single
+        let r = data_gone gone.gone (data_reached set_up) (omega (arith, all)) in
+        reached_last (WriteStatus t result second new) (DataAsked t request bytes ended old new)
+        (heard_as One) (in_attempt t 0) new result (λ j s v y. y.asked.leaves.others) (f r.damages)
+        r status (write_status_asked t result second new status) single
 
     data_asked : (result : Result (Unit {0}) PipeFault) → PutsData t request bytes old result new
         → EachSpared t request (Only t (DataAsked t request bytes result old new)) old new
     data_asked (Ok done) x =
         data_last (Ok x.given) (Ok done) x.set_up x.data_stage x.status
-        (λ j s u v at y z. data_whole at y bytes x.given all refl
+        (λ undamaged j s u v at y z. data_whole at y bytes x.given all refl
         (course_joined (gave_behind t x.data_stage.gone) (asked_behind t One x.status)) v z)
     data_asked (Err why) (inl x) =
         only_first t request (DataAsked t request bytes (Err why) old new) (Err x.fault) same
@@ -535,20 +639,22 @@ module _ (t : Target) (request : Setup) (way : IsToDevice request) (some : 1 ≤
     data_asked (Err why) (inr (inl x)) =
         let d = x.data_stage in
         let whole = ap length d.split ∙ length-append d.sent d.rest in
-        reached_last (WriteOut t (flips d.packets One) (take t.max d.rest) (Err d.fault))
-        (DataAsked t request bytes (Err why) old new) heard_when_sent
+        let r = data_gone d.before (data_reached x.set_up) (omega (arith, all, whole)) in
+        reached_last (WritePacket t (flips d.packets One) (take t.max d.rest) (Err d.fault) d.mid
+        new) (DataAsked t request bytes (Err why) old new) heard_when_sent
         (out_attempt t 0 (flips d.packets One) (take t.max d.rest)) new (Err d.fault)
-        (λ j s v y. y.others)
+        (λ j s v y. y.leaves.others)
         (λ j s u v at y z. data_lost at y bytes d.rest d.fault why d.told all d.split d.some least
+        r.damages
         (λ stall. course_joined (gave_behind t d.before) (put_behind t (flips d.packets One)
         (take t.max d.rest) (subst (λ r. Puts t 0 (flips d.packets One) (take t.max d.rest) d.mid r
         new) stall d.lost))) v z)
-        (data_gone d.before (data_reached x.set_up) (omega (arith, all, whole))) d.lost
-        (λ still alone. write_leaves t (flips d.packets One) (take t.max d.rest) (Err d.fault) d.mid
-        new still d.lost alone) single
+        r d.lost (write_packet_leaves t (flips d.packets One) (take t.max d.rest) (Err d.fault)
+        d.mid new d.lost) single
     data_asked (Err why) (inr (inr x)) =
         data_last (Err x.fault) (Err why) x.set_up x.data_stage x.status
-        (λ j s u v at y z. data_unconfirmed at y bytes x.fault why x.told all refl
+        (λ undamaged j s u v at y z. data_unconfirmed at y bytes x.fault why x.told all refl
+        undamaged
         (λ stall. course_joined (gave_behind t x.data_stage.gone) (asked_behind t One
         (subst (λ r. Asks t One x.second r new) stall x.status))) v z)
 
@@ -570,7 +676,27 @@ module _ (t : Target) (request : Setup) (way : IsToDevice request) (some : 1 ≤
             | inr h ↦ inl (ap (λ d. d.taken) (y.others h))
           ];
           refused = λ h. (y.mine h).refuses;
+          could = λ h. (y.mine h).could;
         }) old new (data_asked result x)
+
+    pub data_write_why : (result : Result (Unit {0}) PipeFault)
+        → PutsData t request bytes old result new → NoThreeDamaged old → IsNoBusFault result
+        → EachSpared t request (DataWriteFailure t request result) old new
+    data_write_why result x three sound =
+        spared_wider t request (Only t (DataAsked t request bytes result old new))
+        (DataWriteFailure t request result)
+        (λ j s v y. record {
+          answered = λ l. (y.mine l.at).answered three sound l;
+          waited = λ l. (y.mine l.at).waited three sound l;
+        }) old new (data_asked result x)
+
+    pub data_write_losses : (result : Result (Unit {0}) PipeFault)
+        → PutsData t request bytes old result new → begins_no_stretch request ≡ true
+        → IsNoBusFault result → EachSpared t request (LossesKept t old new) old new
+    data_write_losses result x plain sound =
+        spared_wider t request (Only t (DataAsked t request bytes result old new))
+        (LossesKept t old new) (λ j s v y h. (y.mine h).losses plain sound) old new
+        (data_asked result x)
 
 -- What its call tells
 
@@ -592,6 +718,10 @@ put_told t request bytes sent {old} new result least way some all is fields sett
       room = room;
       what = λ single. data_write_leaves t request way some same bytes all least old new settled
           single result x;
+      why = λ three sound single. data_write_why t request way some same bytes all least old new
+          settled single result x three sound;
+      losses = λ plain sound single. data_write_losses t request way some same bytes all least old
+          new settled single result x plain sound;
       who = elim result as (λ r. PutsData t request bytes old r new
           → OnOk r ((is_harmless request ≡ false → t.addr ≢ 0)
           → Unshared new (Answerer t old new))) [

@@ -8,7 +8,7 @@ use Rattle.usb_device.specs.{OnlyWrite, refused as stage_refused}
 use Rattle.usb_transaction.specs.{Target, is_at}
 use Rattle.usb_pipe.specs.declared.fault.PipeFault.{PipeFault}
 use Rattle.usb_pipe.specs.declared.fault.PipeFault.TheVariants.{Stalled}
-use Rattle.usb_pipe.specs.Leaves.{AcceptedIn, IsBehindData}
+use Rattle.usb_pipe.specs.Leaves.{AcceptedIn, CanEnd, IsBehindData}
 
 -- the stage that the request begins in a device with these ports
 abbrev pub stage_begun : List PortState → Setup → State → Stage
@@ -49,3 +49,4 @@ pub record DataWriteLeaves (t : Target) (request : Setup) (bytes : List ℕ)
         → DataTaken t request bytes old new x s v
     pub failed : (v.taken ≡ s.taken) ⊎ (v.taken ≡ s.taken ++ bytes)
     pub refused : is_at s t ≡ true → result ≡ Err Stalled → DataRefused t request old new x s
+    pub could : is_at s t ≡ true → CanEnd s.spec result

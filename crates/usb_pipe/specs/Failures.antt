@@ -26,6 +26,14 @@ pub record WriteFailure (t : Target) (result : Result (Unit {0}) PipeFault) (x :
   pub answered : Listens t x s → result ≢ Err NoAnswer
   pub waited : Listens t x s → s.spec.busy ≡ false → s.spec.naks ≤ 200 → result ≢ Err Busy
 
+-- a request with data to the device, in packets that are no longer than its maximum: a device that
+-- listens answers, and only a busy one lets the host wait in vain
+pub record DataWriteFailure (t : Target) (request : Setup) (result : Result (Unit {0}) PipeFault)
+    (x : Location) (s v : State) : Type 0 where
+  pub answered : Listens t x s → IsMaximum t request.length s → result ≢ Err NoAnswer
+  pub waited : Listens t x s → IsMaximum t request.length s → s.spec.busy ≡ false
+      → s.spec.naks ≤ 200 → result ≢ Err Busy
+
 -- an endpoint that takes bytes answers, and never keeps the host waiting
 pub record SendFailure (pipe : Bulk) (result : Result (Unit {0}) PipeFault) (x : Location)
     (s v : State) : Type 0 where

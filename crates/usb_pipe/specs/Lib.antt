@@ -33,7 +33,8 @@ pub use Leaves.{SendingLeaves, ToldOf}
 pub use Leaves.{TookItOrLost, WasRefused, WriteLeaves, came_with, got_after, lost, none, pipe_known}
 pub use Leaves.{some, took, whole}
 pub use DataWrites.{DataMoment, DataRefused, DataTaken, DataWriteLeaves, stage_begun}
-pub use Failures.{ControlReadFailure, PollingFailure, ReceiveFailure, SendFailure, WriteFailure}
+pub use Failures.{ControlReadFailure, DataWriteFailure, PollingFailure, ReceiveFailure}
+pub use Failures.{SendFailure, WriteFailure}
 pub use Attempts.{IsOfDataWrite, IsOfTransfer, TransferAttempts}
 pub use Transfers.{DataWrite}
 pub use Transfers.{BulkClear, BulkReceive, BulkSend, Completed, ControlRead, ControlWrite}

@@ -21,7 +21,7 @@ use Rattle.usb_pipe.specs.Leaves.{IsNoBusFault, ReadLeaves, WriteLeaves, LossesO
 use Rattle.usb_pipe.specs.Leaves.{SendLeaves, ReceiveLeaves, ClearLeaves, PollLeaves}
 use Rattle.usb_pipe.specs.DataWrites.{DataWriteLeaves}
 use Rattle.usb_pipe.specs.Failures.{ControlReadFailure, WriteFailure, SendFailure, ReceiveFailure}
-use Rattle.usb_pipe.specs.Failures.{PollingFailure}
+use Rattle.usb_pipe.specs.Failures.{DataWriteFailure, PollingFailure}
 
 -- When it is so
 
@@ -75,7 +75,8 @@ pub record ControlWrite (t : Target) (request : Setup) (old : World)
 
 -- a request with data to the device: how few attempts were made, and which: a SETUP, one for each
 -- packet, and an IN; if it is done, the device has taken the data once, and if it failed, all or
--- none
+-- none. It counts no address loss; a request that clears a change of connection begins another
+-- stretch of losses
 pub record DataWrite (t : Target) (request : Setup) (bytes : List ℕ) (old : World)
     (result : Result (Unit {0}) PipeFault) (new : World) : Type 0 where
   pub ends : MatchResult result (λ _. AttemptsMade (div_ceil (length bytes) t.max + 2) old new)
@@ -85,8 +86,12 @@ pub record DataWrite (t : Target) (request : Setup) (bytes : List ℕ) (old : Wo
   pub room : result ≢ Err Memory
   pub what : Unshared new
       (EachSpared t request (DataWriteLeaves t request bytes result old new) old new)
+  pub why : Undamaged old result new (EachSpared t request (DataWriteFailure t request result) old
+      new)
   pub who : OnOk result ((is_harmless request ≡ false → t.addr ≢ 0)
       → Unshared new (Answerer t old new))
+  pub losses : begins_no_stretch request ≡ true
+      → Completed result new (EachSpared t request (LossesKept t old new) old new)
 
 -- Bulk pipes (5.8)
 

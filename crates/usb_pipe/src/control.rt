@@ -94,7 +94,9 @@ pub fn control_none<B: Bus>(bus: &mut B, target: Target, setup: Setup) -> Result
 /// # Errors
 ///
 /// - `Stalled`: the device refused the request, or its data when all had come.
-/// - `Busy`, `NoAnswer`: a transaction ended so. The device has taken all of the data, or none.
+/// - `Busy`, `NoAnswer`: a transaction ended so. The device has taken all of the data, or none. A
+///   device that listens gives no `NoAnswer`, and one that is not busy gives no `Busy`. This holds
+///   if no packet is longer than its maximum, and no three attempts in a row were damaged.
 /// - `Bus`: the bus has failed. The device has taken all of the data, or none.
 ///
 /// It never returns `Broken` or `Memory`.

@@ -31,6 +31,7 @@ use Rattle.usb_transaction.specs.{MeansOfSetup, SetsUp, InLeaves, InFailure, Mea
 use Rattle.usb_transaction.specs.{OutLeaves, OutFailure, MeansOfOut, SendsOut, PollsIn}
 use Rattle.usb_transaction.specs.{ControlInFailure, StatusReadFailure, SourceInFailure}
 use Rattle.usb_transaction.specs.{SinkOutFailure, Ends, WriteOut, WriteStatusIn}
+use Rattle.usb_transaction.specs.{WriteOutFailure, WriteStatusFailure}
 use Rattle.usb_transaction.proofs.ControlWrites.{write_leaves, write_status_leaves}
 use Rattle.usb_transaction.proofs.DeviceRuns.{Deeds, EachIf, Run, had_address, in_others, more}
 use Rattle.usb_transaction.proofs.DeviceRuns.{none, out_others, over_trail}
@@ -45,6 +46,7 @@ use Rattle.usb_transaction.proofs.ControlTransactions.{control_in_why, control_l
 use Rattle.usb_transaction.proofs.ControlTransactions.{read_status_why, status_leaves}
 use Rattle.usb_transaction.proofs.Polls.{poll_leaves, poll_why}
 use Rattle.usb_transaction.proofs.TransactionTries.{ends_of, poll_ends}
+use Rattle.usb_transaction.proofs.WriteFailures.{write_status_why, write_out_why}
 
 -- The last attempt of a trail, with what the host got of it
 
@@ -447,6 +449,10 @@ module _ (t : Target) (ep : ℕ) (awaited : Toggle) (old new : World) (settled :
     SourceOrControl result j s v = SourceIn t ep awaited result j s v
         × (ep ≡ 0 → ControlIn t awaited result j s v)
 
+    abbrev SourceOrControlFailure : Result (List ℕ) TransFault → Relation
+    SourceOrControlFailure result j s v = SourceInFailure t ep awaited result j s v
+        × (ep ≡ 0 → ControlInFailure t awaited result j s v)
+
     pub asks_in : {toggle : Toggle} → toggle ≡ awaited → (result : Result (List ℕ) TransFault)
         → Transacted (heard_as toggle) (in_attempt t ep) old result new
         → IfOk result (λ bytes. length bytes ≤ t.max) → AsksIn t ep awaited old result new
@@ -467,13 +473,17 @@ module _ (t : Target) (ep : ℕ) (awaited : Toggle) (old new : World) (settled :
               single))
               (λ z. write_status_leaves t result old new settled (rw (z.0, z.1) at x) single);
           why = λ u. let e = ended_of result x u.whole in
-              each_beside (SourceInFailure t ep awaited result) (ControlInFailure t awaited result)
-              (InFailure t ep awaited result) (ep ≡ 0)
-              (λ j s v b c. record { control = c; bulk = b })
+              each_beside (SourceOrControlFailure result) (WriteStatusFailure t result)
+              (InFailure t ep awaited result) ((ep ≡ 0) × (awaited ≡ One))
+              (λ j s v b c. record { control = b.1; write = λ f g. c (f, g); bulk = b.0 })
+              old new (each_beside (SourceInFailure t ep awaited result)
+              (ControlInFailure t awaited result) (SourceOrControlFailure result) (ep ≡ 0)
+              (λ j s v b c. (b, c))
               old new (source_why t ep awaited result old new settled u.few e u.single)
               (λ z. control_in_why t awaited result old new settled u.few
               (subst (λ k. TransactionDone (heard_as awaited) (in_attempt t k) old result new) z e)
-              u.single);
+              u.single))
+              (λ z. write_status_why t result old new settled u.few (rw (z.0, z.1) at e) u.single);
           who = who_in result x;
           means = means_in result x;
         }
@@ -508,6 +518,10 @@ module _ (t : Target) (ep : ℕ) (toggle : Toggle) (bytes : List ℕ) (old new :
   SinkOrStatus result j s v = SinkOut t ep toggle bytes result j s v
       × (EndsRead ep toggle bytes → ReadStatus t result j s v)
 
+  abbrev SinkOrStatusFailure : Result (List ℕ) TransFault → Relation
+  SinkOrStatusFailure result j s v = SinkOutFailure t ep toggle bytes result j s v
+      × (EndsRead ep toggle bytes → StatusReadFailure t result j s v)
+
   pub sends_out : (result : Result (List ℕ) TransFault)
       → Transacted heard_when_sent (out_attempt t ep toggle bytes) old result new
       → SendsOut t ep toggle bytes old result new
@@ -524,13 +538,16 @@ module _ (t : Target) (ep : ℕ) (toggle : Toggle) (bytes : List ℕ) (old new :
         (sink_leaves t ep toggle bytes result old new settled x single)
         (λ z. status_leaves t result old new settled (status_out result x z) single))
         (λ z. write_leaves t toggle bytes result old new settled (rw z at x) single);
-    why = λ u. each_beside (SinkOutFailure t ep toggle bytes result) (StatusReadFailure t result)
-        (OutFailure t ep toggle bytes result) (EndsRead ep toggle bytes)
-        (λ j s v b c. record { control = λ f g h. c (f, g, h); bulk = b }) old new
-        (sink_why t ep toggle bytes result old new settled u.few (ended_of result x u.whole)
-        u.single)
+    why = λ u. let e = ended_of result x u.whole in
+        each_beside (SinkOrStatusFailure result) (WriteOutFailure t bytes result)
+        (OutFailure t ep toggle bytes result) (ep ≡ 0)
+        (λ j s v b c. record { control = λ f g h. b.1 (f, g, h); write = c; bulk = b.0 }) old new
+        (each_beside (SinkOutFailure t ep toggle bytes result) (StatusReadFailure t result)
+        (SinkOrStatusFailure result) (EndsRead ep toggle bytes) (λ j s v b c. (b, c)) old new
+        (sink_why t ep toggle bytes result old new settled u.few e u.single)
         (λ z. read_status_why t result old new settled u.few
-        (ended_of result (status_out result x z) u.whole) u.single);
+        (ended_of result (status_out result x z) u.whole) u.single))
+        (λ z. write_out_why t toggle bytes result old new settled u.few (rw z at e) u.single);
     who = who_out result x;
     means = means_out result x;
   }

@@ -1,7 +1,7 @@
 -- Control writes over a transaction: what OUT with data and the IN of the status stage leave.
 use Rattle.std.proofs.Common.{◌≡◌, ◌≢◌, ℕ, if◌then◌else◌, Bool, true, false, List, Option, None}
 use Rattle.std.proofs.Common.{Some, Result, Ok, Err, refl, sym, subst, ap, ◌∙◌, inl, inr, ◌&&◌}
-use Rattle.std.proofs.Common.{nat_le, length}
+use Rattle.std.proofs.Common.{nat_le, length, ◌⊎◌, ◌≤◌, [], arith}
 use Rattle.arrayvec.specs.ArrayVec.{ArrayVec}
 use Rattle.usb_packet.specs.{Toggle, Zero, One, is_same}
 use Rattle.usb_device.specs.{State, Reply, Answer, Location, Write, written_on, refused}
@@ -19,10 +19,12 @@ use Rattle.usb_tree.proofs.Interface.{decided}
 use Rattle.usb_transaction.specs.{Target, TransFault, Stalled, Busy, NoAnswer, Bus, Moved, is_at}
 use Rattle.usb_transaction.specs.{heard_as, heard_when_sent, WriteEnds, WriteOut, WriteStatusEnds}
 use Rattle.usb_transaction.specs.{WriteStatusIn, IsNoEnd, Transacted, in_attempt, out_attempt}
-use Rattle.usb_transaction.specs.{packed}
+use Rattle.usb_transaction.specs.{CanAnswer, packed, waits_in}
+use Rattle.usb_transaction.proofs.ControlTransactions.{OutcomeOfSpec, can_answer, waits_more}
 use Rattle.usb_transaction.proofs.DeviceRuns.{IsEnd, IsOfBus, Through, asked_in, at_end}
 use Rattle.usb_transaction.proofs.DeviceRuns.{at_from, delivered_out, each_device, of_bus}
 use Rattle.usb_transaction.proofs.DeviceRuns.{out_others, over_in, over_out, stays_away}
+use Rattle.usb_transaction.proofs.WriteAttempts.{naks_left, out_says}
 
 -- OUT with data
 
@@ -82,6 +84,7 @@ module _ (t : Target) (toggle : Toggle) (bytes : List ℕ) where
   -- what one attempt does
   record Gave (u : State) (o : Outcome) (v : State) : Type 0 where
     frame : OnlyWrite u v
+    naks : v.naks ≤ u.naks
     write : (old : List ℕ) (w : Write) → w.toggle ≡ toggle → IsPacketOf w bytes
         → WriteAt old w bytes u → WriteHeard old w bytes o v
     refuses : u.stage ≡ refused → (v.stage ≡ refused) × (v.taken ≡ u.taken) × (o ≢ Ack)
@@ -113,6 +116,7 @@ module _ (t : Target) (toggle : Toggle) (bytes : List ℕ) where
       → Gave u (got max (out_law u 0 toggle bytes t1 t2 t3).0) (out_law u 0 toggle bytes t1 t2 t3).1
   gave u max t1 t2 t3 = record {
     frame = out_only_write u toggle bytes t1 t2 t3;
+    naks = naks_left u toggle bytes t1 t2 t3;
     write = λ old w e p at. heard_by old w bytes _ max _
         (subst (λ g. WriteOn old w bytes (out_law u 0 g bytes t1 t2 t3).0
         (out_law u 0 g bytes t1 t2 t3).1) e (control_write old w bytes u at p t1 t2 t3));
@@ -137,6 +141,7 @@ module _ (t : Target) (toggle : Toggle) (bytes : List ℕ) where
   record SoFar (s u : State) : Type 0 where
     at : is_at u t ≡ true
     frame : OnlyWrite s u
+    naks : u.naks ≤ s.naks
     write : (old : List ℕ) (w : Write) → w.toggle ≡ toggle → IsPacketOf w bytes
         → WriteAt old w bytes s → WriteAt old w bytes u
     refuses : s.stage ≡ refused → (u.stage ≡ refused) × (u.taken ≡ s.taken)
@@ -145,6 +150,7 @@ module _ (t : Target) (toggle : Toggle) (bytes : List ℕ) where
   further s u v o so g = record {
     at = at_from t u v (ap (λ x. x.registers) g.frame) so.at;
     frame = frame_then s u v so.frame g.frame;
+    naks = omega (arith, so.naks, g.naks);
     write = λ old w e p a. still old w bytes v o
         (g.write old w e p (so.write old w e p a));
     refuses = λ e. let f = so.refuses e in
@@ -154,16 +160,24 @@ module _ (t : Target) (toggle : Toggle) (bytes : List ℕ) where
   -- at the end
   record Left (result : Result (List ℕ) TransFault) (s v : State) : Type 0 where
     frame : OnlyWrite s v
+    naks : v.naks ≤ s.naks
+    could : CanAnswer s.spec result
     write : (old : List ℕ) (w : Write) → w.toggle ≡ toggle → IsPacketOf w bytes
         → WriteAt old w bytes s → WriteEnds old w bytes result v
     refuses : s.stage ≡ refused → (v.stage ≡ refused) × (v.taken ≡ s.taken)
         × ((done : List ℕ) → result ≢ Ok done)
 
+  -- whether it was heard
+  abbrev Heard : State → List Outcome → Type 0
+  Heard s outcomes = (waits_in heard_when_sent outcomes ≡ 0) ⊎ (s.spec.silent ≡ false)
+
   ended : (result : Result (List ℕ) TransFault) (s u v : State) (o : Outcome)
       (outcomes : List Outcome) → SoFar s u → Gave u o v
-      → IsEnd heard_when_sent result o outcomes → Left result s v
-  ended result s u v o outcomes so g is = record {
+      → IsEnd heard_when_sent result o outcomes → CanAnswer s.spec result → Left result s v
+  ended result s u v o outcomes so g is could = record {
     frame = frame_then s u v so.frame g.frame;
+    naks = omega (arith, so.naks, g.naks);
+    could = could;
     write = λ old w e p a. write_ends old w bytes v result o outcomes
         (g.write old w e p (so.write old w e p a)) is;
     refuses = λ e. let f = so.refuses e in
@@ -174,6 +188,8 @@ module _ (t : Target) (toggle : Toggle) (bytes : List ℕ) where
       → Left result s v
   cut result s v given so = record {
     frame = so.frame;
+    naks = so.naks;
+    could = of_bus (λ r. CanAnswer s.spec r) (λ fault. tt) result given;
     write = λ old w e p a. write_cut old w bytes v result given (so.write old w e p a);
     refuses = λ e. let f = so.refuses e in (f.0, f.1, cut_not_done result given);
   }
@@ -181,17 +197,36 @@ module _ (t : Target) (toggle : Toggle) (bytes : List ℕ) where
   module _ (result : Result (List ℕ) TransFault) (old new : World) (j : Location) (s v : State)
       (x : Through (DidOut a_write toggle bytes) a_write heard_when_sent result old new j s v)
     where
+      none_heard : Heard s []
+      unfolding waits_in
+      none_heard = inl refl
+
+      says : (w : World) (u y : State) → SoFar s u → DidOut a_write toggle bytes w j u y
+          → OutcomeOfSpec s.spec (heard_when_sent (outcome_in a_write w))
+      says w u y so d = subst (λ z. OutcomeOfSpec z (heard_when_sent (outcome_in a_write w)))
+          (ap (λ z. z.spec) so.frame) (out_says t toggle bytes w j u y d so.at)
+
       left : is_at s t ≡ true → Left result s v
-      left h = at_end heard_when_sent (λ outcomes w u. SoFar s u) (record {
-        at = h;
-        frame = refl;
-        write = λ old w e p a. a;
-        refuses = λ e. (e, refl);
-      })
-          (λ outcomes w u y trail made so d n. further s u y _ so (did_write w j u y d so.at))
+      left h = at_end heard_when_sent (λ outcomes w u. SoFar s u × Heard s outcomes) (
+        record {
+          at = h;
+          frame = refl;
+          naks = omega arith;
+          write = λ old w e p a. a;
+          refuses = λ e. (e, refl);
+        },
+        none_heard,
+      )
+          (λ outcomes w u y trail made so d n. (
+            further s u y _ so.0 (did_write w j u y d so.0.at),
+            waits_more s.spec heard_when_sent _ outcomes (says w u y so.0 d) so.1,
+          ))
           (Left result s) v
-          (λ outcomes w u trail so d is told. ended result s u v _ outcomes so
-          (did_write w j u v d so.at) is) (λ given outcomes w so. cut result s v given so) x
+          (λ outcomes w u trail so d is told. ended result s u v _ outcomes so.0
+          (did_write w j u v d so.0.at) is
+          (can_answer s.spec heard_when_sent refl result _ outcomes is (says w u v so.0 d)
+          (waits_more s.spec heard_when_sent _ outcomes (says w u v so.0 d) so.1)))
+          (λ given outcomes w so. cut result s v given so.0) x
 
       away : is_at s t ≡ false → v ≡ s
       away = stays_away t (λ w u y. out_others t 0 toggle bytes w j u y) x
@@ -211,6 +246,11 @@ module _ (t : Target) (toggle : Toggle) (bytes : List ℕ) where
             ap (λ z. z.taken) (away h),
             λ g. absurd (cc (sym g ∙ h)),
           )
+        ];
+        could = λ h. (left h).could;
+        naks = elim (decided (is_at s t)) [
+          | inl h ↦ (left h).naks
+          | inr h ↦ omega (arith, ap (λ z. z.naks) (away h))
         ];
       }
 

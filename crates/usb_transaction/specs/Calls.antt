@@ -23,7 +23,7 @@ use Rattle.usb_transaction.specs.Transactions.{Ends, SetupEnds, packed, setup_at
 use Rattle.usb_transaction.specs.Transactions.{out_attempt}
 use Rattle.usb_transaction.specs.Failures.{NoThreeDamaged, SetupFailure, ControlInFailure}
 use Rattle.usb_transaction.specs.Failures.{StatusReadFailure, SourceInFailure, SinkOutFailure}
-use Rattle.usb_transaction.specs.Failures.{PollFailure}
+use Rattle.usb_transaction.specs.Failures.{PollFailure, WriteOutFailure, WriteStatusFailure}
 
 -- nothing but the device hindered a call: no three attempts running are damaged, the bus did not
 -- give up, and no address was ever held twice
@@ -69,6 +69,7 @@ pub record InLeaves (t : Target) (ep : ℕ) (awaited : Toggle) (result : Result 
 pub record InFailure (t : Target) (ep : ℕ) (awaited : Toggle) (result : Result (List ℕ) TransFault)
     (x : Location) (s v : State) : Type 0 where
   pub control : ep ≡ 0 → ControlInFailure t awaited result x s v
+  pub write : ep ≡ 0 → awaited ≡ One → WriteStatusFailure t result x s v
   pub bulk : SourceInFailure t ep awaited result x s v
 
 -- data that came were given by the one device that held the address, and a STALL was its own
@@ -104,6 +105,7 @@ pub record OutLeaves (t : Target) (ep : ℕ) (toggle : Toggle) (bytes : List ℕ
 pub record OutFailure (t : Target) (ep : ℕ) (toggle : Toggle) (bytes : List ℕ)
     (result : Result (List ℕ) TransFault) (x : Location) (s v : State) : Type 0 where
   pub control : ep ≡ 0 → toggle ≡ One → bytes ≡ [] → StatusReadFailure t result x s v
+  pub write : ep ≡ 0 → WriteOutFailure t bytes result x s v
   pub bulk : SinkOutFailure t ep toggle bytes result x s v
 
 -- data that were acknowledged were taken by the one device that held the address, and a STALL was

@@ -1,5 +1,5 @@
 -- One device over a transaction of a control write (8.5.3): OUT with data, and the IN that ends it.
-use Rattle.std.specs.Prelude.{◌≡◌, ◌≢◌, ℕ, List, [], true, false, Result, Ok, Err}
+use Rattle.std.specs.Prelude.{◌≡◌, ◌≢◌, ◌≤◌, ℕ, List, [], true, false, Result, Ok, Err}
 use Rattle.usb_packet.specs.{Toggle}
 use Rattle.usb_device.specs.{State, Location, Write, written_on, is_done, IsPacketOf, WritingAt}
 use Rattle.usb_device.specs.{WriteAt, WriteEnded, OnlyWrite, refused as stage_refused}
@@ -7,7 +7,7 @@ use Rattle.usb_transaction.specs.declared.target.Target.{Target}
 use Rattle.usb_transaction.specs.declared.fault.TransFault.{TransFault}
 use Rattle.usb_transaction.specs.declared.fault.TransFault.TheVariants.{Stalled, Busy, NoAnswer}
 use Rattle.usb_transaction.specs.declared.fault.TransFault.TheVariants.{Bus}
-use Rattle.usb_transaction.specs.Leaves.{is_at}
+use Rattle.usb_transaction.specs.Leaves.{CanAnswer, is_at}
 
 -- a packet that was acknowledged came once; if the transaction failed, it came once or not at all
 abbrev pub WriteEnds : List ℕ → Write → List ℕ → Result (List ℕ) TransFault → State → Type 0
@@ -26,6 +26,8 @@ pub record WriteOut (t : Target) (toggle : Toggle) (bytes : List ℕ)
       → IsPacketOf w bytes → WriteAt old w bytes s → WriteEnds old w bytes result v
   pub refused : s.stage ≡ stage_refused → (v.stage ≡ stage_refused) × (v.taken ≡ s.taken)
       × (is_at s t ≡ true → (done : List ℕ) → result ≢ Ok done)
+  pub could : is_at s t ≡ true → CanAnswer s.spec result
+  pub naks : v.naks ≤ s.naks
 
 -- the status stage came if all bytes have come and are kept; the bus gave up with it given, or not
 abbrev pub WriteStatusEnds : List ℕ → Write → Result (List ℕ) TransFault → State → Type 0

@@ -1,6 +1,7 @@
 -- Why a transaction fails, where no three attempts running are damaged.
 use Rattle.usb_device.specs.{Location, tells_changes, State, ending, refused, max_packet, packet_at}
 use Rattle.usb_device.specs.{toggle_at, ReadingAt, IsSource, SourceAt, IsSink, PollAt, NeverTold}
+use Rattle.usb_device.specs.{Write, writing}
 use Rattle.std.specs.Prelude.{◌≡◌, ◌≢◌, ℕ, ◌≤◌, ◌<◌, List, length, true, false, Option, Some}
 use Rattle.std.specs.Prelude.{is_some, Result, Err}
 use Rattle.usb_packet.specs.{Toggle, One}
@@ -53,6 +54,25 @@ pub record StatusReadFailure (t : Target) (result : Result (List ℕ) TransFault
     (s v : State) : Type 0 where
   pub answered : Listens t x s → IsInRead s → result ≢ Err NoAnswer
   pub waited : Listens t x s → IsInRead s → s.spec.busy ≡ false → s.naks ≤ 200 → result ≢ Err Busy
+
+-- data to endpoint 0: a device in the data stage of a control write takes packets that are no
+-- longer than its maximum, and one that refused the request says so; only a busy one goes on waiting
+pub data Expects (bytes : List ℕ) (s : State) : Type 0 where
+  data_write : (w : Write) → s.stage ≡ writing w → length bytes ≤ max_packet s.spec → Expects bytes s
+  refused_write : s.stage ≡ refused → Expects bytes s
+
+pub record WriteOutFailure (t : Target) (bytes : List ℕ) (result : Result (List ℕ) TransFault)
+    (x : Location) (s v : State) : Type 0 where
+  pub answered : Listens t x s → Expects bytes s → result ≢ Err NoAnswer
+  pub waited : Listens t x s → Expects bytes s → s.spec.busy ≡ false → s.naks ≤ 200
+      → result ≢ Err Busy
+
+-- the status stage of a control write
+pub record WriteStatusFailure (t : Target) (result : Result (List ℕ) TransFault) (x : Location)
+    (s v : State) : Type 0 where
+  pub answered : Listens t x s → (w : Write) → s.stage ≡ writing w → result ≢ Err NoAnswer
+  pub waited : Listens t x s → (w : Write) → s.stage ≡ writing w → s.spec.busy ≡ false
+      → s.naks ≤ 200 → result ≢ Err Busy
 
 -- bulk IN: an endpoint answers; where it has bytes left, or is halted, it does not keep the host
 -- waiting

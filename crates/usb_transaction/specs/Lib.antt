@@ -24,8 +24,9 @@ pub use Leaves.{SinkBetween, SinkEnds, SinkOut, SourceBetween, SourceCut, Source
 pub use Leaves.{StatusEnds, ToldBy, ToldIn, ToldSince, ToldSome, is_at, none_came, one_came, over}
 pub use Leaves.{refuses_in}
 pub use ControlWrites.{WriteEnds, WriteOut, WriteStatusEnds, WriteStatusIn}
-pub use Failures.{ControlInFailure, Fits, HasNext, Listens, NoThreeDamaged, PollFailure}
-pub use Failures.{SetupFailure, SinkOutFailure, SourceInFailure, StatusReadFailure, refusal, status}
+pub use Failures.{ControlInFailure, Expects, Fits, HasNext, Listens, NoThreeDamaged, PollFailure}
+pub use Failures.{SetupFailure, SinkOutFailure, SourceInFailure, StatusReadFailure, WriteOutFailure}
+pub use Failures.{WriteStatusFailure, data_write, refusal, refused_write, status}
 pub use Losses.{LosesNone, LossesIn, begins_no_stretch}
 pub use Answerers.{Answerer, HadOne, IsAnswer}
 pub use SparedDevices.{EachSpared, IsSpared}
