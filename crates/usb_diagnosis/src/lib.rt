@@ -10,7 +10,7 @@
 //!   absent, `read_plan` takes no unknown one there, and a wrong value is at its key.
 //!
 //! *Only tested*: that the line and the key are those at fault, and the words on what is allowed.
-//! `docs/PROVED.md` has the place of these theorems among the others.
+//! `docs/PROVED.md` has the rest.
 #![tactic(auto)]
 
 mod checking;

@@ -3,8 +3,7 @@
 //!
 //! `FarEnd` is a `SimBus` with the status of each root port as it last reported it. `serve` reads
 //! the lines of `usb_wire` and writes its answers; it ignores what the host reports. Due events
-//! occur in an attempt. At `wait` the next event occurs and is the answer. But the answer is `ok`
-//! if an event occurred in the polls right before, none of which brought anything.
+//! occur in an attempt. At `wait` the next event occurs and is the answer (`docs/OUTPUT.md`).
 //!
 //! # What is proved
 //!

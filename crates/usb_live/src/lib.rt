@@ -1,8 +1,7 @@
 //! The host of the live protocol (`docs/LIVE.md`): what `usbplan live` does.
 //!
 //! `live` says the hello and makes rounds. After a quiet one, or 257 in a row that worked, it asks
-//! what is requested, does that, and reports it in the lines of `usbplan tree`. Then it begins
-//! again. At the end it reports a last listing.
+//! what is requested, does that, and reports it in the lines of `usbplan tree`.
 //!
 //! # What is proved
 //!

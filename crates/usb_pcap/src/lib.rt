@@ -10,8 +10,8 @@
 //! - A capture stops at the first line that has none of the forms of a run's lines
 //!   (`specs/Report.antt`), or that nothing ends.
 //!
-//! *Only tested*: that the lines which a run writes have these forms (`tools/pcap_rows`).
-//! `docs/PROVED.md` has the place of these theorems among the others.
+//! *Only tested*: that a run's lines have these forms (`tools/pcap_rows`). `docs/PROVED.md` has the
+//! rest.
 #![tactic(auto)]
 
 mod attempt;

@@ -7,8 +7,7 @@
 //! - `bound` is its formula (`bound_of`, `specs/Attempts.antt`). That a run needs no more attempts
 //!   is a theorem of usb_run.
 //!
-//! *Only tested*: the words of the faults. `docs/PROVED.md` has the place of these theorems among
-//! the others.
+//! *Only tested*: the words of the faults. `docs/PROVED.md` has the rest.
 #![tactic(auto)]
 
 mod action;

@@ -15,8 +15,7 @@
 //! *Only tested*: the rows of plans (`usb_serve_tests`). `docs/PROVED.md` says what these rest on.
 //!
 //! A *transcript* (`specs/Transcript.antt`) is a run as its hosts in order, with the text of each
-//! item. The *ledger* (`proofs/ledgers`) weighs what is left to do: each event adds to it, and each
-//! attempt is paid from it.
+//! item. The *ledger* (`proofs/ledgers`) weighs what is left to do.
 #![tactic(auto)]
 
 mod asked;

@@ -1,8 +1,7 @@
 //! The tree of what is plugged: ways to a place in it, what an attempt's packets leave there, and
 //! who holds an address. It has definitions and lemmas, and no function.
 //!
-//! A tree is plain data (`usb_device/specs/Tree.antt`). No world, event or bus is needed to read
-//! it.
+//! A tree is plain data (`usb_device/specs/Tree.antt`).
 //!
 //! # What is proved
 //!

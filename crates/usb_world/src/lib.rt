@@ -14,7 +14,7 @@
 //! - If no address is held twice, at most one device answers an attempt
 //!   (`one_device_at_most_answers`).
 //!
-//! `docs/PROVED.md` has the other laws, `proofs/Interface.antt` the lemmas for the crates above.
+//! `docs/PROVED.md` has other laws, `proofs/Interface.antt` the lemmas.
 #![tactic(auto)]
 
 mod damage;
