@@ -3,7 +3,7 @@ use Rattle.std.proofs.Common.{◌≡◌, ◌≢◌, ◌==◌, inl, inr, ℕ, ◌
 use Rattle.std.proofs.Common.{Bool, true, false, List, [], ◌∷◌, ◌++◌, length, take, drop, Option}
 use Rattle.std.proofs.Common.{Some, None, IfSome, Result, Ok, Err, get_or, is_err, OnOk, refl, sym}
 use Rattle.std.proofs.Common.{ap, subst, ◌∙◌, arith, append_assoc, append-nil, length-append}
-use Rattle.std.proofs.Common.{IsErrOf, ◌&&◌, Decides}
+use Rattle.std.proofs.Common.{IsErrOf, ◌&&◌, ◌||◌, not, Decides}
 use Rattle.arrayvec.specs.ArrayVec.{ArrayVec}
 use Rattle.std.proofs.lemmas.List.{take_more, take-append-drop, length-take, take-append-le}
 use Rattle.std.proofs.lemmas.List.{take_all}
@@ -19,7 +19,7 @@ use Rattle.usb_pcap.specs.{TracedAttempt, IsAttemptLine, fits_form, IsReport, ha
 use Rattle.usb_pcap.specs.{report_forms, AreRecords, attempt_packets, header, Captures, ComesOf}
 use Rattle.usb_pcap.specs.{IsCapture, IsRunLine, IsTold, LineRecords, RecordsOf, RefusedLine}
 use Rattle.usb_pcap.specs.{IsPlug, StandsBehind, WroteFront, WroteLines, longest, next_number}
-use Rattle.usb_pcap.specs.{Begins, IsShownText}
+use Rattle.usb_pcap.specs.{Begins, IsShownText, NoAttempt}
 use Rattle.usb_pcap.proofs.ShownNames.{begins_none}
 use Rattle.usb_pcap.proofs.Forms.{is_report-complete, is_report-sound, no_plug, plug_taken}
 
@@ -58,8 +58,9 @@ taken_long k line front b e full =
     )
 
 pub stands_first : (w now : Option (List ℕ)) (s : OpenLine) → Appends w now header → s.number ≡ 1
-    → s.front.items ≡ [] → s.is_long ≡ false → s.begun.items ≡ [] → StandsBehind w now [] s
-stands_first w now s h number front long shown = record {
+    → s.front.items ≡ [] → s.is_long ≡ false → s.begun.items ≡ [] → s.has_packets ≡ false
+    → StandsBehind w now [] s
+stands_first w now s h number front long shown none = record {
   n = 0;
   front = [];
   line = [];
@@ -72,6 +73,8 @@ stands_first w now s h number front long shown = record {
   long = long;
   shown = subst (Begins []) (sym shown) begins_none;
   number = number;
+  packets = λ some. let apart : true ≡ false = sym some ∙ none in absurd (cc);
+  bare = λ _. refl;
 }
 
 -- one byte more
@@ -83,9 +86,9 @@ stands_on : (w now : Option (List ℕ)) (text : List ℕ) (b : ℕ) (s t : OpenL
     → (h : StandsBehind w now text s) → t.number ≡ s.number
     → t.front.items ≡ take longest (h.line ++ b ∷ [])
     → t.is_long ≡ nat_lt longest (length (h.line ++ b ∷ []))
-    → TakesShown s b t
+    → TakesShown s b t → t.has_packets ≡ s.has_packets
     → StandsBehind w now (text ++ b ∷ []) t
-stands_on w now text b s t other h number begins long shown = record {
+stands_on w now text b s t other h number begins long shown same = record {
   n = h.n;
   front = h.front;
   line = h.line ++ b ∷ [];
@@ -98,25 +101,29 @@ stands_on w now text b s t other h number begins long shown = record {
   long = long;
   shown = shown h.line h.shown;
   number = number ∙ h.number;
+  packets = λ some. h.packets (sym same ∙ some);
+  bare = λ none. h.bare (sym same ∙ none);
 }
 
 pub stands_more : (w now : Option (List ℕ)) (text : List ℕ) (b : ℕ) (s t : OpenLine) → b ≢ 10
     → StandsBehind w now text s → t.number ≡ s.number
     → length s.front.items < longest → t.front.items ≡ s.front.items ++ b ∷ []
-    → t.is_long ≡ s.is_long → TakesShown s b t
+    → t.is_long ≡ s.is_long → TakesShown s b t → t.has_packets ≡ s.has_packets
     → StandsBehind w now (text ++ b ∷ []) t
-stands_more w now text b s t other h number room front long shown =
+stands_more w now text b s t other h number room front long shown same =
     let more = taken_more longest h.line s.front.items b h.begins room in
     stands_on w now text b s t other h number (front ∙ more.0) (long ∙ h.long ∙ more.1) shown
+    same
 
 pub stands_long : (w now : Option (List ℕ)) (text : List ℕ) (b : ℕ) (s t : OpenLine) → b ≢ 10
     → StandsBehind w now text s → t.number ≡ s.number
     → length s.front.items ≡ longest → t.front.items ≡ s.front.items → t.is_long ≡ true
-    → TakesShown s b t
+    → TakesShown s b t → t.has_packets ≡ s.has_packets
     → StandsBehind w now (text ++ b ∷ []) t
-stands_long w now text b s t other h number full front long shown =
+stands_long w now text b s t other h number full front long shown same =
     let more = taken_long longest h.line s.front.items b h.begins full in
     stands_on w now text b s t other h number (front ∙ more.0) (long ∙ sym more.1) shown
+    same
 
 -- the records of a line, by its first bytes
 abbrev TellsRecords : OpenLine → List ℕ → Type 0
@@ -141,11 +148,33 @@ next_number-next : (n k m : ℕ) → k ≡ next_number n → m ≡ min (k + 1) (
     → m ≡ next_number (n + 1)
 next_number-next n k m e f = omega arith
 
+-- whether packets have gone out, after the records of one more line
+more_packets : (had now : Bool) (file records : List ℕ)
+    → now ≡ (had || not (length records == 0))
+    → (had ≡ true → length header < length file) → (had ≡ false → file ≡ header)
+    → (now ≡ true → length header < length (file ++ records)) × (now ≡ false → file ++ records ≡ header)
+more_packets true now file records e some none = (
+  λ _. let long = length-append file records in let more = some refl in omega (arith, long, more),
+  λ bare. let apart : true ≡ false = sym e ∙ bare in absurd (cc),
+)
+more_packets false now file [] e some none = (
+  λ is. let apart : false ≡ true = sym e ∙ is in absurd (cc),
+  λ _. append-nil file ∙ none refl,
+)
+more_packets false now file (c ∷ records) e some none = (
+  λ _. let long = length-append file (c ∷ records) in let same = ap (λ l. length l) (none refl) in
+      omega (arith, long, same),
+  λ bare. let more : (length (c ∷ records) == 0) ≡ false = grind (arith, nat_tests) in
+      let apart : true ≡ false = sym (e ∙ ap not more) ∙ bare in absurd (cc),
+)
+
 pub stands_closed : (w mid now : Option (List ℕ)) (text records : List ℕ) (s t : OpenLine)
     → StandsBehind w mid text s → TellsRecords s records
     → Appends mid now records → t.number ≡ min (s.number + 1) (2 ^ 64 - 1) → t.front.items ≡ []
-    → t.is_long ≡ false → t.begun.items ≡ [] → StandsBehind w now (text ++ 10 ∷ []) t
-stands_closed w mid now text records s t h tells gone number front long shown = record {
+    → t.is_long ≡ false → t.begun.items ≡ []
+    → t.has_packets ≡ (s.has_packets || not (length records == 0))
+    → StandsBehind w now (text ++ 10 ∷ []) t
+stands_closed w mid now text records s t h tells gone number front long shown packets = record {
   n = h.n + 1;
   front = text ++ 10 ∷ [];
   line = [];
@@ -158,6 +187,8 @@ stands_closed w mid now text records s t h tells gone number front long shown = 
   long = long;
   shown = subst (Begins []) (sym shown) begins_none;
   number = next_number-next h.n s.number t.number h.number number;
+  packets = (more_packets s.has_packets t.has_packets h.file records packets h.packets h.bare).0;
+  bare = (more_packets s.has_packets t.has_packets h.file records packets h.packets h.bare).1;
 }
 
 pub went_front : (w mid now : Option (List ℕ)) (text records : List ℕ) (s : OpenLine)
@@ -283,18 +314,31 @@ captures_all (Some text) None w now done r e end h = absurd e
 captures_all (Some text) (Some rest) w now done r e end h =
     subst (λ t. Captures w now t r) (sym (e ∙ ap (λ l. done ++ l) end ∙ append-nil done)) h
 
-pub ended_well : (w now : Option (List ℕ)) (text : List ℕ) (s : OpenLine) → s.front.items ≡ []
-    → StandsBehind w now text s → Captures w now text (Ok tt)
-ended_well w now text s empty h =
+-- no line has begun: all of the text was captured
+whole_text : (w now : Option (List ℕ)) (text : List ℕ) (s : OpenLine) → s.front.items ≡ []
+    → (h : StandsBehind w now text s) → IsCapture h.n text h.file
+whole_text w now text s empty h =
     let few = few_taken longest h.line (subst (λ l. length l < longest) (sym empty ∙ h.begins)
     (omega arith)) in
-    let none : h.line ≡ [] = sym (take_all longest h.line (omega arith)) ∙ sym h.begins ∙ empty in (
-      h.n,
-      h.file,
-      subst (λ t. IsCapture h.n t h.file) (sym (h.split ∙ ap (λ l. h.front ++ l) none
-          ∙ append-nil h.front)) h.captured,
-      h.gone,
-    )
+    let none : h.line ≡ [] = sym (take_all longest h.line (omega arith)) ∙ sym h.begins ∙ empty in
+    subst (λ t. IsCapture h.n t h.file) (sym (h.split ∙ ap (λ l. h.front ++ l) none
+    ∙ append-nil h.front)) h.captured
+
+longer_differs : (file : List ℕ) → length header < length file → file ≢ header
+longer_differs file more same = let equal = ap (λ l. length l) same in absurd (omega (arith, equal))
+
+pub ended_well : (w now : Option (List ℕ)) (text : List ℕ) (s : OpenLine) → s.front.items ≡ []
+    → s.has_packets ≡ true → StandsBehind w now text s → Captures w now text (Ok tt)
+ended_well w now text s empty some h =
+    (h.n, h.file, whole_text w now text s empty h, h.gone, longer_differs h.file (h.packets some))
+
+pub ended_bare : (w now : Option (List ℕ)) (text : List ℕ) (s : OpenLine) → s.front.items ≡ []
+    → s.has_packets ≡ false → StandsBehind w now text s → Captures w now text (Err NoAttempt)
+ended_bare w now text s empty none h = (
+  h.n,
+  subst (λ f. IsCapture h.n text f) (h.bare none) (whole_text w now text s empty h),
+  subst (λ f. Appends w now f) (h.bare none) h.gone,
+)
 
 pub no_items : (l : List ℕ) → (length l == 0) ≡ true → l ≡ []
 no_items [] e = refl
@@ -448,6 +492,7 @@ pub never_read : {P : Type 0} (w now : Option (List ℕ)) (text : List ℕ) (f :
     (s : OpenLine) → ComesOf w now text (Err f) s → IsErrOf {T = Unit {0}} (Err f) Read → P
 never_read w now text Read s h is = absurd h
 never_read w now text TooLong s h is = absurd h
+never_read w now text NoAttempt s h is = absurd h
 never_read w now text (BadLine number) s h is = absurd (cc)
 never_read w now text Write s h is = absurd (cc)
 

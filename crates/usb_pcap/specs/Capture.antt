@@ -1,6 +1,7 @@
 -- What a text's pcap file is: its header, and the records of each line in their order.
-use Rattle.std.specs.Prelude.{◌⊎◌, ◌≡◌, ◌≢◌, ℕ, ◌+◌, ◌-◌, ◌^◌, ◌≤◌, nat_lt, min, List, [], ◌∷◌}
-use Rattle.std.specs.Prelude.{◌++◌, length, take, All, Option, Some, None, Result, Ok, Err}
+use Rattle.std.specs.Prelude.{◌⊎◌, ◌≡◌, ◌≢◌, ℕ, ◌+◌, ◌-◌, ◌^◌, ◌<◌, ◌≤◌, nat_lt, min, List, []}
+use Rattle.std.specs.Prelude.{◌∷◌, ◌++◌, length, take, All, Option, Some, None, Result, Ok, Err}
+use Rattle.std.specs.Prelude.{true, false}
 use Rattle.arrayvec.specs.ArrayVec.{ArrayVec}
 use Rattle.std.specs.Io.KnownBytes.{Appends}
 use Rattle.usb_bus.specs.{AppendsFront}
@@ -8,7 +9,7 @@ use Rattle.usb_pcap.specs.declared.attempt.TracedAttempt.{TracedAttempt}
 use Rattle.usb_pcap.specs.declared.capturing.OpenLine.{OpenLine}
 use Rattle.usb_pcap.specs.declared.capturing.PcapFault.{PcapFault}
 use Rattle.usb_pcap.specs.declared.capturing.PcapFault.TheVariants.{Read, Line as BadLine, TooLong}
-use Rattle.usb_pcap.specs.declared.capturing.PcapFault.TheVariants.{Write}
+use Rattle.usb_pcap.specs.declared.capturing.PcapFault.TheVariants.{NoAttempt, Write}
 use Rattle.usb_pcap.specs.Attempt.{IsAttemptLine}
 use Rattle.usb_pcap.specs.Report.{IsPlug, IsReport}
 use Rattle.usb_pcap.specs.Shown.{Begins, IsShownText}
@@ -88,11 +89,13 @@ pub record OpenEnd (old new : Option (List ℕ)) (text : List ℕ) (n : ℕ) : T
   pub captured : IsCapture n front file
   pub gone : Appends old new file
 
--- what went out of a text: its file, or that of the lines before the fault
+-- what went out of a text: its file, or that of the lines before the fault; the header alone is the
+-- file of a text that has no attempt
 abbrev pub Captures : Option (List ℕ) → Option (List ℕ) → List ℕ → Result (Unit {0}) PcapFault
     → Type 0
 Captures old new text (Ok done) = (n : ℕ) × (file : List ℕ) × IsCapture n text file
-    × Appends old new file
+    × Appends old new file × (file ≢ header)
+Captures old new text (Err NoAttempt) = (n : ℕ) × IsCapture n text header × Appends old new header
 Captures old new text (Err (BadLine number)) = (n : ℕ) × (number ≡ next_number n)
     × (RefusedLine old new text n ⊎ OpenEnd old new text n)
 Captures old new text (Err Write) = (n : ℕ) × WroteFront old new text n
@@ -116,6 +119,8 @@ pub record StandsBehind (old new : Option (List ℕ)) (text : List ℕ) (state :
     pub begins : state.front.items ≡ take longest line
     pub long : state.is_long ≡ nat_lt longest (length line)
     pub shown : Begins line state.begun.items
+    pub packets : state.has_packets ≡ true → length header < length file
+    pub bare : state.has_packets ≡ false → file ≡ header
     pub number : state.number ≡ next_number n
 
 -- the records of a line, None where it is none of a run
@@ -132,3 +137,4 @@ ComesOf old new text (Err (BadLine number)) state = (n : ℕ) × (number ≡ nex
 ComesOf old new text (Err Write) state = (n : ℕ) × WroteFront old new text n
 ComesOf old new text (Err Read) state = ⊥
 ComesOf old new text (Err TooLong) state = ⊥
+ComesOf old new text (Err NoAttempt) state = ⊥

@@ -32,6 +32,7 @@ pub use Capture.{RecordsOf, RefusedLine, StandsBehind, WroteFront, WroteLines, l
 pub use declared.attempt.TracedAttempt.{TracedAttempt}
 pub use declared.capturing.OpenLine.{OpenLine}
 pub use declared.capturing.PcapFault.{PcapFault}
-pub use declared.capturing.PcapFault.TheVariants.{Line, Read, TooLong, Write}
+pub use declared.capturing.PcapFault.TheVariants.{Line, NoAttempt, Read, TooLong}
+pub use declared.capturing.PcapFault.TheVariants.{Write}
 pub use declared.item.Item.{Item}
 pub use declared.item.Item.TheVariants.{Byte, Letter, Port}

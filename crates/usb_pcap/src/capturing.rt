@@ -1,5 +1,5 @@
 //! A run's text in, a pcap file out.
-ghost use Rattle.std.specs.Prelude.{◌≡◌, ◌≢◌, ℕ, List, Option, [], ◌∷◌, ◌++◌, length, nat_lt, take, true, false, ◌&&◌, Decides, Err, IfSome, IsErrOf};
+ghost use Rattle.std.specs.Prelude.{◌≡◌, ◌≢◌, ℕ, List, Option, [], ◌∷◌, ◌++◌, length, nat_lt, take, true, false, not, ◌==◌, ◌&&◌, ◌||◌, Decides, Err, IfSome, IsErrOf};
 ghost use Rattle.usb_bus.specs.Watch.{inner_of, has_failed};
 ghost use Rattle.usb_pcap.specs.Capture.{Captures, ComesOf, RecordsOf, StandsBehind, longest};
 ghost use Rattle.usb_pcap.specs.Grammar.{fits_form};
@@ -27,6 +27,9 @@ pub enum PcapFault {
     /// 2 ^ 64 - 1 reads did not come to the end.
     #[error("pcap: text too long")]
     TooLong,
+    /// No line is that of an attempt: the file has no packet.
+    #[error("pcap: no attempt")]
+    NoAttempt,
     /// The writer failed.
     #[error("write failed")]
     Write,
@@ -47,6 +50,8 @@ pub(crate) struct OpenLine {
     is_long: bool,
     /// The bytes of a character of it that has begun, as a run shows them in a name.
     begun: Begun,
+    /// Whether a packet of a line before has gone out.
+    has_packets: bool,
 }
 
 /// Reads the text of a run, and writes the header of a pcap file and a record for each packet of
@@ -59,6 +64,7 @@ pub(crate) struct OpenLine {
 ///
 /// - `Line(n)`: line n is the first that has the form of no line of a run, or nothing ends it.
 /// - `TooLong`: 2 ^ 64 - 1 reads did not come to the end of the text.
+/// - `NoAttempt`: each line is one of a run, and none is that of an attempt. The header is written.
 /// - `Read`: the reader failed.
 /// - `Write`: the writer failed.
 pub fn capture<R: Read, W: Write>(
@@ -96,25 +102,29 @@ impl OpenLine {
         ensures front { result.front.items ≡ [] }
         ensures long { result.is_long ≡ false }
         ensures begun { result.begun.items ≡ [] }
+        ensures packets { result.has_packets ≡ false }
     {
         OpenLine {
             number: 1,
             front: ArrayVec::new(),
             is_long: false,
             begun: Begun::new(),
+            has_packets: false,
         }
     }
 
-    /// The text ends: no line may have begun.
+    /// The text ends: no line may have begun, and a packet has gone out.
     fn end(&self) -> Result<(), PcapFault>
         ensures captures { (w now : Option (List ℕ)) (text : List ℕ)
             → StandsBehind w now text self.now → Captures w now text result }
         ensures line { (result ≢ Err PcapFault.Read) × (result ≢ Err PcapFault.Write) }
     {
-        if self.front.is_empty() {
+        if !self.front.is_empty() {
+            Err(PcapFault::Line(self.number))
+        } else if self.has_packets {
             Ok(())
         } else {
-            Err(PcapFault::Line(self.number))
+            Err(PcapFault::NoAttempt)
         }
     }
 
@@ -173,11 +183,19 @@ impl OpenLine {
                 self.front.clear();
                 self.is_long = false;
                 self.begun.clear();
+                self.has_packets = has_packets(self.has_packets, records.as_slice());
                 Ok(())
             }
             Err(_) => Err(PcapFault::Write),
         }
     }
+}
+
+/// Whether a packet has gone out after these records, by whether one has before.
+fn has_packets(before: bool, records: &[u8]) -> bool
+    ensures { result ≡ (before || not (length records.now == 0)) }
+{
+    before || !records.is_empty()
 }
 
 /// Whether a line is that of a plug, by its first bytes, and by whether it is characters as a run

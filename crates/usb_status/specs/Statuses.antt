@@ -53,6 +53,7 @@ abbrev pub pcap_status : PcapFault → ℕ
 pcap_status pcap.Read = 4
 pcap_status (pcap.Line number) = 1
 pcap_status pcap.TooLong = 1
+pcap_status pcap.NoAttempt = 1
 pcap_status pcap.Write = 4
 
 -- of a device's descriptors

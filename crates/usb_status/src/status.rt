@@ -77,7 +77,7 @@ fn pcap_status(fault: PcapFault) -> u8
     ensures { result ≡ pcap_status fault }
 {
     match fault {
-        PcapFault::Line(_) | PcapFault::TooLong => REFUSED,
+        PcapFault::Line(_) | PcapFault::TooLong | PcapFault::NoAttempt => REFUSED,
         PcapFault::Read | PcapFault::Write => FAILED,
     }
 }

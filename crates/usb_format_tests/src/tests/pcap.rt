@@ -17,10 +17,11 @@ struct Row {
 }
 
 const ROWS: &[Row] = &[
+    // no attempt: the header alone
     Row {
         text: "",
         records: "",
-        fault: None,
+        fault: Some(PcapFault::NoAttempt),
     },
     // SETUP, DATA0 and ACK, at one microsecond
     Row {
@@ -72,6 +73,12 @@ const ROWS: &[Row] = &[
     Row {
         text: "plug 1 hub2\nunplug 1\nlisting 1\n1 address 1 full 12\n1.2 config 0 09 *\n1.2 hub 2 ports 500 mA\n1 product \"A\"\n1 refused lost\nend\nsend 1 done 3\nreceive 1 failed busy\nclear 1 done\nbound 7\n",
         records: "",
+        fault: Some(PcapFault::NoAttempt),
+    },
+    // an attempt among other lines
+    Row {
+        text: "plug 1 hub2\n1 IN 0.0 / none\nlisting 1\nend\n",
+        records: "00000000010000000300000003000000690010",
         fault: None,
     },
     // what no run writes; what was before it has gone out
@@ -246,7 +253,10 @@ const OTHERS: &[&str] = &[
 
 #[test]
 fn reports(rt: HostRuntime) -> Result<(), Fail> {
-    for (lines, fault) in [(REPORTS, None), (OTHERS, Some(PcapFault::Line(1)))] {
+    for (lines, fault) in [
+        (REPORTS, Some(PcapFault::NoAttempt)),
+        (OTHERS, Some(PcapFault::Line(1))),
+    ] {
         for line in lines {
             let text = format!(in rt.alloc(); "{line}\n")?;
             let mut reader = Watched::new(text.as_bytes());
@@ -290,15 +300,16 @@ fn no_texts(rt: HostRuntime) -> Result<(), Fail> {
 /// The name of a device may have any length, a configuration 65,535 bytes; a line of an attempt is short.
 #[test]
 fn long_lines(rt: HostRuntime) -> Result<(), Fail> {
+    let none = Some(PcapFault::NoAttempt);
     for (begin, piece, times, fault) in [
-        ("plug 1 ", "n", 200_000u32, None),
-        ("plug 1 n", "\u{10ffff}", 100_000, None),
-        ("plug 1 n", "\\u2028", 50_000, None),
+        ("plug 1 ", "n", 200_000u32, none),
+        ("plug 1 n", "\u{10ffff}", 100_000, none),
+        ("plug 1 n", "\\u2028", 50_000, none),
         ("plug 1 n", "\u{b}", 200_000, Some(PcapFault::Line(1))),
         ("plug 1 n", "\\", 200_000, Some(PcapFault::Line(1))),
-        ("1.2.3.4.5.6.7 config 7 ", "0A", 65_535, None),
+        ("1.2.3.4.5.6.7 config 7 ", "0A", 65_535, none),
         ("1 config 0 ", "0A", 66_000, Some(PcapFault::Line(1))),
-        ("control 1.2.3.4.5.6.7 in done ", "0A", 65_535, None),
+        ("control 1.2.3.4.5.6.7 in done ", "0A", 65_535, none),
         ("1 IN 0.0 / NAK", " ", 200_000, Some(PcapFault::Line(1))),
         ("", "0", 200_000, Some(PcapFault::Line(1))),
     ] {

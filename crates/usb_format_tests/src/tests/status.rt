@@ -15,7 +15,7 @@ use usb_text::{LineFault, PacketFault};
 /// A fault, its line and its exit status.
 type Row = (Fault, &'static str, u8);
 
-const ROWS: [Row; 33] = [
+const ROWS: [Row; 34] = [
     (
         Fault::NoText,
         "error: invalid UTF-8 was detected in one or more arguments",
@@ -65,6 +65,7 @@ const ROWS: [Row; 33] = [
     (Fault::Pcap(PcapFault::Read), "read failed", 4),
     (Fault::Pcap(PcapFault::Line(3)), "pcap: line 3", 1),
     (Fault::Pcap(PcapFault::TooLong), "pcap: text too long", 1),
+    (Fault::Pcap(PcapFault::NoAttempt), "pcap: no attempt", 1),
     (Fault::Pcap(PcapFault::Write), "write failed", 4),
     (Fault::Device(EntryFault::NoName), "device: no name", 1),
     (

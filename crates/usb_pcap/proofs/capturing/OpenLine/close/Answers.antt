@@ -22,4 +22,4 @@ returns-in-Ok-clause-comes g c = λ w text h.
     (shown_decided line _ _ c.is_empty-shown.ensures shown))
     (rw c.as_slice-2.ensures.value at c.in-Ok.ensures.ok)
     c.saturating_add-self.ensures c.clear.ensures refl
-    c.clear-in-Ok.ensures
+    c.clear-in-Ok.ensures (rw c.as_slice-in-Ok.ensures.value at c.has_packets-self.ensures)
