@@ -33,12 +33,30 @@ help_with() {
 }
 
 is_command() {
-  [[ "$1" =~ ^(packet|check|tree|draw|run|pcap|device|far|live)$ ]]
+  [[ "$1" =~ ^(packet|check|tree|draw|run|explain|page|pcap|device|far|live)$ ]]
+}
+
+# The value of an option, as help names it.
+value_name() {
+  [ "$1" = --only ] && echo WHAT || echo N
+}
+
+# Ends where a text names no selection of `explain`: all, setup, damage, a path, or an address, 0 to 127.
+check_selection() {
+  local number
+  [[ ! "$1" =~ ^(all|setup|damage|[1-7](\.[1-7]){0,6})$ ]] || return 0
+  if [[ "$1" =~ ^address:\+?0*([0-9]{1,3})$ ]]; then
+    number=${BASH_REMATCH[1]}
+    [ "$number" -gt 127 ] || return 0
+  fi
+  refuse_words "invalid value '$1' for '--only <WHAT>': it is a path as 1.2, an address as address:5, setup, damage or all" \
+    "$(usage_of explain)"
 }
 
 # Ends where the value of an option is not one: a number of 64 bits, of `--ports` 1 to 7.
 check_value() {
   local option=$1 value=$2 number why=
+  [ "$option" != --only ] || return 0
   number=$(sed 's/^+//; s/^0*\([0-9]\)/\1/' <<<"$value")
   if [ -z "$value" ]; then
     why="cannot parse integer from empty string"
@@ -90,7 +108,7 @@ check_count() {
 
 # Answers the words of a command where they ask for help or are wrong.
 check_command() {
-  local command=$1 given='' words=() names
+  local command=$1 given='' value='' words=() names
   mapfile -t names < <(sed -n 's/^  \(<[A-Z]*>\)  .*/\1/p' "$help/$1.txt")
   shift
   while [ $# -gt 0 ]; do
@@ -102,17 +120,19 @@ check_command() {
         ;;
       *:-h | *:--help) tell_help "$command" ;;
       draw:--ascii) check_option draw --ascii ;;
-      device:--ports | live:--limit)
-        check_option "$command" "$1 <N>"
+      device:--ports | live:--limit | explain:--only)
+        check_option "$command" "$1 <$(value_name "$1")>"
         [[ $# -gt 1 && ! "$2" =~ ^(-h|--help|$1)$ ]] ||
-          refuse_words "a value is required for '$1 <N>' but none was supplied"
+          refuse_words "a value is required for '$given' but none was supplied"
         [[ "$2" != -?* ]] || refuse_option "$command" "$2"
         check_value "$1" "$2"
+        value=$2
         shift
         ;;
-      device:--ports=* | live:--limit=*)
-        check_option "$command" "${1%%=*} <N>"
+      device:--ports=* | live:--limit=* | explain:--only=*)
+        check_option "$command" "${1%%=*} <$(value_name "${1%%=*}")>"
         check_value "${1%%=*}" "${1#*=}"
+        value=${1#*=}
         ;;
       *:-?*) refuse_option "$command" "$1" ;;
       *)
@@ -124,6 +144,7 @@ check_command() {
   done
   check_room "$command" "${words[@]}"
   check_count "$command" "${words[@]}"
+  [ "$command:${given%% *}" != explain:--only ] || check_selection "$value"
 }
 
 # Answers words that ask for no work of the program.

@@ -3,21 +3,23 @@ _usbplan() {
   local word=${COMP_WORDS[COMP_CWORD]} before=${COMP_WORDS[COMP_CWORD - 1]} options='--help'
   COMPREPLY=()
   if [ "$COMP_CWORD" = 1 ]; then
-    mapfile -t COMPREPLY < <(compgen -W 'packet check tree draw run pcap device far live help --help --version' -- "$word")
+    mapfile -t COMPREPLY < <(compgen -W 'packet check tree draw run explain page pcap device far live help --help --version' -- "$word")
     return
   fi
   case "${COMP_WORDS[1]}" in
     help)
-      mapfile -t COMPREPLY < <(compgen -W 'packet check tree draw run pcap device far live help' -- "$word")
+      mapfile -t COMPREPLY < <(compgen -W 'packet check tree draw run explain page pcap device far live help' -- "$word")
       return
       ;;
     draw) options='--ascii --help' ;;
     device) options='--ports --help' ;;
     live) options='--limit --help' ;;
+    explain) options='--only --help' ;;
   esac
   case "$before" in
     --ports) mapfile -t COMPREPLY < <(compgen -W '1 2 3 4 5 6 7' -- "$word") ;;
     --limit) ;;
+    --only) mapfile -t COMPREPLY < <(compgen -W 'all setup damage' -- "$word") ;;
     *)
       if [[ "$word" == -* ]]; then
         mapfile -t COMPREPLY < <(compgen -W "$options" -- "$word")

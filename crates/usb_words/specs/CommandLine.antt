@@ -6,9 +6,11 @@ use Rattle.clap.specs.Simple.{App, new_app, new_rule, with_rule, with_subcommand
 use Rattle.clap.specs.declared.builder.action.ArgAction.TheVariants.{Set, SetTrue}
 use Rattle.clap.specs.declared.builder.value_parser.ValueParser.TheVariants as parser
 use Rattle.usb_words.specs.declared.words.DeviceWords.{DeviceWords}
+use Rattle.usb_words.specs.declared.words.ExplainWords.{ExplainWords}
 use Rattle.usb_words.specs.declared.words.Words.{Words}
 use Rattle.usb_words.specs.declared.words.Words.TheVariants.{Stdin, Packet, Check, Tree, Draw, Run}
-use Rattle.usb_words.specs.declared.words.Words.TheVariants.{Pcap, Device, Far, Live}
+use Rattle.usb_words.specs.declared.words.Words.TheVariants.{Explain, Page, Pcap, Device, Far, Live}
+use Rattle.usb_words.specs.Selecting.{NamesSelection}
 
 -- the one text that a subcommand wants
 abbrev pub text_rule : Rule
@@ -27,6 +29,18 @@ ascii_rule = record (new_rule (codes "ascii")) {
 
 abbrev pub draw_app : App
 draw_app = with_rule (text_app (codes "draw")) ascii_rule
+
+-- what of a run `explain` prints, which is all where it is left out
+abbrev pub only_rule : Rule
+only_rule = record (new_rule (codes "only")) {
+  long = Some (codes "only");
+  action = Some Set;
+  value_names = 1;
+  defaults = codes "all" ∷ [];
+}
+
+abbrev pub explain_app : App
+explain_app = with_rule (text_app (codes "explain")) only_rule
 
 -- the name that `device` wants before its file, and its number of ports, 1 to 7, which is 7 where
 -- it is left out
@@ -75,10 +89,14 @@ abbrev pub first_app : App
 first_app = with_text (with_text (with_text plain_app (codes "packet")) (codes "check"))
     (codes "tree")
 
+-- the program with its commands up to `run`
+abbrev pub run_app : App
+run_app = with_text (with_subcommand first_app draw_app.top) (codes "run")
+
 abbrev pub program_app : App
 program_app =
     with_subcommand (with_text (with_subcommand
-    (with_text (with_text (with_subcommand first_app draw_app.top) (codes "run"))
+    (with_text (with_text (with_subcommand run_app explain_app.top) (codes "page"))
     (codes "pcap")) device_app.top) (codes "far")) live_app.top
 
 -- clap reads this subcommand from the words, with this text
@@ -93,6 +111,19 @@ pub record ReadsDraw (words : List Text) (ascii : Bool) (text : List ℕ) : Type
   pub given : one_of (codes "ascii") command.rows ≡ Some (codes "true") → ascii ≡ true
   pub left_out : one_of (codes "ascii") command.rows ≡ Some (codes "false") → ascii ≡ false
   pub absent : one_of (codes "ascii") command.rows ≡ None → ascii ≡ false
+
+-- what clap reads from the words of `explain`: its file, and a text that names the selection
+pub record IsExplain (rows : List Row) (asked : ExplainWords) : Type 0 where
+  pub file : first_of (codes "text") rows ≡ Some asked.file.now
+  pub only : List ℕ
+  pub given : first_of (codes "only") rows ≡ Some only
+  pub named : NamesSelection only asked.selection
+
+-- clap reads `explain` from the words, with these
+pub record ReadsExplain (words : List Text) (asked : ExplainWords) : Type 0 where
+  pub rows : List Row
+  pub subcommand : subcommand_of program_app words ≡ Some (codes "explain", rows)
+  pub explain : IsExplain rows asked
 
 -- what clap reads from the words of `device`: its name, its file, and a numeral of 1 to 7
 pub record IsDevice (rows : List Row) (asked : DeviceWords) : Type 0 where
@@ -128,6 +159,8 @@ ReadsWords words (Check text) = HasSubcommand words (codes "check") text.now
 ReadsWords words (Tree text) = HasSubcommand words (codes "tree") text.now
 ReadsWords words (Draw ascii text) = ReadsDraw words ascii text.now
 ReadsWords words (Run text) = HasSubcommand words (codes "run") text.now
+ReadsWords words (Explain asked) = ReadsExplain words asked
+ReadsWords words (Page text) = HasSubcommand words (codes "page") text.now
 ReadsWords words (Pcap text) = HasSubcommand words (codes "pcap") text.now
 ReadsWords words (Device asked) = ReadsDevice words asked
 ReadsWords words (Far text) = HasSubcommand words (codes "far") text.now

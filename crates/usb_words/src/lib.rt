@@ -4,9 +4,12 @@
 //! # What is proved
 //!
 //! If `read_words` returns a command, it is `clap`'s meaning of the words, with every option
-//! (`ReadsWords`). *Only tested*: the texts of help, version and word faults.
+//! (`ReadsWords`). A text names at most one selection of attempts, and `selection_of` returns it. *Only tested*: the
+//! texts of help, version and word faults.
 #![tactic(auto)]
 
+mod selection;
 mod words;
 
-pub use words::{DeviceWords, WordFault, Words, read_words};
+pub use selection::{Selection, selection_of};
+pub use words::{DeviceWords, ExplainWords, WordFault, Words, read_words};

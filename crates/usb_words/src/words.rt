@@ -3,8 +3,9 @@ ghost use Rattle.std.specs.Prelude.{◌≡◌, IfOk, IfSome, List, map, true, fa
 ghost use Rattle.clap.specs.Simple.{app_of, subcommand_of, subcommand_rows_of, with_subcommand};
 ghost use Rattle.clap.specs.Matches.{found_of};
 ghost use Rattle.clap.specs.Walk.{Text, rows_of, rule_of};
-ghost use Rattle.usb_words.specs.CommandLine.{IsDevice, ReadsWords, device_app, draw_app, first_app, limit_rule, live_app, name_rule, plain_app, ports_rule, program_app, text_app, text_rule, with_text};
+ghost use Rattle.usb_words.specs.CommandLine.{IsDevice, IsExplain, ReadsWords, device_app, draw_app, explain_app, first_app, limit_rule, live_app, name_rule, only_rule, plain_app, ports_rule, program_app, run_app, text_app, text_rule, with_text};
 
+use crate::selection::{Selection, selection_of};
 use clap::builder::ValueParser;
 use clap::error::ErrorKind;
 use clap::{Arg, ArgAction, ArgMatches, Command, Error};
@@ -28,6 +29,10 @@ pub enum Words<'a> {
     Draw(bool, &'a str),
     /// A plan's run, by the plan's file.
     Run(&'a str),
+    /// A run with its requests in words.
+    Explain(ExplainWords<'a>),
+    /// A plan's run as a page of HTML, by the plan's file.
+    Page(&'a str),
     /// The packets of a run, by the file of its text.
     Pcap(&'a str),
     /// The entry of a plan that a device makes.
@@ -36,6 +41,15 @@ pub enum Words<'a> {
     Far(&'a str),
     /// A host before a far end, and the most questions that it asks.
     Live(u64),
+}
+
+/// What of a run is printed with its requests in words.
+#[derive(Debug, Drop)]
+pub struct ExplainWords<'a> {
+    /// What of the run.
+    pub selection: Selection,
+    /// The file of the run's text.
+    pub file: &'a str,
 }
 
 /// What entry a device makes.
@@ -61,11 +75,13 @@ pub enum WordFault {
 }
 
 /// Reads the words after the program's name: `packet HEX`, `check FILE`, `tree FILE`, `draw [--ascii] FILE`,
-/// `run FILE`, `pcap FILE`, `device NAME FILE [--ports N]`, `far FILE`, `live [--limit N]` or none.
+/// `run FILE`, `explain [--only WHAT] FILE`, `page FILE`, `pcap FILE`, `device NAME FILE [--ports N]`, `far FILE`,
+/// `live [--limit N]` or none.
 ///
 /// # Errors
 ///
-/// `Refused`: `clap` reads no such command, or help or the version is requested.
+/// - `Refused`: `clap` reads no such command, is asked for the help or the version, or WHAT names no selection.
+/// - `Memory`: memory was refused.
 pub fn read_words<'a>(alloc: Global, words: &'a [&'a str]) -> Result<Words<'a>, WordFault>
     ensures { IfOk result (λ asked. ReadsWords (map (λ s. s.now) words.entry.now) asked) }
 {
@@ -74,7 +90,7 @@ pub fn read_words<'a>(alloc: Global, words: &'a [&'a str]) -> Result<Words<'a>, 
         Err(error) if error.kind() == ErrorKind::OutOfMemory => return Err(WordFault::Memory),
         Err(error) => return Err(WordFault::Refused(error)),
     };
-    words_of(&matches).ok_or_else(|| no_command(alloc))
+    words_of(&matches).ok_or_else(|| refusal(alloc, &matches))
 }
 
 /// What the program's subcommand asks for, if it is one of the program's and has its text.
@@ -92,6 +108,8 @@ fn words_of<'a>(matches: &ArgMatches<'a>) -> Option<Words<'a>>
             Some(Words::Draw(found.get_flag("ascii"), found.get_str("text")?))
         }
         Some(("run", found)) => Some(Words::Run(found.get_str("text")?)),
+        Some(("explain", found)) => Some(Words::Explain(explain_words(found)?)),
+        Some(("page", found)) => Some(Words::Page(found.get_str("text")?)),
         Some(("pcap", found)) => Some(Words::Pcap(found.get_str("text")?)),
         Some(("device", found)) => Some(Words::Device(device_words(found)?)),
         Some(("far", found)) => Some(Words::Far(found.get_str("text")?)),
@@ -113,15 +131,41 @@ fn device_words<'a>(found: &ArgMatches<'a>) -> Option<DeviceWords<'a>>
     Some(DeviceWords { name, file, ports })
 }
 
-/// The fault of words that are no command.
-fn no_command(alloc: Global) -> WordFault {
-    let Ok(mut program) = program(alloc) else {
-        return WordFault::Memory;
+/// What `explain` asks for.
+fn explain_words<'a>(found: &ArgMatches<'a>) -> Option<ExplainWords<'a>>
+    ensures { IfSome result (λ asked. IsExplain (rows_of (found_of found.now)) asked) }
+{
+    let file = found.get_str("text")?;
+    let only = found.get_str("only")?;
+    let selection = selection_of(only)?;
+    Some(ExplainWords { selection, file })
+}
+
+/// The fault of words that `clap` reads and that ask for nothing.
+fn refusal(alloc: Global, matches: &ArgMatches<'_>) -> WordFault {
+    let error = match matches.subcommand() {
+        Some(("explain", found)) => no_selection(alloc, found.get_str("only").unwrap_or("")),
+        _ => no_command(alloc),
     };
-    match program.error(ErrorKind::InvalidSubcommand, "no such command") {
+    match error {
         Ok(error) => WordFault::Refused(error),
         Err(_) => WordFault::Memory,
     }
+}
+
+/// The error of words that are no command.
+fn no_command(alloc: Global) -> Result<Error, AllocError> {
+    program(alloc)?.error(ErrorKind::InvalidSubcommand, "no such command")
+}
+
+/// The error of a text that names no selection.
+fn no_selection(alloc: Global, text: &str) -> Result<Error, AllocError> {
+    let message = format!(in alloc;
+        "invalid value '{text}' for '--only <WHAT>': \
+         it is a path as 1.2, an address as address:5, setup, damage or all"
+    )?;
+    let mut explain = explain_command(alloc)?.bin_name("usbplan explain")?;
+    explain.error(ErrorKind::ValueValidation, message.as_str())
 }
 
 fn matches_of<'a>(alloc: Global, words: &'a [&'a str]) -> Result<ArgMatches<'a>, Error>
@@ -134,22 +178,22 @@ fn matches_of<'a>(alloc: Global, words: &'a [&'a str]) -> Result<ArgMatches<'a>,
 fn program<'a>(alloc: Global) -> Result<Command<'a>, AllocError>
     ensures { IfOk result (λ c. app_of c ≡ program_app) }
 {
-    let first = first_commands(alloc)?;
-    let draw = draw_command(alloc)?;
-    let with_draw = with_command(first, draw)?;
-    let with_run = with_text_command(
+    let with_run = run_commands(alloc)?;
+    let explain = explain_command(alloc)?;
+    let with_explain = with_command(with_run, explain)?;
+    let with_page = with_text_command(
         alloc,
-        with_draw,
-        "run",
-        "Runs a plan, and prints each plug, each attempt and the devices that the host found",
+        with_explain,
+        "page",
+        "Runs a plan, and writes a page of HTML that shows the run",
         plan_file(alloc),
     )?;
     let with_pcap = with_text_command(
         alloc,
-        with_run,
+        with_page,
         "pcap",
         "Writes the packets of a run as a pcap file, for Wireshark",
-        text(alloc, "FILE", "What `run` wrote; `-` is standard input"),
+        run_file(alloc),
     )?;
     let device = device_command(alloc)?;
     let with_device = with_command(with_pcap, device)?;
@@ -162,6 +206,22 @@ fn program<'a>(alloc: Global) -> Result<Command<'a>, AllocError>
     )?;
     let live = live_command(alloc)?;
     with_command(with_far, live)
+}
+
+/// The program with its commands up to `run`.
+fn run_commands<'a>(alloc: Global) -> Result<Command<'a>, AllocError>
+    ensures { IfOk result (λ c. app_of c ≡ run_app) }
+{
+    let first = first_commands(alloc)?;
+    let draw = draw_command(alloc)?;
+    let with_draw = with_command(first, draw)?;
+    with_text_command(
+        alloc,
+        with_draw,
+        "run",
+        "Runs a plan, and prints each plug, each attempt and the devices that the host found",
+        plan_file(alloc),
+    )
 }
 
 /// The program with its first three commands.
@@ -209,6 +269,8 @@ fn plain_program<'a>(alloc: Global) -> Result<Command<'a>, AllocError>
                  Devices at the end of a run: usbplan tree plan.toml\n\
                  The same as trees, in plain letters: usbplan draw --ascii plan.toml\n\
                  All packets of a run: usbplan run plan.toml\n\
+                 The same with requests in words: usbplan run plan.toml | usbplan explain -\n\
+                 The same as a page for a browser: usbplan page plan.toml > plan.html\n\
                  The same for Wireshark: usbplan run plan.toml | usbplan pcap - > plan.pcap\n\
                  A device of Linux for a plan: usbplan device mouse \
                  /sys/bus/usb/devices/1-1/descriptors >> plan.toml\n\
@@ -276,6 +338,32 @@ fn draw_command<'a>(alloc: Global) -> Result<Command<'a>, AllocError>
         .action(ArgAction::SetTrue)
         .help("Draws in plain letters, of ASCII alone, in place of lines");
     plain.arg(ascii)
+}
+
+/// The command that puts the requests of a run into words.
+fn explain_command<'a>(alloc: Global) -> Result<Command<'a>, AllocError>
+    ensures { IfOk result (λ c. app_of c ≡ explain_app) }
+{
+    let plain = command(
+        alloc,
+        "explain",
+        "Prints a run with its requests in words",
+        run_file(alloc),
+    )?;
+    plain.arg(only(alloc))
+}
+
+/// What of a run `explain` prints.
+fn only<'a>(alloc: Global) -> Arg<'a>
+    ensures local { result.global ≡ false }
+    ensures rule { rule_of result ≡ only_rule }
+{
+    Arg::new(alloc, "only")
+        .long("only")
+        .action(ArgAction::Set)
+        .value_name("WHAT")
+        .default_value("all")
+        .help("Prints only this: a path as 1.2, an address as address:5, setup or damage")
 }
 
 /// The command that makes the entry of a device.
@@ -351,6 +439,14 @@ fn plan_file<'a>(alloc: Global) -> Arg<'a>
     ensures rule { rule_of result ≡ text_rule }
 {
     text(alloc, "FILE", "The plan's file; `-` is standard input")
+}
+
+/// The file of a command that reads what `run` wrote.
+fn run_file<'a>(alloc: Global) -> Arg<'a>
+    ensures local { result.global ≡ false }
+    ensures rule { rule_of result ≡ text_rule }
+{
+    text(alloc, "FILE", "What `run` wrote; `-` is standard input")
 }
 
 /// The one text that a command wants, and what help says of it.

@@ -1,7 +1,7 @@
 //! The words after the program's name, and what is read from them.
 use std::alloc::{AllocError, Global};
 use std::test::Fail;
-use usb_words::read_words;
+use usb_words::{read_words, selection_of};
 
 const HELP: &str = "\
 Runs a USB host on a simulated bus, as a plan says, or prints one packet
@@ -9,16 +9,18 @@ Runs a USB host on a simulated bus, as a plan says, or prints one packet
 Usage: usbplan [COMMAND]
 
 Commands:
-  packet  Prints the packet that bytes spell, and the bytes
-  check   Tells what a plan holds, or what is wrong with it and where
-  tree    Runs a plan, and prints the devices that the host found
-  draw    Runs a plan, and draws the devices that the host found as trees
-  run     Runs a plan, and prints each plug, each attempt and the devices that the host found
-  pcap    Writes the packets of a run as a pcap file, for Wireshark
-  device  Writes the `[[device]]` table of a plan, from a device's descriptors in Linux
-  far     Answers a host, line by line, as the devices of a plan would
-  live    Asks a far end on standard input and output, line by line, and tells it what the host found
-  help    Print this message or the help of the given subcommand(s)
+  packet   Prints the packet that bytes spell, and the bytes
+  check    Tells what a plan holds, or what is wrong with it and where
+  tree     Runs a plan, and prints the devices that the host found
+  draw     Runs a plan, and draws the devices that the host found as trees
+  run      Runs a plan, and prints each plug, each attempt and the devices that the host found
+  explain  Prints a run with its requests in words
+  page     Runs a plan, and writes a page of HTML that shows the run
+  pcap     Writes the packets of a run as a pcap file, for Wireshark
+  device   Writes the `[[device]]` table of a plan, from a device's descriptors in Linux
+  far      Answers a host, line by line, as the devices of a plan would
+  live     Asks a far end on standard input and output, line by line, and tells it what the host found
+  help     Print this message or the help of the given subcommand(s)
 
 Options:
   -h, --help     Print help
@@ -31,6 +33,8 @@ What is wrong with a plan: usbplan check plan.toml
 Devices at the end of a run: usbplan tree plan.toml
 The same as trees, in plain letters: usbplan draw --ascii plan.toml
 All packets of a run: usbplan run plan.toml
+The same with requests in words: usbplan run plan.toml | usbplan explain -
+The same as a page for a browser: usbplan page plan.toml > plan.html
 The same for Wireshark: usbplan run plan.toml | usbplan pcap - > plan.pcap
 A device of Linux for a plan: usbplan device mouse /sys/bus/usb/devices/1-1/descriptors >> plan.toml
 What a host asks on standard input, answered: usbplan far plan.toml
@@ -117,6 +121,31 @@ Options:
   -h, --help  Print help
 ";
 
+const EXPLAIN_HELP: &str = "\
+Prints a run with its requests in words
+
+Usage: usbplan explain [OPTIONS] <FILE>
+
+Arguments:
+  <FILE>  What `run` wrote; `-` is standard input
+
+Options:
+      --only <WHAT>  Prints only this: a path as 1.2, an address as address:5, setup or damage [default: all]
+  -h, --help         Print help
+";
+
+const PAGE_HELP: &str = "\
+Runs a plan, and writes a page of HTML that shows the run
+
+Usage: usbplan page <FILE>
+
+Arguments:
+  <FILE>  The plan's file; `-` is standard input
+
+Options:
+  -h, --help  Print help
+";
+
 const PCAP_HELP: &str = "\
 Writes the packets of a run as a pcap file, for Wireshark
 
@@ -172,6 +201,14 @@ error: invalid value 'x' for '--ports <N>': invalid digit found in string
 For more information, try '--help'.
 ";
 
+const NO_SELECTION: &str = "\
+error: invalid value '8' for '--only <WHAT>': it is a path as 1.2, an address as address:5, setup, damage or all
+
+Usage: usbplan explain [OPTIONS] <FILE>
+
+For more information, try '--help'.
+";
+
 const NO_SUCH_COMMAND: &str = "\
 error: unrecognized subcommand 'list'
 
@@ -200,11 +237,17 @@ For more information, try '--help'.
 ";
 
 /// Words, and what they ask for, or the text that is shown in its place.
-const WORDS: [(&[&str], &str); 32] = [
+const WORDS: [(&[&str], &str); 37] = [
     (&["packet", "2D0010"], "Packet(\"2D0010\")"),
     (&[], "Stdin"),
     (&["tree", "plan.toml"], "Tree(\"plan.toml\")"),
     (&["run", "-"], "Run(\"-\")"),
+    (&["page", "plan.toml"], "Page(\"plan.toml\")"),
+    (
+        &["explain", "run.txt"],
+        "Explain(ExplainWords { selection: All, file: \"run.txt\" })",
+    ),
+    (&["explain", "-", "--only", "8"], NO_SELECTION),
     (&["pcap", "-"], "Pcap(\"-\")"),
     (&["check", "plan.toml"], "Check(\"plan.toml\")"),
     (&["far", "plan.toml"], "Far(\"plan.toml\")"),
@@ -235,6 +278,8 @@ const WORDS: [(&[&str], &str); 32] = [
     (&["device", "--help"], DEVICE_HELP),
     (&["check", "--help"], CHECK_HELP),
     (&["run", "--help"], RUN_HELP),
+    (&["explain", "--help"], EXPLAIN_HELP),
+    (&["page", "--help"], PAGE_HELP),
     (&["pcap", "--help"], PCAP_HELP),
     (&["far", "--help"], FAR_HELP),
     (&["live", "--help"], LIVE_HELP),
@@ -257,6 +302,44 @@ fn words_are_read(rt: HostRuntime) -> Result<(), Fail> {
     for (words, want) in &WORDS {
         let told = told(rt.alloc(), words)?;
         assert_eq!(rt; told.as_str(), *want, "{words:?}");
+    }
+    Ok(())
+}
+
+/// Texts, and the selections that they name. A path and an address of the same number differ.
+const SELECTIONS: [(&str, &str); 22] = [
+    ("all", "Some(All)"),
+    ("setup", "Some(Setup)"),
+    ("damage", "Some(Damage)"),
+    ("1", "Some(Path(PortPath { numbers: [1] }))"),
+    ("1.2", "Some(Path(PortPath { numbers: [1, 2] }))"),
+    (
+        "7.7.7.7.7.7.7",
+        "Some(Path(PortPath { numbers: [7, 7, 7, 7, 7, 7, 7] }))",
+    ),
+    ("address:1", "Some(Address(1))"),
+    ("address:0", "Some(Address(0))"),
+    ("address:127", "Some(Address(127))"),
+    ("address:007", "Some(Address(7))"),
+    ("address:128", "None"),
+    ("address:256", "None"),
+    ("address:", "None"),
+    ("address:-1", "None"),
+    ("address:1.2", "None"),
+    ("address", "None"),
+    ("8", "None"),
+    ("0", "None"),
+    ("1.", "None"),
+    ("1.2.3.4.5.6.7.1", "None"),
+    ("Setup", "None"),
+    ("", "None"),
+];
+
+#[test]
+fn selections_are_read(rt: HostRuntime) -> Result<(), Fail> {
+    for (text, want) in &SELECTIONS {
+        let told = format!(in rt.alloc(); "{:?}", selection_of(text))?;
+        assert_eq!(rt; told.as_str(), *want, "{text}");
     }
     Ok(())
 }

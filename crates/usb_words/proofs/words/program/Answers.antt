@@ -5,9 +5,9 @@ use Rattle.usb_words.proofs.words.program.Goals as goal
 
 pub returns : goal.returns
 returns c =
-    let fourth = c.in_ok-with_draw.ensures
-    ∙ ap₂ (λ p q. with_subcommand p q.top) c.in_ok-first.ensures c.in_ok-draw.ensures in
-    let fifth = c.in_ok-with_run.ensures ∙ ap (λ p. with_text p (codes "run")) fourth in
+    let fourth = c.in_ok-with_explain.ensures
+    ∙ ap₂ (λ p q. with_subcommand p q.top) c.in_ok-with_run.ensures c.in_ok-explain.ensures in
+    let fifth = c.in_ok-with_page.ensures ∙ ap (λ p. with_text p (codes "page")) fourth in
     let sixth = c.in_ok-with_pcap.ensures ∙ ap (λ p. with_text p (codes "pcap")) fifth in
     let seventh = c.in_ok-with_device.ensures
     ∙ ap₂ (λ p q. with_subcommand p q.top) sixth c.in_ok-device.ensures in

@@ -74,6 +74,12 @@ returns-in_ok-get_str-in-Some-run-default c =
     command_of c.args.matches.now arm.found.now (codes "run") _ (sym (ap Some arm.is-run)
     ∙ arm.ensures.name) arm.ensures.rows c.in_ok-get_str-in-Some-run-default.ensures
 
+pub returns-in_ok-get_str-in-Some-page-default : goal.returns-in_ok-get_str-in-Some-page-default
+returns-in_ok-get_str-in-Some-page-default c =
+    let arm = c.in-Some-page-default in
+    command_of c.args.matches.now arm.found.now (codes "page") _ (sym (ap Some arm.is-page)
+    ∙ arm.ensures.name) arm.ensures.rows c.in_ok-get_str-in-Some-page-default.ensures
+
 pub returns-in_ok-get_str-in-Some-pcap-default : goal.returns-in_ok-get_str-in-Some-pcap-default
 returns-in_ok-get_str-in-Some-pcap-default c =
     let arm = c.in-Some-pcap-default in
