@@ -4,11 +4,16 @@
 #
 # An executable's name has the digest of all that it is made of: the files below crates/, but for what `rt` leaves in
 # out/, crates.txt, and the toolchain's version. One that is there under the name of now is of the sources as they stand.
-# The digest is kept with the files' sizes and times, and made anew only where these differ.
+# The digest is kept with the files' sizes and times, and made anew only where these differ. What each call does takes
+# few processes: a later call is to answer at once.
 
 kept=$here/.build
 crate=$here/crates/usb_main
-rt=${RT:-$(command -v rt || echo /opt/rattle/bin/rt)}
+rt=${RT-}
+if [ -z "$rt" ]; then
+  rt=/opt/rattle/bin/rt
+  ! hash rt 2>/dev/null || rt=${BASH_CMDS[rt]}
+fi
 room=
 rt_id=
 
@@ -18,27 +23,29 @@ stop() {
   exit 5
 }
 
-# The toolchain's version, as `rt version` prints it: it is in a file beside `rt`, which is read sooner.
-toolchain() {
-  local file
-  file=$(dirname "$(readlink -f "$rt")")/../KIT-ID
-  if [ -r "$file" ]; then
-    cat "$file"
+# Sets `toolchain`: the toolchain's version, as `rt version` prints it. It is in a file beside `rt`, which is read sooner.
+name_toolchain() {
+  local at=$rt
+  [ ! -L "$at" ] || at=$(readlink -f "$at")
+  if [[ "$at" == */* ]] && [ -r "${at%/*}/../KIT-ID" ]; then
+    read -r toolchain <"${at%/*}/../KIT-ID"
   else
-    "$rt" version 2>/dev/null
+    toolchain=$("$rt" version 2>/dev/null) ||
+      stop "'$rt' does not run: the program cannot be made, nor can it be seen what one was made by"
   fi
 }
 
-# The size and the times of each source, and the toolchain's version.
+# A digest, the toolchain's version, and the size and the times of each source.
 stamps() {
-  toolchain || stop "'$rt' does not run: the program cannot be made, nor can it be seen what one was made by"
-  (cd "$here" && find crates crates.txt -type d -name out -prune -o -type f -printf '%p %s %T@ %C@\n')
+  printf '%s\n%s\n' "$1" "$toolchain"
+  cd "$here" || exit
+  exec find crates crates.txt -type d -name out -prune -o -type f -printf '%p %s %T@ %C@\n'
 }
 
 # The digest of the sources and of the toolchain.
 digest() {
   {
-    toolchain
+    printf '%s\n' "$toolchain"
     cd "$here" || exit
     find crates crates.txt -type d -name out -prune -o -type f -print0 | LC_ALL=C sort -z | xargs -0 sha256sum
   } | sha256sum | cut -c 1-32
@@ -46,17 +53,20 @@ digest() {
 
 # Sets `of`: the digest of now, the one that is kept where no size and no time has changed.
 name_sources() {
-  local now room
-  now=$(stamps) || exit 5
-  if [ -r "$kept/stamps" ] && [ "$(tail -n +2 "$kept/stamps")" = "$now" ]; then
-    read -r of <"$kept/stamps"
+  local toolchain room
+  name_toolchain
+  if [ -r "$kept/stamps" ] && read -r of <"$kept/stamps" && stamps "$of" | cmp -s - "$kept/stamps"; then
     return
   fi
-  of=$(digest)
-  # where nothing can be kept, it is made anew at each call
+  # what changes while the digest is made has other stamps at the next call; where nothing can be kept, it is made anew
+  # at each call
   if mkdir -p "$kept" 2>/dev/null && room=$(mktemp "$kept/stamps.XXXXXX" 2>/dev/null); then
-    printf '%s\n%s\n' "$of" "$now" >"$room"
+    (stamps - | tail -n +2 >"$room")
+    of=$(digest)
+    sed -i "1i $of" "$room"
     mv -f "$room" "$kept/stamps"
+  else
+    of=$(digest)
   fi
 }
 
