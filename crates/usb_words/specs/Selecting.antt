@@ -1,10 +1,8 @@
 -- What of a run `explain` prints, by the text that names it.
 use Rattle.std.specs.Prelude.{◌≡◌, ◌≤◌, ◌++◌, ℕ, List, codes}
 use Rattle.std.specs.Str.Parse.{IsNumeral, digits_value, without_leading_plus}
-use Rattle.usb_port.specs.{IsPath, path_text}
 use Rattle.usb_words.specs.declared.selection.Selection.{Selection}
-use Rattle.usb_words.specs.declared.selection.Selection.TheVariants.{All, Path, Address, Setup}
-use Rattle.usb_words.specs.declared.selection.Selection.TheVariants.{Damage}
+use Rattle.usb_words.specs.declared.selection.Selection.TheVariants.{All, Address, Setup, Damage}
 
 -- `address:` and a numeral of 0 to 127
 pub record NamesAddress (text : List ℕ) (address : ℕ) : Type 0 where
@@ -16,7 +14,6 @@ pub record NamesAddress (text : List ℕ) (address : ℕ) : Type 0 where
 
 abbrev pub NamesSelection : List ℕ → Selection → Type 0
 NamesSelection text All = text ≡ codes "all"
-NamesSelection text (Path path) = IsPath path × (path_text path ≡ text)
 NamesSelection text (Address address) = NamesAddress text address
 NamesSelection text Setup = text ≡ codes "setup"
 NamesSelection text Damage = text ≡ codes "damage"

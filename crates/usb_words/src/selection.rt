@@ -1,17 +1,12 @@
 //! What of a run `explain` prints.
-ghost use Rattle.std.specs.Prelude.{◌≢◌, ℕ, IfNone, IfSome, List};
-ghost use Rattle.usb_port.specs.Path.{IsPath, path_text};
+ghost use Rattle.std.specs.Prelude.{ℕ, IfNone, IfSome};
 ghost use Rattle.usb_words.specs.Selecting.{NamesAddress, NamesSelection};
 
-use usb_port::PortPath;
-
 /// What of a run `explain` prints.
-#[derive(Debug, Drop)]
+#[derive(Clone, Copy, Debug, PartialEq, Eq)]
 pub enum Selection {
     /// All of it.
     All,
-    /// What concerns the device at a path.
-    Path(PortPath),
     /// The attempts to an address, 0 to 127.
     Address(u8),
     /// The attempts that begin a request.
@@ -20,8 +15,7 @@ pub enum Selection {
     Damage,
 }
 
-/// The selection that a text names: `all`, a path as `1.2`, an address as `address:5`, `setup` or `damage`. None for any
-/// other text.
+/// The selection that a text names: `all`, an address as `address:5`, `setup` or `damage`. None for any other text.
 pub fn selection_of(text: &str) -> Option<Selection>
     ensures named { IfSome result (NamesSelection text.now) }
     ensures refused { IfNone result ((s : Selection) → NamesSelection text.now s → ⊥) }
@@ -32,19 +26,8 @@ pub fn selection_of(text: &str) -> Option<Selection>
         "damage" => Some(Selection::Damage),
         _ => match address_of(text) {
             Some(address) => Some(Selection::Address(address)),
-            None => path_of(text),
+            None => None,
         },
-    }
-}
-
-/// The selection of a path.
-fn path_of(text: &str) -> Option<Selection>
-    ensures named { IfSome result (NamesSelection text.now) }
-    ensures refused { IfNone result ((p : List ℕ) → IsPath p → path_text p ≢ text.now) }
-{
-    match PortPath::from_text(text) {
-        Some(path) => Some(Selection::Path(path)),
-        None => None,
     }
 }
 

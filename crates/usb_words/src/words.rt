@@ -57,7 +57,7 @@ pub struct ExplainWords<'a> {
 pub struct DeviceWords<'a> {
     /// The entry's name.
     pub name: &'a str,
-    /// The file of the device's descriptors.
+    /// The file of the device's descriptors, or the folder that has it.
     pub file: &'a str,
     /// How many ports it has if it is a hub, 1 to 7.
     pub ports: u8,
@@ -162,7 +162,7 @@ fn no_command(alloc: Global) -> Result<Error, AllocError> {
 fn no_selection(alloc: Global, text: &str) -> Result<Error, AllocError> {
     let message = format!(in alloc;
         "invalid value '{text}' for '--only <WHAT>': \
-         it is a path as 1.2, an address as address:5, setup, damage or all"
+         it is an address as address:5, setup, damage or all"
     )?;
     let mut explain = explain_command(alloc)?.bin_name("usbplan explain")?;
     explain.error(ErrorKind::ValueValidation, message.as_str())
@@ -273,7 +273,7 @@ fn plain_program<'a>(alloc: Global) -> Result<Command<'a>, AllocError>
                  The same as a page for a browser: usbplan page plan.toml > plan.html\n\
                  The same for Wireshark: usbplan run plan.toml | usbplan pcap - > plan.pcap\n\
                  A device of Linux for a plan: usbplan device mouse \
-                 /sys/bus/usb/devices/1-1/descriptors >> plan.toml\n\
+                 /sys/bus/usb/devices/1-1 >> plan.toml\n\
                  What a host asks on standard input, answered: usbplan far plan.toml\n\
                  A host before such a far end: usbplan live < answers > questions\n\n\
                  Status: 0 done, 1 refused, 2 no such command, or help or version, 3 limit reached,\n\
@@ -363,7 +363,7 @@ fn only<'a>(alloc: Global) -> Arg<'a>
         .action(ArgAction::Set)
         .value_name("WHAT")
         .default_value("all")
-        .help("Prints only this: a path as 1.2, an address as address:5, setup or damage")
+        .help("Prints only the attempts to an address as address:5, those of setup or of damage")
 }
 
 /// The command that makes the entry of a device.
@@ -377,7 +377,7 @@ fn device_command<'a>(alloc: Global) -> Result<Command<'a>, AllocError>
     let file = text(
         alloc,
         "FILE",
-        "The file `descriptors` of a device in sysfs; `-` is standard input",
+        "The folder of a device in sysfs, or its file `descriptors`; `-` is standard input",
     );
     let filed = named.arg(file)?;
     filed.arg(ports(alloc))

@@ -36,7 +36,7 @@ All packets of a run: usbplan run plan.toml
 The same with requests in words: usbplan run plan.toml | usbplan explain -
 The same as a page for a browser: usbplan page plan.toml > plan.html
 The same for Wireshark: usbplan run plan.toml | usbplan pcap - > plan.pcap
-A device of Linux for a plan: usbplan device mouse /sys/bus/usb/devices/1-1/descriptors >> plan.toml
+A device of Linux for a plan: usbplan device mouse /sys/bus/usb/devices/1-1 >> plan.toml
 What a host asks on standard input, answered: usbplan far plan.toml
 A host before such a far end: usbplan live < answers > questions
 
@@ -90,7 +90,7 @@ Usage: usbplan device [OPTIONS] <NAME> <FILE>
 
 Arguments:
   <NAME>  The name that the plan gives the device
-  <FILE>  The file `descriptors` of a device in sysfs; `-` is standard input
+  <FILE>  The folder of a device in sysfs, or its file `descriptors`; `-` is standard input
 
 Options:
       --ports <N>  How many ports it has, if it is a hub: 1 to 7 [default: 7]
@@ -130,7 +130,7 @@ Arguments:
   <FILE>  What `run` wrote; `-` is standard input
 
 Options:
-      --only <WHAT>  Prints only this: a path as 1.2, an address as address:5, setup or damage [default: all]
+      --only <WHAT>  Prints only the attempts to an address as address:5, those of setup or of damage [default: all]
   -h, --help         Print help
 ";
 
@@ -202,7 +202,7 @@ For more information, try '--help'.
 ";
 
 const NO_SELECTION: &str = "\
-error: invalid value '8' for '--only <WHAT>': it is a path as 1.2, an address as address:5, setup, damage or all
+error: invalid value '8' for '--only <WHAT>': it is an address as address:5, setup, damage or all
 
 Usage: usbplan explain [OPTIONS] <FILE>
 
@@ -306,17 +306,11 @@ fn words_are_read(rt: HostRuntime) -> Result<(), Fail> {
     Ok(())
 }
 
-/// Texts, and the selections that they name. A path and an address of the same number differ.
-const SELECTIONS: [(&str, &str); 22] = [
+/// Texts, and the selections that they name. A number alone could be taken for a port: it names none.
+const SELECTIONS: [(&str, &str); 18] = [
     ("all", "Some(All)"),
     ("setup", "Some(Setup)"),
     ("damage", "Some(Damage)"),
-    ("1", "Some(Path(PortPath { numbers: [1] }))"),
-    ("1.2", "Some(Path(PortPath { numbers: [1, 2] }))"),
-    (
-        "7.7.7.7.7.7.7",
-        "Some(Path(PortPath { numbers: [7, 7, 7, 7, 7, 7, 7] }))",
-    ),
     ("address:1", "Some(Address(1))"),
     ("address:0", "Some(Address(0))"),
     ("address:127", "Some(Address(127))"),
@@ -327,10 +321,9 @@ const SELECTIONS: [(&str, &str); 22] = [
     ("address:-1", "None"),
     ("address:1.2", "None"),
     ("address", "None"),
-    ("8", "None"),
-    ("0", "None"),
-    ("1.", "None"),
-    ("1.2.3.4.5.6.7.1", "None"),
+    ("1", "None"),
+    ("1.2", "None"),
+    ("Address:1", "None"),
     ("Setup", "None"),
     ("", "None"),
 ];
