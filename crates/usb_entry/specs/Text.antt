@@ -1,7 +1,8 @@
 -- The `[[device]]` table of a plan that a device makes, with comments on what its bytes say.
 use Rattle.std.specs.Prelude.{ℕ, ◌+◌, ◌*◌, ◌%◌, ◌==◌, ◌||◌, not, nat_le, nat_lt, Bool, false, List}
 use Rattle.std.specs.Prelude.{[], ◌∷◌, ◌++◌, codes, decimal, encode_utf8, flat_map, if◌then◌else◌}
-use Rattle.std.specs.Prelude.{slice_index}
+use Rattle.std.specs.Prelude.{slice_index, Option, Some, None}
+use Rattle.std.specs.Borrow.{Bor}
 use Rattle.std.specs.Char.{is_control}
 use Rattle.std.specs.Str.{chars}
 use Rattle.hex.specs.Hex.{encode_lower, encode_upper}
@@ -13,6 +14,9 @@ use Rattle.usb_descriptor.specs.{max_power_of, device_class, endpoint_number, is
 use Rattle.usb_descriptor.specs.{max_packet_size, transfer_of}
 use Rattle.usb_class.specs.{ClassCodes, class_text, device_codes, first_codes, interface_codes}
 use Rattle.usb_class.specs.{no_codes}
+use Rattle.usb_entry.specs.declared.notes.LinuxSpeed.{LinuxSpeed}
+use Rattle.usb_entry.specs.declared.notes.LinuxSpeed.TheVariants.{Full, Low}
+use Rattle.usb_entry.specs.declared.notes.Notes.{Notes}
 use Rattle.usb_entry.specs.EntryData.{EntryData}
 use Rattle.usb_entry.specs.Speed.{is_taken_low}
 
@@ -48,10 +52,19 @@ abbrev pub entry_codes : EntryData → ClassCodes
 entry_codes e = if device_class e.device == 0 then first_config_codes e.configs else device_codes
     e.device
 
--- idVendor, idProduct and class
-unfoldable pub head_line : EntryData → List ℕ
-head_line e = codes "# " ++ word_digits e.device 8 ++ codes ":" ++ word_digits e.device 10 ++
-    codes " " ++ class_text (entry_codes e) ++ codes "\n"
+-- the product that Linux names
+abbrev pub product_text : Option (Bor (List ℕ)) → List ℕ
+product_text None = []
+product_text (Some product) = codes ", product " ++ basic_string product.now
+
+-- idVendor and idProduct
+unfoldable pub maker_text : EntryData → List ℕ
+maker_text e = codes "# " ++ word_digits e.device 8 ++ codes ":" ++ word_digits e.device 10
+
+-- these, the class and the product
+unfoldable pub head_line : Option (Bor (List ℕ)) → EntryData → List ℕ
+head_line product e = maker_text e ++ codes " " ++ class_text (entry_codes e) ++
+    product_text product ++ codes "\n"
 
 unfoldable pub name_line : List ℕ → List ℕ
 name_line name = key_text (codes "name") ++ basic_string name ++ codes "\n"
@@ -61,6 +74,12 @@ speed_line low =
     if low then codes
     "speed = \"low\" # no packet has more than 8 bytes; \"full\" if the device is of full speed\n"
     else codes "speed = \"full\"\n"
+
+-- the speed that Linux has, or the one that the device is taken to have
+unfoldable pub known_speed_line : Option LinuxSpeed → EntryData → List ℕ
+known_speed_line (Some Low) e = codes "speed = \"low\"\n"
+known_speed_line (Some Full) e = codes "speed = \"full\"\n"
+known_speed_line None e = speed_line (is_taken_low e)
 
 unfoldable pub descriptor_line : List ℕ → List ℕ
 descriptor_line device = key_text (codes "descriptor") ++ codes "\"" ++ encode_upper device ++
@@ -137,13 +156,13 @@ abbrev pub power_line : Bool → List ℕ
 power_line self_powered = if self_powered then codes "self_powered = true\n" else []
 
 -- what the device is: its name, its speed, its descriptor
-unfoldable pub identity_lines : List ℕ → EntryData → List ℕ
-identity_lines name e = head_line e ++ codes "[[device]]\n" ++ name_line name ++ speed_line
-    (is_taken_low e) ++ descriptor_line e.device
+unfoldable pub identity_lines : List ℕ → Notes → EntryData → List ℕ
+identity_lines name notes e = head_line notes.product e ++ codes "[[device]]\n" ++ name_line name
+    ++ known_speed_line notes.speed e ++ descriptor_line e.device
 
 -- the whole table
-unfoldable pub entry_text : List ℕ → ℕ → EntryData → List ℕ
-entry_text name ports e =
-    identity_lines name e ++ codes "configs = [\n" ++ flat_map configuration_lines e.configs ++
+unfoldable pub entry_text : List ℕ → ℕ → Notes → EntryData → List ℕ
+entry_text name ports notes e =
+    identity_lines name notes e ++ codes "configs = [\n" ++ flat_map configuration_lines e.configs ++
     codes "]\n"
     ++ ports_line e.device ports ++ power_line (is_self_powered e.configs)

@@ -17,6 +17,7 @@ mod entry;
 mod fault;
 mod item;
 mod name;
+mod notes;
 mod piece;
 mod reading;
 mod speed;
@@ -25,6 +26,7 @@ mod writing;
 
 pub use entry::{Configuration, Descriptor, Entry};
 pub use fault::EntryFault;
+pub use notes::{LinuxSpeed, Notes};
 pub use reading::entry_of;
 pub use text::entry_text;
 pub use writing::write_entry;

@@ -37,7 +37,7 @@ fn letters_of(alloc: Global, text: &str) -> Result<Vec<char>, AllocError>
 }
 
 /// Adds a text as a basic string of TOML, from which any text comes back the same.
-fn push_string(alloc: Global, out: &mut Vec<u8>, text: &str) -> Result<(), AllocError>
+pub(crate) fn push_string(alloc: Global, out: &mut Vec<u8>, text: &str) -> Result<(), AllocError>
     ensures { OnOk result (out.new.items ≡ out.old.items ++ basic_string text.now) }
 {
     let letters = letters_of(alloc, text)?;

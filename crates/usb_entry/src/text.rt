@@ -1,11 +1,12 @@
 //! The table of a device, and its lines.
 ghost use Rattle.std.specs.Prelude.{◌≡◌, ◌++◌, flat_map, IfOk, OnOk};
 ghost use Rattle.usb_entry.specs.Speed.{is_taken_low};
-ghost use Rattle.usb_entry.specs.Text.{configuration_lines, descriptor_line, entry_codes, entry_text, first_config_codes, head_line, identity_lines, is_self_powered, ports_line, power_line, speed_line};
+ghost use Rattle.usb_entry.specs.Text.{configuration_lines, descriptor_line, entry_codes, entry_text, first_config_codes, head_line, identity_lines, maker_text, is_self_powered, ports_line, power_line, product_text, speed_line, known_speed_line};
 
 use crate::entry::{Configuration, Entry};
 use crate::item::push_items;
-use crate::name::push_name;
+use crate::name::{push_name, push_string};
+use crate::notes::{LinuxSpeed, Notes};
 use crate::piece::{push_comment, push_decimal, push_digits, push_key, push_text, push_word};
 use crate::speed::is_taken_low;
 use std::alloc::{AllocError, Global};
@@ -40,18 +41,45 @@ fn entry_codes(entry: &Entry<'_>) -> ClassCodes
     }
 }
 
-/// Adds idVendor, idProduct and the class.
-#[tactic(auto, unfolding(crate::specs::Text::head_line))]
-fn push_head(alloc: Global, out: &mut Vec<u8>, entry: &Entry<'_>) -> Result<(), AllocError>
-    ensures { OnOk result (out.new.items ≡ out.old.items ++ head_line entry.now) }
+/// Adds the product, if Linux names one.
+fn push_product(alloc: Global, out: &mut Vec<u8>, product: Option<&str>) -> Result<(), AllocError>
+    ensures { OnOk result (out.new.items ≡ out.old.items ++ product_text product.entry) }
+{
+    match product {
+        Some(product) => {
+            push_text(out, ", product ")?;
+            push_string(alloc, out, product)
+        }
+        None => Ok(()),
+    }
+}
+
+/// Adds idVendor and idProduct.
+#[tactic(auto, unfolding(crate::specs::Text::maker_text))]
+fn push_maker(alloc: Global, out: &mut Vec<u8>, entry: &Entry<'_>) -> Result<(), AllocError>
+    ensures { OnOk result (out.new.items ≡ out.old.items ++ maker_text entry.now) }
 {
     let device = entry.device().as_slice();
     push_text(out, "# ")?;
     push_word(alloc, out, device, 8)?;
     push_text(out, ":")?;
-    push_word(alloc, out, device, 10)?;
+    push_word(alloc, out, device, 10)
+}
+
+/// Adds idVendor, idProduct, the class and the product.
+#[tactic(auto, unfolding(crate::specs::Text::head_line))]
+fn push_head(
+    alloc: Global,
+    out: &mut Vec<u8>,
+    product: Option<&str>,
+    entry: &Entry<'_>,
+) -> Result<(), AllocError>
+    ensures { OnOk result (out.new.items ≡ out.old.items ++ head_line product.entry entry.now) }
+{
+    push_maker(alloc, out, entry)?;
     push_text(out, " ")?;
     push_class(alloc, out, entry_codes(entry))?;
+    push_product(alloc, out, product)?;
     push_text(out, "\n")
 }
 
@@ -66,11 +94,26 @@ fn speed_line(low: bool) -> &'static str
     }
 }
 
-/// Adds the line of the speed that the device is taken to have.
-fn push_speed(out: &mut Vec<u8>, entry: &Entry<'_>) -> Result<(), AllocError>
-    ensures { OnOk result (out.new.items ≡ out.old.items ++ speed_line (is_taken_low entry.now)) }
+#[tactic(auto, unfolding(crate::specs::Text::known_speed_line))]
+fn known_speed_line(speed: Option<LinuxSpeed>, entry: &Entry<'_>) -> &'static str
+    ensures { result.now ≡ known_speed_line speed entry.now }
 {
-    push_text(out, speed_line(is_taken_low(entry)))
+    match speed {
+        Some(LinuxSpeed::Low) => "speed = \"low\"\n",
+        Some(LinuxSpeed::Full) => "speed = \"full\"\n",
+        None => speed_line(is_taken_low(entry)),
+    }
+}
+
+/// Adds the line of the speed that Linux has, or that the device is taken to have.
+fn push_speed(
+    out: &mut Vec<u8>,
+    speed: Option<LinuxSpeed>,
+    entry: &Entry<'_>,
+) -> Result<(), AllocError>
+    ensures { OnOk result (out.new.items ≡ out.old.items ++ known_speed_line speed entry.now) }
+{
+    push_text(out, known_speed_line(speed, entry))
 }
 
 #[tactic(auto, unfolding(crate::specs::Text::descriptor_line))]
@@ -162,21 +205,24 @@ fn push_identity(
     alloc: Global,
     out: &mut Vec<u8>,
     name: &str,
+    notes: &Notes<'_>,
     entry: &Entry<'_>,
 ) -> Result<(), AllocError>
-    ensures { OnOk result (out.new.items ≡ out.old.items ++ identity_lines name.now entry.now) }
+    ensures { OnOk result (out.new.items
+        ≡ out.old.items ++ identity_lines name.now notes.now entry.now) }
 {
-    push_head(alloc, out, entry)?;
+    push_head(alloc, out, notes.product, entry)?;
     push_text(out, "[[device]]\n")?;
     push_name(alloc, out, name)?;
-    push_speed(out, entry)?;
+    push_speed(out, notes.speed, entry)?;
     push_descriptor(alloc, out, entry)
 }
 
 /// The `[[device]]` table of a plan whose device has this name and these bytes, with comments on what they say.
 ///
-/// The descriptors tell neither the speed, which is `low` for a device that is no hub and whose packets have at most
-/// 8 bytes, on control and interrupt endpoints alone, nor how many ports a hub has: a plan takes 1 to 7.
+/// The descriptors do not have the speed. If the notes do not have it, it is `low` for a device that is no hub and
+/// whose packets have at most 8 bytes, on control and interrupt endpoints alone. Nor do the descriptors have the number
+/// of ports of a hub: a plan takes 1 to 7.
 ///
 /// # Errors
 ///
@@ -186,12 +232,13 @@ pub fn entry_text(
     alloc: Global,
     name: &str,
     ports: u8,
+    notes: &Notes<'_>,
     entry: &Entry<'_>,
 ) -> Result<Vec<u8>, AllocError>
-    ensures { IfOk result (λ text. text.items ≡ entry_text name.now ports entry.now) }
+    ensures { IfOk result (λ text. text.items ≡ entry_text name.now ports notes.now entry.now) }
 {
     let mut text = Vec::new(alloc);
-    push_identity(alloc, &mut text, name, entry)?;
+    push_identity(alloc, &mut text, name, notes, entry)?;
     push_text(&mut text, "configs = [\n")?;
     push_configs(alloc, &mut text, entry.configs())?;
     push_text(&mut text, "]\n")?;

@@ -4,6 +4,7 @@ ghost use Rattle.usb_bus.specs.Watch.{inner_of, has_failed};
 ghost use Rattle.usb_entry.specs.Writing.{WritesEntry};
 
 use crate::fault::EntryFault;
+use crate::notes::Notes;
 use crate::reading::entry_of;
 use crate::text::entry_text;
 use std::alloc::Global;
@@ -11,7 +12,7 @@ use std::io::Write;
 use usb_bus::{Watched, put_piece};
 
 /// Writes the `[[device]]` table of a plan whose device has this name and these bytes, and this number of ports, 1 to
-/// 7, where it is a hub.
+/// 7, where it is a hub, with what Linux has of it beside these bytes.
 ///
 /// # Errors
 ///
@@ -25,10 +26,11 @@ pub fn write_entry<W: Write>(
     alloc: Global,
     name: &str,
     ports: u8,
+    notes: &Notes<'_>,
     bytes: &[u8],
     writer: &mut Watched<W>,
 ) -> Result<(), EntryFault>
-    ensures written { WritesEntry name.now ports bytes.now (W.contents (inner_of writer.old)) result
+    ensures written { WritesEntry name.now ports notes.now bytes.now (W.contents (inner_of writer.old)) result
         (W.contents (inner_of writer.new)) }
     ensures marked { IsErrOf result EntryFault.Write → has_failed writer.new ≡ true }
     ensures unmarked { (result ≢ Err EntryFault.Write)
@@ -38,6 +40,6 @@ pub fn write_entry<W: Write>(
         return Err(EntryFault::NoName);
     }
     let entry = entry_of(alloc, bytes)?;
-    let text = entry_text(alloc, name, ports, &entry)?;
+    let text = entry_text(alloc, name, ports, notes, &entry)?;
     Ok(put_piece(writer, text.as_slice())?)
 }

@@ -2,7 +2,7 @@
 use super::bytes_of;
 use std::alloc::AllocError;
 use usb_bus::Watched;
-use usb_entry::write_entry;
+use usb_entry::{Notes, write_entry};
 
 /// Bytes in digits, a name, and what is reported.
 struct Row {
@@ -142,7 +142,14 @@ fn faults(rt: HostRuntime) -> Result<(), AllocError> {
     for row in ROWS {
         let bytes = bytes_of(rt.alloc(), row.digits)?;
         let mut writer = Watched::new(Vec::new(rt.alloc()));
-        let told = match write_entry(rt.alloc(), row.name, 7, bytes.as_slice(), &mut writer) {
+        let told = match write_entry(
+            rt.alloc(),
+            row.name,
+            7,
+            &Notes::NONE,
+            bytes.as_slice(),
+            &mut writer,
+        ) {
             Ok(()) => String::from_str(rt.alloc(), "written")?,
             Err(fault) => fault.to_string(rt.alloc())?,
         };

@@ -3,7 +3,7 @@ use super::bytes_of;
 use std::alloc::{AllocError, Global};
 use std::process::Abort;
 use usb_bus::Watched;
-use usb_entry::write_entry;
+use usb_entry::{Notes, write_entry};
 use usb_plan::{PlanFault, read_plan};
 use usb_sim::Plan;
 
@@ -142,7 +142,7 @@ fn plan_of(alloc: Global, row: &Row, name: &str) -> Result<Result<Plan, PlanFaul
     let configs = bytes_of(alloc, row.configs)?;
     bytes.extend_from_slice(configs.as_slice())?;
     let mut writer = Watched::new(Vec::new(alloc));
-    let _ = write_entry(alloc, name, 4, bytes.as_slice(), &mut writer);
+    let _ = write_entry(alloc, name, 4, &Notes::NONE, bytes.as_slice(), &mut writer);
     let table = writer.into_inner();
     let mut text = String::from_str(alloc, "limit = 1\nroots = 1\n")?;
     text.push_str(str_of(table.as_slice()))?;

@@ -2,7 +2,7 @@
 use super::bytes_of;
 use std::alloc::AllocError;
 use usb_bus::Watched;
-use usb_entry::write_entry;
+use usb_entry::{Notes, write_entry};
 
 /// Bytes in digits, a name and a number of ports, and the table.
 struct Row {
@@ -63,11 +63,82 @@ fn tables(rt: HostRuntime) -> Result<(), AllocError> {
             rt.alloc(),
             row.name,
             row.ports,
+            &Notes::NONE,
             bytes.as_slice(),
             &mut writer,
         );
         let written = writer.into_inner();
         assert_eq!(rt; written.as_slice(), row.table.as_bytes(), "of {}", row.name);
+    }
+    Ok(())
+}
+
+/// The texts of the files `speed` and `product`, and the lines of the table that come of them.
+const NOTES: [(&str, &str, &str); 9] = [
+    (
+        "",
+        "",
+        "# 1234:5678 vendor-specific\n[[device]]\nname = \"d\"\nspeed = \"low\" # no packet has more than 8 bytes; \"full\" if the device is of full speed\n",
+    ),
+    (
+        "12\n",
+        "",
+        "# 1234:5678 vendor-specific\n[[device]]\nname = \"d\"\nspeed = \"full\"\n",
+    ),
+    (
+        "480\n",
+        "Disk\n",
+        "# 1234:5678 vendor-specific, product \"Disk\"\n[[device]]\nname = \"d\"\nspeed = \"full\"\n",
+    ),
+    (
+        "1.5\n",
+        "\n",
+        "# 1234:5678 vendor-specific\n[[device]]\nname = \"d\"\nspeed = \"low\"\n",
+    ),
+    // no speed of a plan, and a line of product that would end the comment
+    (
+        "5000\n",
+        "a \"b\"\n[[event]]\n",
+        "# 1234:5678 vendor-specific, product \"a \\\"b\\\"\\u000A[[event]]\"\n[[device]]\nname = \"d\"\nspeed = \"low\" # no packet has more than 8 bytes; \"full\" if the device is of full speed\n",
+    ),
+    (
+        "12",
+        "Disk",
+        "# 1234:5678 vendor-specific\n[[device]]\nname = \"d\"\nspeed = \"low\" # no packet has more than 8 bytes; \"full\" if the device is of full speed\n",
+    ),
+    (
+        "1.5\n12\n",
+        "Maus gr\u{f6}\u{df}er\n",
+        "# 1234:5678 vendor-specific, product \"Maus gr\u{f6}\u{df}er\"\n[[device]]\nname = \"d\"\nspeed = \"low\" # no packet has more than 8 bytes; \"full\" if the device is of full speed\n",
+    ),
+    (
+        " 12\n",
+        " \n",
+        "# 1234:5678 vendor-specific, product \" \"\n[[device]]\nname = \"d\"\nspeed = \"low\" # no packet has more than 8 bytes; \"full\" if the device is of full speed\n",
+    ),
+    (
+        "12\n",
+        "a\\b\u{7f}\n",
+        "# 1234:5678 vendor-specific, product \"a\\\\b\\u007F\"\n[[device]]\nname = \"d\"\nspeed = \"full\"\n",
+    ),
+];
+
+/// A device of which all packets have 8 bytes at most.
+const SMALL: &[&str] = &[
+    "120100020000000834127856000100000001",
+    "0902120001010080320904000000FF000000",
+];
+
+#[test]
+fn notes_of_linux(rt: HostRuntime) -> Result<(), AllocError> {
+    let bytes = bytes_of(rt.alloc(), SMALL)?;
+    for (speed, product, lines) in NOTES {
+        let notes = Notes::of_texts(speed, product);
+        let mut writer = Watched::new(Vec::new(rt.alloc()));
+        let _ = write_entry(rt.alloc(), "d", 7, &notes, bytes.as_slice(), &mut writer);
+        let written = writer.into_inner();
+        let front = &written.as_slice()[..lines.len()];
+        assert_eq!(rt; front, lines.as_bytes(), "{speed} {product}");
     }
     Ok(())
 }
