@@ -104,6 +104,7 @@ fault_status fault.LongDevice = 1
 fault_status (fault.Far number why) = far_status why
 fault_status (fault.Live end) = live_status end
 fault_status fault.Refused = 1
+fault_status fault.Closed = 4
 
 abbrev pub exit_status : Result (Unit {0}) Fault → ℕ
 exit_status (Ok done) = 0

@@ -48,6 +48,9 @@ pub enum Fault {
     /// A plan is refused, and what is wrong with it is written.
     #[error("plan refused")]
     Refused,
+    /// Nobody reads standard output any more; nothing is to be said of it.
+    #[error("write failed")]
+    Closed,
 }
 
 impl From<AllocError> for Fault {

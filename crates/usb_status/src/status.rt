@@ -44,6 +44,7 @@ fn fault_status(fault: Fault) -> u8
     match fault {
         Fault::Words | Fault::NoText => WORDS,
         Fault::LongDevice | Fault::Refused => REFUSED,
+        Fault::Closed => FAILED,
         Fault::Line(why) => line_status(why),
         Fault::Serve(why) => serve_status(why),
         Fault::Pcap(why) => pcap_status(why),

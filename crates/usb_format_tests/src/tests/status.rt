@@ -15,7 +15,7 @@ use usb_text::{LineFault, PacketFault};
 /// A fault, its line and its exit status.
 type Row = (Fault, &'static str, u8);
 
-const ROWS: [Row; 34] = [
+const ROWS: [Row; 35] = [
     (
         Fault::NoText,
         "error: invalid UTF-8 was detected in one or more arguments",
@@ -67,6 +67,7 @@ const ROWS: [Row; 34] = [
     (Fault::Pcap(PcapFault::TooLong), "pcap: text too long", 1),
     (Fault::Pcap(PcapFault::NoAttempt), "pcap: no attempt", 1),
     (Fault::Pcap(PcapFault::Write), "write failed", 4),
+    (Fault::Closed, "write failed", 4),
     (Fault::Device(EntryFault::NoName), "device: no name", 1),
     (
         Fault::Device(EntryFault::Missing(18)),
