@@ -8,3 +8,4 @@ mod Items
 mod Forms
 mod ShownNames
 mod Captures
+mod ToldLines

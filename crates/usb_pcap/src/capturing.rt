@@ -37,7 +37,7 @@ pub enum PcapFault {
 
 /// The most bytes of a line of a run that is no plug: a configuration of 65,535 bytes, and what is
 /// beside it.
-const LONGEST: usize = 131_200;
+pub(crate) const LONGEST: usize = 131_200;
 
 /// A line that has begun.
 #[derive(Drop)]

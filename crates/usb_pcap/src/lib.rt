@@ -1,4 +1,7 @@
-//! The packets of a run's text as a pcap file, which Wireshark reads. Nothing here takes memory.
+//! The packets of a run's text as a pcap file, which Wireshark reads.
+//!
+//! `capture` reads what `usbplan run` wrote, line by line, and writes the file. `read_attempt` reads
+//! the line of one attempt, `is_told` knows a run's other lines. Nothing here takes memory.
 //!
 //! # What is proved
 //!
@@ -23,6 +26,8 @@ mod record;
 mod report;
 mod shown;
 mod text;
+mod told;
 
 pub use attempt::{TracedAttempt, read_attempt};
 pub use capturing::{PcapFault, capture};
+pub use told::is_told;

@@ -1,0 +1,332 @@
+-- How an explained text goes on, byte after byte.
+use Rattle.std.proofs.Common.{◌≡◌, ◌≢◌, ◌==◌, inl, inr, ℕ, ◌+◌, ◌-◌, ◌^◌, ◌<◌, ◌≤◌, min, Bool, true, false, Decides}
+use Rattle.std.proofs.Common.{List, [], ◌∷◌, ◌++◌, length, take, drop, All, Option, Some, None, IfSome}
+use Rattle.std.proofs.Common.{Result, Ok, Err, IsErrOf, get_or, refl, sym, ap, subst, ◌∙◌, arith}
+use Rattle.std.proofs.Common.{append_assoc, append-nil, length-append}
+use Rattle.std.proofs.lemmas.List.{take_more, take-append-drop, take_all}
+use Rattle.std.proofs.lemmas.List.Elements.{All-nil, All-push}
+use Rattle.std.proofs.lemmas.Bool.{eqb-true}
+use Rattle.std.proofs.KnownBytes.{Appends-nil, Appends-trans, Consumes-trans}
+use Rattle.std.specs.Io.KnownBytes.{Appends, Consumes, IsAtEnd}
+use Rattle.usb_bus.specs.{AppendsFront}
+use Rattle.usb_bus.proofs.Interface.{front_after_first}
+use Rattle.usb_pcap.specs.{IsAttemptLine, IsRunLine, IsTold, TracedAttempt, longest, next_number}
+use Rattle.usb_pcap.specs.{read_attempt}
+use Rattle.usb_explain.specs.{BeginsOtherwise, BegunLine, ExplainFault, ExplainedInPart, ExplainedTo}
+use Rattle.usb_explain.specs.{ExplainsText, IsExplained, KeepsLine, Kept, Only, Reaches, ReachesOr}
+use Rattle.usb_explain.specs.{kept_attempt, kept_of, kept_text, kept_told, line_text}
+use Rattle.usb_explain.specs.declared.explaining.ExplainFault.TheVariants.{Line as bad_line, Read}
+use Rattle.usb_explain.specs.declared.explaining.ExplainFault.TheVariants.{TooLong, Write}
+
+-- ---- a line
+
+pub keeps_attempt_line : (only : Only) (line : List ℕ) (a : TracedAttempt) (k : Kept)
+    → length line ≤ longest → IsAttemptLine line a → Some a ≡ read_attempt line
+    → k ≡ kept_attempt only a → KeepsLine only line (Some k)
+keeps_attempt_line only line a k few of read e =
+    (inr (a, (few, of)), e ∙ ap (kept_of only) read)
+
+pub keeps_told_line : (only : Only) (line : List ℕ) (told : Bool) (k : Kept)
+    → Decides told (IsTold line) → told ≡ true → None ≡ read_attempt line → k ≡ kept_told only
+    → KeepsLine only line (Some k)
+keeps_told_line only line told k decides is read e =
+    (inl (decides.0 is), e ∙ ap (kept_of only) read)
+
+pub keeps_no_line : (only : Only) (line : List ℕ) (told : Bool) → Decides told (IsTold line)
+    → told ≡ false → ((a : TracedAttempt) → IsAttemptLine line a → None ≡ Some a)
+    → KeepsLine only line None
+keeps_no_line only line told decides fails each (inl is) = let found = decides.1 is in absurd (cc)
+keeps_no_line only line told decides fails each (inr (a, (few, of))) =
+    let found = each a of in absurd (cc)
+
+pub kept_gives : (only : Only) (line slice : List ℕ) (k : Kept) → slice ≡ line
+    → KeepsLine only slice (Some k)
+    → IsRunLine line × (kept_text k slice ≡ line_text only line)
+kept_gives only line slice k e (is, same) = (
+  subst IsRunLine e is,
+  ap (λ (q : Kept). kept_text q slice) same ∙ ap (line_text only) e,
+)
+
+-- ---- byte after byte
+
+pub reaches_first : (only : Only) (w : Option (List ℕ)) (s : BegunLine) → s.number ≡ 1
+    → s.bytes.items ≡ [] → Reaches only w w [] s
+reaches_first only w s number bytes = record {
+  n = 0;
+  went = record {
+    front = [];
+    out = [];
+    split = sym bytes;
+    explained = IsExplained.no_line;
+    gone = Appends-nil w;
+  };
+  one = subst (λ l. All (λ c. c ≢ 10) l) (sym bytes) (All-nil _);
+  number = number;
+}
+
+-- one byte more
+pub reaches_more : (only : Only) (w now : Option (List ℕ)) (text : List ℕ) (b : ℕ)
+    (s t : BegunLine) → b ≢ 10 → Reaches only w now text s → t.number ≡ s.number
+    → t.bytes.items ≡ s.bytes.items ++ b ∷ [] → Reaches only w now (text ++ b ∷ []) t
+reaches_more only w now text b s t differs h number bytes = record {
+  n = h.n;
+  went = record {
+    front = h.went.front;
+    out = h.went.out;
+    split = ap (λ l. l ++ b ∷ []) h.went.split
+        ∙ append_assoc h.went.front s.bytes.items (b ∷ [])
+        ∙ ap (λ l. h.went.front ++ l) (sym bytes);
+    explained = h.went.explained;
+    gone = h.went.gone;
+  };
+  one = subst (λ l. All (λ c. c ≢ 10) l) (sym bytes)
+      (All-push (λ x. x ≢ 10) s.bytes.items b h.one differs);
+  number = number ∙ h.number;
+}
+
+-- a byte too many
+pub went_long : (only : Only) (w now : Option (List ℕ)) (text : List ℕ) (b : ℕ) (s t : BegunLine)
+    → b ≢ 10 → length s.bytes.items ≡ longest → Reaches only w now text s
+    → ReachesOr only w now (text ++ b ∷ []) (Err (bad_line s.number)) t
+went_long only w now text b s t differs full h =
+    let line : List ℕ = s.bytes.items ++ b ∷ [] in
+    let long = length-append s.bytes.items (b ∷ []) in (
+      h.n,
+      line,
+      h.number,
+      record {
+        front = h.went.front;
+        out = h.went.out;
+        split = ap (λ l. l ++ b ∷ []) h.went.split
+            ∙ append_assoc h.went.front s.bytes.items (b ∷ []);
+        explained = h.went.explained;
+        gone = h.went.gone;
+      },
+      subst BeginsOtherwise (append-nil line) (BeginsOtherwise.long line []
+          (All-push (λ x. x ≢ 10) s.bytes.items b h.one differs) (omega (arith, long, full))),
+    )
+
+-- the line has ended, and no run writes it
+pub went_other : (only : Only) (w now : Option (List ℕ)) (text : List ℕ) (s t : BegunLine)
+    → Reaches only w now text s → (IsRunLine s.bytes.items → ⊥)
+    → ReachesOr only w now (text ++ 10 ∷ []) (Err (bad_line s.number)) t
+went_other only w now text s t h fails = (
+  h.n,
+  s.bytes.items ++ 10 ∷ [],
+  h.number,
+  record {
+    front = h.went.front;
+    out = h.went.out;
+    split = ap (λ l. l ++ 10 ∷ []) h.went.split
+        ∙ append_assoc h.went.front s.bytes.items (10 ∷ []);
+    explained = h.went.explained;
+    gone = h.went.gone;
+  },
+  BeginsOtherwise.other s.bytes.items [] h.one fails,
+)
+
+explained_more : (only : Only) (w now : Option (List ℕ)) (text : List ℕ) (s : BegunLine)
+    (h : Reaches only w now text s) → length s.bytes.items ≤ longest → IsRunLine s.bytes.items
+    → IsExplained only (h.n + 1) (text ++ 10 ∷ []) (h.went.out ++ line_text only s.bytes.items)
+explained_more only w now text s h few is =
+    subst (λ t. IsExplained only (h.n + 1) t (h.went.out ++ line_text only s.bytes.items))
+    (sym (ap (λ l. l ++ 10 ∷ []) h.went.split
+    ∙ append_assoc h.went.front s.bytes.items (10 ∷ [])))
+    (subst (λ t. IsExplained only (h.n + 1) t (h.went.out ++ line_text only s.bytes.items))
+    (append_assoc h.went.front s.bytes.items (10 ∷ []))
+    (IsExplained.next_line s.bytes.items (h.one, few, is) h.went.explained))
+
+number_next : (n k m : ℕ) → k ≡ next_number n → m ≡ min (k + 1) (2 ^ 64 - 1)
+    → m ≡ next_number (n + 1)
+number_next n k m e f = omega arith
+
+-- it has ended and went out
+pub reaches_next : (only : Only) (w mid now : Option (List ℕ)) (text : List ℕ) (s t : BegunLine)
+    → Reaches only w mid text s → length s.bytes.items ≤ longest → IsRunLine s.bytes.items
+    → Appends mid now (line_text only s.bytes.items) → t.number ≡ min (s.number + 1) (2 ^ 64 - 1)
+    → t.bytes.items ≡ [] → Reaches only w now (text ++ 10 ∷ []) t
+reaches_next only w mid now text s t h few is gone number bytes = record {
+  n = h.n + 1;
+  went = record {
+    front = text ++ 10 ∷ [];
+    out = h.went.out ++ line_text only s.bytes.items;
+    split = sym (append-nil (text ++ 10 ∷ [])) ∙ ap (λ l. (text ++ 10 ∷ []) ++ l) (sym bytes);
+    explained = explained_more only w mid text s h few is;
+    gone = Appends-trans w mid now h.went.out (line_text only s.bytes.items) h.went.gone gone;
+  };
+  one = subst (λ l. All (λ c. c ≢ 10) l) (sym bytes) (All-nil _);
+  number = number_next h.n s.number t.number h.number number;
+}
+
+-- it has ended, and went out in part
+pub went_in_part : (only : Only) (w mid now : Option (List ℕ)) (text : List ℕ) (s : BegunLine)
+    → Reaches only w mid text s → length s.bytes.items ≤ longest → IsRunLine s.bytes.items
+    → AppendsFront mid now (line_text only s.bytes.items)
+    → ExplainedInPart only w now (text ++ 10 ∷ [])
+went_in_part only w mid now text s h few is gone = record {
+  n = h.n + 1;
+  front = text ++ 10 ∷ [];
+  rest = [];
+  out = h.went.out ++ line_text only s.bytes.items;
+  split = sym (append-nil (text ++ 10 ∷ []));
+  explained = explained_more only w mid text s h few is;
+  gone = front_after_first w mid now h.went.out (line_text only s.bytes.items) h.went.gone gone;
+}
+
+-- ---- the text goes on
+
+to_more : (only : Only) (w now : Option (List ℕ)) (text rest more : List ℕ) (n : ℕ)
+    → ExplainedTo only w now text rest n → ExplainedTo only w now (text ++ more) (rest ++ more) n
+to_more only w now text rest more n h = record {
+  front = h.front;
+  out = h.out;
+  split = ap (λ l. l ++ more) h.split ∙ append_assoc h.front rest more;
+  explained = h.explained;
+  gone = h.gone;
+}
+
+otherwise_more : (rest more : List ℕ) → BeginsOtherwise rest → BeginsOtherwise (rest ++ more)
+otherwise_more _ more (BeginsOtherwise.other line rest one fails) =
+    subst BeginsOtherwise (sym (append_assoc line (10 ∷ rest) more))
+    (BeginsOtherwise.other line (rest ++ more) one fails)
+otherwise_more _ more (BeginsOtherwise.long line rest one over) =
+    subst BeginsOtherwise (sym (append_assoc line rest more))
+    (BeginsOtherwise.long line (rest ++ more) one over)
+
+part_more : (only : Only) (w now : Option (List ℕ)) (text more : List ℕ)
+    → ExplainedInPart only w now text → ExplainedInPart only w now (text ++ more)
+part_more only w now text more h = record {
+  n = h.n;
+  front = h.front;
+  rest = h.rest ++ more;
+  out = h.out;
+  split = ap (λ l. l ++ more) h.split ∙ append_assoc h.front h.rest more;
+  explained = h.explained;
+  gone = h.gone;
+}
+
+pub fault_more : (only : Only) (w now : Option (List ℕ)) (text more : List ℕ) (f : ExplainFault)
+    (s t : BegunLine) → ReachesOr only w now text (Err f) s
+    → ReachesOr only w now (text ++ more) (Err f) t
+fault_more only w now text more (bad_line number) s t (n, rest, e, h, begins) =
+    (n, rest ++ more, e, to_more only w now text rest more n h, otherwise_more rest more begins)
+fault_more only w now text more Write s t h = part_more only w now text more h
+fault_more only w now text more Read s t h = absurd h
+fault_more only w now text more TooLong s t h = absurd h
+
+fault_explains : (only : Only) (w now : Option (List ℕ)) (text : List ℕ) (f : ExplainFault)
+    (s : BegunLine) → ReachesOr only w now text (Err f) s → ExplainsText only w now text (Err f)
+fault_explains only w now text (bad_line number) s (n, rest, e, h, begins) =
+    (n, rest, e, h, inl begins)
+fault_explains only w now text Write s h = h
+fault_explains only w now text Read s h = absurd h
+fault_explains only w now text TooLong s h = absurd h
+
+-- what was read is a front of the text
+pub fault_of_front : (only : Only) (a b w now : Option (List ℕ)) (done : List ℕ) (f : ExplainFault)
+    (s : BegunLine) → Consumes a b done → ReachesOr only w now done (Err f) s
+    → IfSome a (λ text. ExplainsText only w now text (Err f))
+fault_of_front only None b w now done f s e h = tt
+fault_of_front only (Some text) None w now done f s e h = absurd e
+fault_of_front only (Some text) (Some rest) w now done f s e h =
+    subst (λ t. ExplainsText only w now t (Err f)) (sym e)
+    (fault_explains only w now (done ++ rest) f s (fault_more only w now done rest f s s h))
+
+pub read_stopped : (only : Only) (a b w now : Option (List ℕ)) (done : List ℕ) (s : BegunLine)
+    → Consumes a b done → Reaches only w now done s
+    → IfSome a (λ text. ExplainsText only w now text (Err Read))
+read_stopped only None b w now done s e h = tt
+read_stopped only (Some text) None w now done s e h = absurd e
+read_stopped only (Some text) (Some rest) w now done s e h =
+    subst (λ t. ExplainsText only w now t (Err Read)) (sym e)
+    (h.n, s.bytes.items ++ rest, to_more only w now done s.bytes.items rest h.n h.went)
+
+pub read_too_long : (only : Only) (a b w now : Option (List ℕ)) (done : List ℕ) (s : BegunLine)
+    → Consumes a b done → Reaches only w now done s → 2 ^ 64 - 1 ≤ length done
+    → IfSome a (λ text. ExplainsText only w now text (Err TooLong))
+read_too_long only None b w now done s e h long = tt
+read_too_long only (Some text) None w now done s e h long = absurd e
+read_too_long only (Some text) (Some rest) w now done s e h long =
+    let both = length-append done rest in
+    subst (λ t. ExplainsText only w now t (Err TooLong)) (sym e) (
+      h.n,
+      s.bytes.items ++ rest,
+      to_more only w now done s.bytes.items rest h.n h.went,
+      omega (arith, both, long),
+    )
+
+-- all of the text was read
+pub all_read : (only : Only) (a b w now : Option (List ℕ)) (done : List ℕ)
+    (r : Result (Unit {0}) ExplainFault) → Consumes a b done → IsAtEnd b
+    → ExplainsText only w now done r → IfSome a (λ text. ExplainsText only w now text r)
+all_read only None b w now done r e end h = tt
+all_read only (Some text) None w now done r e end h = absurd e
+all_read only (Some text) (Some rest) w now done r e end h =
+    subst (λ t. ExplainsText only w now t r)
+    (sym (e ∙ ap (λ l. done ++ l) end ∙ append-nil done)) h
+
+empty_line : (l : List ℕ) → (length l == 0) ≡ true → l ≡ []
+empty_line [] e = refl
+empty_line (c ∷ l) e = let zero = eqb-true (length (c ∷ l)) 0 e in absurd (omega (arith, zero))
+
+begun_line : (l : List ℕ) → (length l == 0) ≡ false → l ≢ []
+begun_line l e is = let zero : (length {A = ℕ} [] == 0) ≡ false =
+    subst (λ (k : List ℕ). (length k == 0) ≡ false) is e in absurd (cc)
+
+pub ends_whole : (only : Only) (w now : Option (List ℕ)) (text : List ℕ) (s : BegunLine)
+    → (length s.bytes.items == 0) ≡ true → Reaches only w now text s
+    → ExplainsText only w now text (Ok tt)
+ends_whole only w now text s empty h =
+    (h.n, subst (λ l. ExplainedTo only w now text l h.n) (empty_line s.bytes.items empty) h.went)
+
+pub ends_begun : (only : Only) (w now : Option (List ℕ)) (text : List ℕ) (s : BegunLine)
+    → (length s.bytes.items == 0) ≡ false → Reaches only w now text s
+    → ExplainsText only w now text (Err (bad_line s.number))
+ends_begun only w now text s begun h =
+    (h.n, s.bytes.items, h.number, h.went, inr (begun_line s.bytes.items begun, h.one))
+
+-- ---- a piece
+
+pub piece_on : (only : Only) (w now : Option (List ℕ)) (text piece : List ℕ) (i b : ℕ)
+    (s : BegunLine) → i < length piece → b ≡ get_or piece i 0
+    → Reaches only w now ((text ++ take i piece) ++ b ∷ []) s
+    → Reaches only w now (text ++ take (i + 1) piece) s
+piece_on only w now text piece i b s below is h =
+    let more : take (i + 1) piece ≡ take i piece ++ b ∷ [] = take_more piece i 0 below
+    ∙ ap (λ x. take i piece ++ x ∷ []) (sym is) in
+    subst (λ t. Reaches only w now t s) (append_assoc text (take i piece) (b ∷ [])
+    ∙ ap (λ l. text ++ l) (sym more)) h
+
+pub piece_whole : (only : Only) (w now : Option (List ℕ)) (text piece : List ℕ) (i : ℕ)
+    (s : BegunLine) → length piece ≤ i → Reaches only w now (text ++ take i piece) s
+    → Reaches only w now (text ++ piece) s
+piece_whole only w now text piece i s over h =
+    subst (λ t. Reaches only w now (text ++ t) s) (take_all i piece over) h
+
+pub piece_fault : (only : Only) (w now : Option (List ℕ)) (text piece : List ℕ) (i b : ℕ)
+    (f : ExplainFault) (s t : BegunLine) → i < length piece → b ≡ get_or piece i 0
+    → ReachesOr only w now ((text ++ take i piece) ++ b ∷ []) (Err f) s
+    → ReachesOr only w now (text ++ piece) (Err f) t
+piece_fault only w now text piece i b f s t below is h =
+    let more : take (i + 1) piece ≡ take i piece ++ b ∷ [] = take_more piece i 0 below
+    ∙ ap (λ x. take i piece ++ x ∷ []) (sym is) in
+    let whole : ((text ++ take i piece) ++ b ∷ []) ++ drop (i + 1) piece ≡ text ++ piece =
+    ap (λ l. l ++ drop (i + 1) piece) (append_assoc text (take i piece) (b ∷ [])
+    ∙ ap (λ l. text ++ l) (sym more)) ∙ append_assoc text (take (i + 1) piece)
+    (drop (i + 1) piece) ∙ ap (λ l. text ++ l) (take-append-drop (i + 1) piece) in
+    subst (λ u. ReachesOr only w now u (Err f) t) whole
+    (fault_more only w now ((text ++ take i piece) ++ b ∷ []) (drop (i + 1) piece) f s t h)
+
+pub not_read : {P : Type 0} (only : Only) (w now : Option (List ℕ)) (text : List ℕ)
+    (f : ExplainFault) (s : BegunLine) → ReachesOr only w now text (Err f) s
+    → IsErrOf {T = Unit {0}} (Err f) Read → P
+not_read only w now text Read s h is = absurd h
+not_read only w now text TooLong s h is = absurd h
+not_read only w now text (bad_line number) s h is = absurd (cc)
+not_read only w now text Write s h is = absurd (cc)
+
+-- a read that gave nothing
+pub nothing_read : (a b new : Option (List ℕ)) (done buf : List ℕ) (n : ℕ) → Consumes a b done
+    → n ≡ 0 → Consumes b new (take n buf) → Consumes a new done
+nothing_read a b new done buf n h e k = subst (Consumes a new) (append-nil done)
+    (Consumes-trans a b new done [] h (subst (λ m. Consumes b new (take m buf)) e k))
