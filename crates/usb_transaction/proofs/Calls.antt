@@ -46,7 +46,7 @@ use Rattle.usb_transaction.proofs.ControlTransactions.{control_in_why, control_l
 use Rattle.usb_transaction.proofs.ControlTransactions.{read_status_why, status_leaves}
 use Rattle.usb_transaction.proofs.Polls.{poll_leaves, poll_why}
 use Rattle.usb_transaction.proofs.TransactionTries.{ends_of, poll_ends}
-use Rattle.usb_transaction.proofs.WriteFailures.{write_status_why, write_out_why}
+use Rattle.usb_transaction.proofs.WriteFailures.{write_out_why, write_status_why}
 
 -- The last attempt of a trail, with what the host got of it
 

@@ -20,4 +20,4 @@ pub use Rattle.usb_transaction.proofs.SetupTransactions.{set_up_why, setup_leave
 pub use Rattle.usb_transaction.proofs.SetupTransactions.{spared_joined, spared_wider, spec_stays}
 pub use Rattle.usb_transaction.proofs.Trails.{polled_attempts, trail_course, trail_damages}
 pub use Rattle.usb_transaction.proofs.Trails.{trail_settled, trail_unshared, transacted_unshared}
-pub use Rattle.usb_transaction.proofs.WriteFailures.{write_status_why, write_out_why}
+pub use Rattle.usb_transaction.proofs.WriteFailures.{write_out_why, write_status_why}

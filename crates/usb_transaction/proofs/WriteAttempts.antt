@@ -8,7 +8,7 @@ use Rattle.usb_packet.specs.{Toggle, One}
 use Rattle.usb_port.specs.{PortState}
 use Rattle.usb_device.specs.declared.answer.Answer.TheVariants as answer
 use Rattle.usb_device.specs.{Answer, State, Reply, Stage, Location, Write, WriteData, written_on}
-use Rattle.usb_device.specs.{reading, read, writing, refused, is_done, max_packet, forgotten}
+use Rattle.usb_device.specs.{reading, read, writing, is_done, max_packet, forgotten}
 use Rattle.usb_device.specs.{is_busy, nak_row, out_row, status_row, write_row, Way, heard, gave}
 use Rattle.usb_device.specs.{in_stage_law, in_law, out_law, Wrong, TooLong, Repeat, Next}
 use Rattle.usb_device.specs.declared.transfer.InEndpoint.TheVariants as by
