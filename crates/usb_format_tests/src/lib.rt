@@ -1,4 +1,4 @@
-//! Tests of the formats beside a run's text: drawings, pcap files and entries; and of faults and exit statuses.
+//! Tests of the formats beside a run's text: drawings, pages, pcap files and entries; and of faults and exit statuses.
 #![tactic(auto)]
 
 #[cfg(test)]
