@@ -2,5 +2,6 @@
 mod drawing;
 mod entry;
 mod explain;
+mod page;
 mod pcap;
 mod status;

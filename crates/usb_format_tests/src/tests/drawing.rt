@@ -1,4 +1,4 @@
 //! Tests of what is drawn of plans, and of a writer that fails.
 mod drawings;
 mod rows;
-mod writers;
+pub(crate) mod writers;

@@ -10,9 +10,24 @@ use usb_serve::ServeFault;
 
 /// A writer with room for n bytes, which fails where it is full.
 #[derive(Drop)]
-struct Narrow {
+pub(crate) struct Narrow {
     taken: Vec<u8>,
     room: usize,
+}
+
+impl Narrow {
+    /// A writer that has taken nothing.
+    pub(crate) fn new(alloc: Global, room: usize) -> Self {
+        Narrow {
+            taken: Vec::new(alloc),
+            room,
+        }
+    }
+
+    /// What it took.
+    pub(crate) fn taken(&self) -> &[u8] {
+        self.taken.as_slice()
+    }
 }
 
 impl Write for Narrow {
@@ -39,10 +54,7 @@ impl Write for Narrow {
 /// all.
 fn is_front(alloc: Global, row: &Row, room: usize) -> bool {
     let mut reader = Watched::new(row.plan.as_bytes());
-    let mut writer = Watched::new(Narrow {
-        taken: Vec::new(alloc),
-        room,
-    });
+    let mut writer = Watched::new(Narrow::new(alloc, room));
     let ended = draw(alloc, Style::Lines, &mut reader, &mut writer);
     let failed = writer.failed();
     let wanted = if room < row.lines.len() {
@@ -51,9 +63,7 @@ fn is_front(alloc: Global, row: &Row, room: usize) -> bool {
         Ok(())
     };
     let front = row.lines.as_bytes().get(..room.min(row.lines.len()));
-    ended == wanted
-        && failed == wanted.is_err()
-        && front == Some(writer.into_inner().taken.as_slice())
+    ended == wanted && failed == wanted.is_err() && front == Some(writer.into_inner().taken())
 }
 
 #[test]
