@@ -10,6 +10,8 @@ use Rattle.usb_text.specs.declared.line.LineFault.{LineFault}
 use Rattle.usb_text.specs.declared.line.LineFault.TheVariants as line
 use Rattle.usb_serve.specs.{ServeFault}
 use Rattle.usb_serve.specs.declared.serving.ServeFault.TheVariants as serve
+use Rattle.usb_explain.specs.{ExplainFault}
+use Rattle.usb_explain.specs.declared.explaining.ExplainFault.TheVariants as explain
 use Rattle.usb_pcap.specs.{PcapFault}
 use Rattle.usb_pcap.specs.declared.capturing.PcapFault.TheVariants as pcap
 use Rattle.usb_entry.specs.{EntryFault}
@@ -49,6 +51,12 @@ serve_status serve.Write = 4
 serve_status serve.Memory = 4
 
 -- of a run's text
+abbrev pub explain_status : ExplainFault → ℕ
+explain_status explain.Read = 4
+explain_status (explain.Line number) = 1
+explain_status explain.TooLong = 1
+explain_status explain.Write = 4
+
 abbrev pub pcap_status : PcapFault → ℕ
 pcap_status pcap.Read = 4
 pcap_status (pcap.Line number) = 1
@@ -98,6 +106,7 @@ fault_status fault.Words = 2
 fault_status fault.NoText = 2
 fault_status (fault.Line why) = line_status why
 fault_status (fault.Serve why) = serve_status why
+fault_status (fault.Explain why) = explain_status why
 fault_status (fault.Pcap why) = pcap_status why
 fault_status (fault.Device why) = device_status why
 fault_status fault.LongDevice = 1

@@ -9,6 +9,7 @@ use std::alloc::{AllocError, AllocFailed};
 use thiserror::Error;
 use usb_diagnosis::{CheckFault, Verdict};
 use usb_entry::EntryFault;
+use usb_explain::ExplainFault;
 use usb_far::FarFault;
 use usb_live::LiveEnd;
 use usb_pcap::PcapFault;
@@ -30,6 +31,9 @@ pub enum Fault {
     /// A text was not read, a plan was not served, or a line was not written.
     #[error("{0}")]
     Serve(ServeFault),
+    /// A run was not written with its requests in words to its end.
+    #[error("{0}")]
+    Explain(ExplainFault),
     /// The packets of a run were not written to its end.
     #[error("{0}")]
     Pcap(PcapFault),
@@ -90,6 +94,14 @@ impl From<ServeFault> for Fault {
 
     fn from(why: ServeFault) -> Fault {
         Fault::Serve(why)
+    }
+}
+
+impl From<ExplainFault> for Fault {
+    ghost from_gives = { λ why e. e ≡ fault.Explain why };
+
+    fn from(why: ExplainFault) -> Fault {
+        Fault::Explain(why)
     }
 }
 

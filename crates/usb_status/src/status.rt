@@ -1,10 +1,11 @@
 //! The program's exit status.
 ghost use Rattle.std.specs.Prelude.{◌≡◌};
-ghost use Rattle.usb_status.specs.Statuses.{device_status, exit_status, far_status, fault_status, line_status, live_status, pcap_status, serve_status};
+ghost use Rattle.usb_status.specs.Statuses.{device_status, exit_status, explain_status, far_status, fault_status, line_status, live_status, pcap_status, serve_status};
 
 use crate::fault::Fault;
 use usb_bus::BusFault;
 use usb_entry::EntryFault;
+use usb_explain::ExplainFault;
 use usb_far::FarFault;
 use usb_live::{LiveEnd, LiveFault};
 use usb_pcap::PcapFault;
@@ -47,6 +48,7 @@ fn fault_status(fault: Fault) -> u8
         Fault::Closed => FAILED,
         Fault::Line(why) => line_status(why),
         Fault::Serve(why) => serve_status(why),
+        Fault::Explain(why) => explain_status(why),
         Fault::Pcap(why) => pcap_status(why),
         Fault::Device(why) => device_status(why),
         Fault::Far(_, why) => far_status(why),
@@ -71,6 +73,15 @@ fn serve_status(fault: ServeFault) -> u8
         ServeFault::TooLong | ServeFault::Plan(_) => REFUSED,
         ServeFault::Run(RunFault::LimitReached) => LIMIT,
         ServeFault::Read | ServeFault::Run(_) | ServeFault::Write | ServeFault::Memory => FAILED,
+    }
+}
+
+fn explain_status(fault: ExplainFault) -> u8
+    ensures { result ≡ explain_status fault }
+{
+    match fault {
+        ExplainFault::Line(_) | ExplainFault::TooLong => REFUSED,
+        ExplainFault::Read | ExplainFault::Write => FAILED,
     }
 }
 

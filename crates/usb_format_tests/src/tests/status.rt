@@ -4,6 +4,7 @@ use std::test::Fail;
 use usb_bus::BusFault;
 use usb_diagnosis::{CheckFault, Verdict};
 use usb_entry::EntryFault;
+use usb_explain::ExplainFault;
 use usb_far::FarFault;
 use usb_live::{LiveEnd, LiveFault, WireFault};
 use usb_pcap::PcapFault;
@@ -15,7 +16,7 @@ use usb_text::{LineFault, PacketFault};
 /// A fault, its line and its exit status.
 type Row = (Fault, &'static str, u8);
 
-const ROWS: [Row; 35] = [
+const ROWS: [Row; 39] = [
     (
         Fault::NoText,
         "error: invalid UTF-8 was detected in one or more arguments",
@@ -62,6 +63,10 @@ const ROWS: [Row; 35] = [
     ),
     (Fault::Serve(ServeFault::Write), "write failed", 4),
     (Fault::Serve(ServeFault::Memory), "out of memory", 4),
+    (Fault::Explain(ExplainFault::Read), "read failed", 4),
+    (Fault::Explain(ExplainFault::Line(3)), "explain: line 3", 1),
+    (Fault::Explain(ExplainFault::TooLong), "explain: text too long", 1),
+    (Fault::Explain(ExplainFault::Write), "write failed", 4),
     (Fault::Pcap(PcapFault::Read), "read failed", 4),
     (Fault::Pcap(PcapFault::Line(3)), "pcap: line 3", 1),
     (Fault::Pcap(PcapFault::TooLong), "pcap: text too long", 1),
