@@ -1,6 +1,6 @@
 # shellcheck shell=bash disable=SC2154,SC2071
-# What `usbplan` answers to words alone while no program is built: help, version and wrong words, as the program itself
-# answers them. The texts of help are those of docs/help. The caller sets `here`, the top of the checkout.
+# What `usbplan` answers to words alone while no program is built, or no toolchain is there: help, version and wrong
+# words, as the program itself answers them. The texts of help are those of docs/help. The caller sets `here`, the top of the checkout.
 
 help=$here/docs/help
 
@@ -149,13 +149,14 @@ check_command() {
 
 # Answers words that ask for no work of the program.
 answer_words() {
-  local version
+  local version why=
   case "${1-}" in
     '') ;;
     -h | --help) tell_help usbplan ;;
     -V | --version)
       version=$(sed -n 's/^const VERSION: &str = "\(.*\)";/\1/p' "$here/crates/usb_words/src/words.rt")
-      echo "usbplan $version (not built yet)"
+      ! has_builds || why="no toolchain at '$rt'"
+      echo "usbplan $version (${why:-not built yet})"
       exit 2
       ;;
     help) shift && help_with "$@" ;;
