@@ -1,0 +1,5 @@
+pub mod Values
+pub mod Items
+pub mod Configs
+pub mod Readers
+pub mod Refused
