@@ -3,8 +3,9 @@
 //! # What is proved
 //!
 //! - *The verdict* (`check_text`, `TellsVerdict` of `specs/Checking.antt`): a text is a plan if and
-//!   only if `read_plan` takes it, and its lines are its counts and its bound. Else the first line has
-//!   the file, a line of the text, and `read_plan`'s own fault. A text that is no TOML gets a column.
+//!   only if `read_plan` takes it, and its lines are its counts, its bound and the remarks of
+//!   usb_remarks. Else the first line has the file, a line of the text, and `read_plan`'s own fault. A
+//!   text that is no TOML gets a column.
 //! - *What is written* (`check`): exactly these lines, or a prefix of them if the writer failed.
 //! - *The key of a fault* (`trouble_of`, `IsTroubleOf` of `specs/Trouble.antt`): a missing key is
 //!   absent, an unknown one is none that `read_plan` takes there, and a wrong value is at its key. A
