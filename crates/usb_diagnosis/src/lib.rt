@@ -21,9 +21,11 @@ mod entry;
 mod key;
 mod marks;
 mod nearest;
+mod path_slip;
 mod place;
 mod report;
 mod shown;
+mod slip;
 mod trouble;
 
 pub use checking::{CheckFault, Checked, Verdict, check, check_text};
