@@ -3,3 +3,4 @@ pub mod Items
 pub mod Configs
 pub mod Readers
 pub mod Refused
+pub mod Unblamed

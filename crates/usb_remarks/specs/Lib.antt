@@ -5,7 +5,8 @@ pub mod Words
 pub use Remarks.{at_index, device_remark, hub_remark, is_too_small, item_remark_within}
 pub use Remarks.{noted, read_remark, spelled_remark, unless_repeated, whole_remark, with_text}
 unfoldable pub use Remarks.{config_remark, configs_remark, item_remark, remark_of, text_remark}
-pub use Refusing.{IsOwn, IsOwnOf, IsRefused, fault_in}
+pub use Refusing.{BlamesNoDescriptor, IsOwn, IsOwnOf, IsRefused, blames_descriptor, fault_in}
+pub use Refusing.{is_of_descriptor}
 pub use Words.{config_words, count_words, cut_words, descriptor_words, device_words, given_words}
 pub use Words.{head_words, hub_bytes, index_words, item_rule, item_words, missing_words}
 pub use Words.{packet_rule, passing_words, portless_words, ports_words, repeated_words, rule_words}

@@ -1,10 +1,10 @@
 //! Why a host refuses a device for its bytes alone.
-ghost use Rattle.std.specs.Prelude.{◌≡◌, ◌==◌, map, option_copied, IfSome};
+ghost use Rattle.std.specs.Prelude.{◌≡◌, ◌==◌, map, option_copied, IfNone, IfSome};
 ghost use Rattle.std.specs.List.{list_any};
 ghost use Rattle.usb_descriptor.specs.Config.{configuration_value};
 ghost use Rattle.usb_enum.specs.Text.{any_has_value};
 ghost use Rattle.usb_enum.specs.Verdicts.{text_read};
-ghost use Rattle.usb_remarks.specs.Refusing.{IsRefused};
+ghost use Rattle.usb_remarks.specs.Refusing.{BlamesNoDescriptor, IsRefused};
 ghost use Rattle.usb_remarks.specs.Remarks.{config_remark, configs_remark, hub_remark, remark_of};
 
 use crate::text::{TextRemark, text_remark, value_of};
@@ -108,10 +108,11 @@ fn first_remark(spec: &DeviceSpec) -> Option<Remark>
 
 /// Why a host refuses the device for its bytes alone: the first rule that they break. None if it
 /// reads them all; a host may refuse it for another cause even then.
-#[tactic(auto, using(crate::proofs::Refused::refused_if))]
+#[tactic(auto, using(crate::proofs::Refused::refused_if, crate::proofs::Unblamed::unblamed_if))]
 pub fn remark_of(spec: &DeviceSpec) -> Option<Remark>
     ensures value { result ≡ remark_of spec.now }
     ensures refused { IfSome result (λ _. IsRefused spec.now) }
+    ensures unblamed { IfNone result (BlamesNoDescriptor spec.now) }
 {
     first_remark(spec)
 }
