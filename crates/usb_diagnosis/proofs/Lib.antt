@@ -1,2 +1,3 @@
 pub mod BestSoFar
 pub mod KnownKeys
+pub mod PathSlips

@@ -12,13 +12,14 @@ use Rattle.usb_diagnosis.specs.declared.checking.Verdict.{Verdict}
 use Rattle.usb_diagnosis.specs.declared.checking.Verdict.TheVariants.{Plan, Refused}
 use Rattle.usb_diagnosis.specs.declared.place.Spot.{Spot}
 use Rattle.usb_diagnosis.specs.Place.{IsColumnIn, IsSpotIn}
-use Rattle.usb_diagnosis.specs.Report.{plan_lines, first_line}
+use Rattle.usb_diagnosis.specs.Report.{plan_report, first_line}
 
--- the text spells a plan, and the lines are the plan's
+-- the text spells a plan, and the lines are its counts, its bound, and a remark on each device that
+-- a host refuses for its bytes
 pub record TellsPlan (text lines : List ℕ) : Type 0 where
   pub plan : PlanData
   pub spelled : spelled_plan text ≡ Ok plan
-  pub told : lines ≡ plan_lines plan
+  pub told : lines ≡ plan_report plan
 
 -- the lines begin with this one
 pub record IsLed (first lines : List ℕ) : Type 0 where

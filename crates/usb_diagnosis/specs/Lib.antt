@@ -6,6 +6,8 @@ pub mod Report
 pub mod Checking
 pub mod Trouble
 pub mod Entry
+pub mod Slip
+pub mod PathSlip
 -- the words of this crate, wherever one stands
 pub use Key.{key_name}
 pub use Shown.{char_shown, dots, text_shown}
@@ -13,9 +15,13 @@ pub use Nearest.{IsNearest, IsNearestAt}
 unfoldable pub use Nearest.{edits_between}
 pub use Place.{IsColumnIn, IsLineIn, IsSpotIn, behind, behind_all, colon_number, line_behind}
 pub use Place.{spot_behind, spot_on, spot_text}
-pub use Report.{count_line, fault_name, place_of, place_words}
-unfoldable pub use Report.{fault_text, first_line, plan_lines}
+pub use Report.{count_line, fault_name, line_if, place_of, place_words, plan_report}
+unfoldable pub use Report.{fault_text, first_line, plan_lines, remark_head, remark_line}
+unfoldable pub use Report.{remark_lines}
 pub use Checking.{BeginsAt, BeginsWith, IsLed, TellsFault, TellsPlan, TellsVerdict, WritesVerdict}
 pub use Trouble.{IsTroubleOf}
+pub use Slip.{slip_at}
+unfoldable pub use Slip.{counted_words, digit_slip, letter_words, slip_words}
+pub use PathSlip.{IsAt, IsPathSlip, IsPortOf, SpellsPath}
 pub use Entry.{entry_keys, keys_with, value_text, verb_keys}
 pub use declared.key.PlanKey.{PlanKey}

@@ -1,11 +1,16 @@
 -- The lines that tell what a text holds.
-use Rattle.std.specs.Prelude.{ℕ, codes, List, [], ◌++◌, length, decimal, Option, Some, None}
+use Rattle.std.specs.Prelude.{ℕ, codes, List, [], ◌++◌, length, decimal, flat_map, Option, Some}
+use Rattle.std.specs.Prelude.{None}
+use Rattle.std.specs.Str.{chars}
+use Rattle.usb_device.specs.{Spec}
 use Rattle.usb_plan.specs.{bound_of, place_text, PlanFault}
 use Rattle.usb_plan.specs.declared.fault.Place.{Place}
 use Rattle.usb_plan.specs.declared.fault.PlanFault.TheVariants as plan
+use Rattle.usb_remarks.specs.{Remark, remark_of, remark_words}
 use Rattle.usb_world.specs.{PlanData}
 use Rattle.usb_diagnosis.specs.declared.place.Spot.{Spot}
 use Rattle.usb_diagnosis.specs.Place.{spot_text}
+use Rattle.usb_diagnosis.specs.Shown.{text_shown}
 
 -- WORD N
 abbrev pub count_line : List ℕ → ℕ → List ℕ
@@ -18,6 +23,26 @@ plan_lines p =
     ++ count_line (codes "events") (length p.events)
     ++ count_line (codes "damages") (length p.damages)
     ++ count_line (codes "bound") (bound_of p)
+
+-- remark: device "NAME", ..
+unfoldable pub remark_head : List ℕ → List ℕ
+remark_head name = codes "remark: device \"" ++ text_shown (chars name) ++ codes "\", "
+
+-- the line on a device that a host refuses for its bytes
+unfoldable pub remark_line : Spec → Remark → List ℕ
+remark_line spec remark = remark_head spec.name ++ remark_words spec remark ++ codes "\n"
+
+abbrev pub line_if : Spec → Option Remark → List ℕ
+line_if spec None = []
+line_if spec (Some remark) = remark_line spec remark
+
+-- such a line for each device that has a remark, and for no other
+unfoldable pub remark_lines : List Spec → List ℕ
+remark_lines devices = flat_map (λ spec. line_if spec (remark_of spec)) devices
+
+-- what is reported of a plan
+abbrev pub plan_report : PlanData → List ℕ
+plan_report p = plan_lines p ++ remark_lines p.devices
 
 -- the entry that a fault is told of
 abbrev pub place_of : PlanFault → Option Place

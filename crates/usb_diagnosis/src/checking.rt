@@ -12,7 +12,7 @@ use crate::details::{spot_of, trouble_lines};
 use crate::entry::Entry;
 use crate::marks::Layout;
 use crate::place::{Spot, spot_behind};
-use crate::report::{first_line, place_of, plan_lines};
+use crate::report::{first_line, place_of, plan_report};
 use crate::trouble::trouble_of;
 use std::alloc::{AllocError, Global};
 use std::io::Write;
@@ -178,7 +178,7 @@ fn checked_text(alloc: Global, file: &str, text: &str) -> Result<Checked, AllocE
     match read_plan(alloc, text) {
         Ok(plan) => Ok(Checked {
             verdict: Verdict::Plan,
-            lines: plan_lines(alloc, &plan)?,
+            lines: plan_report(alloc, &plan)?,
         }),
         Err(PlanFault::Memory) => Err(AllocError),
         Err(fault) => Ok(Checked {
@@ -189,8 +189,8 @@ fn checked_text(alloc: Global, file: &str, text: &str) -> Result<Checked, AllocE
 }
 
 /// What a text is, and the lines that say so. Those of a plan give the numbers of its devices,
-/// events and damages, and its bound. Those of any other text begin with the file, the line and
-/// `read_plan`'s fault.
+/// events and damages, and its bound, and a remark on each device that a host refuses for its bytes.
+/// Those of any other text begin with the file, the line and `read_plan`'s fault.
 ///
 /// # Errors
 ///

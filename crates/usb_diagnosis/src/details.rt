@@ -8,9 +8,11 @@ use crate::entry::{Entry, array_of, text_at};
 use crate::key::PlanKey;
 use crate::marks::Layout;
 use crate::nearest::nearest;
+use crate::path_slip::{path_slip, push_path_slip};
 use crate::place::Spot;
-use crate::shown::{push_number, push_shown};
-use crate::trouble::{Trouble, is_known, is_word};
+use crate::shown::{letters_of, push_number, push_shown};
+use crate::slip::{digit_slip, push_slip};
+use crate::trouble::{Trouble, are_hex_digits, is_known, is_word};
 use std::alloc::{AllocError, Global};
 use toml::Value;
 use usb_plan::{Place, PlanFault};
@@ -127,6 +129,89 @@ fn push_trouble(alloc: Global, out: &mut String, trouble: Trouble<'_>) -> Result
         Trouble::OneTooMany => out.push_str("one too many")?,
     }
     out.push_str("\n")
+}
+
+/// Adds a line on the first slip of a text that is to be digits, after words on its place.
+fn push_digit_line(
+    alloc: Global,
+    out: &mut String,
+    place: &str,
+    text: &str,
+) -> Result<(), AllocError> {
+    let letters = letters_of(alloc, text)?;
+    let Some(slip) = digit_slip(letters.as_slice()) else {
+        return Ok(());
+    };
+    out.push_str("  ")?;
+    out.push_str(place)?;
+    push_slip(alloc, out, slip)?;
+    out.push_str("\n")
+}
+
+/// The first text that is no digits, and its index.
+fn first_undigital<'a>(values: &'a [Value]) -> Option<(usize, &'a str)> {
+    for (index, value) in values.iter().enumerate() {
+        if let Some(text) = value.as_str() {
+            if !are_hex_digits(text) {
+                return Some((index, text));
+            }
+        }
+    }
+    None
+}
+
+/// Adds which character of a value is no digit.
+fn push_digits(
+    alloc: Global,
+    out: &mut String,
+    key: PlanKey,
+    value: &Value,
+) -> Result<(), AllocError> {
+    if let Some(text) = value.as_str() {
+        return push_digit_line(alloc, out, "", text);
+    }
+    let Some(values) = value.as_array() else {
+        return Ok(());
+    };
+    let Some((index, text)) = first_undigital(values.as_slice()) else {
+        return Ok(());
+    };
+    let place = format!(in alloc; "{}[{index}], ", key.name())?;
+    push_digit_line(alloc, out, place.as_str(), text)
+}
+
+/// Adds why a path is a bad one.
+fn push_path_line(
+    alloc: Global,
+    out: &mut String,
+    entry: &Entry<'_>,
+    value: &Value,
+) -> Result<(), AllocError> {
+    let Some(text) = value.as_str() else {
+        return Ok(());
+    };
+    let slip = path_slip(entry, text);
+    out.push_str("  ")?;
+    push_path_slip(alloc, out, text, &slip)?;
+    out.push_str("\n")
+}
+
+/// Adds a line on what exactly is wrong with bad digits or a bad path.
+fn push_slip_line(
+    alloc: Global,
+    out: &mut String,
+    entry: &Entry<'_>,
+    trouble: Trouble<'_>,
+    fault: PlanFault,
+) -> Result<(), AllocError> {
+    let Trouble::Wrong(key, value) = trouble else {
+        return Ok(());
+    };
+    match fault {
+        PlanFault::BadHex(_) => push_digits(alloc, out, key, value),
+        PlanFault::BadPath(_) => push_path_line(alloc, out, entry, value),
+        _ => Ok(()),
+    }
 }
 
 /// What is allowed at a key, as far as the fault asks for it.
@@ -314,6 +399,7 @@ pub(crate) fn trouble_lines(
     };
     push_head(alloc, &mut lines, layout, entry)?;
     push_trouble(alloc, &mut lines, trouble)?;
+    push_slip_line(alloc, &mut lines, entry, trouble, fault)?;
     push_allowed(alloc, &mut lines, entry, trouble, fault)?;
     push_example(&mut lines, trouble)?;
     push_suggestion(alloc, &mut lines, entry, trouble)?;

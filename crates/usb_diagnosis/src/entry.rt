@@ -19,6 +19,7 @@ pub(crate) struct Entry<'a> {
     earlier: &'a [Value],
     /// The devices of the document.
     devices: &'a [Value],
+    document: &'a Table,
 }
 
 /// The array of a place, and which of its entries stands there, counted from 1.
@@ -70,6 +71,7 @@ impl<'a> Entry<'a> {
                 table: document,
                 earlier: &[],
                 devices,
+                document,
             });
         };
         let values = values_at(document, array);
@@ -79,6 +81,7 @@ impl<'a> Entry<'a> {
             table: values.get(index)?.as_table()?,
             earlier: values.get(..index)?,
             devices,
+            document,
         })
     }
 
@@ -96,6 +99,10 @@ impl<'a> Entry<'a> {
 
     pub(crate) fn devices(&self) -> &'a [Value] {
         self.devices
+    }
+
+    pub(crate) fn document(&self) -> &'a Table {
+        self.document
     }
 
     /// The keys that have a meaning in the entry.

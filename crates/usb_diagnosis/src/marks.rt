@@ -188,14 +188,96 @@ struct Statement {
     key: Key,
 }
 
-/// The statement at the front of a text, and the text behind it.
+/// The statement at the front of a text, and the text after its key.
 fn read_statement(alloc: Global, start: &str) -> Result<(Statement, &str), ParseError>
     ensures { IfOk result (λ read. length read.1.now ≤ length start.now) }
 {
     let (opening, at_key) = opening_of(start);
     let (key, after_key) = dotted_key(alloc, skip_ws(at_key))?;
-    let rest = after_value(alloc, after_key)?;
-    Ok((Statement { opening, key }, rest))
+    Ok((Statement { opening, key }, after_key))
+}
+
+/// Whether a key of an inline table can begin with the byte.
+fn begins_key(byte: u8) -> bool {
+    !matches!(
+        byte,
+        0 | b' ' | b'\t' | b'\r' | b'\n' | b'#' | b',' | b'[' | b']' | b'{' | b'}'
+    )
+}
+
+/// Whether a key of an entry is next after the byte, from whether one was next before it. The
+/// brackets that are open then are those of the array and of the entry.
+fn expects_key(expected: bool, depth: usize, byte: u8) -> bool {
+    match byte {
+        b'{' | b',' => depth == 2,
+        b' ' | b'\t' | b'\r' | b'\n' => expected,
+        _ => false,
+    }
+}
+
+/// Adds a mark of an entry of an array, or of a key in it.
+fn push_inline(
+    alloc: Global,
+    marks: &mut Vec<Mark>,
+    at: usize,
+    array: &str,
+    key: Option<&str>,
+) -> Result<(), AllocError> {
+    let mut path = Vec::new(alloc);
+    push_part(alloc, &mut path, array)?;
+    if let Some(key) = key {
+        push_part(alloc, &mut path, key)?;
+    }
+    let begins = key.is_none();
+    marks.push(Mark { at, begins, path })?;
+    Ok(())
+}
+
+/// The first name of a key.
+fn first_name(key: &Key) -> &str {
+    match key.path.first() {
+        None => key.last.as_str(),
+        Some(first) => first.as_str(),
+    }
+}
+
+/// Adds the marks of the entries within the value of a key at the top, up to what is no value.
+fn push_entries(
+    alloc: Global,
+    marks: &mut Vec<Mark>,
+    total: usize,
+    array: &str,
+    value: &str,
+) -> Result<(), ParseError> {
+    let mut rest = value;
+    let mut depth = 0usize;
+    let mut expected = false;
+    'steps: for _ in 0..value.len() {
+        let byte = first(rest);
+        let at = total.saturating_sub(rest.len());
+        if expected && begins_key(byte) {
+            let (key, after) = dotted_key(alloc, rest)?;
+            push_inline(alloc, marks, at, array, Some(first_name(&key)))?;
+            rest = after;
+            expected = false;
+        } else if starts_string(rest) {
+            rest = quoted(alloc, rest)?.1;
+        } else if depth == 0 && (byte == b'\n' || byte == b'#') {
+            return Ok(());
+        } else if byte == b'#' {
+            rest = skip_blank(rest, true);
+        } else if byte == 0 || byte >= 128 {
+            return Ok(());
+        } else {
+            if depth == 1 && byte == b'{' {
+                push_inline(alloc, marks, at, array, None)?;
+            }
+            depth = depth_after(depth, byte);
+            expected = expects_key(expected, depth, byte);
+            rest = skip(rest, 1);
+        }
+    }
+    Ok(())
 }
 
 /// The first two keys of a statement's path; that of a pair goes on behind the path of its table.
@@ -213,6 +295,32 @@ fn path_of(
     Ok(path)
 }
 
+/// Adds the marks of the statement at the front of a text: its own, and those of entries in its
+/// value. Gives the text behind it.
+fn push_statement<'a>(
+    alloc: Global,
+    marks: &mut Vec<Mark>,
+    table: &mut Vec<String>,
+    total: usize,
+    start: &'a str,
+) -> Result<&'a str, ParseError> {
+    let (statement, after_key) = read_statement(alloc, start)?;
+    let path = path_of(alloc, table.as_slice(), &statement)?;
+    if statement.opening != Opening::Pair {
+        *table = path.clone()?;
+    }
+    let at_top = path.len() == 1;
+    marks.push(Mark {
+        at: total.saturating_sub(start.len()),
+        begins: statement.opening == Opening::Entry && at_top,
+        path,
+    })?;
+    if statement.opening == Opening::Pair && at_top {
+        push_entries(alloc, marks, total, statement.key.last.as_str(), after_key)?;
+    }
+    after_value(alloc, after_key)
+}
+
 /// The statements of a text, up to the first that is none.
 fn marks_of(alloc: Global, text: &str) -> Result<Vec<Mark>, AllocError> {
     let mut marks = Vec::new(alloc);
@@ -220,21 +328,11 @@ fn marks_of(alloc: Global, text: &str) -> Result<Vec<Mark>, AllocError> {
     let mut rest = text.strip_prefix('\u{FEFF}').unwrap_or(text);
     for _ in 0..text.len() {
         let start = skip_blank(rest, true);
-        let (statement, after) = match read_statement(alloc, start) {
-            Ok(read) => read,
+        match push_statement(alloc, &mut marks, &mut table, text.len(), start) {
+            Ok(after) => rest = after,
             Err(ParseError::OutOfMemory) => return Err(AllocError),
             Err(ParseError::At(_, _, _)) => return Ok(marks),
-        };
-        let path = path_of(alloc, table.as_slice(), &statement)?;
-        if statement.opening != Opening::Pair {
-            table = path.clone()?;
         }
-        marks.push(Mark {
-            at: text.len().saturating_sub(start.len()),
-            begins: statement.opening == Opening::Entry && path.len() == 1,
-            path,
-        })?;
-        rest = after;
     }
     Ok(marks)
 }

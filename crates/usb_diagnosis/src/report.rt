@@ -1,13 +1,16 @@
 //! The lines that tell what a plan holds, and those that tell why a text is none.
 
 ghost use Rattle.std.specs.Prelude.{◌≡◌, ◌++◌, IfOk, OnOk, string_bytes};
+ghost use Rattle.usb_remarks.specs.Remarks.{remark_of};
 ghost use Rattle.usb_plan.specs.Place.{place_text};
-ghost use Rattle.usb_diagnosis.specs.Report.{count_line, fault_name, fault_text, first_line, place_of, plan_lines};
+ghost use Rattle.usb_diagnosis.specs.Report.{count_line, fault_name, fault_text, first_line, line_if, place_of, plan_lines, plan_report, remark_head, remark_line, remark_lines};
 
 use crate::place::{Spot, push_spot};
-use crate::shown::push_number;
+use crate::shown::{push_number, push_shown};
 use std::alloc::{AllocError, Global};
+use usb_device::DeviceSpec;
 use usb_plan::{Place, Plan, PlanFault, bound};
+use usb_remarks::{Remark, push_remark, remark_of};
 
 /// Adds a word, a number and the end of the line.
 fn push_count(alloc: Global, out: &mut String, word: &str, number: u64) -> Result<(), AllocError>
@@ -22,7 +25,7 @@ fn push_count(alloc: Global, out: &mut String, word: &str, number: u64) -> Resul
 
 /// What a plan holds: how many devices, events and damages, and its bound.
 #[tactic(auto, unfolding(crate::specs::Report::plan_lines))]
-pub(crate) fn plan_lines(alloc: Global, plan: &Plan) -> Result<String, AllocError>
+fn plan_lines(alloc: Global, plan: &Plan) -> Result<String, AllocError>
     ensures { IfOk result (λ lines. string_bytes lines ≡ plan_lines plan.now) }
 {
     let mut lines = String::new(alloc);
@@ -30,6 +33,64 @@ pub(crate) fn plan_lines(alloc: Global, plan: &Plan) -> Result<String, AllocErro
     push_count(alloc, &mut lines, "events", plan.events().len() as u64)?;
     push_count(alloc, &mut lines, "damages", plan.damages().len() as u64)?;
     push_count(alloc, &mut lines, "bound", bound(plan))?;
+    Ok(lines)
+}
+
+/// Adds what a remark begins with.
+#[tactic(auto, unfolding(crate::specs::Report::remark_head))]
+fn push_head(alloc: Global, out: &mut String, name: &str) -> Result<(), AllocError>
+    ensures { OnOk result (string_bytes out.new ≡ string_bytes out.old ++ remark_head name.now) }
+{
+    out.push_str("remark: device \"")?;
+    push_shown(alloc, out, name)?;
+    out.push_str("\", ")
+}
+
+/// Adds the line of a remark.
+#[tactic(auto, unfolding(crate::specs::Report::remark_line))]
+fn push_line(
+    alloc: Global,
+    out: &mut String,
+    spec: &DeviceSpec,
+    remark: Remark,
+) -> Result<(), AllocError>
+    ensures { OnOk result
+        (string_bytes out.new ≡ string_bytes out.old ++ remark_line spec.now remark) }
+{
+    push_head(alloc, out, spec.name())?;
+    push_remark(alloc, out, spec, remark)?;
+    out.push_str("\n")
+}
+
+/// Adds the line on a device, if a host refuses it for its bytes.
+fn push_line_if(alloc: Global, out: &mut String, spec: &DeviceSpec) -> Result<(), AllocError>
+    ensures { OnOk result (string_bytes out.new
+        ≡ string_bytes out.old ++ line_if spec.now (remark_of spec.now)) }
+{
+    match remark_of(spec) {
+        None => Ok(()),
+        Some(remark) => push_line(alloc, out, spec, remark),
+    }
+}
+
+/// Adds the lines on all such devices.
+#[tactic(auto, unfolding(crate::specs::Report::remark_lines))]
+fn push_remarks(alloc: Global, out: &mut String, devices: &[DeviceSpec]) -> Result<(), AllocError>
+    ensures { OnOk result
+        (string_bytes out.new ≡ string_bytes out.old ++ remark_lines devices.now) }
+{
+    'devices: for device in devices {
+        push_line_if(alloc, out, device)?;
+    }
+    Ok(())
+}
+
+/// What a plan holds, and remarks on the devices that a host refuses for their bytes.
+pub(crate) fn plan_report(alloc: Global, plan: &Plan) -> Result<String, AllocError>
+    ensures { IfOk result (λ lines. string_bytes lines ≡ plan_report plan.now) }
+{
+    let mut lines = plan_lines(alloc, plan)?;
+    push_remarks(alloc, &mut lines, plan.devices())?;
     Ok(lines)
 }
 

@@ -19,7 +19,7 @@ pub(crate) fn push_number(alloc: Global, out: &mut String, number: u64) -> Resul
 }
 
 /// Adds a character, one that may end a line as `\u` and its number in four hexadecimal digits.
-fn push_char(alloc: Global, out: &mut String, letter: char) -> Result<(), AllocError>
+pub(crate) fn push_char(alloc: Global, out: &mut String, letter: char) -> Result<(), AllocError>
     ensures { OnOk result (string_bytes out.new ≡ string_bytes out.old ++ char_shown letter) }
 {
     if !ends_line(letter) {
@@ -72,7 +72,7 @@ fn push_front(alloc: Global, out: &mut String, letters: &[char]) -> Result<(), A
     out.push_str(dots(letters))
 }
 
-fn letters_of(alloc: Global, text: &str) -> Result<Vec<char>, AllocError>
+pub(crate) fn letters_of(alloc: Global, text: &str) -> Result<Vec<char>, AllocError>
     ensures { IfOk result (λ letters. letters.items ≡ chars text.now) }
 {
     text.chars().collect(alloc)

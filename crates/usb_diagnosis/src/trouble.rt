@@ -69,7 +69,7 @@ fn are_tables(value: &Value) -> bool {
     }
 }
 
-fn are_hex_digits(text: &str) -> bool {
+pub(crate) fn are_hex_digits(text: &str) -> bool {
     text.len() % 2 == 0 && text.bytes().all(|byte| byte.is_ascii_hexdigit())
 }
 

@@ -2,6 +2,7 @@
 mod devices;
 mod entries;
 mod events;
+mod remarks;
 mod syntax;
 mod top;
 mod writing;

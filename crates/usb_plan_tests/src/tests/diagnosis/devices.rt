@@ -67,11 +67,11 @@ const VALUES: [Row; 21] = [
     },
     Row {
         text: "strings = [\"04\", \"5\"]\n",
-        told: "p.toml:13: plan: device 2: bad hex\n  device 2 \"hub\", line 8: `strings` is [\"04\", \"5\"]\n  allowed: at most 256 texts, each of two hexadecimal digits for each of at most 255 bytes\n",
+        told: "p.toml:13: plan: device 2: bad hex\n  device 2 \"hub\", line 8: `strings` is [\"04\", \"5\"]\n  strings[1], an odd number of digits: 1\n  allowed: at most 256 texts, each of two hexadecimal digits for each of at most 255 bytes\n",
     },
     Row {
         text: "source = \"0g\"\n",
-        told: "p.toml:13: plan: device 2: bad hex\n  device 2 \"hub\", line 8: `source` is \"0g\"\n  allowed: two hexadecimal digits for each of at most 65535 bytes\n",
+        told: "p.toml:13: plan: device 2: bad hex\n  device 2 \"hub\", line 8: `source` is \"0g\"\n  character 2 is `g`, no hexadecimal digit\n  allowed: two hexadecimal digits for each of at most 65535 bytes\n",
     },
     Row {
         text: "ports = 8\n",
@@ -123,7 +123,7 @@ const VALUES: [Row; 21] = [
     },
     Row {
         text: "ports = 1\nhub_descriptor = \"0929 0\"\n",
-        told: "p.toml:14: plan: device 2: bad hex\n  device 2 \"hub\", line 8: `hub_descriptor` is \"0929 0\"\n  allowed: two hexadecimal digits for each of at most 255 bytes, of a hub with as many `ports`\n",
+        told: "p.toml:14: plan: device 2: bad hex\n  device 2 \"hub\", line 8: `hub_descriptor` is \"0929 0\"\n  character 5 is ` `, no hexadecimal digit\n  allowed: two hexadecimal digits for each of at most 255 bytes, of a hub with as many `ports`\n",
     },
     Row {
         text: "busy = 0\n",
@@ -169,7 +169,7 @@ const PARTS: [Row; 9] = [
     },
     Row {
         text: "[[device]]\nname = \"k\"\nspeed = \"full\"\ndescriptor = \"1\"\nconfigs = []\n",
-        told: "p.toml:11: plan: device 2: bad hex\n  device 2 \"k\", line 8: `descriptor` is \"1\"\n  allowed: two hexadecimal digits for each of at most 255 bytes\n",
+        told: "p.toml:11: plan: device 2: bad hex\n  device 2 \"k\", line 8: `descriptor` is \"1\"\n  an odd number of digits: 1\n  allowed: two hexadecimal digits for each of at most 255 bytes\n",
     },
     Row {
         text: "[[device]]\nname = \"k\"\nspeed = \"full\"\ndescriptor = \"\"\nconfigs = [\"\", \"\", \"\", \"\", \"\", \"\", \"\", \"\", \"\"]\n",
@@ -189,7 +189,7 @@ const PARTS: [Row; 9] = [
     },
     Row {
         text: "[[device]]\nname = \"k\"\nspeed = \"full\"\ndescriptor = \"\"\nconfigs = [\"09\", \"9\"]\n",
-        told: "p.toml:12: plan: device 2: bad hex\n  device 2 \"k\", line 8: `configs` is [\"09\", \"9\"]\n  allowed: at most 8 texts, each of two hexadecimal digits for each of at most 65535 bytes\n",
+        told: "p.toml:12: plan: device 2: bad hex\n  device 2 \"k\", line 8: `configs` is [\"09\", \"9\"]\n  configs[1], an odd number of digits: 1\n  allowed: at most 8 texts, each of two hexadecimal digits for each of at most 65535 bytes\n",
     },
 ];
 

@@ -3,14 +3,34 @@ use super::{Row, check_rows};
 use std::alloc::AllocError;
 use usb_diagnosis::check_text;
 
-const INLINE: [Row; 2] = [
+const INLINE: [Row; 7] = [
     Row {
         text: "limit = 1\nroots = 1\nevent = [{ do = \"show\" }, { do = \"shw\" }]\n",
         told: "p.toml:3: plan: event 2: bad value\n  event 2, line 3: `do` is \"shw\"\n  allowed: \"plug\", \"unplug\", \"show\", \"send\", \"receive\", \"clear\", \"control\", \"look\" or \"news\"\n  did you mean \"show\"?\n",
     },
     Row {
         text: "limit = 1\nroots = 1\n\"event\" = [\n  { do = 'show', after = '''\n[[event]]\n''' },\n]\n",
-        told: "p.toml:3: plan: event 1: bad value\n  event 1, line 3: `after` is \"\"\"\\u000A[[event]]\\u000A\"\"\"\n  allowed: a number from 0 to 1000000000\n",
+        told: "p.toml:4: plan: event 1: bad value\n  event 1, line 4: `after` is \"\"\"\\u000A[[event]]\\u000A\"\"\"\n  allowed: a number from 0 to 1000000000\n",
+    },
+    Row {
+        text: "limit = 1\nroots = 1\nevent = [\n  { do = \"show\" }, # {\n  { do = \"shw\" },\n]\n",
+        told: "p.toml:5: plan: event 2: bad value\n  event 2, line 5: `do` is \"shw\"\n  allowed: \"plug\", \"unplug\", \"show\", \"send\", \"receive\", \"clear\", \"control\", \"look\" or \"news\"\n  did you mean \"show\"?\n",
+    },
+    Row {
+        text: "limit = 1\nroots = 1\nevent = [\n  { do = \"show\" },\n  { \"do\" = 'show', aftr = 1 },\n]\n",
+        told: "p.toml:5: plan: event 2: bad value\n  event 2, line 5: unknown key `aftr`\n  allowed: `do`, `after`\n  did you mean `after`?\n",
+    },
+    Row {
+        text: "limit = 1\nroots = 1\ndevice = [\n  { name = \"{\", speed = \"full\", descriptor = \"\", configs = [\"\", \"\"] },\n  { name = \"b\" },\n]\n",
+        told: "p.toml:5: plan: device 2: missing key\n  device 2 \"b\", line 5: no key `speed`\n  allowed: \"full\" or \"low\"\n  such as: speed = \"low\"\n",
+    },
+    Row {
+        text: "limit = 1\nroots = 1\ndevice = [{ name = \"b\", speed = \"full\", descriptor = \"\", configs = [\n  \"\",\n], naks = 201 }]\n",
+        told: "p.toml:5: plan: device 1: bad value\n  device 1 \"b\", line 3: `naks` is 201\n  allowed: a number from 0 to 200\n",
+    },
+    Row {
+        text: "damage = [ ]\nroots = 1\nlimit = 1\nevent = [\n\n  {do='show'},{do='look',path='9'}]\n",
+        told: "p.toml:6: plan: event 2: bad path\n  event 2, line 6: `path` is \"9\"\n  no path of ports, each 1 to 7\n  allowed: the numbers of ports from a root port on, joined by dots\n",
     },
 ];
 

@@ -30,7 +30,7 @@ const EVENTS: [Row; 25] = [
     },
     Row {
         text: "[[event]]\ndo = \"plug\"\npath = \"2\"\ndevice = \"fn\"\n",
-        told: "p.toml:10: plan: event 1: bad path\n  event 1, line 8: `path` is \"2\"\n  allowed: the numbers of ports from a root port on, joined by dots\n",
+        told: "p.toml:10: plan: event 1: bad path\n  event 1, line 8: `path` is \"2\"\n  no such root port: `roots` is 1\n  allowed: the numbers of ports from a root port on, joined by dots\n",
     },
     Row {
         text: "[[event]]\ndo = \"plug\"\npath = \"1\"\ndevice = \"fn\"\n[[event]]\ndo = \"plug\"\npath = \"1\"\ndevice = \"fn\"\n",
@@ -46,7 +46,7 @@ const EVENTS: [Row; 25] = [
     },
     Row {
         text: "[[event]]\ndo = \"send\"\npath = \"1\"\nbytes = \"0\"\n",
-        told: "p.toml:11: plan: event 1: bad hex\n  event 1, line 8: `bytes` is \"0\"\n  allowed: two hexadecimal digits for each byte\n",
+        told: "p.toml:11: plan: event 1: bad hex\n  event 1, line 8: `bytes` is \"0\"\n  an odd number of digits: 1\n  allowed: two hexadecimal digits for each byte\n",
     },
     Row {
         text: "[[event]]\ndo = \"receive\"\npath = \"1\"\npackets = 1001\n",
@@ -90,19 +90,19 @@ const EVENTS: [Row; 25] = [
     },
     Row {
         text: "[[event]]\ndo = \"clear\"\npath = \"1.8\"\n",
-        told: "p.toml:10: plan: event 1: bad path\n  event 1, line 8: `path` is \"1.8\"\n  allowed: the numbers of ports from a root port on, joined by dots\n",
+        told: "p.toml:10: plan: event 1: bad path\n  event 1, line 8: `path` is \"1.8\"\n  no path of ports, each 1 to 7\n  allowed: the numbers of ports from a root port on, joined by dots\n",
     },
     Row {
         text: "[[event]]\ndo = \"unplug\"\npath = \"\"\n",
-        told: "p.toml:10: plan: event 1: bad path\n  event 1, line 8: `path` is \"\"\n  allowed: the numbers of ports from a root port on, joined by dots\n",
+        told: "p.toml:10: plan: event 1: bad path\n  event 1, line 8: `path` is \"\"\n  no path of ports, each 1 to 7\n  allowed: the numbers of ports from a root port on, joined by dots\n",
     },
     Row {
         text: "[[event]]\ndo = \"send\"\npath = \"2\"\nbytes = \"\"\n",
-        told: "p.toml:10: plan: event 1: bad path\n  event 1, line 8: `path` is \"2\"\n  allowed: the numbers of ports from a root port on, joined by dots\n",
+        told: "p.toml:10: plan: event 1: bad path\n  event 1, line 8: `path` is \"2\"\n  no such root port: `roots` is 1\n  allowed: the numbers of ports from a root port on, joined by dots\n",
     },
     Row {
         text: "[[event]]\ndo = \"plug\"\npath = \"1.1\"\ndevice = \"fn\"\n",
-        told: "p.toml:10: plan: event 1: bad path\n  event 1, line 8: `path` is \"1.1\"\n  allowed: the numbers of ports from a root port on, joined by dots\n",
+        told: "p.toml:10: plan: event 1: bad path\n  event 1, line 8: `path` is \"1.1\"\n  nothing is plugged at 1\n  allowed: the numbers of ports from a root port on, joined by dots\n",
     },
 ];
 
@@ -130,11 +130,11 @@ const ASKING: [Row; 16] = [
     },
     Row {
         text: "[[event]]\ndo = \"control\"\npath = \"1\"\nsetup = \"2109000200000200\"\nbytes = \"0\"\n",
-        told: "p.toml:12: plan: event 1: bad hex\n  event 1, line 8: `bytes` is \"0\"\n  allowed: two hexadecimal digits for each byte\n",
+        told: "p.toml:12: plan: event 1: bad hex\n  event 1, line 8: `bytes` is \"0\"\n  an odd number of digits: 1\n  allowed: two hexadecimal digits for each byte\n",
     },
     Row {
         text: "[[event]]\ndo = \"control\"\npath = \"1\"\nsetup = \"800600010000120\"\n",
-        told: "p.toml:11: plan: event 1: bad hex\n  event 1, line 8: `setup` is \"800600010000120\"\n  allowed: two hexadecimal digits for each of 8 bytes\n",
+        told: "p.toml:11: plan: event 1: bad hex\n  event 1, line 8: `setup` is \"800600010000120\"\n  an odd number of digits: 15\n  allowed: two hexadecimal digits for each of 8 bytes\n",
     },
     Row {
         text: "[[event]]\ndo = \"control\"\npath = \"1\"\nsetup = 80\n",
@@ -162,7 +162,7 @@ const ASKING: [Row; 16] = [
     },
     Row {
         text: "[[event]]\ndo = \"look\"\npath = \"2\"\n",
-        told: "p.toml:10: plan: event 1: bad path\n  event 1, line 8: `path` is \"2\"\n  allowed: the numbers of ports from a root port on, joined by dots\n",
+        told: "p.toml:10: plan: event 1: bad path\n  event 1, line 8: `path` is \"2\"\n  no such root port: `roots` is 1\n  allowed: the numbers of ports from a root port on, joined by dots\n",
     },
     Row {
         text: "[[event]]\ndo = \"look\"\n",
@@ -243,4 +243,55 @@ const DAMAGES: [Row; 14] = [
 #[test]
 fn a_fault_of_a_damage(rt: HostRuntime) -> Result<(), AllocError> {
     check_rows(&rt, rt.alloc(), FUNCTION, &DAMAGES)
+}
+
+/// A hub of four ports, on seven lines, which follows the function.
+const HUB: &str =
+    "[[device]]\nname = \"hub\"\nspeed = \"full\"\ndescriptor = \"120100020900004034127856000100000001\"\nconfigs = [\"09021900010100C000090400000109000000070581030100FF\"]\nports = 4\n\n";
+
+/// Events after both, from line 15 on, the last of which has a bad path.
+const PATHS: [Row; 9] = [
+    Row {
+        text: "[[event]]\ndo = \"plug\"\npath = \"1-3.2\"\ndevice = \"fn\"\n",
+        told: "p.toml:17: plan: event 1: bad path\n  event 1, line 15: `path` is \"1-3.2\"\n  no path of ports, each 1 to 7: did you mean \"1.3.2\"?\n  allowed: the numbers of ports from a root port on, joined by dots\n",
+    },
+    Row {
+        text: "[[event]]\ndo = \"unplug\"\npath = \"1/8\"\n",
+        told: "p.toml:17: plan: event 1: bad path\n  event 1, line 15: `path` is \"1/8\"\n  no path of ports, each 1 to 7\n  allowed: the numbers of ports from a root port on, joined by dots\n",
+    },
+    Row {
+        text: "[[event]]\ndo = \"look\"\npath = \"1.2.3.4.5.6.7.1\"\n",
+        told: "p.toml:17: plan: event 1: bad path\n  event 1, line 15: `path` is \"1.2.3.4.5.6.7.1\"\n  too deep: a path has at most 7 ports\n  allowed: the numbers of ports from a root port on, joined by dots\n",
+    },
+    Row {
+        text: "[[event]]\ndo = \"look\"\npath = \"1.2.3.4.5.6.7.1.\"\n",
+        told: "p.toml:17: plan: event 1: bad path\n  event 1, line 15: `path` is \"1.2.3.4.5.6.7.1.\"\n  no path of ports, each 1 to 7\n  allowed: the numbers of ports from a root port on, joined by dots\n",
+    },
+    Row {
+        text: "[[event]]\ndo = \"plug\"\npath = \"2.1\"\ndevice = \"fn\"\n",
+        told: "p.toml:17: plan: event 1: bad path\n  event 1, line 15: `path` is \"2.1\"\n  no such root port: `roots` is 1\n  allowed: the numbers of ports from a root port on, joined by dots\n",
+    },
+    Row {
+        text: "[[event]]\ndo = \"plug\"\npath = \"1\"\ndevice = \"fn\"\n[[event]]\ndo = \"plug\"\npath = \"1.1\"\ndevice = \"fn\"\n",
+        told: "p.toml:21: plan: event 2: bad path\n  event 2, line 19: `path` is \"1.1\"\n  \"fn\", which is plugged at 1, is no hub\n  allowed: the numbers of ports from a root port on, joined by dots\n",
+    },
+    Row {
+        text: "[[event]]\ndo = \"plug\"\npath = \"1\"\ndevice = \"hub\"\n[[event]]\ndo = \"plug\"\npath = \"1.5\"\ndevice = \"fn\"\n",
+        told: "p.toml:21: plan: event 2: bad path\n  event 2, line 19: `path` is \"1.5\"\n  \"hub\", which is plugged at 1, has only ports 1 to 4\n  allowed: the numbers of ports from a root port on, joined by dots\n",
+    },
+    Row {
+        text: "[[event]]\ndo = \"plug\"\npath = \"1\"\ndevice = \"hub\"\n[[event]]\ndo = \"plug\"\npath = \"1.4\"\ndevice = \"hub\"\n[[event]]\ndo = \"unplug\"\npath = \"1\"\n[[event]]\ndo = \"plug\"\npath = \"1.4.1\"\ndevice = \"fn\"\n",
+        told: "p.toml:28: plan: event 4: bad path\n  event 4, line 26: `path` is \"1.4.1\"\n  nothing is plugged at 1.4\n  allowed: the numbers of ports from a root port on, joined by dots\n",
+    },
+    Row {
+        text: "[[event]]\ndo = \"plug\"\npath = \"1\"\ndevice = \"hub\"\n[[event]]\ndo = \"plug\"\npath = \"1.4\"\ndevice = \"fn\"\n[[event]]\ndo = \"plug\"\npath = \"1.4.1\"\ndevice = \"fn\"\n",
+        told: "p.toml:25: plan: event 3: bad path\n  event 3, line 23: `path` is \"1.4.1\"\n  \"fn\", which is plugged at 1.4, is no hub\n  allowed: the numbers of ports from a root port on, joined by dots\n",
+    },
+];
+
+#[test]
+fn a_bad_path(rt: HostRuntime) -> Result<(), AllocError> {
+    let mut before = String::from_str(rt.alloc(), FUNCTION)?;
+    before.push_str(HUB)?;
+    check_rows(&rt, rt.alloc(), before.as_str(), &PATHS)
 }

@@ -1,0 +1,6 @@
+pub mod Values
+pub mod Items
+pub mod Configs
+pub mod Readers
+pub mod Refused
+pub mod Unblamed

@@ -1,0 +1,169 @@
+-- A host refuses a device with a remark.
+use Rattle.std.proofs.Common.{◌≡◌, ◌⊎◌, inl, inr, ℕ, zero, suc, ◌==◌, ◌&&◌, not, Bool, true, false}
+use Rattle.std.proofs.Common.{List, [], map, take, slice_get, slice_index_or, Option, Some, None, is_some}
+use Rattle.std.proofs.Common.{Result, Ok, Err, is_ok, if◌then◌else◌, refl, ap, sym, ◌∙◌}
+use Rattle.std.specs.Option.{option_or, IfSome}
+use Rattle.usb_descriptor.specs.{DescriptorFault, configuration_count, configuration_value}
+use Rattle.usb_descriptor.specs.{device_head_of, device_spelled, hub_spelled, status_endpoint_of}
+use Rattle.usb_device.specs.{Hub, Spec}
+use Rattle.usb_enum.specs.{BadConfiguration, BadDevice, BadHub, Cause, NoPower, any_has_value}
+use Rattle.usb_enum.specs.{choice_of, config_fault, first_fault, gives_hub, is_good_hub, is_good_text}
+use Rattle.usb_enum.specs.{is_device, is_hub_device, read_verdict, set_verdict, text_fault, text_read}
+use Rattle.usb_enum.specs.{texts_below, texts_of, verdict}
+use Rattle.usb_remarks.specs.{IsRefused, Remark, TextRemark, at_index, config_remark, configs_remark}
+use Rattle.usb_remarks.specs.{device_remark, hub_remark, remark_of, text_remark, unless_repeated}
+use Rattle.usb_remarks.specs.{spelled_remark, with_text}
+use Rattle.usb_remarks.proofs.Readers.{remarked_bad}
+
+unless_err : (b : Bool) (cause : Cause) (r : Result ℕ Cause) → is_ok r ≡ false
+    → is_ok (if b then Err cause else r) ≡ false
+unless_err true cause r h = refl
+unless_err false cause r h = h
+
+-- its device descriptor is malformed
+device_bad : (spec : Spec) (tier supply : ℕ) → is_device spec.low (take 18 spec.descriptor) ≡ false
+    → is_ok (verdict spec tier supply) ≡ false
+unfolding verdict
+device_bad spec tier supply bad =
+    unless_err spec.silent _ _ (unless_err spec.busy _ _ (unless_err spec.stalls.device _ _
+    (unless_err (not (is_ok (device_head_of spec.low (take 8 spec.descriptor)))) _ _
+    (unless_err spec.stalls.address _ _ (rw bad refl)))))
+
+-- it is refused behind its device descriptor
+later_bad : (spec : Spec) (tier supply : ℕ) → is_ok (read_verdict spec supply
+    (first_fault spec (configuration_count spec.descriptor))) ≡ false
+    → is_ok (verdict spec tier supply) ≡ false
+unfolding verdict
+later_bad spec tier supply bad =
+    unless_err spec.silent _ _ (unless_err spec.busy _ _ (unless_err spec.stalls.device _ _
+    (unless_err (not (is_ok (device_head_of spec.low (take 8 spec.descriptor)))) _ _
+    (unless_err spec.stalls.address _ _
+    (unless_err (not (is_device spec.low (take 18 spec.descriptor))) _ _
+    (unless_err (is_hub_device spec.descriptor && tier == 7) _ _ bad))))))
+
+-- Configurations
+
+text_bad : (index : ℕ) (earlier : List (List ℕ)) (text : List ℕ) (o : Option TextRemark) (r : Remark)
+    → text_remark text ≡ o
+    → with_text index (any_has_value (configuration_value (text_read text)) earlier) o ≡ Some r
+    → (is_good_text text && not (any_has_value (configuration_value (text_read text)) earlier))
+    ≡ false
+text_bad index earlier text (Some t) r is h =
+    ap (λ b. b && not (any_has_value (configuration_value (text_read text)) earlier))
+    (remarked_bad text t is)
+text_bad index earlier text None r is h =
+    repeated (is_good_text text) (any_has_value (configuration_value (text_read text)) earlier) h
+  where
+    repeated : (good again : Bool) → unless_repeated index again ≡ Some r → (good && not again) ≡ false
+    repeated true true h = refl
+    repeated false again h = refl
+    repeated true false h = absurd cc
+
+index_bad : (spec : Spec) (index : ℕ) (o : Option (List ℕ)) (r : Remark)
+    → at_index spec.configs index o ≡ Some r
+    → is_some (text_fault index (texts_below spec index) o) ≡ true
+index_bad spec index None r h = refl
+index_bad spec index (Some text) r h =
+    ap (λ b. is_some (if b then None else Some (BadConfiguration index)))
+    (text_bad index (texts_below spec index) text (text_remark text) r refl h)
+
+stalled_some : (b : Bool) (cause : Cause) (o : Option Cause) → is_some o ≡ true
+    → is_some (if b then Some cause else o) ≡ true
+stalled_some true cause o h = refl
+stalled_some false cause o h = h
+
+config_bad_one : (spec : Spec) (index : ℕ) (r : Remark) → config_remark spec.configs index ≡ Some r
+    → is_some (config_fault spec index) ≡ true
+unfolding config_fault config_remark
+config_bad_one spec index r h = stalled_some spec.stalls.config _ _
+    (index_bad spec index (slice_get spec.configs index) r h)
+
+left_some : (o p : Option Cause) → is_some o ≡ true → is_some (option_or o p) ≡ true
+left_some (Some x) p h = refl
+left_some None p h = absurd cc
+
+right_some : (o p : Option Cause) → is_some p ≡ true → is_some (option_or o p) ≡ true
+right_some (Some x) p h = refl
+right_some None p h = h
+
+either_some : (o p : Option Remark) (r : Remark) → option_or o p ≡ Some r
+    → (o ≡ Some r) ⊎ (p ≡ Some r)
+either_some (Some x) p r h = inl h
+either_some None p r h = inr h
+
+configs_bad : (spec : Spec) (n : ℕ) (r : Remark) → configs_remark spec.configs n ≡ Some r
+    → is_some (first_fault spec n) ≡ true
+unfolding first_fault configs_remark
+configs_bad spec zero r h = absurd cc
+configs_bad spec (suc n) r h =
+    elim (either_some (configs_remark spec.configs n) (config_remark spec.configs n) r h) [
+      | inl before ↦ left_some (first_fault spec n) (config_fault spec n) (configs_bad spec n r before)
+      | inr here ↦ right_some (first_fault spec n) (config_fault spec n)
+          (config_bad_one spec n r here)
+    ]
+
+read_bad : (spec : Spec) (supply : ℕ) (o : Option Cause) → is_some o ≡ true
+    → is_ok (read_verdict spec supply o) ≡ false
+read_bad spec supply (Some cause) h = refl
+read_bad spec supply None h = absurd cc
+
+-- Hubs
+
+hub_bad : (spec : Spec) (hub : Option Hub) (r : Remark) → hub_remark hub ≡ Some r
+    → gives_hub spec hub ≡ false
+hub_bad spec None r h = refl
+hub_bad spec (Some hub) r h = spelled (not spec.stalls.hub) (not spec.stalls.status)
+    (hub_spelled (take 9 hub.descriptor)) h
+  where
+    spelled : (a b : Bool) (o : Result (List ℕ) DescriptorFault) → spelled_remark o ≡ Some r
+        → (a && b && is_ok o) ≡ false
+    spelled a b (Ok bytes) h = absurd cc
+    spelled true true (Err fault) h = refl
+    spelled true false (Err fault) h = refl
+    spelled false b (Err fault) h = refl
+
+set_bad : (spec : Spec) (texts : List (List ℕ)) (choice : Option ℕ)
+    → is_hub_device spec.descriptor ≡ true → gives_hub spec spec.hub ≡ false
+    → is_ok (set_verdict spec texts choice) ≡ false
+set_bad spec texts None hub bad = refl
+set_bad spec texts (Some chosen) hub bad = unless_err spec.stalls.set_config _ _ (rw (hub, bad)
+    (neither (is_some (status_endpoint_of (slice_index_or texts chosen []))) chosen))
+  where
+    neither : (a : Bool) (chosen : ℕ) → is_ok (if not (a && false) then Err BadHub else Ok chosen)
+        ≡ false
+    neither true chosen = refl
+    neither false chosen = refl
+
+bad_hub_read : (spec : Spec) (supply : ℕ) (o : Option Cause) → is_hub_device spec.descriptor ≡ true
+    → gives_hub spec spec.hub ≡ false → is_ok (read_verdict spec supply o) ≡ false
+bad_hub_read spec supply (Some cause) hub bad = refl
+bad_hub_read spec supply None hub bad = set_bad spec (texts_of spec)
+    (choice_of supply (texts_of spec)) hub bad
+
+hub_remarked : (b : Bool) (hub : Option Hub) (r : Remark) → (if b then hub_remark hub else None)
+    ≡ Some r → (b ≡ true) × (hub_remark hub ≡ Some r)
+hub_remarked true hub r h = (refl, h)
+hub_remarked false hub r h = absurd cc
+
+-- A device with a remark
+
+pub remarked_refused : (spec : Spec) (r : Remark) → remark_of spec ≡ Some r → IsRefused spec
+unfolding remark_of
+remarked_refused spec r is tier supply =
+    split (device_spelled spec.low (take 18 spec.descriptor)) refl is
+  where
+    split : (o : Result (List ℕ) DescriptorFault) → device_spelled spec.low (take 18 spec.descriptor)
+        ≡ o → device_remark spec o ≡ Some r → is_ok (verdict spec tier supply) ≡ false
+    split (Err fault) spelled h = device_bad spec tier supply (ap is_ok spelled)
+    split (Ok bytes) spelled h =
+        later_bad spec tier supply (elim (either_some (configs_remark spec.configs
+        (configuration_count spec.descriptor)) _ r h) [
+          | inl config ↦ read_bad spec supply _ (configs_bad spec _ r config)
+          | inr hub ↦ (let parts = hub_remarked (is_hub_device spec.descriptor) spec.hub r hub in
+              bad_hub_read spec supply _ parts.0 (hub_bad spec spec.hub r parts.1))
+        ])
+
+pub refused_if : (spec : Spec) (o : Option Remark) → o ≡ remark_of spec
+    → IfSome o (λ _. IsRefused spec)
+refused_if spec (Some r) is = remarked_refused spec r (sym is)
+refused_if spec None is = tt

@@ -1,0 +1,118 @@
+//! Why a host refuses a device for its bytes alone.
+ghost use Rattle.std.specs.Prelude.{◌≡◌, ◌==◌, map, option_copied, IfNone, IfSome};
+ghost use Rattle.std.specs.List.{list_any};
+ghost use Rattle.usb_descriptor.specs.Config.{configuration_value};
+ghost use Rattle.usb_enum.specs.Text.{any_has_value};
+ghost use Rattle.usb_enum.specs.Verdicts.{text_read};
+ghost use Rattle.usb_remarks.specs.Refusing.{BlamesNoDescriptor, IsRefused};
+ghost use Rattle.usb_remarks.specs.Remarks.{config_remark, configs_remark, hub_remark, remark_of};
+
+use crate::text::{TextRemark, text_remark, value_of};
+use usb_descriptor::{DescriptorFault, read_device, read_hub};
+use usb_device::{Bytes, DeviceSpec, HubSpec};
+use usb_request::class_code::HUB_CLASS;
+use usb_request::descriptor_length::{DEVICE_LENGTH, HUB_LENGTH};
+
+/// Why a host refuses a device for its bytes alone.
+#[derive(Clone, Copy, Debug, PartialEq, Eq)]
+pub enum Remark {
+    /// It does not begin with a device descriptor.
+    Device(DescriptorFault),
+    /// The configuration of this index is malformed.
+    Text(usize, TextRemark),
+    /// The configuration of this index has the bConfigurationValue of an earlier one.
+    Repeated(usize),
+    /// bNumConfigurations is over this index, at which there is no configuration.
+    Missing(usize),
+    /// It has the class of hubs, and no ports.
+    NoPorts,
+    /// It has the class of hubs, and its hub descriptor is none.
+    Hub(DescriptorFault),
+}
+
+fn some_has_value(texts: &[Bytes<65535>], value: u8) -> bool
+    ensures { result
+        ≡ list_any (λ text. configuration_value (text_read text) == value) texts.now }
+{
+    texts.iter().any(|text| value_of(text.as_slice()) == value)
+}
+
+/// Whether one of the texts has this bConfigurationValue.
+#[tactic(auto, using(crate::proofs::Values::value_among))]
+fn any_has_value(texts: &[Bytes<65535>], value: u8) -> bool
+    ensures { result ≡ any_has_value value (map text_read texts.now) }
+{
+    some_has_value(texts, value)
+}
+
+/// What is wrong with the configuration of an index.
+#[tactic(auto, unfolding(crate::specs::Remarks::config_remark))]
+fn config_remark(configs: &[Bytes<65535>], index: usize) -> Option<Remark>
+    ensures { result ≡ config_remark configs.now index }
+{
+    let Some(text) = configs.get(index) else {
+        return Some(Remark::Missing(index));
+    };
+    if let Some(remark) = text_remark(text.as_slice()) {
+        return Some(Remark::Text(index, remark));
+    }
+    if any_has_value(&configs[..index], value_of(text.as_slice())) {
+        return Some(Remark::Repeated(index));
+    }
+    None
+}
+
+/// What is wrong with the first bad one of so many configurations.
+fn configs_remark(configs: &[Bytes<65535>], count: usize) -> Option<Remark>
+    ensures { result ≡ configs_remark configs.now count }
+{
+    'configs: for index in 0..count {
+        if let Some(remark) = config_remark(configs, index) {
+            return Some(remark);
+        }
+    }
+    None
+}
+
+/// What is wrong with a device of the class of hubs.
+fn hub_remark(hub: Option<&HubSpec>) -> Option<Remark>
+    ensures { result ≡ hub_remark (option_copied hub.entry) }
+{
+    let Some(hub) = hub else {
+        return Some(Remark::NoPorts);
+    };
+    let descriptor = hub.descriptor();
+    match read_hub(&descriptor[..descriptor.len().min(HUB_LENGTH)]) {
+        Err(fault) => Some(Remark::Hub(fault)),
+        Ok(_) => None,
+    }
+}
+
+/// The first rule that the bytes of a device break.
+#[tactic(auto, unfolding(crate::specs::Remarks::remark_of))]
+fn first_remark(spec: &DeviceSpec) -> Option<Remark>
+    ensures { result ≡ remark_of spec.now }
+{
+    let descriptor = spec.descriptor();
+    let front = &descriptor[..descriptor.len().min(DEVICE_LENGTH)];
+    let device = match read_device(front, spec.is_low()) {
+        Err(fault) => return Some(Remark::Device(fault)),
+        Ok(device) => device,
+    };
+    let remark = configs_remark(spec.configs(), usize::from(device.configurations()));
+    if remark.is_some() || device.class() != HUB_CLASS {
+        return remark;
+    }
+    hub_remark(spec.hub())
+}
+
+/// Why a host refuses the device for its bytes alone: the first rule that they break. None if it
+/// reads them all; a host may refuse it for another cause even then.
+#[tactic(auto, using(crate::proofs::Refused::refused_if, crate::proofs::Unblamed::unblamed_if))]
+pub fn remark_of(spec: &DeviceSpec) -> Option<Remark>
+    ensures value { result ≡ remark_of spec.now }
+    ensures refused { IfSome result (λ _. IsRefused spec.now) }
+    ensures unblamed { IfNone result (BlamesNoDescriptor spec.now) }
+{
+    first_remark(spec)
+}
