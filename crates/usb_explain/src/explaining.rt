@@ -41,8 +41,9 @@ pub(crate) struct BegunLine {
     bytes: ArrayVec<u8, MOST>,
 }
 
-/// Reads the text of a run and writes its lines again, the words of its request behind each attempt
-/// that is a SETUP. Where not all lines are kept, only attempts are.
+/// Reads the text of a run and writes its lines again. Behind each attempt that is a SETUP with eight
+/// bytes in a DATA0 (8.5.3) it writes four spaces and the request in words (9.4, 11.24.2). Damage
+/// changes no words. Any `only` but `All` leaves out all lines but those of its attempts.
 ///
 /// # Errors
 ///

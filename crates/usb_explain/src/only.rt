@@ -7,7 +7,8 @@ use usb_pcap::TracedAttempt;
 use usb_request::Setup;
 use usb_world::{Exchange, Mark, Outgoing};
 
-/// Which lines of a run's text are kept.
+/// Which lines of a run's text are kept. A device's path is no such choice: the text does not say to
+/// which root port an attempt to address 0 goes, and a listing names a path after its attempts.
 #[derive(Clone, Copy, Debug, PartialEq, Eq)]
 pub enum Only {
     /// All of them.
