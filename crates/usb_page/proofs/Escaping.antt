@@ -2,7 +2,7 @@
 use Rattle.std.proofs.Common.{◌≡◌, ◌≢◌, ◌∙◌, refl, sym, ap, subst, arith, ℕ, suc, zero, ◌==◌, List}
 use Rattle.std.proofs.Common.{[], ◌∷◌, ◌++◌, Bool, true, false, codes, if◌then◌else◌}
 use Rattle.std.proofs.lemmas.Bool.Decides.{nat_tests}
-use Rattle.usb_page.specs.{IsPlain, Shows, escaped, shown_byte}
+use Rattle.usb_page.specs.{Shows, escaped}
 use Rattle.usb_page.specs.Escape.{nothing, plain, quote, ampersand, apostrophe, less, greater}
 
 is_same : (c k : ℕ) → (c == k) ≡ true → c ≡ k
