@@ -296,7 +296,7 @@ fn path_of(
 }
 
 /// Adds the marks of the statement at the front of a text: its own, and those of entries in its
-/// value. Gives the text behind it.
+/// value. Returns the text after it.
 fn push_statement<'a>(
     alloc: Global,
     marks: &mut Vec<Mark>,

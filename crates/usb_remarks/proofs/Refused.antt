@@ -29,7 +29,7 @@ device_bad spec tier supply bad =
     (unless_err (not (is_ok (device_head_of spec.low (take 8 spec.descriptor)))) _ _
     (unless_err spec.stalls.address _ _ (rw bad refl)))))
 
--- it is refused behind its device descriptor
+-- it is refused after its device descriptor
 later_bad : (spec : Spec) (tier supply : ℕ) → is_ok (read_verdict spec supply
     (first_fault spec (configuration_count spec.descriptor))) ≡ false
     → is_ok (verdict spec tier supply) ≡ false

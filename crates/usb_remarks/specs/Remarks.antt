@@ -83,7 +83,7 @@ abbrev pub hub_remark : Option Hub → Option Remark
 hub_remark None = Some remark.NoPorts
 hub_remark (Some hub) = spelled_remark (hub_spelled (take HUB_LENGTH hub.descriptor))
 
--- on a device behind its device descriptor
+-- on a device, after its device descriptor
 abbrev pub device_remark : Spec → Result (List ℕ) DescriptorFault → Option Remark
 device_remark spec (Err fault) = Some (remark.Device fault)
 device_remark spec (Ok bytes) = option_or
