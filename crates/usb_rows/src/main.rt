@@ -1,5 +1,5 @@
-//! Runs the rows of `data/`: plans, each in both modes and by a host over two pipes, and packets in
-//! digits. Prints a line for each that is not as expected, the number of rows, and the number of
+//! Runs the rows of `data/`: plans, each in both modes, explained, and by a host over two pipes, and
+//! packets in digits. Prints a line for each that is not as expected, the number of rows, and the number of
 //! those that differ.
 #![tactic(auto)]
 
@@ -10,6 +10,7 @@ use std::alloc::{AllocError, Global};
 use std::rt::Files;
 use std::{fs, io, str};
 use usb_bus::Watched;
+use usb_explain::{Only, explain};
 use usb_run::Mode;
 use usb_serve::{ServeFault, plan_of, serve};
 use usb_text::packet_line;
@@ -50,7 +51,8 @@ fn serve_plans<R: Files + Print + AllocGlobal>(rt: &R, tally: &mut Tally) -> io:
         let run = is_as_wanted(rt, name, Mode::Run)?;
         let tree = is_as_wanted(rt, name, Mode::Tree)?;
         let live = is_told_live(rt, name)?;
-        tally.count(run && tree && live);
+        let explained = is_explained(rt, name)?;
+        tally.count(run && tree && live && explained);
     }
     Ok(())
 }
@@ -110,6 +112,42 @@ fn is_told_live<R: Files + Print + AllocGlobal>(rt: &R, name: &str) -> io::Resul
         return Ok(false);
     }
     Ok(true)
+}
+
+/// Whether a row's run, explained, has each of its lines, with words after each SETUP and after no other line.
+fn is_explained<R: Files + Print + AllocGlobal>(rt: &R, name: &str) -> io::Result<bool> {
+    let alloc = rt.alloc();
+    let text = fs::read_to_string(rt, format!(in alloc; "{name}.run.txt")?)?;
+    let mut writer = Watched::new(Vec::new(alloc));
+    if let Err(fault) = explain(Only::All, &mut Watched::new(text.as_bytes()), &mut writer) {
+        println!(rt; "{name} explained: {fault}")?;
+        return Ok(false);
+    }
+    let written = writer.into_inner();
+    let explained = str::from_utf8(written.as_slice()).unwrap_or("");
+    let kept = text.lines().zip(explained.lines());
+    let kept = kept
+        .take_while(|(line, explained)| has_words(line, explained))
+        .count();
+    if kept != text.lines().count() || kept != explained.lines().count() {
+        println!(rt; "{name} explained: {kept} lines are as wanted")?;
+        return Ok(false);
+    }
+    Ok(true)
+}
+
+/// Whether a line is followed by words if it is that of a SETUP, and else by nothing.
+fn has_words(line: &str, explained: &str) -> bool {
+    match explained.strip_prefix(line) {
+        Some(words) if is_setup(line) => words.starts_with("    "),
+        Some(words) => words.is_empty(),
+        None => false,
+    }
+}
+
+/// Whether a line is that of a SETUP. The name of a device that is plugged may look like one.
+fn is_setup(line: &str) -> bool {
+    line.contains(" SETUP ") && !line.starts_with("plug ")
 }
 
 /// The lines of listings and transfers, without that of the bound, which comes last.
