@@ -1,5 +1,5 @@
 -- Text that no browser reads as markup.
-use Rattle.std.specs.Prelude.{◌≡◌, ◌≢◌, ℕ, ◌==◌, List, [], ◌∷◌, ◌++◌, codes, flat_map}
+use Rattle.std.specs.Prelude.{◌≢◌, ℕ, ◌==◌, List, [], ◌∷◌, ◌++◌, codes, flat_map}
 use Rattle.std.specs.Prelude.{if◌then◌else◌}
 
 -- a byte that HTML reads as itself: no " & ' < >
