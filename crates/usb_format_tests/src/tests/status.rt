@@ -65,7 +65,11 @@ const ROWS: [Row; 39] = [
     (Fault::Serve(ServeFault::Memory), "out of memory", 4),
     (Fault::Explain(ExplainFault::Read), "read failed", 4),
     (Fault::Explain(ExplainFault::Line(3)), "explain: line 3", 1),
-    (Fault::Explain(ExplainFault::TooLong), "explain: text too long", 1),
+    (
+        Fault::Explain(ExplainFault::TooLong),
+        "explain: text too long",
+        1,
+    ),
     (Fault::Explain(ExplainFault::Write), "write failed", 4),
     (Fault::Pcap(PcapFault::Read), "read failed", 4),
     (Fault::Pcap(PcapFault::Line(3)), "pcap: line 3", 1),
