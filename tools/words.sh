@@ -1,6 +1,7 @@
 # shellcheck shell=bash disable=SC2154,SC2071
 # What `usbplan` answers to words alone while no program is built, or no toolchain is there: help, version and wrong
-# words, as the program itself answers them. The texts of help are those of docs/help. The caller sets `here`, the top of the checkout.
+# words, as the program itself answers them. The texts of help are those of docs/help. The caller sets `here`, the top
+# of the checkout.
 
 help=$here/docs/help
 
@@ -155,7 +156,9 @@ answer_words() {
     -h | --help) tell_help usbplan ;;
     -V | --version)
       version=$(sed -n 's/^const VERSION: &str = "\(.*\)";/\1/p' "$here/crates/usb_words/src/words.rt")
-      ! has_builds || why="no toolchain at '$rt'"
+      if has_builds && ! type -P "$rt" >/dev/null; then
+        why="no toolchain at '$rt'"
+      fi
       echo "usbplan $version (${why:-not built yet})"
       exit 2
       ;;
