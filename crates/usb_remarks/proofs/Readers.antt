@@ -1,12 +1,12 @@
 -- A remark on a text is its reader's fault.
 use Rattle.std.proofs.Common.{◌≡◌, ℕ, zero, suc, ◌+◌, ◌-◌, ◌≤◌, List, [], ◌∷◌, length, take, drop}
-use Rattle.std.proofs.Common.{get_or, Bool, true, false, not, ◌&&◌, nat_lt, Option, Some, None, Result}
+use Rattle.std.proofs.Common.{Bool, true, false, ◌&&◌, nat_lt, Option, Some, None, Result}
 use Rattle.std.proofs.Common.{Ok, Err, is_ok, refl, ap, sym, ◌∙◌, arith, if◌then◌else◌, length-take}
 use Rattle.std.specs.Option.{option_or, option_map, IfNone, IfSome}
 use Rattle.std.proofs.lemmas.Bool.{le-ltb, ltb-false, ltb-true, lt-ltb}
 use Rattle.std.proofs.lemmas.List.{get_or-take}
 use Rattle.std.proofs.lemmas.Option.{same_Some}
-use Rattle.usb_descriptor.specs.{DescriptorFault, Short, Total, config_after, config_head_of, config_of}
+use Rattle.usb_descriptor.specs.{DescriptorFault, Short, config_after, config_head_of, config_of}
 use Rattle.usb_descriptor.specs.{fault_within, front_fault, items_fault, total_in, unless_fault}
 use Rattle.usb_descriptor.proofs.Interface.{header_of}
 use Rattle.usb_enum.specs.{is_good_text, text_read}

@@ -1,13 +1,13 @@
 -- A host refuses a device with a remark.
 use Rattle.std.proofs.Common.{◌≡◌, ◌⊎◌, inl, inr, ℕ, zero, suc, ◌==◌, ◌&&◌, not, Bool, true, false}
-use Rattle.std.proofs.Common.{List, [], map, take, slice_get, slice_index_or, Option, Some, None, is_some}
-use Rattle.std.proofs.Common.{Result, Ok, Err, is_ok, if◌then◌else◌, refl, ap, sym, ◌∙◌}
+use Rattle.std.proofs.Common.{List, [], take, slice_get, slice_index_or, Option, Some, None, is_some}
+use Rattle.std.proofs.Common.{Result, Ok, Err, is_ok, if◌then◌else◌, refl, ap, sym}
 use Rattle.std.specs.Option.{option_or, IfSome}
 use Rattle.usb_descriptor.specs.{DescriptorFault, configuration_count, configuration_value}
 use Rattle.usb_descriptor.specs.{device_head_of, device_spelled, hub_spelled, status_endpoint_of}
 use Rattle.usb_device.specs.{Hub, Spec}
-use Rattle.usb_enum.specs.{BadConfiguration, BadDevice, BadHub, Cause, NoPower, any_has_value}
-use Rattle.usb_enum.specs.{choice_of, config_fault, first_fault, gives_hub, is_good_hub, is_good_text}
+use Rattle.usb_enum.specs.{BadConfiguration, BadHub, Cause, any_has_value}
+use Rattle.usb_enum.specs.{choice_of, config_fault, first_fault, gives_hub, is_good_text}
 use Rattle.usb_enum.specs.{is_device, is_hub_device, read_verdict, set_verdict, text_fault, text_read}
 use Rattle.usb_enum.specs.{texts_below, texts_of, verdict}
 use Rattle.usb_remarks.specs.{IsRefused, Remark, TextRemark, at_index, config_remark, configs_remark}

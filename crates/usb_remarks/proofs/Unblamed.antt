@@ -1,6 +1,6 @@
 -- Without a remark a host finds no descriptor malformed.
 use Rattle.std.proofs.Common.{◌≡◌, ℕ, zero, suc, ◌≤◌, ◌==◌, ◌&&◌, not, Bool, true, false, List}
-use Rattle.std.proofs.Common.{[], length, map, take, slice_get, slice_index_or, Option, Some, None}
+use Rattle.std.proofs.Common.{[], length, take, slice_get, slice_index_or, Option, Some, None}
 use Rattle.std.proofs.Common.{Result, Ok, Err, is_ok, nat_lt, if◌then◌else◌, refl, ap, sym, ◌∙◌, arith}
 use Rattle.std.proofs.Common.{length-take}
 use Rattle.std.specs.Option.{option_or, IfNone}
@@ -9,7 +9,7 @@ use Rattle.std.proofs.lemmas.List.{get_or-take}
 use Rattle.usb_descriptor.specs.{DescriptorFault, Short, configuration_count, configuration_value}
 use Rattle.usb_descriptor.specs.{device_after, device_head_of, device_spelled}
 use Rattle.usb_device.specs.{Spec}
-use Rattle.usb_enum.specs.{BadConfiguration, BadHub, Cause, NoPower, any_has_value, choice_of}
+use Rattle.usb_enum.specs.{BadConfiguration, BadHub, Cause, any_has_value, choice_of}
 use Rattle.usb_enum.specs.{config_fault, first_fault, is_device, is_good_hub, is_good_text}
 use Rattle.usb_enum.specs.{is_hub_device, read_verdict, set_verdict, text_fault, text_read}
 use Rattle.usb_enum.specs.{texts_below, texts_of, verdict}

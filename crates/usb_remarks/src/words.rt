@@ -11,7 +11,21 @@ use usb_request::descriptor_type::{ENDPOINT, INTERFACE};
 
 const DEVICE_SHORT: &str = " bytes, a device descriptor has 18";
 
-const CONFIGURATION_SHORT: &str = " bytes, a configuration descriptor has 9";
+const DEVICE_TYPE: &str = ", of a device it is 1";
+
+const DEVICE_COUNT: &str = ", it is at least 1";
+
+const DEVICE_SIZE: &str = ", of a device it is 18";
+
+const HEAD_SHORT: &str = " bytes, a configuration descriptor has 9";
+
+const HEAD_TYPE: &str = ", of a configuration it is 2";
+
+const HEAD_TOTAL: &str = ", it is at least 9";
+
+const HEAD_VALUE: &str = ", it is at least 1";
+
+const HEAD_SIZE: &str = ", of a configuration it is 9";
 
 const HUB_SHORT: &str = " bytes, a hub descriptor has 9";
 
@@ -72,14 +86,7 @@ fn push_device(
             push_rule(alloc, out, 0, "the text has ", bytes.len(), DEVICE_SHORT)
         }
         DescriptorFault::WrongType => {
-            push_rule(
-                alloc,
-                out,
-                1,
-                "bDescriptorType is ",
-                kind,
-                ", of a device it is 1",
-            )
+            push_rule(alloc, out, 1, "bDescriptorType is ", kind, DEVICE_TYPE)
         }
         DescriptorFault::MaxPacket => {
             push_rule(alloc, out, 7, "bMaxPacketSize0 is ", most, packet_rule(low))
@@ -91,18 +98,11 @@ fn push_device(
                 17,
                 "bNumConfigurations is ",
                 count,
-                ", it is at least 1",
+                DEVICE_COUNT,
             )
         }
         DescriptorFault::Length | DescriptorFault::Total => {
-            push_rule(
-                alloc,
-                out,
-                0,
-                "bLength is ",
-                first,
-                ", of a device it is 18",
-            )
+            push_rule(alloc, out, 0, "bLength is ", first, DEVICE_SIZE)
         }
     }
 }
@@ -123,54 +123,19 @@ fn push_head(
     let total = word_of(bytes);
     match fault {
         DescriptorFault::Short => {
-            push_rule(
-                alloc,
-                out,
-                0,
-                "the text has ",
-                bytes.len(),
-                CONFIGURATION_SHORT,
-            )
+            push_rule(alloc, out, 0, "the text has ", bytes.len(), HEAD_SHORT)
         }
         DescriptorFault::WrongType => {
-            push_rule(
-                alloc,
-                out,
-                1,
-                "bDescriptorType is ",
-                kind,
-                ", of a configuration it is 2",
-            )
+            push_rule(alloc, out, 1, "bDescriptorType is ", kind, HEAD_TYPE)
         }
         DescriptorFault::Total => {
-            push_rule(
-                alloc,
-                out,
-                2,
-                "wTotalLength is ",
-                total,
-                ", it is at least 9",
-            )
+            push_rule(alloc, out, 2, "wTotalLength is ", total, HEAD_TOTAL)
         }
         DescriptorFault::NoConfiguration => {
-            push_rule(
-                alloc,
-                out,
-                5,
-                "bConfigurationValue is ",
-                value,
-                ", it is at least 1",
-            )
+            push_rule(alloc, out, 5, "bConfigurationValue is ", value, HEAD_VALUE)
         }
         DescriptorFault::Length | DescriptorFault::MaxPacket => {
-            push_rule(
-                alloc,
-                out,
-                0,
-                "bLength is ",
-                first,
-                ", of a configuration it is 9",
-            )
+            push_rule(alloc, out, 0, "bLength is ", first, HEAD_SIZE)
         }
     }
 }
