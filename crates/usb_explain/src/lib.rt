@@ -1,6 +1,6 @@
 //! A run's text with its requests in words.
 //!
-//! `explain` reads what `usbplan run` wrote, line by line, and writes each line again. Behind an
+//! `explain` reads what `usbplan run` wrote, line by line, and writes each line again. After an
 //! attempt that is a SETUP it writes the request in words. `Only` leaves out the other attempts.
 //! Nothing here takes memory.
 //!
