@@ -11,11 +11,11 @@ use Rattle.usb_device.specs.{reading, read, ending, writing, is_done, max_packet
 use Rattle.usb_device.specs.{toggle_at, State, Reply}
 use Rattle.usb_device.specs.{received, answered, unread, forgotten, accepted, payload, is_busy}
 use Rattle.usb_device.specs.{nak_row, unless_busy, gives, in_row, begun, data_row, token_row}
-use Rattle.usb_device.specs.{source_row, changes_row, held_row, in_other_row, in_bulk_row}
-use Rattle.usb_device.specs.{acknowledged, bulk_of, rest_of, Way, lost, heard, acked}
+use Rattle.usb_device.specs.{source_row, changes_row, held_row, in_other_row, in_end_row}
+use Rattle.usb_device.specs.{acknowledged, in_end, in_max, rest_of, Way, lost, heard, acked}
 use Rattle.usb_device.specs.{setup_exchange, out_exchange, in_exchange, setup_law, out_law, gave}
 use Rattle.usb_device.specs.{in_stage_law, source_law, changes_law, held_law, in_other_law}
-use Rattle.usb_device.specs.{in_bulk_law, in_control_law, in_law, is_own, through, is_whole}
+use Rattle.usb_device.specs.{in_end_law, in_control_law, in_law, is_own, through, is_whole}
 use Rattle.usb_device.specs.declared.answer.Answer.TheVariants.{Ack, Nak, Stall}
 use Rattle.usb_device.specs.declared.transfer.RememberedPacket.TheVariants.{Nothing, SetupSeen}
 use Rattle.usb_device.specs.declared.transfer.RememberedPacket.TheVariants.{OutSeen, AckAwaited}
@@ -117,8 +117,8 @@ rested_text d row t b t1 t2 = rested_through d row t b t2
 -- a request leaves nothing remembered
 begun-rests : (d : State) (row : List PortState) (n : ℕ) (o : Outcome)
     → forgotten (begun (forgotten d) row n o) ≡ begun (forgotten d) row n o
-begun-rests d row n (halts BulkOut) = refl
-begun-rests d row n (unhalts BulkOut) = refl
+begun-rests d row n (halts (BulkOut e)) = refl
+begun-rests d row n (unhalts (BulkOut e)) = refl
 begun-rests d row n o = refl
 
 pub setup_is : (d : State) (row : List PortState) (s : List ℕ) → d.spec.silent ≡ false
@@ -277,35 +277,27 @@ in_whole : (d : State) (row : List PortState) (max : ℕ) → d.spec.silent ≡ 
 in_whole d row max loud t2 t3 true = naks row max t2 t3 d
 in_whole d row max loud t2 t3 false = in_stage_is d row max loud t2 t3 d.stage
 
--- ---- IN of the bulk IN endpoint
+-- ---- IN of an endpoint that is served
 
-source_is : (d : State) (row : List PortState) (most max : ℕ) → d.spec.silent ≡ false
+source_is : (d : State) (row : List PortState) (e most max : ℕ) → d.spec.silent ≡ false
     → (t2 t3 : Way) (halted empty : Bool)
     → acked row max t2 t3 (if halted then (Some Stall, forgotten d) else if empty
-    then (Some Nak, forgotten d) else gives (forgotten d) by.Bulk d.bulk_in.toggle
-    (take most (rest_of d)))
+    then (Some Nak, forgotten d) else gives (forgotten d) (by.Bulk e) (in_end d e).state.toggle
+    (take most (rest_of d e)))
     ≡ (if halted then attempt_reply (heard t2 (Some Stall)) (forgotten d) else if empty
-    then attempt_reply (heard t2 (Some Nak)) (forgotten d) else gave (forgotten d) by.Bulk max
-    d.bulk_in.toggle (take most (rest_of d)) t2 t3)
-source_is d row most max loud t2 t3 true empty = stalls row max t2 t3 d
-source_is d row most max loud t2 t3 false true = acked-nak row max t2 t3 d
-source_is d row most max loud t2 t3 false false =
-    gave_is d row by.Bulk d.bulk_in.toggle (take most (rest_of d)) max loud t2 t3
+    then attempt_reply (heard t2 (Some Nak)) (forgotten d) else gave (forgotten d) (by.Bulk e) max
+    (in_end d e).state.toggle (take most (rest_of d e)) t2 t3)
+source_is d row e most max loud t2 t3 true empty = stalls row max t2 t3 d
+source_is d row e most max loud t2 t3 false true = acked-nak row max t2 t3 d
+source_is d row e most max loud t2 t3 false false =
+    gave_is d row (by.Bulk e) (in_end d e).state.toggle (take most (rest_of d e)) max loud t2 t3
 
-at_endpoint : (d : State) (row : List PortState) (most max : ℕ) → d.spec.silent ≡ false
-    → (t2 t3 : Way) (here : Bool)
-    → acked row max t2 t3 (if here then source_row (forgotten d) most else (None, forgotten d))
-    ≡ (if here then source_law (forgotten d) most max t2 t3 else attempt_reply None
-    (forgotten d))
-at_endpoint d row most max loud t2 t3 true = source_is d row most max loud t2 t3 d.bulk_in.halted
-    (length (rest_of d) == 0)
-at_endpoint d row most max loud t2 t3 false = acked-none row max t2 t3 (forgotten d)
-
-in_bulk_is : (d : State) (row : List PortState) (e max : ℕ) → d.spec.silent ≡ false
-    → (t2 t3 : Way) (end : Option (ℕ × ℕ)) → acked row max t2 t3 (in_bulk_row (forgotten d) e end)
-    ≡ in_bulk_law (forgotten d) e end max t2 t3
-in_bulk_is d row e max loud t2 t3 None = acked-none row max t2 t3 (forgotten d)
-in_bulk_is d row e max loud t2 t3 (Some end) = at_endpoint d row end.1 max loud t2 t3 (end.0 == e)
+in_end_is : (d : State) (row : List PortState) (e max : ℕ) → d.spec.silent ≡ false
+    → (t2 t3 : Way) (most : Option ℕ) → acked row max t2 t3 (in_end_row (forgotten d) e most)
+    ≡ in_end_law (forgotten d) e most max t2 t3
+in_end_is d row e max loud t2 t3 None = acked-none row max t2 t3 (forgotten d)
+in_end_is d row e max loud t2 t3 (Some most) =
+    source_is d row e most max loud t2 t3 (in_end d e).state.halted (length (rest_of d e) == 0)
 
 -- ---- IN 1 of a hub
 
@@ -339,11 +331,11 @@ changes_is d row max loud t2 t3 false = held_is d row max loud t2 t3 d.held
 
 in_other_is : (d : State) (row : List PortState) (e max : ℕ) → d.spec.silent ≡ false
     → (t2 t3 : Way) (hub : Bool)
-    → acked row max t2 t3 (if hub then changes_row (forgotten d) row else in_bulk_row (forgotten d)
-    e (bulk_of d true)) ≡ (if hub then changes_law (forgotten d) row max t2 t3
-    else in_bulk_law (forgotten d) e (bulk_of d true) max t2 t3)
+    → acked row max t2 t3 (if hub then changes_row (forgotten d) row else in_end_row (forgotten d)
+    e (in_max d e)) ≡ (if hub then changes_law (forgotten d) row max t2 t3
+    else in_end_law (forgotten d) e (in_max d e) max t2 t3)
 in_other_is d row e max loud t2 t3 true = changes_is d row max loud t2 t3 d.changes.halted
-in_other_is d row e max loud t2 t3 false = in_bulk_is d row e max loud t2 t3 (bulk_of d true)
+in_other_is d row e max loud t2 t3 false = in_end_is d row e max loud t2 t3 (in_max d e)
 
 acked-endpoint : (d : State) (row : List PortState) (e max : ℕ) → d.spec.silent ≡ false
     → (t2 t3 : Way) (zero : Bool)

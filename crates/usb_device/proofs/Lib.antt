@@ -4,6 +4,7 @@ pub mod Answers
 pub mod OwnOutcomes
 pub mod Hubs
 pub mod Endpoints
+pub mod RowsOfEnds
 pub mod Attempts
 pub mod Deliveries
 pub mod MarkedAddresses

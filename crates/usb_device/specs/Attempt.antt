@@ -14,7 +14,8 @@ use Rattle.usb_device.specs.declared.transfer.InEndpoint.TheVariants as by
 use Rattle.usb_port.specs.{PortState}
 use Rattle.usb_device.specs.Bulk.{tells_changes, change_bits}
 use Rattle.usb_device.specs.Rows.{State, Reply, received, unread, forgotten, accepted, payload}
-use Rattle.usb_device.specs.Rows.{is_busy, nak_row, data_row, acknowledged, bulk_of, rest_of}
+use Rattle.usb_device.specs.Rows.{is_busy, nak_row, data_row, acknowledged, in_end, in_max}
+use Rattle.usb_device.specs.Rows.{rest_of}
 
 -- how a packet comes: as it was sent, as bytes that spell none, or not at all
 pub data Way : Type 0 where
@@ -112,12 +113,12 @@ in_stage_law d read max t2 t3 = (None, d)
 in_stage_law d (ending a) max t2 t3 = gave d by.Control max One [] t2 t3
 in_stage_law d (writing w) max t2 t3 = write_status_law d w max t2 t3
 
--- IN of the bulk IN endpoint, whose packets have at most this many bytes
-abbrev pub source_law : State → ℕ → ℕ → Way → Way → Reply
-source_law d most max t2 t3 =
-    if d.bulk_in.halted then (heard t2 (Some Stall), d)
-    else if length (rest_of d) == 0 then (heard t2 (Some Nak), d)
-    else gave d by.Bulk max d.bulk_in.toggle (take most (rest_of d)) t2 t3
+-- IN of an endpoint whose packets have at most this many bytes
+abbrev pub source_law : State → ℕ → ℕ → ℕ → Way → Way → Reply
+source_law d e most max t2 t3 =
+    if (in_end d e).state.halted then (heard t2 (Some Stall), d)
+    else if length (rest_of d e) == 0 then (heard t2 (Some Nak), d)
+    else gave d (by.Bulk e) max (in_end d e).state.toggle (take most (rest_of d e)) t2 t3
 
 -- IN 1 of a configured hub with no byte that is still to be acknowledged
 abbrev pub new_changes_law : State → ℕ → ℕ → Way → Way → Reply
@@ -134,16 +135,15 @@ abbrev pub changes_law : State → List PortState → ℕ → Way → Way → Re
 changes_law d row max t2 t3 = if d.changes.halted then (heard t2 (Some Stall), d) else held_law d
     row d.held max t2 t3
 
--- IN of an endpoint that is neither endpoint 0 nor a hub's endpoint 1
-abbrev pub in_bulk_law : State → ℕ → Option (ℕ × ℕ) → ℕ → Way → Way → Reply
-in_bulk_law d e None max t2 t3 = (None, d)
-in_bulk_law d e (Some end) max t2 t3 = if end.0 == e then source_law d end.1 max t2 t3
-    else (None, d)
+-- IN of an endpoint that is neither endpoint 0 nor a hub's endpoint 1, by its maximum packet
+abbrev pub in_end_law : State → ℕ → Option ℕ → ℕ → Way → Way → Reply
+in_end_law d e None max t2 t3 = (None, d)
+in_end_law d e (Some most) max t2 t3 = source_law d e most max t2 t3
 
 -- IN of an endpoint that is not endpoint 0
 abbrev pub in_other_law : State → List PortState → ℕ → ℕ → Way → Way → Reply
 in_other_law d row e max t2 t3 = if e == 1 && tells_changes d.spec d.registers then changes_law d
-    row max t2 t3 else in_bulk_law d e (bulk_of d true) max t2 t3
+    row max t2 t3 else in_end_law d e (in_max d e) max t2 t3
 
 -- IN of endpoint 0: a NAK where the device is busy
 abbrev pub in_control_law : State → ℕ → Way → Way → Reply

@@ -63,6 +63,11 @@ abbrev pub is_end : ℕ → ℕ → Option (ℕ × ℕ) → Bool
 is_end index offset None = false
 is_end index offset (Some end) = end.0 + offset == index
 
+-- the number of an endpoint, if there is one
+abbrev pub end_number : Option (ℕ × ℕ) → ℕ
+end_number None = 0
+end_number (Some end) = end.0
+
 -- IN 1 of a configured hub tells which of its ports changed (11.12.1)
 abbrev pub tells_changes : Spec → Registers → Bool
 tells_changes s g = is_some s.hub && not (g.configuration == 0)
@@ -71,9 +76,15 @@ tells_changes s g = is_some s.hub && not (g.configuration == 0)
 abbrev pub served : Spec → Registers → ℕ → Option ServedEndpoint
 served s g index =
     if index == STATUS_ENDPOINT && tells_changes s g then Some Changes
-    else if is_end index 0 (bulk_at s g false) then Some BulkOut
-    else if is_end index DIRECTION_IN (bulk_at s g true) then Some BulkIn
+    else if is_end index 0 (bulk_at s g false) then Some (BulkOut (end_number (bulk_at s g false)))
+    else if is_end index DIRECTION_IN (bulk_at s g true)
+    then Some (BulkIn (end_number (bulk_at s g true)))
     else None
+
+-- the maximum packet of an endpoint, if its number is this one
+abbrev pub max_of : ℕ → Option (ℕ × ℕ) → Option ℕ
+max_of e None = None
+max_of e (Some end) = if end.0 == e then Some end.1 else None
 
 -- the place after another packet of at most max bytes of len
 abbrev pub advanced : ℕ → ℕ → ℕ → ℕ

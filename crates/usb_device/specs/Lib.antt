@@ -2,6 +2,7 @@ pub mod DeviceSpecs
 pub mod OwnRequests
 pub mod SaidLengths
 pub mod Bulk
+pub mod Ends
 pub mod ServedBulk
 pub mod Request
 pub mod Transfer
@@ -31,9 +32,12 @@ pub mod AloneAttempts
 pub use DeviceSpecs.{AreDevices, Hub, IsHub, IsSpec, Spec, agrees, function, has_hub_class}
 pub use DeviceSpecs.{hub_fits, is_named, names_differ, no_stalls, usual_hub}
 unfoldable pub use SaidLengths.{said_length, said_lengths}
-pub use Bulk.{advanced, bulk_at, bulk_in, changed_bit, count_down, halted, has_value, is_end}
-pub use Bulk.{is_last, rested, served, tells_changes, text_with, total_of, turned}
+pub use Bulk.{advanced, bulk_at, bulk_in, changed_bit, count_down, end_number, halted, has_value}
+pub use Bulk.{is_end}
+pub use Bulk.{is_last, max_of, rested, served, tells_changes, text_with, total_of, turned}
 unfoldable pub use Bulk.{change_bits}
+pub use Ends.{OutEnd, given_on, no_in, no_out, rested_in, rested_out, taken_on}
+unfoldable pub use Ends.{with_at}
 pub use ServedBulk.{AreServed}
 pub use OwnRequests.{bytes_given, fits, goes_so, is_or_any, is_to_host, own_bytes, own_place}
 pub use OwnRequests.{row_bytes}
@@ -49,9 +53,10 @@ pub use Transfer.{writes, writing, written_on}
 pub use Transfer.{Stage, ending, first_stage, idle, max_packet, packet_at, packet_count}
 pub use Transfer.{packets_joined, put_if, read, reading, reads, reads_port, refused, toggle_at}
 pub use Rows.{Reply, State, accepted, ack_row, acknowledged, after_memory, answered, awaits_control}
-pub use Rows.{begun, bulk_ack_row, bulk_of, bulk_sinks, changes_row, configured, data_row}
-pub use Rows.{endpoint_state, ends_with_address, forgotten, gives, held_row, in_bulk_row}
-pub use Rows.{in_other_row, in_row, is_busy, is_other_out, nak_row, new_changes_row, out_bulk_row}
+pub use Rows.{begun, bulk_of, changes_row, configured, data_row, end_sinks}
+pub use Rows.{endpoint_state, ends_with_address, forgotten, gives, held_row, in_ack_row}
+pub use Rows.{in_end, in_end_row, in_max, out_end, out_end_row, out_max, with_in, with_out}
+pub use Rows.{in_other_row, in_row, is_busy, is_other_out, nak_row, new_changes_row}
 pub use Rows.{out_row, packet_sinks, payload, payload_row, payload_sinks, rest_of, setup_row}
 pub use Rows.{sink_grows, sink_row, sinks, source_row, status_row, sunk, token_row, unless_busy}
 pub use Rows.{out_sinks, stage_takes, with_endpoint_state, with_endpoints, write_row}
@@ -79,8 +84,8 @@ pub use ReceivedBytes.{Answers, AnswersPacket, GrowsBy, after_receiving, answer_
 pub use ReceivedBytes.{received_by}
 pub use AnswerPids.{Room, answer_from_pid, answer_with}
 pub use Hearings.{heard_with, pid_heard}
-pub use Attempt.{Way, acked, changes_law, gave, heard, held_law, in_bulk_law, in_control_law}
-pub use Attempt.{in_exchange, in_law, in_other_law, in_stage_law, is_good, is_own, is_whole, lost}
+pub use Attempt.{Way, acked, changes_law, gave, heard, held_law, in_control_law}
+pub use Attempt.{in_end_law, in_exchange, in_law, in_other_law, in_stage_law, is_good, is_own, is_whole, lost}
 pub use Attempt.{new_changes_law, out_exchange, out_law, sends, setup_exchange, setup_law}
 pub use Attempt.{source_law, through, write_status_law}
 pub use PacketFrames.{Keeps, is_ack, is_data}
@@ -89,7 +94,8 @@ pub use Loans.{LendsInner, LendsPlace, holding, with_device, with_device_on}
 pub use StrayPackets.{awaits_ack, awaits_data, concerns, is_for, is_token}
 unfoldable pub use StrayPackets.{concerns_some}
 pub use Progress.{IsPacketOf, OnlyWrite, WriteAt, WriteEnded, WriteOn, WriteStatusOn, WritingAt}
-pub use Progress.{IsRead, IsSink, IsSource, Joined, NeverTold, OnlyChanges, OnlyControl, OnlySink}
+pub use Progress.{IsRead, IsSink, IsSource, Joined, NeverTold, NothingMoved, OnlyChanges}
+pub use Progress.{OnlyControl, OnlySink}
 pub use Progress.{OnlySource, OnlyStage, PollAt, PollOn, ReadOn, ReadingAt, SinkAt, SinkOn}
 pub use Progress.{SourceAt, SourceOn, StatusGiven, StatusOn, ToldByte, address_then, ahead, level}
 pub use Progress.{seen, taken_of, told, unseen}
@@ -120,6 +126,7 @@ pub use declared.delivery.Heard.{Heard}
 pub use declared.delivery.Sent.{Sent}
 pub use declared.effect.Effect.{Effect}
 pub use declared.effect.Effect.TheVariants.{Calls, Leaves, PortsOff}
+pub use declared.ends.InEnd.{InEnd}
 pub use declared.hearing.HeardPid.{HeardPid}
 pub use declared.holders.Holder.{Holder}
 pub use declared.own_request.OwnAnswer.{OwnAnswer}

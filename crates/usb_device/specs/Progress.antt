@@ -10,7 +10,7 @@ use Rattle.usb_device.specs.declared.answer.Answer.TheVariants.{Ack, Nak, Stall,
 use Rattle.usb_device.specs.Bulk.{advanced, tells_changes}
 use Rattle.usb_device.specs.Transfer.{reading, read, ending, idle, max_packet, packet_at, Write}
 use Rattle.usb_device.specs.Transfer.{writing, written_on, taken_with, is_done}
-use Rattle.usb_device.specs.Rows.{State, bulk_of}
+use Rattle.usb_device.specs.Rows.{State, in_end, in_max, out_end, out_max}
 
 -- what a host that awaits a toggle takes of an answer: its bytes, where they have the toggle and
 -- are at most max
@@ -95,49 +95,53 @@ pub record IsPacketOf (w : Write) (bytes : List ℕ) : Type 0 where
   pub some : 1 ≤ length bytes
   pub within : length w.got + length bytes ≤ w.wanted
 
--- The bulk IN endpoint (5.8)
+-- An IN endpoint besides endpoint 0 (5.8)
 
--- this is the number of the bulk IN endpoint and the most bytes of its packets
+-- this is the number of an IN endpoint that is served, and the most bytes of its packets
 pub record IsSource (e most : ℕ) (s : State) : Type 0 where
-  pub endpoint : bulk_of s true ≡ Some (e, most)
+  pub endpoint : in_max s e ≡ Some most
   pub not_zero : (e == 0) ≡ false
   pub alone : (e == 1 && tells_changes s.spec s.registers) ≡ false
 
--- the host has got this many bytes of the source, and awaits a toggle
-pub data SourceAt (most : ℕ) (got : ℕ) (t : Toggle) (s : State) : Type 0 where
-  level : s.place ≡ got → s.bulk_in.toggle ≡ t → SourceAt most got t s
-  ahead : got ≡ advanced s.place most (length s.spec.source) → s.place < length s.spec.source
-      → s.bulk_in.toggle ≡ other t → SourceAt most got t s
+-- the host has got this many bytes of its source, and awaits a toggle
+pub data SourceAt (e most : ℕ) (got : ℕ) (t : Toggle) (s : State) : Type 0 where
+  level : (in_end s e).place ≡ got → (in_end s e).state.toggle ≡ t → SourceAt e most got t s
+  ahead : got ≡ advanced (in_end s e).place most (length s.spec.source)
+      → (in_end s e).place < length s.spec.source → (in_end s e).state.toggle ≡ other t
+      → SourceAt e most got t s
 
-abbrev pub SourceOn : ℕ → ℕ → Toggle → State → Option (List ℕ) → State → Type 0
-SourceOn most got t s None s' = SourceAt most got t s'
-SourceOn most got t s (Some bytes) s' = (bytes ≡ take most (drop got s.spec.source)) × (bytes ≢ [])
-    × SourceAt most (advanced got most (length s.spec.source)) (other t) s'
+abbrev pub SourceOn : ℕ → ℕ → ℕ → Toggle → State → Option (List ℕ) → State → Type 0
+SourceOn e most got t s None s' = SourceAt e most got t s'
+SourceOn e most got t s (Some bytes) s' = (bytes ≡ take most (drop got s.spec.source))
+    × (bytes ≢ [])
+    × SourceAt e most (advanced got most (length s.spec.source)) (other t) s'
 
--- The bulk OUT endpoint (5.8)
+-- An OUT endpoint besides endpoint 0 (5.8)
 
 pub record IsSink (e most : ℕ) (s : State) : Type 0 where
-  pub endpoint : bulk_of s false ≡ Some (e, most)
+  pub endpoint : out_max s e ≡ Some most
   pub not_zero : (e == 0) ≡ false
 
--- a packet is being sent with a toggle to a device that had taken these bytes before: it has not
+-- a packet is being sent with a toggle to an endpoint that had taken these bytes before: it has not
 -- joined them, or it has, and the
 -- host has not seen the ACK
-pub data SinkAt (before bytes : List ℕ) (t : Toggle) (s : State) : Type 0 where
-  level : s.sink ≡ before → s.bulk_out.toggle ≡ t → SinkAt before bytes t s
-  ahead : s.sink ≡ before ++ bytes → s.bulk_out.toggle ≡ other t → SinkAt before bytes t s
+pub data SinkAt (e : ℕ) (before bytes : List ℕ) (t : Toggle) (s : State) : Type 0 where
+  level : (out_end s e).sink ≡ before → (out_end s e).state.toggle ≡ t → SinkAt e before bytes t s
+  ahead : (out_end s e).sink ≡ before ++ bytes → (out_end s e).state.toggle ≡ other t
+      → SinkAt e before bytes t s
 
--- the packet is among what the device took, which it was once
-pub record Joined (before bytes : List ℕ) (t : Toggle) (s : State) : Type 0 where
-  pub sink : s.sink ≡ before ++ bytes
-  pub toggle : s.bulk_out.toggle ≡ other t
+-- the packet is among what the endpoint took, which it was once
+pub record Joined (e : ℕ) (before bytes : List ℕ) (t : Toggle) (s : State) : Type 0 where
+  pub sink : (out_end s e).sink ≡ before ++ bytes
+  pub toggle : (out_end s e).state.toggle ≡ other t
 
-abbrev pub SinkOn : List ℕ → List ℕ → Toggle → Option Answer → State → Type 0
-SinkOn before bytes t None s' = SinkAt before bytes t s'
-SinkOn before bytes t (Some Ack) s' = Joined before bytes t s'
-SinkOn before bytes t (Some Nak) s' = ⊥
-SinkOn before bytes t (Some Stall) s' = SinkAt before bytes t s' × (s'.bulk_out.halted ≡ true)
-SinkOn before bytes t (Some (Data u b)) s' = ⊥
+abbrev pub SinkOn : ℕ → List ℕ → List ℕ → Toggle → Option Answer → State → Type 0
+SinkOn e before bytes t None s' = SinkAt e before bytes t s'
+SinkOn e before bytes t (Some Ack) s' = Joined e before bytes t s'
+SinkOn e before bytes t (Some Nak) s' = ⊥
+SinkOn e before bytes t (Some Stall) s' = SinkAt e before bytes t s'
+    × ((out_end s' e).state.halted ≡ true)
+SinkOn e before bytes t (Some (Data u b)) s' = ⊥
 
 -- IN 1 of a configured hub (11.12.3)
 
@@ -195,16 +199,21 @@ OnlyWrite s s' = s' ≡ record s {
 abbrev pub OnlyStage : State → State → Type 0
 OnlyStage s s' = s' ≡ record s { memory = s'.memory; naks = s'.naks; stage = s'.stage }
 
-abbrev pub OnlySource : State → State → Type 0
-OnlySource s s' = s' ≡ record s { memory = s'.memory; bulk_in = s'.bulk_in; place = s'.place }
+-- IN of an endpoint besides endpoint 0: no other endpoint changes
+pub record OnlySource (e : ℕ) (s s' : State) : Type 0 where
+  pub rest : s' ≡ record s { memory = s'.memory; ins = s'.ins }
+  pub others : (a : ℕ) → (a == e) ≡ false → in_end s' a ≡ in_end s a
 
-abbrev pub OnlySink : State → State → Type 0
-OnlySink s s' = s' ≡ record s {
-  memory = s'.memory;
-  bulk_out = s'.bulk_out;
-  sink = s'.sink;
-  until_halt = s'.until_halt;
-}
+-- OUT of one
+pub record OnlySink (e : ℕ) (s s' : State) : Type 0 where
+  pub rest : s' ≡ record s { memory = s'.memory; outs = s'.outs }
+  pub others : (a : ℕ) → (a == e) ≡ false → out_end s' a ≡ out_end s a
+
+-- endpoints may halt, or begin again; what each took and gave stays
+pub record NothingMoved (s s' : State) : Type 0 where
+  pub taken : (e : ℕ) → ((out_end s' e).sink ≡ (out_end s e).sink)
+      × ((out_end s' e).until_halt ≡ (out_end s e).until_halt)
+  pub given : (e : ℕ) → (in_end s' e).place ≡ (in_end s e).place
 
 abbrev pub OnlyChanges : State → State → Type 0
 OnlyChanges s s' = s' ≡ record s { memory = s'.memory; changes = s'.changes; held = s'.held }

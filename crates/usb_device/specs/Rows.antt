@@ -1,7 +1,7 @@
 -- What a device answers to each packet, and what it is then (8.5).
 use Rattle.std.specs.Prelude.{ℕ, true, false, ◌+◌, ◌-◌, ◌==◌, nat_lt, not, ◌++◌, take, drop}
 use Rattle.std.specs.Prelude.{if◌then◌else◌, ◌&&◌, ◌||◌, Bool, List, [], ◌∷◌, length, Option, None}
-use Rattle.std.specs.Prelude.{Some, is_some}
+use Rattle.std.specs.Prelude.{Some, is_some, map, replicate, get_or}
 use Rattle.usb_packet.specs.{TokenKind, OutTok, InTok, SetupTok, Toggle, Zero, One, Packet, Token}
 use Rattle.usb_packet.specs.{Payload, other, is_same}
 use Rattle.usb_packet.specs.declared.Packet.TheVariants as packet
@@ -19,8 +19,11 @@ use Rattle.usb_device.specs.declared.bulk.ServedEndpoint.{ServedEndpoint}
 use Rattle.usb_device.specs.declared.bulk.ServedEndpoint.TheVariants.{BulkOut, BulkIn, Changes}
 use Rattle.usb_port.specs.{PortState}
 use Rattle.usb_device.specs.DeviceSpecs.{Spec}
-use Rattle.usb_device.specs.Bulk.{rested, turned, halted, count_down, is_last, bulk_at, advanced}
-use Rattle.usb_device.specs.Bulk.{tells_changes, change_bits}
+use Rattle.usb_device.specs.declared.ends.InEnd.{InEnd}
+use Rattle.usb_device.specs.Bulk.{rested, turned, halted, bulk_at}
+use Rattle.usb_device.specs.Bulk.{max_of, tells_changes, change_bits}
+use Rattle.usb_device.specs.Ends.{OutEnd, no_out, no_in, rested_out, rested_in, with_at, taken_on}
+use Rattle.usb_device.specs.Ends.{given_on}
 use Rattle.usb_device.specs.Request.{Outcome, stalled, answers, takes_address, takes_configuration}
 use Rattle.usb_device.specs.Request.{halts, unhalts, tells_port, calls_port, outcome}
 use Rattle.usb_device.specs.Request.{answers_taken, takes}
@@ -39,17 +42,12 @@ pub record State : Type 0 where
   -- how many NAKs are still to be given in this transfer
   pub naks : ℕ
   pub stage : Stage
-  pub bulk_out : EndpointState
-  pub bulk_in : EndpointState
+  -- the OUT and the IN endpoints, by their numbers
+  pub outs : List OutEnd
+  pub ins : List InEnd
   -- IN 1 of a hub: its state, and the byte that was given and not yet acknowledged
   pub changes : EndpointState
   pub held : Option ℕ
-  -- what bulk OUT has taken since the plug
-  pub sink : List ℕ
-  -- how many packets bulk OUT is still to take until it halts
-  pub until_halt : Option ℕ
-  -- how many bytes of the source the host has acknowledged
-  pub place : ℕ
   -- what control writes have brought since the plug
   pub taken : List ℕ
 
@@ -63,14 +61,28 @@ payload t bytes = Data t (record { items = bytes })
 abbrev pub forgotten : State → State
 forgotten d = record d { memory = Nothing }
 
+-- the endpoint of a direction with this number
+abbrev pub out_end : State → ℕ → OutEnd
+out_end d e = get_or d.outs e no_out
+
+abbrev pub in_end : State → ℕ → InEnd
+in_end d e = get_or d.ins e no_in
+
+-- the device with another one there
+abbrev pub with_out : State → ℕ → OutEnd → State
+with_out d e end = record d { outs = with_at no_out e end d.outs }
+
+abbrev pub with_in : State → ℕ → InEnd → State
+with_in d e end = record d { ins = with_at no_in e end d.ins }
+
 abbrev pub endpoint_state : State → ServedEndpoint → EndpointState
-endpoint_state d BulkOut = d.bulk_out
-endpoint_state d BulkIn = d.bulk_in
+endpoint_state d (BulkOut e) = (out_end d e).state
+endpoint_state d (BulkIn e) = (in_end d e).state
 endpoint_state d Changes = d.changes
 
 abbrev pub with_endpoint_state : State → ServedEndpoint → EndpointState → State
-with_endpoint_state d BulkOut state = record d { bulk_out = state }
-with_endpoint_state d BulkIn state = record d { bulk_in = state }
+with_endpoint_state d (BulkOut e) state = with_out d e (record (out_end d e) { state = state })
+with_endpoint_state d (BulkIn e) state = with_in d e (record (in_end d e) { state = state })
 with_endpoint_state d Changes state = record d { changes = state }
 
 -- what a request makes of the endpoints (9.1.1.5, 9.4.5)
@@ -79,8 +91,8 @@ with_endpoints d stalled = d
 with_endpoints d (answers bytes) = d
 with_endpoints d (takes_address a) = d
 with_endpoints d (takes_configuration c) = record d {
-  bulk_out = rested;
-  bulk_in = rested;
+  outs = map rested_out d.outs;
+  ins = map rested_in d.ins;
   changes =
       rested;
   held = None;
@@ -195,24 +207,29 @@ ack_row d stage = d
 abbrev pub bulk_of : State → Bool → Option (ℕ × ℕ)
 bulk_of d is_in = bulk_at d.spec d.registers is_in
 
--- what is left of the source
-abbrev pub rest_of : State → List ℕ
-rest_of d = drop d.place d.spec.source
+-- the maximum packet of the endpoint with this number, if it is served
+abbrev pub out_max : State → ℕ → Option ℕ
+out_max d e = max_of e (bulk_of d false)
 
--- bulk IN: the next bytes of the source
-abbrev pub source_row : State → ℕ → Reply
-source_row d max =
-    if d.bulk_in.halted then (Some Stall, d)
-    else if length (rest_of d) == 0 then (Some Nak, d)
-    else gives d by.Bulk d.bulk_in.toggle (take max (rest_of d))
+abbrev pub in_max : State → ℕ → Option ℕ
+in_max d e = max_of e (bulk_of d true)
 
--- the host's ACK of what bulk IN gave
-abbrev pub bulk_ack_row : State → Option (ℕ × ℕ) → State
-bulk_ack_row d None = d
-bulk_ack_row d (Some end) = record d {
-  place = advanced d.place end.1 (length d.spec.source);
-  bulk_in = turned d.bulk_in;
-}
+-- what is left of the source of an IN endpoint
+abbrev pub rest_of : State → ℕ → List ℕ
+rest_of d e = drop (in_end d e).place d.spec.source
+
+-- IN of an endpoint: the next bytes of its source
+abbrev pub source_row : State → ℕ → ℕ → Reply
+source_row d e max =
+    if (in_end d e).state.halted then (Some Stall, d)
+    else if length (rest_of d e) == 0 then (Some Nak, d)
+    else gives d (by.Bulk e) (in_end d e).state.toggle (take max (rest_of d e))
+
+-- the host's ACK of what an endpoint gave
+abbrev pub in_ack_row : State → ℕ → Option ℕ → State
+in_ack_row d e None = d
+in_ack_row d e (Some max) =
+    with_in d e (given_on max (length d.spec.source) (in_end d e))
 
 -- IN 1 of a configured hub with no byte that is still to be acknowledged: the ports with a change
 abbrev pub new_changes_row : State → ℕ → Reply
@@ -231,48 +248,44 @@ changes_row d row = if d.changes.halted then (Some Stall, d) else held_row d row
 -- the host's ACK of what was given
 abbrev pub acknowledged : State → InEndpoint → State
 acknowledged d by.Control = ack_row d d.stage
-acknowledged d by.Bulk = bulk_ack_row d (bulk_of d true)
+acknowledged d (by.Bulk e) = in_ack_row d e (in_max d e)
 acknowledged d by.Changes = record d { changes = turned d.changes; held = None }
 
--- a packet joins the sink
-abbrev pub sunk : State → List ℕ → State
-sunk d bytes = record d {
-  sink = d.sink ++ bytes;
-  bulk_out = record { toggle = other d.bulk_out.toggle; halted = is_last d.until_halt };
-  until_halt = count_down d.until_halt;
-}
+-- a packet joins the sink of an endpoint
+abbrev pub sunk : State → ℕ → List ℕ → State
+sunk d e bytes = with_out d e (taken_on bytes (out_end d e))
 
--- bulk OUT
-abbrev pub sink_row : State → ℕ → Toggle → List ℕ → Reply
-sink_row d max t bytes =
-    if d.bulk_out.halted then (Some Stall, d)
+-- OUT of an endpoint
+abbrev pub sink_row : State → ℕ → ℕ → Toggle → List ℕ → Reply
+sink_row d e max t bytes =
+    if (out_end d e).state.halted then (Some Stall, d)
     else if nat_lt max (length bytes) then (None, d)
-    else if is_same t d.bulk_out.toggle then (Some Ack, sunk d bytes)
+    else if is_same t (out_end d e).state.toggle then (Some Ack, sunk d e bytes)
     else (Some Ack, d)
 
 -- the packet makes the sink grow
-abbrev pub sinks : State → ℕ → Toggle → List ℕ → Bool
-sinks d max t bytes = not d.bulk_out.halted && not (nat_lt max (length bytes)) &&
-    is_same t d.bulk_out.toggle
+abbrev pub sinks : State → ℕ → ℕ → Toggle → List ℕ → Bool
+sinks d e max t bytes = not (out_end d e).state.halted && not (nat_lt max (length bytes)) &&
+    is_same t (out_end d e).state.toggle
 
--- IN of an endpoint that is neither endpoint 0 nor a hub's endpoint 1
-abbrev pub in_bulk_row : State → ℕ → Option (ℕ × ℕ) → Reply
-in_bulk_row d e None = (None, d)
-in_bulk_row d e (Some end) = if end.0 == e then source_row d end.1 else (None, d)
+-- IN of an endpoint that is neither endpoint 0 nor a hub's endpoint 1, by its maximum packet
+abbrev pub in_end_row : State → ℕ → Option ℕ → Reply
+in_end_row d e None = (None, d)
+in_end_row d e (Some max) = source_row d e max
 
--- OUT of an endpoint that is not endpoint 0
-abbrev pub out_bulk_row : State → ℕ → Option (ℕ × ℕ) → Toggle → List ℕ → Reply
-out_bulk_row d e None t bytes = (None, d)
-out_bulk_row d e (Some end) t bytes = if end.0 == e then sink_row d end.1 t bytes else (None, d)
+-- OUT of an endpoint that is not endpoint 0, by its maximum packet
+abbrev pub out_end_row : State → ℕ → Option ℕ → Toggle → List ℕ → Reply
+out_end_row d e None t bytes = (None, d)
+out_end_row d e (Some max) t bytes = sink_row d e max t bytes
 
-abbrev pub bulk_sinks : State → ℕ → Option (ℕ × ℕ) → Toggle → List ℕ → Bool
-bulk_sinks d e None t bytes = false
-bulk_sinks d e (Some end) t bytes = end.0 == e && sinks d end.1 t bytes
+abbrev pub end_sinks : State → ℕ → Option ℕ → Toggle → List ℕ → Bool
+end_sinks d e None t bytes = false
+end_sinks d e (Some max) t bytes = sinks d e max t bytes
 
 -- IN of an endpoint that is not endpoint 0
 abbrev pub in_other_row : State → List PortState → ℕ → Reply
 in_other_row d row e = if e == 1 && tells_changes d.spec d.registers then changes_row d row
-    else in_bulk_row d e (bulk_of d true)
+    else in_end_row d e (in_max d e)
 
 -- a token for this device
 abbrev pub token_row : State → List PortState → TokenKind → ℕ → Reply
@@ -282,8 +295,8 @@ token_row d row InTok e = if e == 0 then unless_busy d (in_row d d.stage) else i
 
 -- data after an OUT token
 abbrev pub data_row : State → ℕ → Toggle → List ℕ → Reply
-data_row d e t bytes = if e == 0 then unless_busy d (out_row d d.stage t bytes) else out_bulk_row d
-    e (bulk_of d false) t bytes
+data_row d e t bytes = if e == 0 then unless_busy d (out_row d d.stage t bytes) else out_end_row d
+    e (out_max d e) t bytes
 
 -- setup data
 abbrev pub setup_row : State → List PortState → List ℕ → Reply
@@ -299,7 +312,7 @@ payload_row d row m t bytes = (None, d)
 -- data are taken by a control write or by the sink, which wants memory
 abbrev pub out_sinks : State → ℕ → Toggle → List ℕ → Bool
 out_sinks d e t bytes = if e == 0 then not (is_busy d) && stage_takes d d.stage t bytes
-    else bulk_sinks d e (bulk_of d false) t bytes
+    else end_sinks d e (out_max d e) t bytes
 
 abbrev pub payload_sinks : State → RememberedPacket → Toggle → List ℕ → Bool
 payload_sinks d (OutSeen e) t bytes = out_sinks d e t bytes
@@ -348,19 +361,15 @@ fresh s = record {
       Nothing;
   naks = 0;
   stage = idle;
-  bulk_out = rested;
-  bulk_in = rested;
+  outs = replicate 16 (record no_out { until_halt = s.halt_after });
+  ins = replicate 16 no_in;
   changes = rested;
   held =
       None;
-  sink = [];
-  until_halt = s.halt_after;
-  place = 0;
   taken = [];
 }
 
--- a bus reset (9.1.1.3); what bulk OUT and control writes have taken, what is left of the source
--- and the count until the halt stay
+-- a bus reset (9.1.1.3); the endpoints besides endpoint 0, and what control writes have taken, stay
 unfoldable pub reset_state : State → State
 reset_state d = record d {
   registers = record { address = 0; configuration = 0 };

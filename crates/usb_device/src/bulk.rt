@@ -3,9 +3,10 @@
 ghost use Rattle.std.specs.Prelude.{◌≡◌, ◌≤◌};
 ghost use Rattle.std.specs.Option.{IfSome};
 ghost use Rattle.usb_descriptor.specs.Choice.{IsUsable};
-ghost use Rattle.usb_device.specs.Bulk.{turned, halted, count_down, is_last, text_with, total_of, bulk_in, bulk_at, is_end, served, advanced, tells_changes};
+ghost use Rattle.usb_device.specs.Bulk.{turned, halted, count_down, is_last, text_with, total_of, bulk_in, bulk_at, is_end, end_number, served, advanced, tells_changes};
 ghost use Rattle.usb_device.specs.ServedBulk.{AreServed};
 
+use crate::ends::EndpointNumber;
 use crate::lists::Bytes;
 use crate::request::{Registers, has_value};
 use crate::spec::DeviceSpec;
@@ -31,10 +32,10 @@ pub const RESTED: EndpointState = EndpointState {
 /// An endpoint besides endpoint 0, as a request names it.
 #[derive(Clone, Copy, Debug)]
 pub enum ServedEndpoint {
-    /// The bulk OUT endpoint.
-    BulkOut,
-    /// The bulk IN endpoint.
-    BulkIn,
+    /// The bulk OUT endpoint with this number.
+    BulkOut(EndpointNumber),
+    /// The bulk IN endpoint with this number.
+    BulkIn(EndpointNumber),
     /// IN 1 of a hub.
     Changes,
 }
@@ -168,6 +169,17 @@ fn is_end(index: u16, offset: u16, end: Option<(u8, u8)>) -> bool
     }
 }
 
+/// The number of an endpoint, if there is one.
+pub(crate) fn number_of(end: Option<(u8, u8)>) -> EndpointNumber
+    requires { IfSome end IsUsable }
+    ensures { result ≡ end_number end }
+{
+    match end {
+        None => EndpointNumber::new(0),
+        Some((number, _)) => EndpointNumber::new(number),
+    }
+}
+
 /// Whether IN 1 reports which ports changed (11.12.1): it does of a configured hub.
 pub fn tells_changes(spec: &DeviceSpec, registers: Registers) -> bool
     ensures { result ≡ tells_changes spec.now registers }
@@ -180,15 +192,13 @@ pub fn served(spec: &DeviceSpec, registers: Registers, index: u16) -> Option<Ser
     ensures { result ≡ served spec.now registers index }
 {
     if index == u16::from(STATUS_ENDPOINT) && tells_changes(spec, registers) {
-        Some(ServedEndpoint::Changes)
-    } else if is_end(index, 0, bulk_at(spec, registers, false)) {
-        Some(ServedEndpoint::BulkOut)
-    } else if is_end(
-        index,
-        u16::from(DIRECTION_IN),
-        bulk_at(spec, registers, true),
-    ) {
-        Some(ServedEndpoint::BulkIn)
+        return Some(ServedEndpoint::Changes);
+    }
+    let served = bulk_endpoints(spec, registers);
+    if is_end(index, 0, served.bulk_out) {
+        Some(ServedEndpoint::BulkOut(number_of(served.bulk_out)))
+    } else if is_end(index, u16::from(DIRECTION_IN), served.bulk_in) {
+        Some(ServedEndpoint::BulkIn(number_of(served.bulk_in)))
     } else {
         None
     }

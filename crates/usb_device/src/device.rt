@@ -2,13 +2,14 @@
 ghost use Rattle.std.specs.Prelude.{◌≡◌, ◌≤◌, ◌&&◌, not, length, None, IfOk, OnErr, true, is_some, option_map};
 ghost use Rattle.std.specs.Option.{option_copied};
 ghost use Rattle.usb_port.specs.PortStates.{status_of};
-ghost use Rattle.usb_device.specs.Rows.{sink_grows, awaits_address, ends_with_address, is_busy};
+ghost use Rattle.usb_device.specs.Rows.{sink_grows, awaits_address, ends_with_address, is_busy, out_end};
 ghost use Rattle.usb_device.specs.Tree.{new_device, first_ports, reset_whole, row_of, numbered, acted, child_of, with_child, without_child};
 ghost use Rattle.usb_device.specs.AnswerPids.{answer_with};
 ghost use Rattle.usb_device.specs.ReceivedBytes.{AnswersPacket, GrowsBy, received_by};
 
 use crate::answer::{AnswerPid, spelled};
 use crate::effect::Effect;
+use crate::ends::EndpointNumber;
 use crate::own::FunctionState;
 use crate::ports::Ports;
 use crate::spec::DeviceSpec;
@@ -82,11 +83,11 @@ impl Device {
         self.own.configuration()
     }
 
-    /// All bytes that its bulk OUT endpoint has taken since it was plugged.
-    pub fn sink(&self) -> &[u8]
-        ensures { result.now ≡ self.now.own.sink }
+    /// All bytes that the OUT endpoint with a number has taken since it was plugged.
+    pub fn sink(&self, number: EndpointNumber) -> &[u8]
+        ensures { result.now ≡ (out_end self.now.own number).sink }
     {
-        self.own.sink()
+        self.own.sink(number)
     }
 
     /// All bytes that control writes have brought since it was plugged, and that it kept.
@@ -120,8 +121,8 @@ impl Device {
     }
 
     /// A bus reset (9.1.1.3): the device has no address, no configuration and no transfer, and all
-    /// its ports are off. What its bulk OUT endpoint has taken stays, and so do its place in its
-    /// source and the count until it halts.
+    /// its ports are off. What its endpoints besides endpoint 0 took and gave stays, and so do their
+    /// states.
     pub fn reset(&mut self)
         ensures { self.new ≡ reset_whole self.old }
     {

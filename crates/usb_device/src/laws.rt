@@ -12,12 +12,12 @@ ghost use Rattle.usb_device.specs.declared.answer.Answer.TheVariants.{Ack, Stall
 ghost use Rattle.usb_device.specs.declared.delivery.Sent.{Sent};
 ghost use Rattle.usb_device.specs.declared.delivery.Content.TheVariants.{Whole, Broken};
 ghost use Rattle.usb_device.specs.Transfer.{packet_at, packets_joined, toggle_at, Write};
-ghost use Rattle.usb_device.specs.Rows.{State, forgotten};
+ghost use Rattle.usb_device.specs.Rows.{State, forgotten, in_end, out_end};
 ghost use Rattle.usb_device.specs.Tree.{Ports as TreePorts};
 ghost use Rattle.usb_device.specs.Delivery.{after_packet, all_forgotten, answers, held_addresses, has};
 ghost use Rattle.usb_device.specs.StrayPackets.{is_token, concerns_some};
 ghost use Rattle.usb_device.specs.Attempt.{Way, setup_exchange, setup_law, out_exchange, out_law, in_exchange, in_law};
-ghost use Rattle.usb_device.specs.Progress.{taken_of, ReadingAt, ReadOn, IsPacketOf, OnlyWrite, WritingAt, WriteAt, WriteOn, WriteStatusOn, IsSource, SourceAt, SourceOn, IsSink, SinkAt, SinkOn};
+ghost use Rattle.usb_device.specs.Progress.{taken_of, ReadingAt, ReadOn, IsPacketOf, OnlyWrite, WritingAt, WriteAt, WriteOn, WriteStatusOn, IsSource, OnlySource, SourceAt, SourceOn, IsSink, OnlySink, SinkAt, SinkOn};
 
 /// A whole attempt with a device that remembers nothing, each packet of it coming or not.
 #[tactic(auto, using(crate::proofs::Attempts::attempts))]
@@ -102,33 +102,43 @@ pub fn control_write_goes_on()
         × ((in_law s row 0 max t1 t2 t3).1.registers ≡ s.registers) }
 {}
 
-/// IN of the bulk IN endpoint (5.8): each byte of the source comes once, in order, whatever is
-/// lost.
+/// IN of an endpoint besides endpoint 0 (5.8): each byte of its source comes once, in order,
+/// whatever is lost.
 #[tactic(auto, using(crate::proofs::progress::BulkProgress::sources))]
 pub fn source_goes_on()
     ensures source { (e most got : ℕ) (t : Toggle) (s : State)
-        → IsSource e most s → 1 ≤ most → SourceAt most got t s
+        → IsSource e most s → 1 ≤ most → SourceAt e most got t s
         → (row : List PortState) (max : ℕ) (t1 t2 t3 : Way)
-        → SourceOn most got t s (taken_of t max (in_law s row e max t1 t2 t3).0)
+        → SourceOn e most got t s (taken_of t max (in_law s row e max t1 t2 t3).0)
         (in_law s row e max t1 t2 t3).1 }
     // STALL is answered only where the endpoint is halted, and a halted one changes nothing.
     ensures stalled { (e most : ℕ) (s : State)
         → IsSource e most s → (row : List PortState) (max : ℕ) (t1 t2 t3 : Way)
-        → (in_law s row e max t1 t2 t3).0 ≡ Some Stall → s.bulk_in.halted ≡ true }
+        → (in_law s row e max t1 t2 t3).0 ≡ Some Stall → (in_end s e).state.halted ≡ true }
     ensures halted { (e most : ℕ) (s : State)
-        → IsSource e most s → s.bulk_in.halted ≡ true
+        → IsSource e most s → (in_end s e).state.halted ≡ true
         → (row : List PortState) (max : ℕ) (t1 t2 t3 : Way)
         → (in_law s row e max t1 t2 t3).1 ≡ s }
+    // No other endpoint changes.
+    ensures frame { (e most : ℕ) (s : State)
+        → IsSource e most s → (row : List PortState) (max : ℕ) (t1 t2 t3 : Way)
+        → OnlySource e s (in_law s row e max t1 t2 t3).1 }
 {}
 
-/// OUT of the bulk OUT endpoint (5.8): what is acknowledged joined the sink once, whatever is lost.
+/// OUT of an endpoint besides endpoint 0 (5.8): what is acknowledged joined its sink once, whatever
+/// is lost.
 pub fn sink_goes_on()
     ensures sink { (e most : ℕ) (before bytes : List ℕ) (t : Toggle) (s : State)
-        → IsSink e most s → length bytes ≤ most → SinkAt before bytes t s → (t1 t2 t3 : Way)
-        → SinkOn before bytes t (out_law s e t bytes t1 t2 t3).0
+        → IsSink e most s → length bytes ≤ most → SinkAt e before bytes t s → (t1 t2 t3 : Way)
+        → SinkOn e before bytes t (out_law s e t bytes t1 t2 t3).0
         (out_law s e t bytes t1 t2 t3).1 }
     ensures halted { (e most : ℕ) (bytes : List ℕ) (t : Toggle) (s : State)
-        → IsSink e most s → s.bulk_out.halted ≡ true → forgotten s ≡ s → (t1 t2 t3 : Way)
+        → IsSink e most s → (out_end s e).state.halted ≡ true → forgotten s ≡ s
+        → (t1 t2 t3 : Way)
         → ((out_law s e t bytes t1 t2 t3).0 ≡ Some Ack → ⊥)
         × ((out_law s e t bytes t1 t2 t3).1 ≡ s) }
+    // No other endpoint changes.
+    ensures frame { (e most : ℕ) (bytes : List ℕ) (t : Toggle) (s : State)
+        → IsSink e most s → (t1 t2 t3 : Way)
+        → OnlySink e s (out_law s e t bytes t1 t2 t3).1 }
 {}

@@ -15,10 +15,11 @@ ghost use Rattle.usb_packet.specs.declared.Packet.TheVariants.{Token as token};
 
 use crate::answer::AnswerPid;
 use crate::bulk::{
-    BulkEndpoints, EndpointState, NO_BULK, RESTED, ServedEndpoint, advanced, bulk_endpoints,
-    counted_down, halted, is_last, tells_changes, turned,
+    BulkEndpoints, EndpointState, NO_BULK, RESTED, ServedEndpoint, bulk_endpoints, halted,
+    tells_changes, turned,
 };
 use crate::effect::Effect;
+use crate::ends::{EndpointNumber, InEnd, InEnds, OutEnds, given_on};
 use crate::lists::Bytes;
 use crate::ports::Ports;
 use crate::request::{AT_RESET, Reaction, Registers, Source, react};
@@ -49,18 +50,14 @@ pub struct FunctionState {
     naks: u8,
     /// How far the control transfer is.
     progress: Progress,
-    bulk_out: EndpointState,
-    bulk_in: EndpointState,
+    /// The OUT endpoints, by their numbers.
+    outs: OutEnds,
+    /// The IN endpoints, by their numbers.
+    ins: InEnds,
     /// IN 1 of a hub.
     changes: EndpointState,
     /// The byte that IN 1 gave, until its ACK is seen.
     held: Option<u8>,
-    /// What bulk OUT has taken since the plug.
-    sink: Vec<u8>,
-    /// How many packets bulk OUT is still to take until it halts; None if it does not.
-    until_halt: Option<u16>,
-    /// How many bytes of its source the host has acknowledged.
-    place: usize,
     /// What control writes have brought since the plug.
     taken: Vec<u8>,
     /// The last control write.
@@ -80,13 +77,10 @@ impl Model for FunctionState {
       memory = d.memory;
       naks = d.naks;
       stage = stage_of d.spec.value d.taken.items d.write d.progress;
-      bulk_out = d.bulk_out;
-      bulk_in = d.bulk_in;
+      outs = d.outs;
+      ins = d.ins;
       changes = d.changes;
       held = d.held;
-      sink = d.sink.items;
-      until_halt = d.until_halt;
-      place = d.place;
       taken = d.taken.items;
     } };
 
@@ -198,13 +192,13 @@ impl FunctionState {
     ghost use Rattle.std.specs.Prelude.{IfOk, OnErr, true, false, not, ◌&&◌, [], ◌∷◌};
     ghost use Rattle.usb_device.specs.declared.transfer.InEndpoint.TheVariants as by;
     ghost use Rattle.usb_device.specs.Effects.{asks, asked_by_data, asked_by_setup};
-    ghost use Rattle.usb_device.specs.Rows.{State, received, unread, forgotten, awaits_address, ends_with_address, fresh, reset_state, accepted, configured, begun, is_busy, nak_row, gives, in_row, status_row, out_row, ack_row, token_row, setup_row, payload_row, answered, unless_busy, endpoint_state, with_endpoint_state, bulk_of, rest_of, source_row, bulk_ack_row, acknowledged, sink_row, sinks, in_bulk_row, out_bulk_row, bulk_sinks, data_row, payload_sinks, out_sinks, stage_takes, sink_grows, is_other_out, after_memory, with_endpoints, in_other_row, changes_row, new_changes_row};
+    ghost use Rattle.usb_device.specs.Rows.{State, received, unread, forgotten, awaits_address, ends_with_address, fresh, reset_state, accepted, configured, begun, is_busy, nak_row, gives, in_row, status_row, out_row, ack_row, token_row, setup_row, payload_row, answered, unless_busy, endpoint_state, with_endpoint_state, bulk_of, in_end, out_end, in_max, out_max, rest_of, source_row, in_ack_row, acknowledged, sink_row, sinks, in_end_row, out_end_row, end_sinks, data_row, payload_sinks, out_sinks, stage_takes, sink_grows, is_other_out, after_memory, with_endpoints, in_other_row, changes_row, new_changes_row};
 
     /// A device that was just plugged; it shares its description.
     ///
     /// # Errors
     ///
-    /// The description has 2^64 - 1 owners.
+    /// Memory was refused, or the description has 2^64 - 1 owners.
     #[tactic(auto, unfolding(crate::specs::Rows::fresh))]
     pub fn new(alloc: Global, spec: &Rc<DeviceSpec>) -> Result<Self, AllocError>
         ensures { IfOk result (λ d. d ≡ fresh spec.now.value) }
@@ -216,13 +210,10 @@ impl FunctionState {
             memory: RememberedPacket::Nothing,
             naks: 0,
             progress: Progress::Idle,
-            bulk_out: RESTED,
-            bulk_in: RESTED,
+            outs: OutEnds::new(alloc, spec.halt_after())?,
+            ins: InEnds::new(),
             changes: RESTED,
             held: None,
-            sink: Vec::new(alloc),
-            until_halt: spec.halt_after(),
-            place: 0,
             taken: Vec::new(alloc),
             write: ControlWrite::none(alloc),
         })
@@ -242,11 +233,11 @@ impl FunctionState {
         self.registers.configuration
     }
 
-    /// All bytes that its bulk OUT endpoint has taken since it was plugged.
-    pub fn sink(&self) -> &[u8]
-        ensures { result.now ≡ self.now.sink }
+    /// All bytes that the OUT endpoint with a number has taken since it was plugged.
+    pub fn sink(&self, number: EndpointNumber) -> &[u8]
+        ensures { result.now ≡ (out_end self.now number).sink }
     {
-        self.sink.as_slice()
+        self.outs.sink(number)
     }
 
     /// All bytes that control writes have brought since it was plugged, and that it kept.
@@ -468,7 +459,7 @@ impl FunctionState {
             (payload_sinks self.old self.old.memory toggle bytes.now ≡ true) }
     {
         match self.memory {
-            RememberedPacket::OutSeen(ep) if ep != 0 => self.take_bulk(ep, toggle, bytes),
+            RememberedPacket::OutSeen(ep) if ep != 0 => self.take_end(ep, toggle, bytes),
             memory => {
                 self.attempt_over();
                 let taken = self.control_payload(ports, memory, toggle, bytes, effect);
@@ -536,7 +527,7 @@ impl FunctionState {
     {
         match endpoint {
             InEndpoint::Control => self.acknowledge_control(),
-            InEndpoint::Bulk => self.acknowledge_bulk(),
+            InEndpoint::Bulk(number) => self.acknowledge_end(number),
             InEndpoint::Changes => self.acknowledge_changes(),
         }
     }
@@ -619,8 +610,8 @@ impl FunctionState {
     {
         match reaction {
             Reaction::TakeConfiguration(_) => {
-                self.bulk_out = RESTED;
-                self.bulk_in = RESTED;
+                self.outs.rest();
+                self.ins.rest();
                 self.changes = RESTED;
                 self.held = None;
             }
@@ -849,8 +840,8 @@ impl FunctionState {
         ensures { result ≡ endpoint_state self.now endpoint }
     {
         match endpoint {
-            ServedEndpoint::BulkOut => self.bulk_out,
-            ServedEndpoint::BulkIn => self.bulk_in,
+            ServedEndpoint::BulkOut(number) => self.outs.state(number),
+            ServedEndpoint::BulkIn(number) => self.ins.get(number).state,
             ServedEndpoint::Changes => self.changes,
         }
     }
@@ -859,19 +850,23 @@ impl FunctionState {
         ensures { self.new ≡ with_endpoint_state self.old endpoint state }
     {
         match endpoint {
-            ServedEndpoint::BulkOut => self.bulk_out = state,
-            ServedEndpoint::BulkIn => self.bulk_in = state,
+            ServedEndpoint::BulkOut(number) => self.outs.set_state(number, state),
+            ServedEndpoint::BulkIn(number) => {
+                let place = self.ins.get(number).place;
+                self.ins.set(number, InEnd { state, place });
+            }
             ServedEndpoint::Changes => self.changes = state,
         }
     }
 
-    /// What is left of the source.
-    fn rest(&self) -> &[u8]
-        ensures { result.now ≡ rest_of self.now }
+    /// What is left of the source of an IN endpoint.
+    fn rest(&self, number: EndpointNumber) -> &[u8]
+        ensures { result.now ≡ rest_of self.now number }
     {
         let source = self.spec.source();
-        if self.place < source.len() {
-            &source[self.place..]
+        let place = self.ins.get(number).place;
+        if place < source.len() {
+            &source[place..]
         } else {
             &[]
         }
@@ -890,7 +885,7 @@ impl FunctionState {
         if ep == 1 && tells_changes(&self.spec, self.registers) {
             self.give_changes(ports, room)
         } else {
-            self.give_bulk(ep, room)
+            self.give_end(ep, room)
         }
     }
 
@@ -935,57 +930,71 @@ impl FunctionState {
     }
 
     /// IN of an endpoint that is neither endpoint 0 nor a hub's endpoint 1.
-    fn give_bulk(&mut self, ep: u8, room: &mut ArrayVec<u8, 64>) -> Option<AnswerPid>
+    fn give_end(&mut self, ep: u8, room: &mut ArrayVec<u8, 64>) -> Option<AnswerPid>
         ensures { (answer_with result room.new, self.new)
-            ≡ in_bulk_row self.old ep (bulk_of self.old true) }
+            ≡ in_end_row self.old ep (in_max self.old ep) }
     {
         match self.served_in() {
-            Some((number, max)) if number == ep => self.give_source(max, room),
+            Some((number, max)) if number == ep => {
+                self.give_source(EndpointNumber::new(number), max, room)
+            }
             _ => None,
         }
     }
 
-    /// IN of the bulk IN endpoint.
-    fn give_source(&mut self, max: u8, room: &mut ArrayVec<u8, 64>) -> Option<AnswerPid>
+    /// IN of an endpoint that is served.
+    fn give_source(
+        &mut self,
+        number: EndpointNumber,
+        max: u8,
+        room: &mut ArrayVec<u8, 64>,
+    ) -> Option<AnswerPid>
         requires { max ≤ 64 }
-        ensures { (answer_with result room.new, self.new) ≡ source_row self.old max }
+        ensures { (answer_with result room.new, self.new) ≡ source_row self.old number max }
     {
-        if self.bulk_in.halted {
+        let state = self.ins.get(number).state;
+        if state.halted {
             return Some(AnswerPid::Stall);
         }
-        let rest = self.rest();
+        let rest = self.rest(number);
         if rest.is_empty() {
             return Some(AnswerPid::Nak);
         }
         fill(room, &rest[..rest.len().min(usize::from(max))]);
-        self.give_data(InEndpoint::Bulk, self.bulk_in.toggle)
+        self.give_data(InEndpoint::Bulk(number), state.toggle)
     }
 
-    /// The host's ACK of what the bulk IN endpoint gave.
-    fn acknowledge_bulk(&mut self)
-        ensures { self.new ≡ bulk_ack_row self.old (bulk_of self.old true) }
+    /// The host's ACK of what an IN endpoint gave.
+    fn acknowledge_end(&mut self, number: EndpointNumber)
+        ensures { self.new ≡ in_ack_row self.old number (in_max self.old number) }
     {
-        if let Some((_, max)) = self.served_in() {
-            self.place = advanced(self.place, max, self.spec.source().len());
-            self.bulk_in = turned(self.bulk_in);
+        match self.served_in() {
+            Some((served, max)) if number.is(served) => {
+                let end = self.ins.get(number);
+                let given = given_on(max, self.spec.source().len(), end);
+                self.ins.set(number, given);
+            }
+            _ => {}
         }
     }
 
     /// OUT of an endpoint that is not endpoint 0.
-    fn take_bulk(
+    fn take_end(
         &mut self,
         ep: u8,
         toggle: Toggle,
         bytes: &[u8],
     ) -> Result<Option<AnswerPid>, AllocError>
         ensures answer { IfOk result (λ pid. (room : Room) → (answer_with pid room, self.new)
-            ≡ out_bulk_row (forgotten self.old) ep (bulk_of self.old false) toggle bytes.now) }
+            ≡ out_end_row (forgotten self.old) ep (out_max self.old ep) toggle bytes.now) }
         ensures refused { OnErr result (self.new ≡ self.old) }
         ensures grows { OnErr result
-            (bulk_sinks self.old ep (bulk_of self.old false) toggle bytes.now ≡ true) }
+            (end_sinks self.old ep (out_max self.old ep) toggle bytes.now ≡ true) }
     {
         match self.served_out() {
-            Some((number, max)) if number == ep => self.take_data(max, toggle, bytes),
+            Some((number, max)) if number == ep => {
+                self.take_data(EndpointNumber::new(number), max, toggle, bytes)
+            }
             _ => {
                 self.attempt_over();
                 Ok(None)
@@ -993,19 +1002,21 @@ impl FunctionState {
         }
     }
 
-    /// OUT of the bulk OUT endpoint. What is remembered is forgotten once the sink has grown.
+    /// OUT of an endpoint that is served. What is remembered is forgotten once its sink has grown.
     fn take_data(
         &mut self,
+        number: EndpointNumber,
         max: u8,
         toggle: Toggle,
         bytes: &[u8],
     ) -> Result<Option<AnswerPid>, AllocError>
         ensures answer { IfOk result (λ pid. (room : Room) → (answer_with pid room, self.new)
-            ≡ sink_row (forgotten self.old) max toggle bytes.now) }
+            ≡ sink_row (forgotten self.old) number max toggle bytes.now) }
         ensures refused { OnErr result (self.new ≡ self.old) }
-        ensures grows { OnErr result (sinks self.old max toggle bytes.now ≡ true) }
+        ensures grows { OnErr result (sinks self.old number max toggle bytes.now ≡ true) }
     {
-        if self.bulk_out.halted {
+        let state = self.outs.state(number);
+        if state.halted {
             self.attempt_over();
             return Ok(Some(AnswerPid::Stall));
         }
@@ -1013,13 +1024,8 @@ impl FunctionState {
             self.attempt_over();
             return Ok(None);
         }
-        if toggle.is_same(self.bulk_out.toggle) {
-            self.sink.extend_from_slice(bytes)?;
-            self.bulk_out = EndpointState {
-                toggle: turned(self.bulk_out).toggle,
-                halted: is_last(self.until_halt),
-            };
-            self.until_halt = counted_down(self.until_halt);
+        if toggle.is_same(state.toggle) {
+            self.outs.take(number, bytes)?;
         }
         self.attempt_over();
         Ok(Some(AnswerPid::Ack))

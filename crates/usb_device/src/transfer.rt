@@ -2,6 +2,7 @@
 ghost use Rattle.std.specs.Prelude.{◌≡◌, ◌≤◌, ◌<◌, ℕ, List, length, is_some};
 ghost use Rattle.usb_device.specs.Transfer.{packet_count, packet_at, put_if, toggle_at};
 
+use crate::ends::EndpointNumber;
 use crate::request::Source;
 use arrayvec::ArrayVec;
 use usb_packet::Toggle;
@@ -11,8 +12,8 @@ use usb_packet::Toggle;
 pub enum InEndpoint {
     /// Endpoint 0.
     Control,
-    /// The bulk IN endpoint.
-    Bulk,
+    /// The bulk IN endpoint with this number.
+    Bulk(EndpointNumber),
     /// IN 1 of a hub.
     Changes,
 }

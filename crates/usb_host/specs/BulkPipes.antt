@@ -1,6 +1,7 @@
 -- What the parts of a round leave of bulk pipes, and of the bulk endpoints at their other ends.
 use Rattle.std.specs.Prelude.{◌≡◌, ◌≢◌, ◌⊎◌, ℕ, List, true, false, Some}
-use Rattle.usb_device.specs.{rested, State, Location, path_to, reach, reach_on, state_on}
+use Rattle.usb_device.specs.{rested, State, Location, path_to, reach, reach_on, state_on, in_end}
+use Rattle.usb_device.specs.{out_end}
 use Rattle.usb_tree.specs.{address_of}
 use Rattle.usb_world.specs.{EachWas, Was, AnyStep, Course, World}
 use Rattle.usb_hub.specs.{ControlCourse, TouchesNoPort}
@@ -29,10 +30,11 @@ NamedEndpointsStayed path old new = (x : Location) (s : State) → path ≡ path
     → reach_on new.roots x ≡ true → state_on new.roots x ≡ Some s → address_of s ≢ 0
     → Was SparesBulk old x s
 
--- its bulk endpoints have begun again
+-- its endpoints besides endpoint 0 have begun again
 abbrev pub EndpointsBegan : List ℕ → World → Type 0
 EndpointsBegan path w = (x : Location) (s : State) → path ≡ path_to x → reach_on w.roots x ≡ true
-    → state_on w.roots x ≡ Some s → (s.bulk_out ≡ rested) × (s.bulk_in ≡ rested)
+    → state_on w.roots x ≡ Some s
+    → (e : ℕ) → ((out_end s e).state ≡ rested) × ((in_end s e).state ≡ rested)
 
 -- Steps that move nothing through a bulk endpoint
 

@@ -4,7 +4,7 @@ use Rattle.std.specs.Prelude.{◌≡◌, ◌⊎◌, ℕ, ◌==◌, ◌&&◌, not
 use Rattle.std.specs.Prelude.{Result, Ok, Err}
 use Rattle.usb_port.specs.{PortState}
 use Rattle.usb_device.specs.{is_value, State, rested, OnlyControl, Ports, full, all_off, Location}
-use Rattle.usb_device.specs.{place_on}
+use Rattle.usb_device.specs.{place_on, in_end, out_end, NothingMoved}
 use Rattle.usb_world.specs.{World, Course, LeavesPortAlone}
 use Rattle.usb_transaction.specs.{Target, is_at}
 use Rattle.usb_pipe.specs.{PipeFault, CanEnd, IsNoBusFault, TookItOrLost}
@@ -32,8 +32,8 @@ takes_value s value = not (s.registers.address == 0) && is_value s.spec.configs 
 
 -- its endpoints besides endpoint 0 have begun again, and nothing went over them since
 pub record IsFresh (v : State) : Type 0 where
-  pub out : v.bulk_out ≡ rested
-  pub into : v.bulk_in ≡ rested
+  pub outs : (e : ℕ) → (out_end v e).state ≡ rested
+  pub ins : (e : ℕ) → (in_end v e).state ≡ rested
   pub changes : v.changes ≡ rested
   pub held : v.held ≡ None
 
@@ -52,19 +52,20 @@ pub record WentOff (new : World) (x : Location) : Type 0 where
   pub off : place_on now.roots x ≡ Some (full b state (all_off ports))
   pub since : (path : List ℕ) → Course (LeavesPortAlone path) now new
 
--- where its transfer stands, its configuration and its endpoints: what a configuration may change
-abbrev pub OnlySet : State → State → Type 0
-OnlySet s v =
-    v ≡ record s {
-      memory = v.memory;
-      naks = v.naks;
-      stage = v.stage;
-      registers = record s.registers { configuration = v.registers.configuration };
-      bulk_out = v.bulk_out;
-      bulk_in = v.bulk_in;
-      changes = v.changes;
-      held = v.held;
-    }
+-- where its transfer stands, its configuration and the state of its endpoints: what a configuration
+-- may change
+pub record OnlySet (s v : State) : Type 0 where
+  pub rest : v ≡ record s {
+    memory = v.memory;
+    naks = v.naks;
+    stage = v.stage;
+    registers = record s.registers { configuration = v.registers.configuration };
+    outs = v.outs;
+    ins = v.ins;
+    changes = v.changes;
+    held = v.held;
+  }
+  pub moved : NothingMoved s v
 
 -- A device was asked to take a configuration. Where that is done, it has it, and its ports went
 -- off; where it failed, it has it or has what it had.

@@ -12,7 +12,7 @@ use Rattle.usb_device.specs.{takes_address, first_stage, reading, ending, refuse
 use Rattle.usb_device.specs.{max_packet, State, accepted, endpoint_state, with_endpoint_state}
 use Rattle.usb_device.specs.{tells_changes, rested, row_of, Location, IsRead, StatusGiven, IsSink}
 use Rattle.usb_device.specs.{SinkAt, IsSource, SourceAt, PollAt, NeverTold, OnlyControl, OnlyStage}
-use Rattle.usb_device.specs.{OnlySink, OnlySource, OnlyChanges}
+use Rattle.usb_device.specs.{OnlySink, OnlySource, OnlyChanges, in_end, out_end}
 use Rattle.usb_world.specs.{BusFault, one_more, World, Step, attempt, root_call, event, report}
 use Rattle.usb_world.specs.{Course}
 use Rattle.usb_transaction.specs.{Target, is_at, ToldSince, AcceptedAt, in_attempt, out_attempt}
@@ -187,8 +187,8 @@ LossesKept t old new x s v = is_at s t ≡ true → new.losses ≡ old.losses
 -- has an endpoint that is halted
 pub record OutPipeInSync (pipe : Bulk) (s : State) : Type 0 where
   pub endpoint : IsSink pipe.ep pipe.max s
-  pub level : pipe.condition ≡ Ready → s.bulk_out.toggle ≡ pipe.toggle
-  pub halted : pipe.condition ≡ Halted → s.bulk_out.halted ≡ true
+  pub level : pipe.condition ≡ Ready → (out_end s pipe.ep).state.toggle ≡ pipe.toggle
+  pub halted : pipe.condition ≡ Halted → (out_end s pipe.ep).state.halted ≡ true
 
 -- what is known of a pipe: one at which the bus gave up is as good as broken
 abbrev pub pipe_known : {A : Type 0} → Result A PipeFault → Bulk → Bulk
@@ -200,38 +200,39 @@ pipe_known (Err Broken) pipe = pipe
 pipe_known (Err (Bus fault)) pipe = record pipe { condition = BrokenPipe }
 pipe_known (Err Memory) pipe = pipe
 
--- a front of the bytes joined what the device took, once
-pub record FrontTaken (bytes : List ℕ) (s v : State) : Type 0 where
+-- a front of the bytes joined what the endpoint took, once
+pub record FrontTaken (bytes before after : List ℕ) : Type 0 where
   pub front : List ℕ
   pub rest : List ℕ
   pub split : bytes ≡ front ++ rest
-  pub sink : v.sink ≡ s.sink ++ front
+  pub sink : after ≡ before ++ front
 
 -- at a moment of a send: the bytes before the packet that is on its way joined what the device
 -- took, and the packet joined them or did not yet
 pub record SendingLeaves (sent packet : List ℕ) (toggle : Toggle) (pipe : Bulk) (x : Location)
     (s v : State) : Type 0 where
   pub others : is_at s pipe.target ≡ false → v ≡ s
-  pub frame : IsSink pipe.ep pipe.max s → OnlySink s v
+  pub frame : IsSink pipe.ep pipe.max s → OnlySink pipe.ep s v
   pub way : is_at s pipe.target ≡ true → pipe.condition ≡ Ready → OutPipeInSync pipe s
-      → SinkAt (s.sink ++ sent) packet toggle v
+      → SinkAt pipe.ep ((out_end s pipe.ep).sink ++ sent) packet toggle v
 
 pub record SendLeaves (bytes : List ℕ) (pipe : Bulk) (result : Result (Unit {0}) PipeFault)
     (left : Bulk) (x : Location) (s v : State) : Type 0 where
   pub others : is_at s pipe.target ≡ false → v ≡ s
-  pub frame : IsSink pipe.ep pipe.max s → OnlySink s v
+  pub frame : IsSink pipe.ep pipe.max s → OnlySink pipe.ep s v
   pub fits : is_at s pipe.target ≡ true → OutPipeInSync pipe s
       → OutPipeInSync (pipe_known result left) v
   pub done : is_at s pipe.target ≡ true → OutPipeInSync pipe s → (u : Unit {0}) → result ≡ Ok u
-      → v.sink ≡ s.sink ++ bytes
+      → (out_end v pipe.ep).sink ≡ (out_end s pipe.ep).sink ++ bytes
   pub failed : is_at s pipe.target ≡ true → OutPipeInSync pipe s → (fault : PipeFault)
-      → result ≡ Err fault → FrontTaken bytes s v
+      → result ≡ Err fault
+      → FrontTaken bytes (out_end s pipe.ep).sink (out_end v pipe.ep).sink
 
 -- a bulk IN pipe that has got so many bytes of the source, and the endpoint at its other end
 pub record InPipeInSync (pipe : Bulk) (got : ℕ) (s : State) : Type 0 where
   pub endpoint : IsSource pipe.ep pipe.max s
-  pub level : pipe.condition ≡ Ready → SourceAt pipe.max got pipe.toggle s
-  pub halted : pipe.condition ≡ Halted → s.bulk_in.halted ≡ true
+  pub level : pipe.condition ≡ Ready → SourceAt pipe.ep pipe.max got pipe.toggle s
+  pub halted : pipe.condition ≡ Halted → (in_end s pipe.ep).state.halted ≡ true
 
 -- how many bytes came with an answer
 abbrev pub came_with : Result (Vec ℕ) PipeFault → ℕ
@@ -241,7 +242,7 @@ came_with (Err fault) = 0
 pub record ReceiveLeaves (pipe : Bulk) (result : Result (Vec ℕ) PipeFault) (left : Bulk)
     (x : Location) (s v : State) : Type 0 where
   pub others : is_at s pipe.target ≡ false → v ≡ s
-  pub frame : IsSource pipe.ep pipe.max s → OnlySource s v
+  pub frame : IsSource pipe.ep pipe.max s → OnlySource pipe.ep s v
   pub fits : is_at s pipe.target ≡ true → (got : ℕ) → InPipeInSync pipe got s
       → InPipeInSync (pipe_known result left) (got + came_with result) v
   -- the bytes are the next ones of the source
@@ -251,7 +252,8 @@ pub record ReceiveLeaves (pipe : Bulk) (result : Result (Vec ℕ) PipeFault) (le
 -- how many bytes of the source a pipe has got after a clear: where one was sent and is done, those
 -- that the device counts
 abbrev pub got_after : Bulk → ℕ → Result (Unit {0}) PipeFault → State → ℕ
-got_after pipe got (Ok done) s = if is_ready pipe.condition then got else s.place
+got_after pipe got (Ok done) s = if is_ready pipe.condition then got
+    else (in_end s pipe.ep).place
 got_after pipe got (Err fault) s = got
 
 -- an endpoint as it was, or begun again where a clear that was sent is done; where it failed,
@@ -265,19 +267,21 @@ BegunAgain pipe (Err fault) before after = (after ≡ before) ⊎ (after ≡ res
 abbrev pub OnlyEndpoint : ServedEndpoint → State → State → Type 0
 OnlyEndpoint which s v = OnlyStage (with_endpoint_state s which (endpoint_state v which)) v
 
--- a clear of a halt (9.4.5) moves no bytes, and both ends begin again together; the other endpoint
+-- a clear of a halt (9.4.5) moves no bytes, and both ends begin again together; each other endpoint
 -- stays as it was
 pub record ClearLeaves (pipe : Bulk) (result : Result (Unit {0}) PipeFault) (left : Bulk)
     (x : Location) (s v : State) : Type 0 where
   pub others : is_at s pipe.target ≡ false → v ≡ s
   pub sink : is_at s pipe.target ≡ true → pipe.is_in ≡ false → OutPipeInSync pipe s
-      → OutPipeInSync (pipe_known result left) v × (v.sink ≡ s.sink)
-      × BegunAgain pipe result s.bulk_out v.bulk_out
+      → OutPipeInSync (pipe_known result left) v
+      × ((out_end v pipe.ep).sink ≡ (out_end s pipe.ep).sink)
+      × BegunAgain pipe result (out_end s pipe.ep).state (out_end v pipe.ep).state
   pub source : is_at s pipe.target ≡ true → pipe.is_in ≡ true → (got : ℕ) → InPipeInSync pipe got s
-      → InPipeInSync (pipe_known result left) (got_after pipe got result s) v × (v.place ≡ s.place)
-      × BegunAgain pipe result s.bulk_in v.bulk_in
-  pub only_sink : pipe.is_in ≡ false → IsSink pipe.ep pipe.max s → OnlyEndpoint BulkOut s v
-  pub only_source : pipe.is_in ≡ true → IsSource pipe.ep pipe.max s → OnlyEndpoint BulkIn s v
+      → InPipeInSync (pipe_known result left) (got_after pipe got result s) v
+      × ((in_end v pipe.ep).place ≡ (in_end s pipe.ep).place)
+      × BegunAgain pipe result (in_end s pipe.ep).state (in_end v pipe.ep).state
+  pub only_sink : pipe.is_in ≡ false → IsSink pipe.ep pipe.max s → OnlyEndpoint (BulkOut pipe.ep) s v
+  pub only_source : pipe.is_in ≡ true → IsSource pipe.ep pipe.max s → OnlyEndpoint (BulkIn pipe.ep) s v
 
 -- A hub's status pipe (11.12.3)
 

@@ -1,17 +1,17 @@
 -- What a device had taken and given when it was found, as against the moment before (5.8).
 use Rattle.std.specs.Prelude.{◌≡◌, ◌⊎◌, ⊤, ℕ, List, [], true, Option, None, Some}
-use Rattle.usb_device.specs.{Location, State, path_to, reach_on, state_on}
+use Rattle.usb_device.specs.{Location, State, path_to, reach_on, state_on, in_end, out_end}
 use Rattle.usb_world.specs.{World}
 
 -- it has neither taken a byte nor given one
 pub record IsUntouched (v : State) : Type 0 where
-  pub sink : v.sink ≡ []
-  pub place : v.place ≡ 0
+  pub sink : (e : ℕ) → (out_end v e).sink ≡ []
+  pub place : (e : ℕ) → (in_end v e).place ≡ 0
 
 -- it has taken and given what this one had
 pub record SameStreams (s v : State) : Type 0 where
-  pub sink : v.sink ≡ s.sink
-  pub place : v.place ≡ s.place
+  pub sink : (e : ℕ) → (out_end v e).sink ≡ (out_end s e).sink
+  pub place : (e : ℕ) → (in_end v e).place ≡ (in_end s e).place
 
 -- what stands there has taken and given what stood there before had; or it was plugged since, and
 -- has neither taken nor given

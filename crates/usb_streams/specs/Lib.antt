@@ -6,7 +6,7 @@ pub use Stretches.{AreMade, IsStretch, LiesBetween, Stretch, ToldItem, begun, fu
 pub use Stretches.{round, silent, wrote}
 pub use Heads.{HeadAt, IsUntouched, KeepsStreams, MovesNothing, SameStreams}
 pub use Streams.{ClearsNoIn, ClearsNoOut, FindsAnew, FoundSince, GaveNext, GaveNextBy, IsAtWork}
-pub use Streams.{Joins, in_look, in_round}
+pub use Streams.{Joins, in_look, in_round, is_end_of}
 pub use Streams.{StartsAt, StoodAt, StoodOrFound, StreamsAt, TookSent, bytes_for, bytes_from}
 pub use Streams.{is_done}
 unfoldable pub use Streams.{AreTaken, IsFailedFront, received_from, sent_to}

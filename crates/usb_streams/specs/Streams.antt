@@ -1,18 +1,18 @@
 -- What the device at a path takes and gives over a stretch of a run: transfers join end to end
 -- (5.8).
-use Rattle.std.specs.Prelude.{◌≡◌, ◌⊎◌, ⊤, ℕ, ◌+◌, List, [], ◌∷◌, ◌++◌, length, take, drop, Bool}
+use Rattle.std.specs.Prelude.{◌≡◌, ◌⊎◌, ⊤, ℕ, ◌+◌, ◌==◌, List, [], ◌∷◌, ◌++◌, length, take, drop, Bool}
 use Rattle.std.specs.Prelude.{true, false, if◌then◌else◌, Option, None, Some, Ok, is_ok}
 use Rattle.std.specs.BTreeMap.{is_at}
 use Rattle.std.specs.List.{AllByRecursion}
 use Rattle.usb_port.specs.{path_cmp}
-use Rattle.usb_device.specs.{State, Location, path_to, reach_on, state_on}
+use Rattle.usb_device.specs.{State, Location, path_to, reach_on, state_on, in_end, out_end}
 use Rattle.usb_world.specs.declared.event.Ask.{Ask}
 use Rattle.usb_world.specs.{Send, Clear, Look, Was}
 use Rattle.usb_pipe.specs.declared.condition.Condition.TheVariants.{Ready}
 use Rattle.usb_pipe.specs.{Bulk, InPipeInSync}
 use Rattle.usb_enum.specs.{Accepted}
 use Rattle.usb_table.specs.{Pipes, bytes_in, pipe_in, pipe_out, accepted_device_at, FitsIn}
-use Rattle.usb_table.specs.{pipes_at}
+use Rattle.usb_table.specs.{pipes_at, sink_of}
 use Rattle.usb_host.specs.{RenewedAt, Round, HostState, table_in, RoundTells}
 use Rattle.usb_run.specs.{Comes, IsItemOf, Item, Listing, Sent, Received, Cleared, Read}
 use Rattle.usb_run.specs.{Looked, Settled, Written}
@@ -59,6 +59,11 @@ unfoldable pub received_from : List ℕ → List ToldItem → List ℕ
 received_from path [] = []
 received_from path (t ∷ told) = received_from path told ++ bytes_from path t.item
 
+-- this is the number of the endpoint of a pipe
+abbrev pub is_end_of : ℕ → Option Bulk → Bool
+is_end_of e None = false
+is_end_of e (Some pipe) = e == pipe.ep
+
 -- a pipe works, or there is none
 abbrev pub IsAtWork : Option Bulk → Type 0
 IsAtWork None = ⊤
@@ -90,13 +95,13 @@ abbrev pub ClearsNoOut : List ℕ → ToldItem → Type 0
 ClearsNoOut path t = t.due ≡ Some (Clear path)
     → IsAtWork (pipe_out (pipes_at path (table_in t.asked)))
 
--- the sends that are told done are, end to end, what the sink got, with at most a front of a failed
+-- the sends that are told done are, end to end, what the endpoint of the pipe got, with at most a front of a failed
 -- one behind them, and none where the pipe works still
 pub record TookSent (path : List ℕ) (told : List ToldItem) (left : Option Bulk) (s v : State) :
     Type 0 where
   pub front : List ℕ
   pub failed : IsFailedFront path told front
-  pub sink : v.sink ≡ s.sink ++ (sent_to path told ++ front)
+  pub sink : sink_of left v ≡ sink_of left s ++ (sent_to path told ++ front)
   pub works : IsAtWork left → front ≡ []
 
 -- Receives
@@ -123,12 +128,15 @@ GaveNextBy bytes (Some pipe) (Some left) s v = GaveNext bytes pipe left s v
 
 -- the device at a path took what was sent and gave the next bytes of its source, as long as no halt
 -- of the endpoint is cleared; over clears too each send
--- that is told done was taken whole, and of each that failed a front; its IN pipe had got some
--- number of bytes, and its description stays
+-- that is told done was taken whole, and of each that failed a front; no other endpoint took any;
+-- its IN pipe had got some number of bytes, and its description stays
 pub record Streams (path : List ℕ) (told : List ToldItem) (pipes left : Pipes) (s v : State) :
     Type 0 where
   pub took : AllByRecursion (ClearsNoOut path) told → TookSent path told (pipe_out left) s v
-  pub sink : (taken : List ℕ) × AreTaken path told taken × (v.sink ≡ s.sink ++ taken)
+  pub sink : (taken : List ℕ) × AreTaken path told taken
+      × (sink_of (pipe_out left) v ≡ sink_of (pipe_out left) s ++ taken)
+  pub others : (e : ℕ) → is_end_of e (pipe_out left) ≡ false
+      → (out_end v e).sink ≡ (out_end s e).sink
   pub had : FitsIn (pipe_in pipes) s
   pub gave : AllByRecursion (ClearsNoIn path) told
       → GaveNextBy (received_from path told) (pipe_in pipes) (pipe_in left) s v
@@ -153,7 +161,7 @@ pub record StoodAt (path : List ℕ) (device : Accepted) (told : List ToldItem)
 abbrev pub StartsAt : List ℕ → HostState → Type 0
 StartsAt path h = (x : Location) (s : State) (pipe : Bulk) → path ≡ path_to x
     → reach_on h.world.roots x ≡ true → state_on h.world.roots x ≡ Some s
-    → pipe_in (pipes_at path (table_in h)) ≡ Some pipe → InPipeInSync pipe s.place s
+    → pipe_in (pipes_at path (table_in h)) ≡ Some pipe → InPipeInSync pipe (in_end s pipe.ep).place s
 
 -- the call of a stretch in which a device is found anew, from the host that makes it, and with what
 -- it tells: a round, or a look that an event asks of a host that had settled

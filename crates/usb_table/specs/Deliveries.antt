@@ -1,9 +1,10 @@
 -- What transfers to the device at a path leave of the devices (5.8).
-use Rattle.std.specs.Prelude.{◌≡◌, ◌≢◌, ◌⊎◌, ℕ, ◌+◌, List, [], ◌++◌, length, take, drop, Bool, true}
+use Rattle.std.specs.Prelude.{◌≡◌, ◌≢◌, ◌⊎◌, ℕ, ◌+◌, ◌==◌, List, [], ◌++◌, length, take, drop}
+use Rattle.std.specs.Prelude.{Bool, true}
 use Rattle.std.specs.Prelude.{false, Option, Some, None, Result, Ok, Err, IsSome}
 use Rattle.std.specs.Global.{Vec}
 use Rattle.usb_device.specs.{EndpointState, rested, OnlySink, OnlySource, State, reach, Location}
-use Rattle.usb_device.specs.{path_to}
+use Rattle.usb_device.specs.{path_to, in_end, out_end, NothingMoved}
 use Rattle.usb_world.specs.{EachWas, World}
 use Rattle.usb_pipe.specs.declared.condition.Condition.TheVariants.{Ready}
 use Rattle.usb_pipe.specs.{Bulk, cleared, InPipeInSync, FrontTaken}
@@ -26,16 +27,27 @@ pipe_in Absent = None
 
 -- The device at the path
 
--- these bytes joined what it had taken, each once and in order; where the transfer failed, a front
--- of them
-abbrev pub JoinsSink : Bool → List ℕ → State → State → Type 0
-JoinsSink true bytes s v = v.sink ≡ s.sink ++ bytes
-JoinsSink false bytes s v = FrontTaken bytes s v
+-- what the endpoint of a pipe has taken since the plug; nothing where there is no pipe
+abbrev pub sink_of : Option Bulk → State → List ℕ
+sink_of None s = []
+sink_of (Some pipe) s = (out_end s pipe.ep).sink
 
--- so they did, and nothing else of it changed
-pub record TookBytes (done : Bool) (bytes : List ℕ) (s v : State) : Type 0 where
-  pub joins : JoinsSink done bytes s v
-  pub rest : OnlySink s v
+-- these bytes joined what had been taken, each once and in order; where the transfer failed, a front
+-- of them
+abbrev pub JoinsSink : Bool → List ℕ → List ℕ → List ℕ → Type 0
+JoinsSink true bytes before after = after ≡ before ++ bytes
+JoinsSink false bytes before after = FrontTaken bytes before after
+
+-- of a device nothing changed but the endpoint of a pipe
+abbrev pub OnlySinkOf : Option Bulk → State → State → Type 0
+OnlySinkOf None s v = v ≡ s
+OnlySinkOf (Some pipe) s v = OnlySink pipe.ep s v
+
+-- bytes joined what the endpoint of a pipe had taken, and nothing else of the device changed
+pub record TookBytes (pipe : Option Bulk) (done : Bool) (bytes : List ℕ) (s v : State) : Type 0
+  where
+    pub joins : JoinsSink done bytes (sink_of pipe s) (sink_of pipe v)
+    pub rest : OnlySinkOf pipe s v
 
 -- through a pipe that had got some number of bytes of its source it gave these, which are the next
 -- ones; the pipe that is left has got so many more, and
@@ -45,7 +57,7 @@ pub record GaveBytes (bytes : List ℕ) (pipe left : Bulk) (s v : State) : Type 
   pub next : (got : ℕ) → InPipeInSync pipe got s
       → bytes ≡ take (length bytes) (drop got s.spec.source)
   pub has : (got : ℕ) → InPipeInSync pipe got s → InPipeInSync left (got + length bytes) v
-  pub rest : OnlySource s v
+  pub rest : OnlySource pipe.ep s v
 
 -- the bytes that came with an answer
 abbrev pub bytes_in : {E : Type 0} → Result (Vec ℕ) E → List ℕ
@@ -68,19 +80,23 @@ pub record HaltCleared (done : Bool) (pipe left : Bulk) (before after : Endpoint
         × (after ≡ rested)
     pub either : (after ≡ before) ⊎ (after ≡ rested)
 
--- the endpoint stays where there is no pipe
-abbrev pub HaltClearedBy : Bool → Option Bulk → Option Bulk → EndpointState → EndpointState → Type 0
-HaltClearedBy done None left before after = after ≡ before
+-- each other endpoint stays, and all where there is no pipe
+abbrev pub HaltClearedBy : Bool → Option Bulk → Option Bulk → (ℕ → EndpointState)
+    → (ℕ → EndpointState) → Type 0
+HaltClearedBy done None left before after = (e : ℕ) → after e ≡ before e
 HaltClearedBy done (Some pipe) None before after = ⊥
-HaltClearedBy done (Some pipe) (Some left) before after = HaltCleared done pipe left before after
+HaltClearedBy done (Some pipe) (Some left) before after =
+    HaltCleared done pipe left (before pipe.ep) (after pipe.ep)
+    × ((e : ℕ) → (e == pipe.ep) ≡ false → after e ≡ before e)
 
 -- so it is of the pipe of each direction, and no byte moved; the pipes that are left are as far as
 -- their endpoints
 pub record HaltsCleared (done : Bool) (pipes left : Pipes) (s v : State) : Type 0 where
-  pub sink : v.sink ≡ s.sink
-  pub place : v.place ≡ s.place
-  pub out : HaltClearedBy done (pipe_out pipes) (pipe_out left) s.bulk_out v.bulk_out
-  pub into : HaltClearedBy done (pipe_in pipes) (pipe_in left) s.bulk_in v.bulk_in
+  pub moved : NothingMoved s v
+  pub out : HaltClearedBy done (pipe_out pipes) (pipe_out left) (λ e. (out_end s e).state)
+      (λ e. (out_end v e).state)
+  pub into : HaltClearedBy done (pipe_in pipes) (pipe_in left) (λ e. (in_end s e).state)
+      (λ e. (in_end v e).state)
   pub level : PipesInSync left v
 
 -- All devices
@@ -102,7 +118,8 @@ pub record TransfersAt (path : List ℕ) (done : Bool) (So : State → State →
 -- reached there
 pub record Delivered (path : List ℕ) (done : Bool) (bytes : List ℕ) (old : Table) (before : World)
     (new : Table) (after : World) : Type 0 where
-  pub took : TransfersAt path done (TookBytes done bytes) old before after
+  pub took : TransfersAt path done (TookBytes (pipe_out (pipes_at path old)) done bytes) old before
+      after
   pub there : done ≡ true → bytes ≢ [] → reach after.roots path ≡ true
 
 -- so many packets were asked for, and these bytes came: the device there gave them, and where some

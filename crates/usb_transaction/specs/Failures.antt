@@ -1,7 +1,7 @@
 -- Why a transaction fails, where no three attempts running are damaged.
 use Rattle.usb_device.specs.{Location, tells_changes, State, ending, refused, max_packet, packet_at}
 use Rattle.usb_device.specs.{toggle_at, ReadingAt, IsSource, SourceAt, IsSink, PollAt, NeverTold}
-use Rattle.usb_device.specs.{Write, writing}
+use Rattle.usb_device.specs.{Write, writing, in_end}
 use Rattle.std.specs.Prelude.{◌≡◌, ◌≢◌, ℕ, ◌≤◌, ◌<◌, List, length, true, false, Option, Some}
 use Rattle.std.specs.Prelude.{is_some, Result, Err}
 use Rattle.usb_packet.specs.{Toggle, One}
@@ -78,12 +78,12 @@ pub record WriteStatusFailure (t : Target) (result : Result (List ℕ) TransFaul
 -- waiting
 pub record SourceInFailure (t : Target) (ep : ℕ) (awaited : Toggle)
     (result : Result (List ℕ) TransFault) (x : Location) (s v : State) : Type 0 where
-  pub answered : Listens t x s → (most got : ℕ) → IsSource ep most s → SourceAt most got awaited s
-      → most ≤ t.max → result ≢ Err NoAnswer
+  pub answered : Listens t x s → (most got : ℕ) → IsSource ep most s
+      → SourceAt ep most got awaited s → most ≤ t.max → result ≢ Err NoAnswer
   pub waited : Listens t x s → (most got : ℕ) → IsSource ep most s → 1 ≤ most
-      → SourceAt most got awaited s → most ≤ t.max → got < length s.spec.source → result ≢ Err Busy
-  pub halted : Listens t x s → (most : ℕ) → IsSource ep most s → s.bulk_in.halted ≡ true
-      → (result ≢ Err NoAnswer) × (result ≢ Err Busy)
+      → SourceAt ep most got awaited s → most ≤ t.max → got < length s.spec.source → result ≢ Err Busy
+  pub halted : Listens t x s → (most : ℕ) → IsSource ep most s
+      → (in_end s ep).state.halted ≡ true → (result ≢ Err NoAnswer) × (result ≢ Err Busy)
 
 -- bulk OUT: an endpoint answers and never waits
 pub record SinkOutFailure (t : Target) (ep : ℕ) (toggle : Toggle) (bytes : List ℕ)

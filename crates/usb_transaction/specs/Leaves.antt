@@ -9,7 +9,8 @@ use Rattle.usb_device.specs.{accepted, ending, reading, refused as stage_refused
 use Rattle.usb_device.specs.{full, acted, row_of, Location, place_on, ReadingAt, ReadOn, StatusOn}
 use Rattle.usb_device.specs.{StatusGiven, IsRead, IsSource, SourceAt, SourceOn, IsSink, SinkAt}
 use Rattle.usb_device.specs.{Joined, PollAt, NeverTold, ToldByte, OnlyControl, OnlyStage}
-use Rattle.usb_device.specs.{OnlySource, OnlySink, OnlyChanges, Stage, writing, is_done}
+use Rattle.usb_device.specs.{OnlySource, OnlySink, OnlyChanges, Stage, writing, is_done, in_end}
+use Rattle.usb_device.specs.{out_end}
 use Rattle.usb_world.specs.{Attempt, Outcome, World, HolderIn, at_attempt, attempt, after}
 use Rattle.usb_tree.specs.{address_of}
 use Rattle.usb_transaction.specs.declared.target.Target.{Target}
@@ -111,64 +112,66 @@ pub record ReadStatus (t : Target) (result : Result (List ℕ) TransFault) (x : 
 
 -- where the bus gave up, the next packet came to it and was acknowledged, and the host did not get
 -- it; or none came
-pub data SourceCut (most got : ℕ) (awaited : Toggle) (s v : State) : Type 0 where
-  none_came : SourceAt most got awaited v → SourceCut most got awaited s v
-  one_came : SourceAt most (advanced got most (length s.spec.source)) (other awaited) v
-      → SourceCut most got awaited s v
+pub data SourceCut (ep most got : ℕ) (awaited : Toggle) (s v : State) : Type 0 where
+  none_came : SourceAt ep most got awaited v → SourceCut ep most got awaited s v
+  one_came : SourceAt ep most (advanced got most (length s.spec.source)) (other awaited) v
+      → SourceCut ep most got awaited s v
 
-abbrev pub SourceEnds : ℕ → ℕ → Toggle → State → Result (List ℕ) TransFault → State → Type 0
-SourceEnds most got awaited s (Ok bytes) v = SourceOn most got awaited s (Some bytes) v
-SourceEnds most got awaited s (Err Stalled) v = SourceOn most got awaited s None v
-SourceEnds most got awaited s (Err Busy) v = SourceOn most got awaited s None v
-SourceEnds most got awaited s (Err NoAnswer) v = SourceOn most got awaited s None v
-SourceEnds most got awaited s (Err (Bus fault)) v = SourceCut most got awaited s v
+abbrev pub SourceEnds : ℕ → ℕ → ℕ → Toggle → State → Result (List ℕ) TransFault → State
+    → Type 0
+SourceEnds ep most got awaited s (Ok bytes) v = SourceOn ep most got awaited s (Some bytes) v
+SourceEnds ep most got awaited s (Err Stalled) v = SourceOn ep most got awaited s None v
+SourceEnds ep most got awaited s (Err Busy) v = SourceOn ep most got awaited s None v
+SourceEnds ep most got awaited s (Err NoAnswer) v = SourceOn ep most got awaited s None v
+SourceEnds ep most got awaited s (Err (Bus fault)) v = SourceCut ep most got awaited s v
 
 -- IN of a bulk endpoint (5.8)
 pub record SourceIn (t : Target) (ep : ℕ) (awaited : Toggle) (result : Result (List ℕ) TransFault)
     (x : Location) (s v : State) : Type 0 where
   pub others : is_at s t ≡ false → v ≡ s
-  pub frame : (most : ℕ) → IsSource ep most s → OnlySource s v
+  pub frame : (most : ℕ) → IsSource ep most s → OnlySource ep s v
   pub source : is_at s t ≡ true → (most got : ℕ) → IsSource ep most s → 1 ≤ most
-      → SourceAt most got awaited s → SourceEnds most got awaited s result v
+      → SourceAt ep most got awaited s → SourceEnds ep most got awaited s result v
   pub stalled : is_at s t ≡ true → (most : ℕ) → IsSource ep most s → result ≡ Err Stalled
-      → (s.bulk_in.halted ≡ true) × (v ≡ s)
-  pub halted : is_at s t ≡ true → (most : ℕ) → IsSource ep most s → s.bulk_in.halted ≡ true
-      → (v ≡ s) × ((bytes : List ℕ) → result ≡ Ok bytes → ⊥)
+      → ((in_end s ep).state.halted ≡ true) × (v ≡ s)
+  pub halted : is_at s t ≡ true → (most : ℕ) → IsSource ep most s
+      → (in_end s ep).state.halted ≡ true → (v ≡ s) × ((bytes : List ℕ) → result ≡ Ok bytes → ⊥)
 
 -- between two of its attempts both ends are as far as they were
 pub record SourceBetween (t : Target) (ep : ℕ) (awaited : Toggle) (x : Location) (s v : State) :
     Type 0 where
   pub others : is_at s t ≡ false → v ≡ s
-  pub frame : (most : ℕ) → IsSource ep most s → OnlySource s v
+  pub frame : (most : ℕ) → IsSource ep most s → OnlySource ep s v
   pub source : is_at s t ≡ true → (most got : ℕ) → IsSource ep most s → 1 ≤ most
-      → SourceAt most got awaited s → SourceAt most got awaited v
+      → SourceAt ep most got awaited s → SourceAt ep most got awaited v
 
--- what an answer says of a packet that was sent to a bulk endpoint
-abbrev pub SinkEnds : List ℕ → List ℕ → Toggle → Result (List ℕ) TransFault → State → Type 0
-SinkEnds before bytes toggle (Ok done) v = Joined before bytes toggle v
-SinkEnds before bytes toggle (Err Stalled) v = SinkAt before bytes toggle v
-    × (v.bulk_out.halted ≡ true)
-SinkEnds before bytes toggle (Err Busy) v = SinkAt before bytes toggle v
-SinkEnds before bytes toggle (Err NoAnswer) v = SinkAt before bytes toggle v
-SinkEnds before bytes toggle (Err (Bus fault)) v = SinkAt before bytes toggle v
+-- what an answer says of a packet that was sent to an OUT endpoint
+abbrev pub SinkEnds : ℕ → List ℕ → List ℕ → Toggle → Result (List ℕ) TransFault → State → Type 0
+SinkEnds ep before bytes toggle (Ok done) v = Joined ep before bytes toggle v
+SinkEnds ep before bytes toggle (Err Stalled) v = SinkAt ep before bytes toggle v
+    × ((out_end v ep).state.halted ≡ true)
+SinkEnds ep before bytes toggle (Err Busy) v = SinkAt ep before bytes toggle v
+SinkEnds ep before bytes toggle (Err NoAnswer) v = SinkAt ep before bytes toggle v
+SinkEnds ep before bytes toggle (Err (Bus fault)) v = SinkAt ep before bytes toggle v
 
 -- OUT of a bulk endpoint (5.8)
 pub record SinkOut (t : Target) (ep : ℕ) (toggle : Toggle) (bytes : List ℕ)
     (result : Result (List ℕ) TransFault) (x : Location) (s v : State) : Type 0 where
   pub others : is_at s t ≡ false → v ≡ s
-  pub frame : (most : ℕ) → IsSink ep most s → OnlySink s v
+  pub frame : (most : ℕ) → IsSink ep most s → OnlySink ep s v
   pub sink : is_at s t ≡ true → (most : ℕ) (before : List ℕ) → IsSink ep most s
-      → length bytes ≤ most → SinkAt before bytes toggle s → SinkEnds before bytes toggle result v
-  pub halted : is_at s t ≡ true → (most : ℕ) → IsSink ep most s → s.bulk_out.halted ≡ true → (v ≡ s)
-      × ((done : List ℕ) → result ≡ Ok done → ⊥)
+      → length bytes ≤ most → SinkAt ep before bytes toggle s
+      → SinkEnds ep before bytes toggle result v
+  pub halted : is_at s t ≡ true → (most : ℕ) → IsSink ep most s
+      → (out_end s ep).state.halted ≡ true → (v ≡ s) × ((done : List ℕ) → result ≡ Ok done → ⊥)
 
 -- between two of its attempts the packet joined what the device took, or did not yet
 pub record SinkBetween (t : Target) (ep : ℕ) (toggle : Toggle) (bytes : List ℕ) (x : Location)
     (s v : State) : Type 0 where
   pub others : is_at s t ≡ false → v ≡ s
-  pub frame : (most : ℕ) → IsSink ep most s → OnlySink s v
+  pub frame : (most : ℕ) → IsSink ep most s → OnlySink ep s v
   pub sink : is_at s t ≡ true → (most : ℕ) (before : List ℕ) → IsSink ep most s
-      → length bytes ≤ most → SinkAt before bytes toggle s → SinkAt before bytes toggle v
+      → length bytes ≤ most → SinkAt ep before bytes toggle s → SinkAt ep before bytes toggle v
 
 -- the hub's ports told these bits when one of the attempts of a poll was made, and since then the
 -- same was attempted, and nothing else

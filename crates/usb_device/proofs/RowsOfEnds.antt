@@ -1,0 +1,61 @@
+-- Rows of endpoints: what stands at a number after another one was put there.
+use Rattle.std.proofs.Common.{◌≡◌, ℕ, zero, suc, ◌<◌, ◌==◌, true, false, List, [], ◌∷◌, length, map}
+use Rattle.std.proofs.Common.{get_or, set, replicate, None, Some, Option, refl, ap, sym, ◌∙◌, arith}
+use Rattle.std.proofs.Common.{if◌then◌else◌, Bool}
+use Rattle.std.proofs.lemmas.Bool.Decides.{nat_tests}
+use Rattle.usb_device.proofs.Attempts.{same_number}
+use Rattle.usb_device.specs.{with_at, max_of, State, bulk_of, in_max, out_max}
+
+none_less : {P : Type 0} (n : ℕ) → n < 0 → P
+none_less n h = absurd (lt_zero n h)
+  where
+    lt_zero : (n : ℕ) → n < 0 → ⊥
+    lt_zero n h = omega (arith, h)
+
+module _ {A : Type 0} (none : A) where
+  pub at_same : (n : ℕ) (x : A) (row : List A) → get_or (with_at none n x row) n none ≡ x
+  unfolding with_at
+  at_same zero x [] = refl
+  at_same zero x (y ∷ row) = refl
+  at_same (suc n) x [] = at_same n x []
+  at_same (suc n) x (y ∷ row) = at_same n x row
+
+  pub at_other : (n m : ℕ) (x : A) (row : List A) → (m == n) ≡ false
+      → get_or (with_at none n x row) m none ≡ get_or row m none
+  unfolding with_at
+  at_other zero zero x row h = cc h
+  at_other zero (suc m) x [] h = refl
+  at_other zero (suc m) x (y ∷ row) h = refl
+  at_other (suc n) zero x [] h = refl
+  at_other (suc n) zero x (y ∷ row) h = refl
+  at_other (suc n) (suc m) x [] h = at_other n m x [] (grind (arith, nat_tests, h))
+  at_other (suc n) (suc m) x (y ∷ row) h = at_other n m x row (grind (arith, nat_tests, h))
+
+  pub with_at-set : (n : ℕ) (x : A) (row : List A) → n < length row → with_at none n x row ≡ set row n x
+  unfolding with_at
+  with_at-set n x [] h = none_less n h
+  with_at-set zero x (y ∷ row) h = refl
+  with_at-set (suc n) x (y ∷ row) h = ap (λ more. y ∷ more) (with_at-set n x row (omega (arith, h)))
+
+  -- each of a row is changed, as the one is that stands for those beyond it
+  pub at_mapped : (f : A → A) → f none ≡ none → (n : ℕ) (row : List A)
+      → get_or (map f row) n none ≡ f (get_or row n none)
+  at_mapped f e n [] = sym e
+  at_mapped f e zero (y ∷ row) = refl
+  at_mapped f e (suc n) (y ∷ row) = at_mapped f e n row
+
+-- the maximum is that of the endpoint with the number
+pub max_of-some : (e most : ℕ) (o : Option (ℕ × ℕ)) → max_of e o ≡ Some most → o ≡ Some (e, most)
+max_of-some e most None h = cc h
+max_of-some e most (Some end) h = by_number (end.0 == e) refl h
+  where
+    by_number : (b : Bool) → (end.0 == e) ≡ b → (if b then Some end.1 else None) ≡ Some most
+        → Some end ≡ Some (e, most)
+    by_number true at g = grind (arith, nat_tests, at, g)
+    by_number false at g = cc g
+
+pub in_max-is : (e most : ℕ) (s : State) → bulk_of s true ≡ Some (e, most) → in_max s e ≡ Some most
+in_max-is e most s h = ap (max_of e) h ∙ ap (λ b. if b then Some most else None) (same_number e)
+
+pub out_max-is : (e most : ℕ) (s : State) → bulk_of s false ≡ Some (e, most) → out_max s e ≡ Some most
+out_max-is e most s h = ap (max_of e) h ∙ ap (λ b. if b then Some most else None) (same_number e)
