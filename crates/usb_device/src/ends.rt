@@ -37,11 +37,12 @@ impl EndpointNumber {
         EndpointNumber { number }
     }
 
-    /// Whether it is this one.
-    pub fn is(self, number: u8) -> bool
-        ensures { result ≡ (number == self) }
+    /// The number.
+    pub fn get(self) -> u8
+        ensures value { result ≡ self }
+        ensures bound { result < 16 }
     {
-        number == self.number
+        self.number
     }
 
     /// Its place in a row.
