@@ -56,21 +56,21 @@ keeps-out u c d (writing w) t b = keeps-write u c d w b (judged (max_packet d.sp
 keeps-out u c d s t b = search (rules, keeps-status)
 
 -- a row of IN endpoints where one has another state
+abbrev with_state : ℕ → EndpointState → List InEnd → InEnd
+with_state a x row = record (get_or row a no_in) { state = x }
+
 place-set : (a e : ℕ) (x : EndpointState) (row : List InEnd)
-    → (get_or (with_at no_in a (record (get_or row a no_in) { state = x }) row) e no_in).place
-    ≡ (get_or row e no_in).place
+    → (get_or (with_at no_in a (with_state a x row) row) e no_in).place ≡ (get_or row e no_in).place
 place-set a e x row = by_number (e == a) refl
   where
-    abbrev end : InEnd
-    end = record (get_or row a no_in) { state = x }
-
     by_number : (b : Bool) → (e == a) ≡ b
-        → (get_or (with_at no_in a end row) e no_in).place ≡ (get_or row e no_in).place
+        → (get_or (with_at no_in a (with_state a x row) row) e no_in).place
+        ≡ (get_or row e no_in).place
     by_number true is =
-        ap (λ m. (get_or (with_at no_in a end row) m no_in).place) (eqb-true e a is)
-        ∙ ap (λ i. i.place) (at_same no_in a end row)
+        ap (λ m. (get_or (with_at no_in a (with_state a x row) row) m no_in).place) (eqb-true e a is)
+        ∙ ap (λ i. i.place) (at_same no_in a (with_state a x row) row)
         ∙ ap (λ m. (get_or row m no_in).place) (sym (eqb-true e a is))
-    by_number false is = ap (λ i. i.place) (at_other no_in a e end row is)
+    by_number false is = ap (λ i. i.place) (at_other no_in a e (with_state a x row) row is)
 
 begun-place : (d : State) (row : List PortState) (n : ℕ) (o : Outcome) (e : ℕ)
     → (in_end (begun d row n o) e).place ≡ (in_end d e).place
