@@ -231,8 +231,8 @@ done_leaves pipe done unready j s v x = record {
       );
   source = λ at is got f.
       let d = x.done at done refl in
-      let o = ended_rests (clear_of pipe) (BulkIn pipe.ep) s (clear_of-in pipe s is f.endpoint) d.row
-      d.address v d.is d.given d.rest in
+      let o = ended_rests (clear_of pipe) (BulkIn pipe.ep) s (clear_of-in pipe s is f.endpoint)
+      d.row d.address v d.is d.given d.rest in
       let there = in_with pipe.ep s rested in
       rw (unready, o) (
         record {

@@ -442,8 +442,8 @@ all_came pipe left bytes n works e turned j s v x = record {
   frame = x.frame;
   fits = λ h place f. subst (λ l. InPipeInSync l (place + length bytes.items) v) (sym e) (record {
     endpoint = source_then x f.endpoint;
-    level = λ r. subst (λ k. SourceAt pipe.ep pipe.max (place + length bytes.items) k v) (sym turned)
-        (came h place f).1;
+    level = λ r. subst (λ k. SourceAt pipe.ep pipe.max (place + length bytes.items) k v)
+        (sym turned) (came h place f).1;
     halted = λ r. cc r;
   });
   done = λ h place f given r. let same : given ≡ bytes = cc r in
