@@ -1,7 +1,8 @@
 -- What each call through pipes leaves of the device at their other ends: it is as far as the pipes.
 use Rattle.usb_device.specs.{Location, EndpointState, Registers, advanced, bulk_at, tells_changes}
 use Rattle.usb_device.specs.{SourceAt, PollAt, NeverTold, OnlyStage, OnlySink, OnlySource}
-use Rattle.usb_device.specs.{OnlyWrite, State, in_end, in_max, max_of, no_in, no_out, out_end, out_max}
+use Rattle.usb_device.specs.{OnlyWrite, State, in_end, in_max, max_of, no_in, no_out, out_end}
+use Rattle.usb_device.specs.{out_max}
 use Rattle.usb_device.specs.{Spec}
 use Rattle.std.proofs.Common.{◌≡◌, ◌∙◌, refl, sym, ap, subst, Bool, true, false, ℕ, ◌+◌, ◌==◌, ◌<◌}
 use Rattle.std.proofs.Common.{◌&&◌, List, [], length, Option, None, Some, Result, Ok, Err, IsOk}
@@ -224,28 +225,28 @@ receive_moves ends pipe left out answer j s v is x k = record {
 module _ (ends : Type 0) (pipe left : Bulk) (answer : Result (Unit {0}) PipeFault) (j : Location)
     (s v : State) (is : ends → pipe_known answer left ≡ left)
     (x : ClearLeaves pipe answer left j s v) (k : SameSettings j s v) where
-    pub clear_out_moves : (into : Option Bulk) → pipe.is_in ≡ false
-        → PipesMove pipe.target.addr ends (Function (record { out = Some pipe; into = into }))
-        (Function (record { out = Some left; into = into })) j s v
-    clear_out_moves into way = record {
-      others = x.others;
-      same = ap (λ (g : Registers). g.address) k.1;
-      itself = λ e at f. (
-        known_itself ends answer left v OutPipeInSync is e (x.sink at way f.0).0,
-        fits_in-same into s v k (out_cleared pipe.ep s v (x.only_sink way f.0.endpoint)).ins f.1,
-      );
-    }
+  pub clear_out_moves : (into : Option Bulk) → pipe.is_in ≡ false
+      → PipesMove pipe.target.addr ends (Function (record { out = Some pipe; into = into }))
+      (Function (record { out = Some left; into = into })) j s v
+  clear_out_moves into way = record {
+    others = x.others;
+    same = ap (λ (g : Registers). g.address) k.1;
+    itself = λ e at f. (
+      known_itself ends answer left v OutPipeInSync is e (x.sink at way f.0).0,
+      fits_in-same into s v k (out_cleared pipe.ep s v (x.only_sink way f.0.endpoint)).ins f.1,
+    );
+  }
 
-    pub clear_in_moves : (out : Option Bulk) → pipe.is_in ≡ true
-        → PipesMove pipe.target.addr ends (Function (record { out = out; into = Some pipe }))
-        (Function (record { out = out; into = Some left })) j s v
-    clear_in_moves out way = record {
-      others = x.others;
-      same = ap (λ (g : Registers). g.address) k.1;
-      itself = λ e at f.
-          let fits = x.source at way f.1.0 f.1.1 in
-          let got : ℕ = got_after pipe f.1.0 answer s in (
-            still_out out s v k (in_cleared pipe.ep s v (x.only_source way f.1.1.endpoint)).outs f.0,
-            (got, known_itself ends answer left v (λ b. InPipeInSync b got) is e fits.0),
-          );
-    }
+  pub clear_in_moves : (out : Option Bulk) → pipe.is_in ≡ true
+      → PipesMove pipe.target.addr ends (Function (record { out = out; into = Some pipe }))
+      (Function (record { out = out; into = Some left })) j s v
+  clear_in_moves out way = record {
+    others = x.others;
+    same = ap (λ (g : Registers). g.address) k.1;
+    itself = λ e at f.
+        let fits = x.source at way f.1.0 f.1.1 in
+        let got : ℕ = got_after pipe f.1.0 answer s in (
+          still_out out s v k (in_cleared pipe.ep s v (x.only_source way f.1.1.endpoint)).outs f.0,
+          (got, known_itself ends answer left v (λ b. InPipeInSync b got) is e fits.0),
+        );
+  }

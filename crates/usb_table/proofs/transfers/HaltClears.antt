@@ -12,7 +12,8 @@ pub at_each : {A : Type 0} (none : A) (R : A → A → Type 0) → ((y : A) → 
     → R (get_or row m none) (get_or (with_at none n x row) m none)
 at_each {A} none R same n x row put m = by_test (m == n) refl
   where
-    by_test : (b : Bool) → (m == n) ≡ b → R (get_or row m none) (get_or (with_at none n x row) m none)
+    by_test : (b : Bool) → (m == n) ≡ b
+        → R (get_or row m none) (get_or (with_at none n x row) m none)
     by_test true e = rw (eqb-true m n e, at_same none n x row) put
     by_test false e = rw (at_other none n m x row e) (same (get_or row m none))
 

@@ -115,8 +115,8 @@ module _ (ends : Type 0) where
   ClearSteps a Out Into pipes left = EachWas (ClearStep ends a Out Into pipes left)
 
   clear_step_none : (a : ℕ) (Out : RowRelation OutEnd) (Into : RowRelation InEnd)
-      (pipes : BulkPipes) → ((row : List OutEnd) → Out row row) → ((row : List InEnd) → Into row row)
-      → (w : World) → ClearSteps a Out Into pipes pipes w w
+      (pipes : BulkPipes) → ((row : List OutEnd) → Out row row)
+      → ((row : List InEnd) → Into row row) → (w : World) → ClearSteps a Out Into pipes pipes w w
   clear_step_none a Out Into pipes out into w =
       each_none (ClearStep ends a Out Into pipes pipes)
       (λ j s. record {
@@ -130,7 +130,8 @@ module _ (ends : Type 0) where
         };
       }) w
 
-  steps_then : (a : ℕ) (Out : RowRelation OutEnd) (Into : RowRelation InEnd) (pipes mid left : BulkPipes) (u w v : World)
+  steps_then : (a : ℕ) (Out : RowRelation OutEnd) (Into : RowRelation InEnd)
+      (pipes mid left : BulkPipes) (u w v : World)
       → ClearSteps a Out RowStays pipes mid u w → ClearSteps a RowStays Into mid left w v
       → ClearSteps a Out Into pipes left u v
   steps_then a Out Into pipes mid left =

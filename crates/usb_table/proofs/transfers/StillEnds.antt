@@ -1,5 +1,5 @@
 -- A request that writes moves nothing through bulk endpoints.
-use Rattle.std.proofs.Common.{◌≡◌, ◌∙◌, refl, ap, ℕ, ◌==◌, List, Bool, true, false, Result, Ok}
+use Rattle.std.proofs.Common.{◌≡◌, ap, ℕ, ◌==◌, List, Bool, true, false, Result, Ok}
 use Rattle.std.proofs.Common.{Some, is_some}
 use Rattle.usb_request.specs.{IsToDevice, Setup}
 use Rattle.usb_port.specs.{PortState}
@@ -50,8 +50,8 @@ module _ (t : Target) (request : Setup) (to_hub : Bool) (free : IsFree to_hub re
       (λ row address is frame given. accepted_still row frame
       (given_registers address (accepted s row request) v (allowed_address s row request.length
       to_hub (outcome s.spec s.registers request) address fine is) given))
-      (λ frame kept. rows_still (ap (λ (d : State). d.outs) frame) (ap (λ (d : State). d.ins) frame))
-      answer left
+      (λ frame kept.
+      rows_still (ap (λ (d : State). d.outs) frame) (ap (λ (d : State). d.ins) frame)) answer left
   left_still false left =
       rows_still (ap (λ (d : State). d.outs) left.frame) (ap (λ (d : State). d.ins) left.frame)
 
