@@ -1,6 +1,6 @@
 -- Rows of endpoints: what stands at a number after another one was put there.
 use Rattle.std.proofs.Common.{◌≡◌, ℕ, zero, suc, ◌<◌, ◌==◌, true, false, List, [], ◌∷◌, length, map}
-use Rattle.std.proofs.Common.{get_or, slice_set, replicate, None, Some, Option, refl, ap, sym, ◌∙◌, arith}
+use Rattle.std.proofs.Common.{get_or, slice_set, None, Some, Option, refl, ap, sym, ◌∙◌, arith}
 use Rattle.std.proofs.Common.{if◌then◌else◌, Bool, Result, Ok, Err, IfOk}
 use Rattle.std.proofs.lemmas.Bool.Decides.{nat_tests}
 use Rattle.usb_device.proofs.Attempts.{same_number}
