@@ -2,9 +2,8 @@
 use Rattle.usb_device.specs.{Location, ServedEndpoint, BulkOut, BulkIn, Registers, Spec, rested}
 use Rattle.usb_device.specs.{bulk_at, is_end, served, outcome, unhalts, on_endpoint, first_stage}
 use Rattle.usb_device.specs.{ending, EndpointState, Changes, State, bulk_of, with_endpoint_state}
-use Rattle.usb_device.specs.{endpoint_state}
 use Rattle.usb_device.specs.{accepted, IsSink, IsSource, level, StatusGiven, OnlyControl, OnlyStage}
-use Rattle.usb_device.specs.{in_end, out_end, no_in, no_out, InEnd, OutEnd}
+use Rattle.usb_device.specs.{endpoint_state, in_end, out_end, no_in, no_out, InEnd, OutEnd}
 use Rattle.usb_device.proofs.Interface.{at_same, max_of-some}
 use Rattle.std.proofs.Common.{◌≡◌, ◌≢◌, ◌⊎◌, inl, inr, ◌∙◌, refl, sym, ap, subst, arith, false}
 use Rattle.std.proofs.Common.{true, Bool, ℕ, ◌+◌, ◌*◌, ◌/◌, ◌%◌, ◌<◌, ◌==◌, List, [], ◌∷◌, Option}
