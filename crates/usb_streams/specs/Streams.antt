@@ -95,8 +95,8 @@ abbrev pub ClearsNoOut : List ℕ → ToldItem → Type 0
 ClearsNoOut path t = t.due ≡ Some (Clear path)
     → IsAtWork (pipe_out (pipes_at path (table_in t.asked)))
 
--- the sends that are told done are, end to end, what the endpoint of the pipe got, with at most a front of a failed
--- one behind them, and none where the pipe works still
+-- the sends that are told done are, end to end, what the endpoint of the pipe got, with at most a
+-- front of a failed one behind them, and none where the pipe works still
 pub record TookSent (path : List ℕ) (told : List ToldItem) (left : Option Bulk) (s v : State) :
     Type 0 where
   pub front : List ℕ
