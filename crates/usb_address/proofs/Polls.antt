@@ -7,7 +7,7 @@ use Rattle.usb_packet.specs.{Toggle, One as Data1}
 use Rattle.usb_port.specs.{PortState}
 use Rattle.usb_device.specs.declared.answer.Answer.TheVariants as answer
 use Rattle.usb_device.specs.{Stage, reading, read, State, Reply, out_row, status_row, sink_row}
-use Rattle.usb_device.specs.{out_bulk_row, data_row, Way, in_law, out_law, Ports, vacant, taken}
+use Rattle.usb_device.specs.{out_end_row, data_row, Way, in_law, out_law, Ports, vacant, taken}
 use Rattle.usb_device.specs.{row_of, reach_at, state_at, Location, Registers, Write, WriteData}
 use Rattle.usb_device.specs.{Next, writing, judged, max_packet, write_row}
 use Rattle.usb_world.specs.{Attempt, Outcome, World, attempt, after, HoldsMapped, Was, EachWas}
@@ -50,15 +50,15 @@ module _ (s : State) where
     out_row_keeps (writing w) = written_keeps w (judged (max_packet s.spec) w t bytes)
     out_row_keeps g = refl
 
-    sink_keeps : (max : ℕ) → Kept (sink_row s max t bytes)
-    sink_keeps max = search rules
+    sink_keeps : (e max : ℕ) → Kept (sink_row s e max t bytes)
+    sink_keeps e max = search rules
 
-    out_bulk_keeps : (e : ℕ) (o : Option (ℕ × ℕ)) → Kept (out_bulk_row s e o t bytes)
-    out_bulk_keeps e None = refl
-    out_bulk_keeps e (Some end) = search (rules, kept_if, sink_keeps)
+    out_end_keeps : (e : ℕ) (o : Option ℕ) → Kept (out_end_row s e o t bytes)
+    out_end_keeps e None = refl
+    out_end_keeps e (Some max) = sink_keeps e max
 
     data_keeps : (e : ℕ) → Kept (data_row s e t bytes)
-    data_keeps e = search (rules, out_row_keeps, out_bulk_keeps)
+    data_keeps e = search (rules, out_row_keeps, out_end_keeps)
 
     out_far : (e : ℕ) (x y z : Way) → Kept (out_law s e t bytes x y z)
     out_far e x y z = search (rules, kept_if, data_keeps)

@@ -6,9 +6,9 @@ use Rattle.usb_port.specs.{PortState}
 use Rattle.usb_device.specs.declared.answer.Answer.TheVariants as answer
 use Rattle.usb_device.specs.{InEndpoint, Stage, reading, read, ending, max_packet, packet_at}
 use Rattle.usb_device.specs.{toggle_at, State, Reply, forgotten, out_row, status_row, ack_row}
-use Rattle.usb_device.specs.{sink_row, out_bulk_row, bulk_ack_row, bulk_of, data_row, acknowledged}
+use Rattle.usb_device.specs.{sink_row, out_end_row, in_ack_row, in_max, data_row, acknowledged}
 use Rattle.usb_device.specs.{ends_with_address, Way, is_whole, gave, in_stage_law, source_law}
-use Rattle.usb_device.specs.{held_law, in_bulk_law, in_other_law, in_control_law, in_law, out_law}
+use Rattle.usb_device.specs.{held_law, in_end_law, in_other_law, in_control_law, in_law, out_law}
 use Rattle.usb_device.specs.{heard, Write, WriteData, Next, writing, is_done, judged, write_row}
 use Rattle.usb_device.specs.declared.transfer.InEndpoint.TheVariants as by
 use Rattle.usb_address.specs.Aims.{Aims}
@@ -37,14 +37,15 @@ module _ (Q : ℕ → Type 0) where
   acked s (writing w) h = tt
   acked s g h = h
 
-  bulk_acked : (s : State) (o : Option (ℕ × ℕ)) → Aims Q s.stage → Aims Q (bulk_ack_row s o).stage
-  bulk_acked s None h = h
-  bulk_acked s (Some end) h = h
+  end_acked : (s : State) (e : ℕ) (o : Option ℕ) → Aims Q s.stage
+      → Aims Q (in_ack_row s e o).stage
+  end_acked s e None h = h
+  end_acked s e (Some most) h = h
 
   acknowledges : (s : State) (giver : InEndpoint) → Aims Q s.stage
       → Aims Q (acknowledged s giver).stage
   acknowledges s by.Control h = acked s s.stage h
-  acknowledges s by.Bulk h = bulk_acked s (bulk_of s true) h
+  acknowledges s (by.Bulk e) h = end_acked s e (in_max s e) h
   acknowledges s by.Changes h = h
 
   gives : (s : State) (giver : InEndpoint) (max : ℕ) (t : Toggle) (bytes : List ℕ) (x y : Way)
@@ -73,19 +74,19 @@ module _ (Q : ℕ → Type 0) where
         (heard x (Some answer.Stall), s) (gives s by.Control max Data1 [] x y h) h
     in_stage g = h
 
-    source_keeps : (most : ℕ) → Keeps (source_law s most max x y)
-    source_keeps most = search (rules, keeps_if, gives)
+    source_keeps : (e most : ℕ) → Keeps (source_law s e most max x y)
+    source_keeps e most = search (rules, keeps_if, gives)
 
-    bulk_keeps : (e : ℕ) (o : Option (ℕ × ℕ)) → Keeps (in_bulk_law s e o max x y)
-    bulk_keeps e None = h
-    bulk_keeps e (Some end) = search (rules, keeps_if, source_keeps)
+    end_keeps : (e : ℕ) (o : Option ℕ) → Keeps (in_end_law s e o max x y)
+    end_keeps e None = h
+    end_keeps e (Some most) = source_keeps e most
 
     held_keeps : (row : List PortState) (o : Option ℕ) → Keeps (held_law s row o max x y)
     held_keeps row None = search (rules, keeps_if, gives)
     held_keeps row (Some bits) = gives s by.Changes max s.changes.toggle (bits ∷ []) x y h
 
     other_keeps : (row : List PortState) (e : ℕ) → Keeps (in_other_law s row e max x y)
-    other_keeps row e = search (rules, keeps_if, held_keeps, bulk_keeps)
+    other_keeps row e = search (rules, keeps_if, held_keeps, end_keeps)
 
     control_keeps : Keeps (in_control_law s max x y)
     control_keeps = search (rules, keeps_if, in_stage)
@@ -111,15 +112,15 @@ module _ (Q : ℕ → Type 0) where
     out_row_keeps (writing w) = written_keeps w (judged (max_packet s.spec) w t bytes)
     out_row_keeps g = h
 
-    sink_keeps : (max : ℕ) → Keeps (sink_row s max t bytes)
-    sink_keeps max = search (rules, keeps_if)
+    sink_keeps : (e max : ℕ) → Keeps (sink_row s e max t bytes)
+    sink_keeps e max = search (rules, keeps_if)
 
-    out_bulk_keeps : (e : ℕ) (o : Option (ℕ × ℕ)) → Keeps (out_bulk_row s e o t bytes)
-    out_bulk_keeps e None = h
-    out_bulk_keeps e (Some end) = search (rules, keeps_if, sink_keeps)
+    out_end_keeps : (e : ℕ) (o : Option ℕ) → Keeps (out_end_row s e o t bytes)
+    out_end_keeps e None = h
+    out_end_keeps e (Some max) = sink_keeps e max
 
     data_keeps : (e : ℕ) → Keeps (data_row s e t bytes)
-    data_keeps e = search (rules, keeps_if, out_row_keeps, out_bulk_keeps)
+    data_keeps e = search (rules, keeps_if, out_row_keeps, out_end_keeps)
 
   pub out_keeps : (s : State) (e : ℕ) (t : Toggle) (bytes : List ℕ) (x y z : Way) → Aims Q s.stage
       → Aims Q (out_law s e t bytes x y z).1.stage

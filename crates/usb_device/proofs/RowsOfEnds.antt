@@ -1,7 +1,7 @@
 -- Rows of endpoints: what stands at a number after another one was put there.
 use Rattle.std.proofs.Common.{◌≡◌, ℕ, zero, suc, ◌<◌, ◌==◌, true, false, List, [], ◌∷◌, length, map}
-use Rattle.std.proofs.Common.{get_or, set, replicate, None, Some, Option, refl, ap, sym, ◌∙◌, arith}
-use Rattle.std.proofs.Common.{if◌then◌else◌, Bool}
+use Rattle.std.proofs.Common.{get_or, slice_set, None, Some, Option, refl, ap, sym, ◌∙◌, arith}
+use Rattle.std.proofs.Common.{if◌then◌else◌, Bool, Result, Ok, Err, IfOk}
 use Rattle.std.proofs.lemmas.Bool.Decides.{nat_tests}
 use Rattle.usb_device.proofs.Attempts.{same_number}
 use Rattle.usb_device.specs.{with_at, max_of, State, bulk_of, in_max, out_max}
@@ -31,11 +31,28 @@ module _ {A : Type 0} (none : A) where
   at_other (suc n) (suc m) x [] h = at_other n m x [] (grind (arith, nat_tests, h))
   at_other (suc n) (suc m) x (y ∷ row) h = at_other n m x row (grind (arith, nat_tests, h))
 
-  pub with_at-set : (n : ℕ) (x : A) (row : List A) → n < length row → with_at none n x row ≡ set row n x
+  pub slice_set-row : (n : ℕ) (x : A) (row : List A) → n < length row
+      → slice_set row n x ≡ with_at none n x row
   unfolding with_at
-  with_at-set n x [] h = none_less n h
-  with_at-set zero x (y ∷ row) h = refl
-  with_at-set (suc n) x (y ∷ row) h = ap (λ more. y ∷ more) (with_at-set n x row (omega (arith, h)))
+  slice_set-row n x [] h = none_less n h
+  slice_set-row zero x (y ∷ row) h = refl
+  slice_set-row (suc n) x (y ∷ row) h =
+      ap (λ more. y ∷ more) (slice_set-row n x row (omega (arith, h)))
+
+  get_or-any : (n : ℕ) (x : A) (row : List A) → n < length row → get_or row n x ≡ get_or row n none
+  get_or-any n x [] h = none_less n h
+  get_or-any zero x (y ∷ row) h = refl
+  get_or-any (suc n) x (y ∷ row) h = get_or-any n x row (omega (arith, h))
+
+  -- the one that was read there is changed
+  pub slice_set-changed : (f : A → A) (n i : ℕ) (x read : A) (row : List A) → i ≡ n
+      → n < length row → x ≡ read → read ≡ get_or row i read
+      → slice_set row i (f x) ≡ with_at none n (f (get_or row n none)) row
+  slice_set-changed f n i x read row at h is found =
+      ap (λ k. slice_set row k (f x)) at
+      ∙ slice_set-row n (f x) row h
+      ∙ ap (λ z. with_at none n (f z) row)
+      (is ∙ found ∙ ap (λ k. get_or row k read) at ∙ get_or-any n read row h)
 
   -- each of a row is changed, as the one is that stands for those beyond it
   pub at_mapped : (f : A → A) → f none ≡ none → (n : ℕ) (row : List A)
@@ -43,6 +60,11 @@ module _ {A : Type 0} (none : A) where
   at_mapped f e n [] = sym e
   at_mapped f e zero (y ∷ row) = refl
   at_mapped f e (suc n) (y ∷ row) = at_mapped f e n row
+
+pub if_ok-so : {T E P Q : Type 0} (r : Result T E) → (P → Q) → IfOk r (λ done. P)
+    → IfOk r (λ done. Q)
+if_ok-so (Ok v) f h = f h
+if_ok-so (Err e) f h = tt
 
 -- the maximum is that of the endpoint with the number
 pub max_of-some : (e most : ℕ) (o : Option (ℕ × ℕ)) → max_of e o ≡ Some most → o ≡ Some (e, most)

@@ -3,3 +3,4 @@ pub mod BulkProgress
 pub mod ChangesProgress
 pub mod ControlProgress
 pub mod WriteProgress
+pub mod SinkProgress

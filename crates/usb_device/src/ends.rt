@@ -37,11 +37,12 @@ impl EndpointNumber {
         EndpointNumber { number }
     }
 
-    /// Whether it is this one.
-    pub fn is(self, number: u8) -> bool
-        ensures { result ≡ (number == self) }
+    /// The number.
+    pub fn get(self) -> u8
+        ensures value { result ≡ self }
+        ensures bound { result < 16 }
     {
-        number == self.number
+        self.number
     }
 
     /// Its place in a row.
@@ -100,6 +101,26 @@ impl Model for OutEnd {
     } };
 }
 
+#[cycle(rest_ins)]
+fn rest_ins(row: &mut [InEnd])
+    ensures { row.new ≡ map rested_in row.old }
+{
+    if let Some((end, more)) = row.split_first_mut() {
+        end.state = RESTED;
+        rest_ins(more);
+    }
+}
+
+#[cycle(rest_outs)]
+fn rest_outs(row: &mut [OutEnd])
+    ensures { row.new ≡ map rested_out row.old }
+{
+    if let Some((end, more)) = row.split_first_mut() {
+        end.state = RESTED;
+        rest_outs(more);
+    }
+}
+
 /// The IN endpoints, by their numbers.
 #[derive(Debug, Drop)]
 pub(crate) struct InEnds {
@@ -145,9 +166,7 @@ impl InEnds {
     pub fn rest(&mut self)
         ensures { self.new ≡ map rested_in self.old }
     {
-        'ends: for end in self.row.iter_mut() {
-            end.state = RESTED;
-        }
+        rest_ins(&mut self.row);
     }
 }
 
@@ -227,9 +246,7 @@ impl OutEnds {
     pub fn rest(&mut self)
         ensures { self.new ≡ map rested_out self.old }
     {
-        'ends: for end in self.row.iter_mut() {
-            end.state = RESTED;
-        }
+        rest_outs(self.row.as_mut_slice());
     }
 }
 

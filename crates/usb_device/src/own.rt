@@ -136,33 +136,33 @@ fn first_progress(
     ports: &Ports,
     write: &mut ControlWrite,
     wanted: u16,
-    reaction: Reaction,
+    reaction: &Reaction,
 ) -> Progress
     ensures { (s : Spec) (taken : List ℕ) → stage_of s taken write.new result
-        ≡ first_stage (row_of ports.now) taken wanted (meaning_of s reaction) }
+        ≡ first_stage (row_of ports.now) taken wanted (meaning_of s reaction.now) }
 {
     match reaction {
         Reaction::Refuse => Progress::Refused,
-        Reaction::Answer(source) => reading(source, wanted),
-        Reaction::TellPort(i) => match ports.port_at(i) {
+        Reaction::Answer(source) => reading(*source, wanted),
+        Reaction::TellPort(i) => match ports.port_at(*i) {
             Some(port) => reading(Source::Port(port.status()), wanted),
             None => Progress::Refused,
         },
-        Reaction::TakeAddress(address) => Progress::Ending(Some(address)),
+        Reaction::TakeAddress(address) => Progress::Ending(Some(*address)),
         Reaction::TakeConfiguration(_)
         | Reaction::Halt(_)
         | Reaction::Unhalt(_)
         | Reaction::CallPort(..) => Progress::Ending(None),
-        Reaction::Take(kept) => write.begin(wanted, kept),
+        Reaction::Take(kept) => write.begin(wanted, *kept),
     }
 }
 
 /// What a request asks of the ports.
-fn effect_of(reaction: Reaction) -> Effect
-    ensures { (s : Spec) → result ≡ effect_of_request (meaning_of s reaction) }
+fn effect_of(reaction: &Reaction) -> Effect
+    ensures { (s : Spec) → result ≡ effect_of_request (meaning_of s reaction.now) }
 {
     match reaction {
-        Reaction::CallPort(call, port) => Effect::Calls(call, port),
+        Reaction::CallPort(call, port) => Effect::Calls(*call, *port),
         Reaction::TakeConfiguration(_) => Effect::PortsOff,
         _ => Effect::Leaves,
     }
@@ -527,7 +527,7 @@ impl FunctionState {
     {
         match endpoint {
             InEndpoint::Control => self.acknowledge_control(),
-            InEndpoint::Bulk(number) => self.acknowledge_end(number),
+            InEndpoint::Bulk(ep) => self.acknowledge_end(ep),
             InEndpoint::Changes => self.acknowledge_changes(),
         }
     }
@@ -579,18 +579,18 @@ impl FunctionState {
         ensures asked { result ≡ asked_by_setup self.old setup.now }
     {
         let reaction = react(&self.spec, self.registers, setup);
-        self.begin(ports, setup.length, reaction);
-        effect_of(reaction)
+        self.begin(ports, setup.length, &reaction);
+        effect_of(&reaction)
     }
 
     /// A request begins a transfer.
-    fn begin(&mut self, ports: &Ports, wanted: u16, reaction: Reaction)
+    fn begin(&mut self, ports: &Ports, wanted: u16, reaction: &Reaction)
         ensures { self.new
-            ≡ begun self.old (row_of ports.now) wanted (meaning_of self.old.spec reaction) }
+            ≡ begun self.old (row_of ports.now) wanted (meaning_of self.old.spec reaction.now) }
     {
         self.set_endpoints(reaction);
         if let Reaction::TakeConfiguration(value) = reaction {
-            self.configure(value);
+            self.configure(*value);
         }
         self.naks = self.spec.naks();
         self.progress = first_progress(ports, &mut self.write, wanted, reaction);
@@ -605,8 +605,8 @@ impl FunctionState {
     }
 
     /// What a request makes of the endpoints.
-    fn set_endpoints(&mut self, reaction: Reaction)
-        ensures { self.new ≡ with_endpoints self.old (meaning_of self.old.spec reaction) }
+    fn set_endpoints(&mut self, reaction: &Reaction)
+        ensures { self.new ≡ with_endpoints self.old (meaning_of self.old.spec reaction.now) }
     {
         match reaction {
             Reaction::TakeConfiguration(_) => {
@@ -615,10 +615,10 @@ impl FunctionState {
                 self.changes = RESTED;
                 self.held = None;
             }
-            Reaction::Halt(endpoint) => self.set_endpoint(
-                endpoint,
-                halted(self.endpoint(endpoint)),
-            ),
+            Reaction::Halt(endpoint) => {
+                let state = halted(self.endpoint(endpoint));
+                self.set_endpoint(endpoint, state);
+            }
             Reaction::Unhalt(endpoint) => self.set_endpoint(endpoint, RESTED),
             Reaction::Refuse
             | Reaction::Answer(_)
@@ -657,7 +657,7 @@ impl FunctionState {
     fn asks_by_setup(&self, setup: &Setup) -> Effect
         ensures { result ≡ asked_by_setup self.now setup.now }
     {
-        effect_of(react(&self.spec, self.registers, setup))
+        effect_of(&react(&self.spec, self.registers, setup))
     }
 
     /// Puts a packet of the answer that the host reads into the room, and returns whether there is
@@ -836,24 +836,24 @@ impl FunctionState {
         self.served.bulk_in
     }
 
-    fn endpoint(&self, endpoint: ServedEndpoint) -> EndpointState
-        ensures { result ≡ endpoint_state self.now endpoint }
+    fn endpoint(&self, endpoint: &ServedEndpoint) -> EndpointState
+        ensures { result ≡ endpoint_state self.now endpoint.now }
     {
         match endpoint {
-            ServedEndpoint::BulkOut(number) => self.outs.state(number),
-            ServedEndpoint::BulkIn(number) => self.ins.get(number).state,
+            ServedEndpoint::BulkOut(number) => self.outs.state(*number),
+            ServedEndpoint::BulkIn(number) => self.ins.get(*number).state,
             ServedEndpoint::Changes => self.changes,
         }
     }
 
-    fn set_endpoint(&mut self, endpoint: ServedEndpoint, state: EndpointState)
-        ensures { self.new ≡ with_endpoint_state self.old endpoint state }
+    fn set_endpoint(&mut self, endpoint: &ServedEndpoint, state: EndpointState)
+        ensures { self.new ≡ with_endpoint_state self.old endpoint.now state }
     {
         match endpoint {
-            ServedEndpoint::BulkOut(number) => self.outs.set_state(number, state),
+            ServedEndpoint::BulkOut(number) => self.outs.set_state(*number, state),
             ServedEndpoint::BulkIn(number) => {
-                let place = self.ins.get(number).place;
-                self.ins.set(number, InEnd { state, place });
+                let place = self.ins.get(*number).place;
+                self.ins.set(*number, InEnd { state, place });
             }
             ServedEndpoint::Changes => self.changes = state,
         }
@@ -961,17 +961,17 @@ impl FunctionState {
             return Some(AnswerPid::Nak);
         }
         fill(room, &rest[..rest.len().min(usize::from(max))]);
-        self.give_data(InEndpoint::Bulk(number), state.toggle)
+        self.give_data(InEndpoint::Bulk(number.get()), state.toggle)
     }
 
     /// The host's ACK of what an IN endpoint gave.
-    fn acknowledge_end(&mut self, number: EndpointNumber)
-        ensures { self.new ≡ in_ack_row self.old number (in_max self.old number) }
+    fn acknowledge_end(&mut self, ep: u8)
+        ensures { self.new ≡ in_ack_row self.old ep (in_max self.old ep) }
     {
         match self.served_in() {
-            Some((served, max)) if number.is(served) => {
-                let end = self.ins.get(number);
-                let given = given_on(max, self.spec.source().len(), end);
+            Some((number, max)) if number == ep => {
+                let number = EndpointNumber::new(number);
+                let given = given_on(max, self.spec.source().len(), self.ins.get(number));
                 self.ins.set(number, given);
             }
             _ => {}

@@ -2,7 +2,6 @@
 ghost use Rattle.std.specs.Prelude.{◌≡◌, ◌≤◌, ◌<◌, ℕ, List, length, is_some};
 ghost use Rattle.usb_device.specs.Transfer.{packet_count, packet_at, put_if, toggle_at};
 
-use crate::ends::EndpointNumber;
 use crate::request::Source;
 use arrayvec::ArrayVec;
 use usb_packet::Toggle;
@@ -13,7 +12,7 @@ pub enum InEndpoint {
     /// Endpoint 0.
     Control,
     /// The bulk IN endpoint with this number.
-    Bulk(EndpointNumber),
+    Bulk(u8),
     /// IN 1 of a hub.
     Changes,
 }

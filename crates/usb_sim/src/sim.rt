@@ -4,6 +4,7 @@ ghost use Rattle.std.specs.List.{list_all};
 ghost use Rattle.usb_world.specs.Plans.{can_come};
 ghost use Rattle.usb_world.specs.PlanLimits.{attempt_most, damage_most, event_most};
 ghost use Rattle.usb_device.specs.DeviceSpecs.{IsSpec};
+ghost use Rattle.usb_device.specs.Rows.{out_end};
 ghost use Rattle.usb_device.specs.Tree.{new_ports, row_of};
 ghost use Rattle.usb_device.specs.HolderIndex.{IsIndexOf};
 ghost use Rattle.usb_world.specs.Losses.{AreOfDamages};
@@ -27,7 +28,7 @@ use std::alloc::{AllocError, Global};
 use std::collections::VecDeque;
 use std::io::Write;
 use usb_bus::Watched;
-use usb_device::{Holders, Ports};
+use usb_device::{EndpointNumber, Holders, Ports};
 use usb_port::PortPath;
 use usb_world::{BusFault, Exchange, Losses, event_copies};
 
@@ -233,13 +234,13 @@ impl<T: Trace> SimBus<T> {
         Some((device.address(), device.configuration()))
     }
 
-    /// All bytes that the bulk OUT endpoint of the device at the path has taken since its plug; None if none is
-    /// there.
-    pub fn sink(&self, path: &PortPath) -> Option<&[u8]>
+    /// All bytes that the OUT endpoint with a number, of the device at the path, has taken since its
+    /// plug; None if no device is there.
+    pub fn sink(&self, path: &PortPath, number: EndpointNumber) -> Option<&[u8]>
         ensures { option_map (λ s. s.now) result
-            ≡ option_map (λ d. d.own.sink) (device_at self.now path.now) }
+            ≡ option_map (λ d. (out_end d.own number).sink) (device_at self.now path.now) }
     {
-        Some(self.roots.device_at(path.numbers())?.sink())
+        Some(self.roots.device_at(path.numbers())?.sink(number))
     }
 }
 

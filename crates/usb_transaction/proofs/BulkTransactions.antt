@@ -1,5 +1,6 @@
 -- Bulk endpoints over a transaction: what IN and OUT leave of them, and why one fails.
-use Rattle.usb_device.specs.{Location, advanced, turned, State, Reply, forgotten, rest_of, sunk}
+use Rattle.usb_device.specs.{Location, advanced, State, Reply, forgotten, rest_of, sunk, in_end}
+use Rattle.usb_device.specs.{out_end, with_in, given_on, taken_on, no_in, no_out}
 use Rattle.usb_device.specs.{sink_row, data_row, Way, is_whole, heard, gave, in_law, out_law}
 use Rattle.usb_device.specs.{taken_of, IsSource, SourceAt, SourceOn, OnlySource, IsSink, SinkAt}
 use Rattle.usb_device.specs.{level, ahead, Joined, OnlySink}
@@ -13,10 +14,9 @@ use Rattle.usb_packet.specs.{Toggle, other, is_same}
 use Rattle.usb_port.specs.{PortState}
 use Rattle.usb_device.specs.declared.answer.Answer.TheVariants as answer
 use Rattle.usb_device.specs.declared.transfer.InEndpoint.TheVariants as by
-use Rattle.usb_device.specs.declared.transfer.RememberedPacket.TheVariants as memory
 use Rattle.usb_device.specs.Attempt.{whole}
-use Rattle.usb_device.proofs.Interface.{bulk_law_is, is_same-refl, other_toggle, other-other}
-use Rattle.usb_device.proofs.Interface.{same_number, source_on}
+use Rattle.usb_device.proofs.Interface.{at_other, at_same, bulk_law_is, is_same-refl}
+use Rattle.usb_device.proofs.Interface.{other_toggle, other-other, source_on}
 use Rattle.usb_world.specs.{Attempt, Outcome, Relation, EachWas, DidIn, DidOut, got, attempt, after}
 use Rattle.usb_world.specs.{outcome_in, damage_in, World, Made}
 use Rattle.usb_tree.specs.{IsSettled}
@@ -40,32 +40,49 @@ use Rattle.usb_transaction.proofs.Trails.{run_short}
 -- IN
 
 -- the endpoint after a packet, where it saw that it came
-abbrev stepped : ℕ → State → Bool → State
-stepped most s came = if came then record s {
-  memory = memory.Nothing;
-  place = advanced s.place most (length s.spec.source);
-  bulk_in = turned s.bulk_in;
-} else s
+abbrev stepped : ℕ → ℕ → State → Bool → State
+stepped e most s came = if came
+    then forgotten (with_in s e (given_on most (length s.spec.source) (in_end s e))) else s
 
-abbrev SourceStep : ℕ → Toggle → State → Option (List ℕ) → State → Type 0
-SourceStep most awaited s came v = (got : ℕ) → 1 ≤ most → SourceAt most got awaited s
-    → SourceOn most got awaited s came v
+stepped_end : (e most : ℕ) (s : State)
+    → in_end (stepped e most s true) e ≡ given_on most (length s.spec.source) (in_end s e)
+stepped_end e most s = at_same no_in e (given_on most (length s.spec.source) (in_end s e)) s.ins
+
+only_same : (e : ℕ) (s : State) → OnlySource e s s
+only_same e s = record { rest = refl; others = λ a h. refl }
+
+only_stepped : (e most : ℕ) (s : State) → OnlySource e s (stepped e most s true)
+only_stepped e most s = record {
+  rest = refl;
+  others = λ a h. at_other no_in e a (given_on most (length s.spec.source) (in_end s e)) s.ins h;
+}
+
+only_then : (e : ℕ) (s u v : State) → OnlySource e s u → OnlySource e u v → OnlySource e s v
+only_then e s u v x y = record {
+  rest = subst (λ z. v ≡ record z { memory = v.memory; ins = v.ins }) x.rest y.rest;
+  others = λ a h. y.others a h ∙ x.others a h;
+}
+
+abbrev SourceStep : ℕ → ℕ → Toggle → State → Option (List ℕ) → State → Type 0
+SourceStep e most awaited s came v = (got : ℕ) → 1 ≤ most → SourceAt e most got awaited s
+    → SourceOn e most got awaited s came v
 
 -- what the host hears of an attempt, and what is left of the endpoint; `Clear` is that each packet
 -- comes whole
-data SourceGave (most max : ℕ) (awaited : Toggle) (Clear : Type 0) (s : State) : HeardOutcome
+data SourceGave (e most max : ℕ) (awaited : Toggle) (Clear : Type 0) (s : State) : HeardOutcome
     → State → Type 0 where
-  unheard : (Clear → (s.bulk_in.halted ≡ false) × (most ≤ max → ⊥))
-      → SourceGave most max awaited Clear s Lost s
-  refused : s.bulk_in.halted ≡ true → SourceGave most max awaited Clear s Refused s
-  empty : s.bulk_in.halted ≡ false → length s.spec.source ≤ s.place
-      → SourceGave most max awaited Clear s NotReady s
-  moved : (b : ArrayVec ℕ) (came : Bool) → s.bulk_in.halted ≡ false
-      → SourceStep most awaited s (Some b.items) (stepped most s came)
-      → SourceGave most max awaited Clear s (Moved b) (stepped most s came)
-  again : (came : Bool) → s.bulk_in.halted ≡ false → is_same awaited s.bulk_in.toggle ≡ false
-      → (Clear → came ≡ true) → SourceStep most awaited s None (stepped most s came)
-      → SourceGave most max awaited Clear s Repeat (stepped most s came)
+  unheard : (Clear → ((in_end s e).state.halted ≡ false) × (most ≤ max → ⊥))
+      → SourceGave e most max awaited Clear s Lost s
+  refused : (in_end s e).state.halted ≡ true → SourceGave e most max awaited Clear s Refused s
+  empty : (in_end s e).state.halted ≡ false → length s.spec.source ≤ (in_end s e).place
+      → SourceGave e most max awaited Clear s NotReady s
+  moved : (b : ArrayVec ℕ) (came : Bool) → (in_end s e).state.halted ≡ false
+      → SourceStep e most awaited s (Some b.items) (stepped e most s came)
+      → SourceGave e most max awaited Clear s (Moved b) (stepped e most s came)
+  again : (came : Bool) → (in_end s e).state.halted ≡ false
+      → is_same awaited (in_end s e).state.toggle ≡ false
+      → (Clear → came ≡ true) → SourceStep e most awaited s None (stepped e most s came)
+      → SourceGave e most max awaited Clear s Repeat (stepped e most s came)
 
 short : (most max : ℕ) (xs : List ℕ) → most ≤ max → nat_le (length (take most xs)) max ≡ true
 short most max xs m = grind (arith, nat_tests, length-take)
@@ -73,133 +90,136 @@ short most max xs m = grind (arith, nat_tests, length-take)
 drop-empty : (place : ℕ) (xs : List ℕ) → (length (drop place xs) == 0) ≡ true → length xs ≤ place
 drop-empty place xs h = grind (arith, nat_tests, length-drop)
 
-module _ (most max : ℕ) (awaited : Toggle) (s : State) (Clear : Type 0) where
+module _ (e most max : ℕ) (awaited : Toggle) (s : State) (Clear : Type 0) where
   abbrev Fits : Reply → Type 0
-  Fits r = SourceStep most awaited s (taken_of awaited max r.0) r.1
-      → SourceGave most max awaited Clear s (heard_as awaited (got max r.0)) r.1
+  Fits r = SourceStep e most awaited s (taken_of awaited max r.0) r.1
+      → SourceGave e most max awaited Clear s (heard_as awaited (got max r.0)) r.1
 
-  by_law : (e : ℕ) → IsSource e most s → (halted none fits same : Bool) (t2 t3 : Way)
-      → s.bulk_in.halted ≡ halted → (length (rest_of s) == 0) ≡ none
-      → nat_le (length (take most (rest_of s))) max ≡ fits
-      → is_same awaited s.bulk_in.toggle ≡ same → (Clear → (t2 ≡ whole) × (t3 ≡ whole))
+  by_law : IsSource e most s → (halted none fits same : Bool) (t2 t3 : Way)
+      → (in_end s e).state.halted ≡ halted → (length (rest_of s e) == 0) ≡ none
+      → nat_le (length (take most (rest_of s e))) max ≡ fits
+      → is_same awaited (in_end s e).state.toggle ≡ same → (Clear → (t2 ≡ whole) × (t3 ≡ whole))
       → Fits (if halted then (heard t2 (Some answer.Stall), s) else if none
-      then (heard t2 (Some answer.Nak), s) else gave s by.Bulk max s.bulk_in.toggle
-      (take most (rest_of s)) t2 t3)
-  by_law e i true none fits same whole t3 h k l q c = λ on. refused h
-  by_law e i false true fits same whole t3 h k l q c =
-      λ on. empty h (drop-empty s.place s.spec.source k)
-  by_law e i false false true true whole t3 h k l q c =
-      rw (l, q, i.endpoint) (λ on. moved (packed (take most (rest_of s))) (is_whole t3) h on)
-  by_law e i false false true false whole t3 h k l q c =
+      then (heard t2 (Some answer.Nak), s) else gave s (by.Bulk e) max (in_end s e).state.toggle
+      (take most (rest_of s e)) t2 t3)
+  by_law i true none fits same whole t3 h k l q c = λ on. refused h
+  by_law i false true fits same whole t3 h k l q c =
+      λ on. empty h (drop-empty (in_end s e).place s.spec.source k)
+  by_law i false false true true whole t3 h k l q c =
+      rw (l, q, i.endpoint) (λ on. moved (packed (take most (rest_of s e))) (is_whole t3) h on)
+  by_law i false false true false whole t3 h k l q c =
       rw (l, q, i.endpoint) (λ on. again (is_whole t3) h q (λ d. ap is_whole (c d).1) on)
-  by_law e i false false false same whole t3 h k l q c =
-      rw l (λ on. unheard (λ d. (h, λ m. false_true (sym l ∙ short most max (rest_of s) m))))
-  by_law e i halted none fits same t2 t3 h k l q c = λ on. unheard (λ d. cc (c d).0)
+  by_law i false false false same whole t3 h k l q c =
+      rw l (λ on. unheard (λ d. (h, λ m. false_true (sym l ∙ short most max (rest_of s e) m))))
+  by_law i halted none fits same t2 t3 h k l q c = λ on. unheard (λ d. cc (c d).0)
 
-  gave_in : (e : ℕ) → IsSource e most s → (row : List PortState) (t1 t2 t3 : Way)
+  gave_in : IsSource e most s → (row : List PortState) (t1 t2 t3 : Way)
       → (Clear → (t1 ≡ whole) × (t2 ≡ whole) × (t3 ≡ whole)) → Fits (in_law s row e max t1 t2 t3)
-  gave_in e i row whole t2 t3 c =
+  gave_in i row whole t2 t3 c =
       rw (bulk_law_is e most s i row max t2 t3)
-      (by_law e i s.bulk_in.halted (length (rest_of s) == 0)
-      (nat_le (length (take most (rest_of s))) max) (is_same awaited s.bulk_in.toggle) t2 t3
+      (by_law i (in_end s e).state.halted (length (rest_of s e) == 0)
+      (nat_le (length (take most (rest_of s e))) max) (is_same awaited (in_end s e).state.toggle)
+      t2 t3
       refl refl refl refl (λ d. ((c d).1, (c d).2)))
-  gave_in e i row t1 t2 t3 c = λ on. unheard (λ d. cc (c d).0)
+  gave_in i row t1 t2 t3 c = λ on. unheard (λ d. cc (c d).0)
 
-pub source_kept : (ep most : ℕ) (s u : State) → OnlySource s u → IsSource ep most s
+pub source_kept : (ep most : ℕ) (s u : State) → OnlySource ep s u → IsSource ep most s
     → IsSource ep most u
-source_kept ep most s u e i = subst (λ x. IsSource ep most x) (sym e)
+source_kept ep most s u e i = subst (λ x. IsSource ep most x) (sym e.rest)
     (record { endpoint = i.endpoint; not_zero = i.not_zero; alone = i.alone })
 
-pub source_at_kept : (t : Target) (s u : State) → OnlySource s u → is_at s t ≡ true
+pub source_at_kept : (t : Target) {ep : ℕ} (s u : State) → OnlySource ep s u → is_at s t ≡ true
     → is_at u t ≡ true
-source_at_kept t s u e h = ap (λ x. is_at x t) e ∙ h
+source_at_kept t s u e h = ap (λ x. is_at x t) e.rest ∙ h
 
 -- what a transaction leaves of the endpoint
-abbrev SourceLeft : ℕ → Toggle → Result (List ℕ) TransFault → State → State → Type 0
-SourceLeft most awaited result s v =
-    OnlySource s v × ((n : ℕ) → 1 ≤ most → SourceAt most n awaited s
-    → SourceEnds most n awaited s result v)
-    × (result ≡ Err Stalled → (s.bulk_in.halted ≡ true) × (v ≡ s))
-    × (s.bulk_in.halted ≡ true → (v ≡ s) × ((bytes : List ℕ) → result ≡ Ok bytes → ⊥))
+abbrev SourceLeft : ℕ → ℕ → Toggle → Result (List ℕ) TransFault → State → State → Type 0
+SourceLeft e most awaited result s v =
+    OnlySource e s v × ((n : ℕ) → 1 ≤ most → SourceAt e most n awaited s
+    → SourceEnds e most n awaited s result v)
+    × (result ≡ Err Stalled → ((in_end s e).state.halted ≡ true) × (v ≡ s))
+    × ((in_end s e).state.halted ≡ true → (v ≡ s) × ((bytes : List ℕ) → result ≡ Ok bytes → ⊥))
 
-source_ends_stepped : (most n : ℕ) (awaited : Toggle) (s : State)
+source_ends_stepped : (e most n : ℕ) (awaited : Toggle) (s : State)
     (result : Result (List ℕ) TransFault) (v : State)
-    → SourceEnds most n awaited (stepped most s true) result v
-    → SourceEnds most n awaited s result v
-source_ends_stepped most n awaited s (Err (Bus fault)) v (none_came x) = none_came x
-source_ends_stepped most n awaited s (Err (Bus fault)) v (one_came x) = one_came x
-source_ends_stepped most n awaited s _ v x = x
+    → SourceEnds e most n awaited (stepped e most s true) result v
+    → SourceEnds e most n awaited s result v
+source_ends_stepped e most n awaited s (Err (Bus fault)) v (none_came x) = none_came x
+source_ends_stepped e most n awaited s (Err (Bus fault)) v (one_came x) = one_came x
+source_ends_stepped e most n awaited s _ v x = x
 
-module _ {most max : ℕ} {awaited : Toggle} {Clear : Type 0} {s : State} where
-  kept : {h : HeardOutcome} {v : State} → SourceGave most max awaited Clear s h v → OnlySource s v
-      × (s.bulk_in.halted ≡ true → v ≡ s)
-  kept (moved b true f on) = (refl, λ c. false_true (sym f ∙ c))
-  kept (again true f q c on) = (refl, λ c. false_true (sym f ∙ c))
-  kept g = (refl, λ c. refl)
+module _ {e most max : ℕ} {awaited : Toggle} {Clear : Type 0} {s : State} where
+  kept : {h : HeardOutcome} {v : State} → SourceGave e most max awaited Clear s h v
+      → OnlySource e s v
+      × ((in_end s e).state.halted ≡ true → v ≡ s)
+  kept (moved b true f on) = (only_stepped e most s, λ c. false_true (sym f ∙ c))
+  kept (again true f q c on) = (only_stepped e most s, λ c. false_true (sym f ∙ c))
+  kept g = (only_same e s, λ c. refl)
 
   -- an attempt that does not end the transaction, and the rest of it
   before : {h : HeardOutcome} {u : State} (result : Result (List ℕ) TransFault)
-      → SourceGave most max awaited Clear s h u → IsNoEnd h → (v : State)
-      → SourceLeft most awaited result u v → SourceLeft most awaited result s v
+      → SourceGave e most max awaited Clear s h u → IsNoEnd h → (v : State)
+      → SourceLeft e most awaited result u v → SourceLeft e most awaited result s v
   before result (moved b came f on) n v l = elim n [ ]
   before result (again true f q c on) n v l = (
-    l.0,
-    λ m one at. source_ends_stepped most m awaited s result v (l.1 m one (on m one at)),
-    λ r. false_true (sym f ∙ (l.2 r).0),
+    only_then e s (stepped e most s true) v (only_stepped e most s) l.0,
+    λ m one at. source_ends_stepped e most m awaited s result v (l.1 m one (on m one at)),
+    λ r. false_true (sym f ∙ ap (λ x. x.state.halted) (sym (stepped_end e most s)) ∙ (l.2 r).0),
     λ c. false_true (sym f ∙ c),
   )
   before result g n v l = l
 
-  cut : {h : HeardOutcome} {v : State} → SourceGave most max awaited Clear s h v → (n : ℕ)
-      → 1 ≤ most → SourceAt most n awaited s → SourceCut most n awaited s v
+  cut : {h : HeardOutcome} {v : State} → SourceGave e most max awaited Clear s h v → (n : ℕ)
+      → 1 ≤ most → SourceAt e most n awaited s → SourceCut e most n awaited s v
   cut (moved b came f on) n m at = one_came (on n m at).2
   cut (again came f q c on) n m at = none_came (on n m at)
   cut g n m at = none_came at
 
   came_in : {bytes : List ℕ} {v : State}
-      → SourceGave most max awaited Clear s (Moved (packed bytes)) v
-      → SourceLeft most awaited (Ok bytes) s v
-  came_in (moved b true f on) = (refl, on, λ e. cc e, λ c. false_true (sym f ∙ c))
-  came_in (moved b false f on) = (refl, on, λ e. cc e, λ c. false_true (sym f ∙ c))
+      → SourceGave e most max awaited Clear s (Moved (packed bytes)) v
+      → SourceLeft e most awaited (Ok bytes) s v
+  came_in (moved b true f on) = (only_stepped e most s, on, λ e. cc e, λ c. false_true (sym f ∙ c))
+  came_in (moved b false f on) = (only_same e s, on, λ e. cc e, λ c. false_true (sym f ∙ c))
 
-  stalls_in : {v : State} → SourceGave most max awaited Clear s Refused v
-      → SourceLeft most awaited (Err Stalled) s v
-  stalls_in (refused f) = (refl, λ n m at. at, λ e. (f, refl), λ c. (refl, λ b e. cc e))
+  stalls_in : {v : State} → SourceGave e most max awaited Clear s Refused v
+      → SourceLeft e most awaited (Err Stalled) s v
+  stalls_in (refused f) = (only_same e s, λ n m at. at, λ r. (f, refl), λ c. (refl, λ b r. cc r))
 
   ended_in : (result : Result (List ℕ) TransFault) (o : Outcome) (outcomes : List Outcome)
-      {v : State} → SourceGave most max awaited Clear s (heard_as awaited o) v
-      → IsEnd (heard_as awaited) result o outcomes → SourceLeft most awaited result s v
+      {v : State} → SourceGave e most max awaited Clear s (heard_as awaited o) v
+      → IsEnd (heard_as awaited) result o outcomes → SourceLeft e most awaited result s v
   ended_in (Ok bytes) o outcomes {v} g is =
-      came_in (subst (λ h. SourceGave most max awaited Clear s h v) is g)
+      came_in (subst (λ h. SourceGave e most max awaited Clear s h v) is g)
   ended_in (Err Stalled) o outcomes {v} g is =
-      stalls_in (subst (λ x. SourceGave most max awaited Clear s (heard_as awaited x) v) is g)
+      stalls_in (subst (λ x. SourceGave e most max awaited Clear s (heard_as awaited x) v) is g)
   ended_in (Err (Bus fault)) o outcomes g is =
       ((kept g).0, cut g, λ e. cc e, λ c. ((kept g).1 c, λ b e. cc e))
   ended_in result o outcomes {v} g is = before result g is.0 v (
-    refl,
+    only_same e v,
     λ n m at. at,
     λ e. cc e,
     λ c. (refl, λ b e. cc e),
   )
 
-  unheard_in : {v : State} → SourceGave most max awaited Clear s Lost v → Clear
-      → (s.bulk_in.halted ≡ false) × (most ≤ max → ⊥)
+  unheard_in : {v : State} → SourceGave e most max awaited Clear s Lost v → Clear
+      → ((in_end s e).state.halted ≡ false) × (most ≤ max → ⊥)
   unheard_in (unheard c) = c
 
-  no_waits_in : {h : HeardOutcome} {v : State} → SourceGave most max awaited Clear s h v
-      → s.bulk_in.halted ≡ true → (n : ℕ) → waits_with h n + 0 ≤ n + 0
+  no_waits_in : {h : HeardOutcome} {v : State} → SourceGave e most max awaited Clear s h v
+      → (in_end s e).state.halted ≡ true → (n : ℕ) → waits_with h n + 0 ≤ n + 0
   no_waits_in (empty f e) c n = false_true (sym f ∙ c)
   no_waits_in (again came f q d on) c n = false_true (sym f ∙ c)
   no_waits_in g c n = omega arith
 
   -- it goes on listening
-  stays_in : {j : Location} {v : State} (t : Target) (ep : ℕ) {h : HeardOutcome}
-      → SourceGave most max awaited Clear s h v → Listens t j s × IsSource ep most s → Listens t j v
-      × IsSource ep most v
-  stays_in {j} {v} t ep g is =
-      let f : OnlySource s v = (kept g).0 in (
-        listens_on t j s v (ap (λ x. x.spec) f) (ap (λ x. x.registers) f) is.0,
-        source_kept ep most s v f is.1,
+  stays_in : {j : Location} {v : State} (t : Target) {h : HeardOutcome}
+      → SourceGave e most max awaited Clear s h v → Listens t j s × IsSource e most s
+      → Listens t j v
+      × IsSource e most v
+  stays_in {j} {v} t g is =
+      let f : OnlySource e s v = (kept g).0 in (
+        listens_on t j s v (ap (λ x. x.spec) f.rest) (ap (λ x. x.registers) f.rest) is.0,
+        source_kept e most s v f is.1,
       )
 
 -- The device over a transaction
@@ -217,24 +237,24 @@ module _ (t : Target) (ep : ℕ) (awaited : Toggle) where
 
   did_in : (most : ℕ) (w : World) (j : Location) (u v : State) → DidIn a_in w j u v
       → is_at u t ≡ true → IsSource ep most u
-      → SourceGave most t.max awaited ((damage_in w ≡ None) × Listens t j u) u
+      → SourceGave ep most t.max awaited ((damage_in w ≡ None) × Listens t j u) u
       (hear (outcome_in a_in w)) v
   did_in most w j u v d at i =
       let y : _ = asked_in t ep w j u v d at in
       let x : _ = y.1 in
-      rw (x.is, x.gave) (gave_in most t.max awaited u ((damage_in w ≡ None) × Listens t j u) ep i
+      rw (x.is, x.gave) (gave_in ep most t.max awaited u ((damage_in w ≡ None) × Listens t j u) i
       y.0 x.first x.second x.third (λ c. x.heard c.0 c.1)
       (λ n m so. source_on ep most n awaited u i m so y.0 t.max x.first x.second x.third))
 
   source_in : (result : Result (List ℕ) TransFault) (GaveUp : Type 0)
-      → ((most : ℕ) (v : State) → GaveUp → SourceLeft most awaited result v v)
+      → ((most : ℕ) (v : State) → GaveUp → SourceLeft ep most awaited result v v)
       → (old new : World) (j : Location) (s v : State)
       → Ran GaveUp result old new j s v → SourceIn t ep awaited result j s v
   source_in result GaveUp up old new j s v x = record {
     others = away;
     frame = λ most i. elim (decided (is_at s t)) [
       | inl h ↦ (left h most i).0
-      | inr h ↦ subst (OnlySource s) (sym (away h)) refl
+      | inr h ↦ subst (OnlySource ep s) (sym (away h)) (only_same ep s)
     ];
     source = λ h most n i. (left h most i).1 n;
     stalled = λ h most i. (left h most i).2;
@@ -244,18 +264,19 @@ module _ (t : Target) (ep : ℕ) (awaited : Toggle) where
       away : is_at s t ≡ false → v ≡ s
       away = stays_away t (λ w u y. in_others t ep w j u y) x
 
-      left : is_at s t ≡ true → (most : ℕ) → IsSource ep most s → SourceLeft most awaited result s v
+      left : is_at s t ≡ true → (most : ℕ) → IsSource ep most s
+          → SourceLeft ep most awaited result s v
       left h most i =
           at_end hear (λ outcomes w u. (is_at u t ≡ true) × IsSource ep most u
-          × ((y : State) → SourceLeft most awaited result u y
-          → SourceLeft most awaited result s y)) (h, i, λ y l. l)
+          × ((y : State) → SourceLeft ep most awaited result u y
+          → SourceLeft ep most awaited result s y)) (h, i, λ y l. l)
           (λ outcomes w u y trail made so d n.
           let g = did_in most w j u y d so.0 so.1 in (
             source_at_kept t u y (kept g).0 so.0,
             source_kept ep most u y (kept g).0 so.1,
             λ z l. so.2 z (before result g n z l),
           ))
-          (SourceLeft most awaited result s) v
+          (SourceLeft ep most awaited result s) v
           (λ outcomes w u trail so d is told. so.2 v
           (ended_in result (outcome_in a_in w) outcomes (did_in most w j u v d so.0 so.1) is))
           (λ gave outcomes w so. so.2 v (up most v gave)) x
@@ -268,8 +289,8 @@ pub source_leaves : (t : Target) (ep : ℕ) (awaited : Toggle) (result : Result 
 source_leaves t ep awaited result old new settled x single =
     each_device _ (SourceIn t ep awaited result) old new
     (source_in t ep awaited result (IsOfBus result)
-    (λ most v gave. of_bus (λ r. SourceLeft most awaited r v v)
-    (λ fault. (refl, λ n m at. none_came at, λ e. cc e, λ c. (refl, λ b e. cc e))) result
+    (λ most v gave. of_bus (λ r. SourceLeft ep most awaited r v v)
+    (λ fault. (only_same ep v, λ n m at. none_came at, λ e. cc e, λ c. (refl, λ b e. cc e))) result
     gave) old new)
     (over_in t ep old new settled single (heard_as awaited) result x)
 
@@ -290,7 +311,8 @@ source_between t ep awaited outcomes old now settled trail onward single =
     (λ j s v run.
     let x : SourceIn t ep awaited (Err NoAnswer) j s v =
     source_in t ep awaited (Err NoAnswer) (Unit {0})
-    (λ most y gave. (refl, λ n m at. at, λ e. cc e, λ c. (refl, λ b e. cc e))) old now j s v
+    (λ most y gave. (only_same ep y, λ n m at. at, λ e. cc e, λ c. (refl, λ b e. cc e)))
+    old now j s v
     (stopped tt run onward) in
     record { others = x.others; frame = x.frame; source = x.source })
     (over_in_trail t ep old now settled single trail)
@@ -300,12 +322,15 @@ source_between t ep awaited outcomes old now settled trail onward single =
 module _ (t : Target) (ep : ℕ) (awaited : Toggle) (old : World) (three : NoThreeDamaged old) where
   -- it is level, or it is behind, and then all attempts were damaged
   data Stands (most had n : ℕ) (w : World) (u : State) : Type 0 where
-    even : u.place ≡ had → u.bulk_in.toggle ≡ awaited → n ≤ 3 → Stands most had n w u
-    behind : had ≡ advanced u.place most (length u.spec.source) → u.place < length u.spec.source
-        → u.bulk_in.toggle ≡ other awaited
+    even : (in_end u ep).place ≡ had → (in_end u ep).state.toggle ≡ awaited → n ≤ 3
+        → Stands most had n w u
+    behind : had ≡ advanced (in_end u ep).place most (length u.spec.source)
+        → (in_end u ep).place < length u.spec.source
+        → (in_end u ep).state.toggle ≡ other awaited
         → (k : ℕ) → LostRun old.damages k w.attempts → n ≤ k → Stands most had n w u
 
-  first_stands : (most had : ℕ) (s : State) → SourceAt most had awaited s → Stands most had 0 old s
+  first_stands : (most had : ℕ) (s : State) → SourceAt ep most had awaited s
+      → Stands most had 0 old s
   first_stands most had s (level g q) = even g q (omega arith)
   first_stands most had s (ahead g p q) = behind g p q 0 (lost_run_none old.damages old.attempts)
       (omega arith)
@@ -319,7 +344,7 @@ module _ (t : Target) (ep : ℕ) (awaited : Toggle) (old : World) (three : NoThr
       {outcomes : List Outcome} → AttemptLog (a_in t ep awaited) old outcomes w
       → Made w (after (attempt (a_in t ep awaited)) w)
       → (damage_in w ≡ None → Clear) → most ≤ t.max → had < length u.spec.source
-      → SourceGave most t.max awaited Clear u h v → IsNoEnd h → Stands most had n w u
+      → SourceGave ep most t.max awaited Clear u h v → IsNoEnd h → Stands most had n w u
       → Stands most had (waits_with h n) (after (attempt (a_in t ep awaited)) w) v
   next_stands had n w trail made c m left (unheard d) z (even g q few) = even g q few
   next_stands had n w trail made c m left (unheard d) z (behind g p q k ran few) =
@@ -330,8 +355,10 @@ module _ (t : Target) (ep : ℕ) (awaited : Toggle) (old : World) (three : NoThr
       absurd (omega (arith, p, d))
   next_stands had n w trail made c m left (again came f r d on) z (even g q few) =
       false_true (sym r ∙ ap (is_same awaited) q ∙ is_same-refl awaited)
-  next_stands had n w trail made c m left (again true f r d on) z (behind g p q k ran few) =
-      even (sym g) (ap other q ∙ other-other awaited)
+  next_stands {most} {u = u} had n w trail made c m left (again true f r d on) z
+      (behind g p q k ran few) =
+      even (ap (λ x. x.place) (stepped_end ep most u) ∙ sym g)
+      (ap (λ x. x.state.toggle) (stepped_end ep most u) ∙ ap other q ∙ other-other awaited)
       (omega (arith, few, run_short old k w.attempts three ran))
   next_stands had n w trail made c m left (again false f r d on) z (behind g p q k ran few) =
       behind g p q (k + 1) (damaged_more trail made k (λ x. false_true (d (c x))) ran)
@@ -339,7 +366,8 @@ module _ (t : Target) (ep : ℕ) (awaited : Toggle) (old : World) (three : NoThr
   next_stands had n w trail made c m left _ z y = elim z [ ]
 
   waits_few : (new : World) (j : Location) (s v : State) (most had : ℕ) → Listens t j s
-      × IsSource ep most s → SourceAt most had awaited s → most ≤ t.max → had < length s.spec.source
+      × IsSource ep most s → SourceAt ep most had awaited s → most ≤ t.max
+      → had < length s.spec.source
       → Ran t ep awaited (IsOfBus {A = List ℕ} (Err Busy)) (Err Busy) old new j s v → ⊥
   unfolding waits_in
   waits_few new j s v most had is at m left x =
@@ -348,8 +376,8 @@ module _ (t : Target) (ep : ℕ) (awaited : Toggle) (old : World) (three : NoThr
       w u) (is, left, first_stands most had s at)
       (λ outcomes w u y trail made so d n.
       let g = did_in t ep awaited most w j u y d so.0.0.at so.0.1 in (
-        stays_in t ep g so.0,
-        subst (λ z. had < length z.source) (sym (ap (λ z. z.spec) (kept g).0)) so.1,
+        stays_in t g so.0,
+        subst (λ z. had < length z.source) (sym (ap (λ z. z.spec) (kept g).0.rest)) so.1,
         next_stands had (waits_in (heard_as awaited) outcomes) w trail made
             (λ e. (e, so.0.0)) m so.1 g n so.2,
       ))
@@ -363,7 +391,7 @@ module _ (t : Target) (ep : ℕ) (awaited : Toggle) (old : World) (three : NoThr
       (λ gave outcomes w so. gave tt) x
 
   abbrev IsHalted : ℕ → Location → State → Type 0
-  IsHalted most j u = Listens t j u × IsSource ep most u × (u.bulk_in.halted ≡ true)
+  IsHalted most j u = Listens t j u × IsSource ep most u × ((in_end u ep).state.halted ≡ true)
 
   why_in : (result : Result (List ℕ) TransFault) (new : World) (j : Location) (s v : State)
       → Ran t ep awaited (IsOfBus result) result old new j s v
@@ -371,10 +399,10 @@ module _ (t : Target) (ep : ℕ) (awaited : Toggle) (old : World) (three : NoThr
   why_in result new j s v x = record {
     answered = λ l most n i at m e.
         heeded (λ u. Listens t j u × IsSource ep most u)
-        (λ w u y d z is. stays_in t ep (did_in t ep awaited most w j u y d is.0.at is.1) is)
+        (λ w u y d z is. stays_in t (did_in t ep awaited most w j u y d is.0.at is.1) is)
         (l, i) three
         (λ w u y d is none f. (unheard_in
-        (subst (λ h. SourceGave most t.max awaited ((damage_in w ≡ None) × Listens t j u) u
+        (subst (λ h. SourceGave ep most t.max awaited ((damage_in w ≡ None) × Listens t j u) u
         h y) f (did_in t ep awaited most w j u y d is.0.at is.1)) (none, is.0)).1 m)
         (as_result e);
     waited = λ l most n i one at m left e. waits_few new j s v most n (l, i) at m left
@@ -382,7 +410,7 @@ module _ (t : Target) (ep : ℕ) (awaited : Toggle) (old : World) (three : NoThr
     halted = λ l most i c. (
       λ e. heeded (IsHalted most j) (halted_stays most) (l, i, c) three
           (λ w u y d is none f. false_true
-          (sym (unheard_in (subst (λ h. SourceGave most t.max awaited ((damage_in w ≡ None)
+          (sym (unheard_in (subst (λ h. SourceGave ep most t.max awaited ((damage_in w ≡ None)
           × Listens t j u) u h y) f (did_in t ep awaited most w j u y d is.0.at is.1))
           (none, is.0)).0 ∙ is.2)) (as_result e),
       λ e. spared (IsHalted most j) (halted_stays most) (l, i, c) (λ u. 0)
@@ -415,133 +443,168 @@ source_why t ep awaited result old new settled three e single =
 not_long : (most : ℕ) (xs : List ℕ) → length xs ≤ most → nat_lt most (length xs) ≡ false
 not_long most xs m = grind (arith, nat_tests)
 
-sink_at_forgotten : {before bytes : List ℕ} {t : Toggle} {s : State} → SinkAt before bytes t s
-    → SinkAt before bytes t (forgotten s)
+sunk_end : (e : ℕ) (bytes : List ℕ) (s : State)
+    → out_end (sunk s e bytes) e ≡ taken_on bytes (out_end s e)
+sunk_end e bytes s = at_same no_out e (taken_on bytes (out_end s e)) s.outs
+
+only_forgotten : (e : ℕ) (s : State) → OnlySink e s (forgotten s)
+only_forgotten e s = record { rest = refl; others = λ a h. refl }
+
+sink_same : (e : ℕ) (s : State) → OnlySink e s s
+sink_same e s = record { rest = refl; others = λ a h. refl }
+
+only_sunk : (e : ℕ) (bytes : List ℕ) (s : State) → OnlySink e s (forgotten (sunk s e bytes))
+only_sunk e bytes s = record {
+  rest = refl;
+  others = λ a h. at_other no_out e a (taken_on bytes (out_end s e)) s.outs h;
+}
+
+sink_then : (e : ℕ) (s u v : State) → OnlySink e s u → OnlySink e u v → OnlySink e s v
+sink_then e s u v x y = record {
+  rest = subst (λ z. v ≡ record z { memory = v.memory; outs = v.outs }) x.rest y.rest;
+  others = λ a h. y.others a h ∙ x.others a h;
+}
+
+sink_at_forgotten : {e : ℕ} {before bytes : List ℕ} {t : Toggle} {s : State}
+    → SinkAt e before bytes t s
+    → SinkAt e before bytes t (forgotten s)
 sink_at_forgotten (level a b) = level a b
 sink_at_forgotten (ahead a b) = ahead a b
 
-joins : {before bytes : List ℕ} {t : Toggle} {s : State} → is_same t s.bulk_out.toggle ≡ true
-    → SinkAt before bytes t s → Joined before bytes t (forgotten (sunk s bytes))
-joins {bytes = bytes} h (level a b) = record { sink = ap (λ x. x ++ bytes) a; toggle = ap other b }
+joins : {e : ℕ} {before bytes : List ℕ} {t : Toggle} {s : State}
+    → is_same t (out_end s e).state.toggle ≡ true
+    → SinkAt e before bytes t s → Joined e before bytes t (forgotten (sunk s e bytes))
+joins {e} {bytes = bytes} {s = s} h (level a b) = record {
+  sink = ap (λ x. x.sink) (sunk_end e bytes s) ∙ ap (λ x. x ++ bytes) a;
+  toggle = ap (λ x. x.state.toggle) (sunk_end e bytes s) ∙ ap other b;
+}
 joins {t = t} h (ahead a b) = false_true (sym (ap (is_same t) b ∙ other_toggle t) ∙ h)
 
-had : {before bytes : List ℕ} {t : Toggle} {s : State} → is_same t s.bulk_out.toggle ≡ false
-    → SinkAt before bytes t s → Joined before bytes t (forgotten s)
+had : {e : ℕ} {before bytes : List ℕ} {t : Toggle} {s : State}
+    → is_same t (out_end s e).state.toggle ≡ false
+    → SinkAt e before bytes t s → Joined e before bytes t (forgotten s)
 had {t = t} h (level a b) = false_true (sym h ∙ ap (is_same t) b ∙ is_same-refl t)
 had h (ahead a b) = record { sink = a; toggle = b }
 
-behind_it : {before bytes : List ℕ} {t : Toggle} {s : State} → Joined before bytes t s
-    → SinkAt before bytes t s
+behind_it : {e : ℕ} {before bytes : List ℕ} {t : Toggle} {s : State} → Joined e before bytes t s
+    → SinkAt e before bytes t s
 behind_it x = ahead x.sink x.toggle
 
-abbrev SinkStays : Toggle → List ℕ → State → State → Type 0
-SinkStays t bytes s v = OnlySink s v × ((before : List ℕ) → SinkAt before bytes t s
-    → SinkAt before bytes t v) × (s.bulk_out.halted ≡ true → forgotten s ≡ s → v ≡ s)
+abbrev SinkStays : ℕ → Toggle → List ℕ → State → State → Type 0
+SinkStays e t bytes s v = OnlySink e s v × ((before : List ℕ) → SinkAt e before bytes t s
+    → SinkAt e before bytes t v) × ((out_end s e).state.halted ≡ true → forgotten s ≡ s → v ≡ s)
 
 -- what the host hears of an attempt, and what is left of the endpoint
-data Took (most : ℕ) (t : Toggle) (bytes : List ℕ) (Clear : Type 0) (s : State) : HeardOutcome
+data Took (e most : ℕ) (t : Toggle) (bytes : List ℕ) (Clear : Type 0) (s : State) : HeardOutcome
     → State → Type 0 where
-  unheard : (v : State) → (Clear → length bytes ≤ most → ⊥) → SinkStays t bytes s v
-      → Took most t bytes Clear s Lost v
-  refused : s.bulk_out.halted ≡ true → Took most t bytes Clear s Refused (forgotten s)
-  acked : {b : ArrayVec ℕ} (v : State) → s.bulk_out.halted ≡ false → OnlySink s v
-      → ((before : List ℕ) → SinkAt before bytes t s → Joined before bytes t v)
-      → Took most t bytes Clear s (Moved b) v
+  unheard : (v : State) → (Clear → length bytes ≤ most → ⊥) → SinkStays e t bytes s v
+      → Took e most t bytes Clear s Lost v
+  refused : (out_end s e).state.halted ≡ true → Took e most t bytes Clear s Refused (forgotten s)
+  acked : {b : ArrayVec ℕ} (v : State) → (out_end s e).state.halted ≡ false → OnlySink e s v
+      → ((before : List ℕ) → SinkAt e before bytes t s → Joined e before bytes t v)
+      → Took e most t bytes Clear s (Moved b) v
 
 module _ (e most max : ℕ) (s : State) (i : IsSink e most s) (t : Toggle) (bytes : List ℕ)
     (Clear : Type 0) where
   abbrev Answers : Way → Reply → Type 0
-  Answers t3 q = Took most t bytes Clear s (heard_when_sent (got max (heard t3 q.0)))
+  Answers t3 q = Took e most t bytes Clear s (heard_when_sent (got max (heard t3 q.0)))
       (forgotten q.1)
 
-  by_row : (halted long same : Bool) (t3 : Way) → s.bulk_out.halted ≡ halted
-      → (length bytes ≤ most → long ≡ false) → is_same t s.bulk_out.toggle ≡ same
+  by_row : (halted long same : Bool) (t3 : Way) → (out_end s e).state.halted ≡ halted
+      → (length bytes ≤ most → long ≡ false) → is_same t (out_end s e).state.toggle ≡ same
       → (Clear → t3 ≡ whole)
       → Answers t3 (if halted then (Some answer.Stall, s) else if long then (None, s) else if same
-      then (Some answer.Ack, sunk s bytes) else (Some answer.Ack, s))
+      then (Some answer.Ack, sunk s e bytes) else (Some answer.Ack, s))
   by_row true long same whole h l k c = refused h
   by_row false true same whole h l k c = unheard _ (λ d m. false_true (sym (l m)))
-      (refl, λ before at. sink_at_forgotten at, λ g f. f)
-  by_row false false true whole h l k c = acked _ h refl (λ before at. joins k at)
-  by_row false false false whole h l k c = acked _ h refl (λ before at. had k at)
+      (only_forgotten e s, λ before at. sink_at_forgotten at, λ g f. f)
+  by_row false false true whole h l k c = acked _ h (only_sunk e bytes s) (λ before at. joins k at)
+  by_row false false false whole h l k c = acked _ h (only_forgotten e s) (λ before at. had k at)
   by_row false false true t3 h l k c =
       unheard _ (λ d. cc (c d)) (
-        refl,
+        only_sunk e bytes s,
         λ before at. behind_it (joins k at),
         λ g f. false_true (sym h ∙ g),
       )
   by_row halted long same t3 h l k c =
-      unheard _ (λ d. cc (c d)) (refl, λ before at. sink_at_forgotten at, λ g f. f)
+      unheard _ (λ d. cc (c d)) (only_forgotten e s, λ before at. sink_at_forgotten at, λ g f. f)
 
-  row_is : data_row s e t bytes ≡ sink_row s most t bytes
-  row_is = rw (i.not_zero, i.endpoint, same_number e)
+  row_is : data_row s e t bytes ≡ sink_row s e most t bytes
+  row_is = rw (i.not_zero, i.endpoint)
 
   took_out : (t1 t2 t3 : Way) → (Clear → (t1 ≡ whole) × (t2 ≡ whole) × (t3 ≡ whole))
-      → Took most t bytes Clear s (heard_when_sent (got max (out_law s e t bytes t1 t2 t3).0))
+      → Took e most t bytes Clear s (heard_when_sent (got max (out_law s e t bytes t1 t2 t3).0))
       (out_law s e t bytes t1 t2 t3).1
   took_out whole whole t3 c =
-      subst (Answers t3) (sym row_is) (by_row s.bulk_out.halted (nat_lt most (length bytes))
-      (is_same t s.bulk_out.toggle) t3 refl (λ m. not_long most bytes m) refl (λ d. (c d).2))
-  took_out t1 t2 t3 c = unheard _ (λ d. (let x = c d in cc)) (refl, λ before at. at, λ g f. refl)
+      subst (Answers t3) (sym row_is) (by_row (out_end s e).state.halted
+      (nat_lt most (length bytes))
+      (is_same t (out_end s e).state.toggle) t3 refl (λ m. not_long most bytes m)
+      refl (λ d. (c d).2))
+  took_out t1 t2 t3 c = unheard _ (λ d. (let x = c d in cc))
+      (sink_same e s, λ before at. at, λ g f. refl)
 
-pub sink_kept : (ep most : ℕ) (s u : State) → OnlySink s u → IsSink ep most s → IsSink ep most u
-sink_kept ep most s u e i = subst (λ x. IsSink ep most x) (sym e)
+pub sink_kept : (ep most : ℕ) (s u : State) → OnlySink ep s u → IsSink ep most s → IsSink ep most u
+sink_kept ep most s u e i = subst (λ x. IsSink ep most x) (sym e.rest)
     (record { endpoint = i.endpoint; not_zero = i.not_zero })
 
-pub at_kept : (t : Target) (s u : State) → OnlySink s u → is_at s t ≡ true → is_at u t ≡ true
-at_kept t s u e h = ap (λ x. is_at x t) e ∙ h
+pub at_kept : (t : Target) {ep : ℕ} (s u : State) → OnlySink ep s u → is_at s t ≡ true
+    → is_at u t ≡ true
+at_kept t s u e h = ap (λ x. is_at x t) e.rest ∙ h
 
 -- what a transaction leaves of the endpoint
-abbrev SinkLeft : Toggle → List ℕ → Result (List ℕ) TransFault → State → State → Type 0
-SinkLeft t bytes result s v =
-    OnlySink s v × ((before : List ℕ) → SinkAt before bytes t s → SinkEnds before bytes t result v)
-    × (s.bulk_out.halted ≡ true → forgotten s ≡ s → (v ≡ s)
+abbrev SinkLeft : ℕ → Toggle → List ℕ → Result (List ℕ) TransFault → State → State → Type 0
+SinkLeft e t bytes result s v =
+    OnlySink e s v × ((before : List ℕ) → SinkAt e before bytes t s
+    → SinkEnds e before bytes t result v)
+    × ((out_end s e).state.halted ≡ true → forgotten s ≡ s → (v ≡ s)
     × ((done : List ℕ) → result ≡ Ok done → ⊥))
 
-module _ {most : ℕ} {t : Toggle} {bytes : List ℕ} {Clear : Type 0} {s : State} where
-  stays_out : {h : HeardOutcome} {v : State} → Took most t bytes Clear s h v → SinkStays t bytes s v
+module _ {e most : ℕ} {t : Toggle} {bytes : List ℕ} {Clear : Type 0} {s : State} where
+  stays_out : {h : HeardOutcome} {v : State} → Took e most t bytes Clear s h v
+      → SinkStays e t bytes s v
   stays_out (unheard v c x) = x
-  stays_out (refused f) = (refl, λ before at. sink_at_forgotten at, λ g h. h)
+  stays_out (refused f) = (only_forgotten e s, λ before at. sink_at_forgotten at, λ g h. h)
   stays_out (acked v f x on) = (
     x,
     λ before at. behind_it (on before at),
     λ g. false_true (sym f ∙ g),
   )
 
-  done_out : {done : List ℕ} {v : State} → Took most t bytes Clear s (Moved (packed done)) v
-      → SinkLeft t bytes (Ok done) s v
+  done_out : {done : List ℕ} {v : State} → Took e most t bytes Clear s (Moved (packed done)) v
+      → SinkLeft e t bytes (Ok done) s v
   done_out (acked v f x on) = (x, on, λ g. false_true (sym f ∙ g))
 
-  stalls_out : {v : State} → Took most t bytes Clear s Refused v
-      → SinkLeft t bytes (Err Stalled) s v
+  stalls_out : {v : State} → Took e most t bytes Clear s Refused v
+      → SinkLeft e t bytes (Err Stalled) s v
   stalls_out (refused f) = (
-    refl,
+    only_forgotten e s,
     λ before at. (sink_at_forgotten at, f),
-    λ g h. (h, λ done e. cc e),
+    λ g h. (h, λ done r. cc r),
   )
 
   ended_out : (result : Result (List ℕ) TransFault) (o : Outcome) (outcomes : List Outcome)
-      {v : State} → Took most t bytes Clear s (heard_when_sent o) v
-      → IsEnd heard_when_sent result o outcomes → SinkLeft t bytes result s v
+      {v : State} → Took e most t bytes Clear s (heard_when_sent o) v
+      → IsEnd heard_when_sent result o outcomes → SinkLeft e t bytes result s v
   ended_out (Ok done) o outcomes {v} g is =
-      done_out (subst (λ h. Took most t bytes Clear s h v) is g)
+      done_out (subst (λ h. Took e most t bytes Clear s h v) is g)
   ended_out (Err Stalled) o outcomes {v} g is =
-      stalls_out (subst (λ x. Took most t bytes Clear s (heard_when_sent x) v) is g)
+      stalls_out (subst (λ x. Took e most t bytes Clear s (heard_when_sent x) v) is g)
   ended_out result o outcomes g is = let x = stays_out g in
-      (x.0, x.1, λ c h. (x.2 c h, λ done e. cc e))
+      (x.0, x.1, λ c h. (x.2 c h, λ done r. cc r))
 
-  unheard_out : {v : State} → Took most t bytes Clear s Lost v → Clear → length bytes ≤ most → ⊥
+  unheard_out : {v : State} → Took e most t bytes Clear s Lost v → Clear → length bytes ≤ most → ⊥
   unheard_out (unheard v c x) = c
 
-  no_waits_out : {h : HeardOutcome} {v : State} → Took most t bytes Clear s h v → (n : ℕ)
+  no_waits_out : {h : HeardOutcome} {v : State} → Took e most t bytes Clear s h v → (n : ℕ)
       → waits_with h n + 0 ≤ n + 0
   no_waits_out (refused f) n = omega arith
   no_waits_out g n = omega arith
 
-after_stay : (t : Toggle) (bytes : List ℕ) (result : Result (List ℕ) TransFault) (s u v : State)
-    → SinkStays t bytes s u → SinkLeft t bytes result u v → SinkLeft t bytes result s v
-after_stay t bytes result s u v x l = (
-  rw x.0 at l.0,
+after_stay : (e : ℕ) (t : Toggle) (bytes : List ℕ) (result : Result (List ℕ) TransFault)
+    (s u v : State)
+    → SinkStays e t bytes s u → SinkLeft e t bytes result u v → SinkLeft e t bytes result s v
+after_stay e t bytes result s u v x l = (
+  sink_then e s u v x.0 l.0,
   λ before at. l.1 before (x.1 before at),
   λ c h. (rw (x.2 c h) at l).2 c h,
 )
@@ -556,7 +619,7 @@ module _ (t : Target) (ep : ℕ) (toggle : Toggle) (bytes : List ℕ) where
 
   did_out : (most : ℕ) (w : World) (j : Location) (u v : State) → DidOut a_out toggle bytes w j u v
       → is_at u t ≡ true → IsSink ep most u
-      → Took most toggle bytes ((damage_in w ≡ None) × Listens t j u) u
+      → Took ep most toggle bytes ((damage_in w ≡ None) × Listens t j u) u
       (heard_when_sent (outcome_in a_out w)) v
   did_out most w j u v d at i =
       let x : _ = delivered_out t ep toggle bytes w j u v d at in
@@ -564,7 +627,7 @@ module _ (t : Target) (ep : ℕ) (toggle : Toggle) (bytes : List ℕ) where
       × Listens t j u) x.first x.second x.third (λ c. x.heard c.0 c.1))
 
   sink_out : (result : Result (List ℕ) TransFault) (GaveUp : Type 0)
-      → ((v : State) → GaveUp → SinkLeft toggle bytes result v v)
+      → ((v : State) → GaveUp → SinkLeft ep toggle bytes result v v)
       → (old new : World) (j : Location) (s v : State)
       → forgotten s ≡ s → RanOut GaveUp result old new j s v
       → SinkOut t ep toggle bytes result j s v
@@ -572,7 +635,7 @@ module _ (t : Target) (ep : ℕ) (toggle : Toggle) (bytes : List ℕ) where
     others = away;
     frame = λ most i. elim (decided (is_at s t)) [
       | inl h ↦ (left h most i).0
-      | inr h ↦ subst (OnlySink s) (sym (away h)) refl
+      | inr h ↦ subst (OnlySink ep s) (sym (away h)) (sink_same ep s)
     ];
     sink = λ h most before i fits. (left h most i).1 before;
     halted = λ h most i c. (left h most i).2 c rests;
@@ -581,18 +644,18 @@ module _ (t : Target) (ep : ℕ) (toggle : Toggle) (bytes : List ℕ) where
       away : is_at s t ≡ false → v ≡ s
       away = stays_away t (λ w u y. out_others t ep toggle bytes w j u y) x
 
-      left : is_at s t ≡ true → (most : ℕ) → IsSink ep most s → SinkLeft toggle bytes result s v
+      left : is_at s t ≡ true → (most : ℕ) → IsSink ep most s → SinkLeft ep toggle bytes result s v
       left h most i =
           at_end heard_when_sent (λ outcomes w u. (is_at u t ≡ true) × IsSink ep most u
-          × ((y : State) → SinkLeft toggle bytes result u y
-          → SinkLeft toggle bytes result s y)) (h, i, λ y l. l)
+          × ((y : State) → SinkLeft ep toggle bytes result u y
+          → SinkLeft ep toggle bytes result s y)) (h, i, λ y l. l)
           (λ outcomes w u y trail made so d n.
           let g = stays_out (did_out most w j u y d so.0 so.1) in (
             at_kept t u y g.0 so.0,
             sink_kept ep most u y g.0 so.1,
-            λ z l. so.2 z (after_stay toggle bytes result u y z g l),
+            λ z l. so.2 z (after_stay ep toggle bytes result u y z g l),
           ))
-          (SinkLeft toggle bytes result s) v
+          (SinkLeft ep toggle bytes result s) v
           (λ outcomes w u trail so d is told. so.2 v
           (ended_out result (outcome_in a_out w) outcomes (did_out most w j u v d so.0 so.1)
           is)) (λ gave outcomes w so. so.2 v (up v gave)) x
@@ -614,8 +677,9 @@ pub sink_leaves : (t : Target) (ep : ℕ) (toggle : Toggle) (bytes : List ℕ)
 sink_leaves t ep toggle bytes result old new settled x single =
     each_rests _ (SinkOut t ep toggle bytes result) old new settled
     (sink_out t ep toggle bytes result (IsOfBus result)
-    (λ v gave. of_bus (λ r. SinkLeft toggle bytes r v v)
-    (λ fault. (refl, λ before at. at, λ c h. (refl, λ done e. cc e))) result gave) old new)
+    (λ v gave. of_bus (λ r. SinkLeft ep toggle bytes r v v)
+    (λ fault. (sink_same ep v, λ before at. at, λ c h. (refl, λ done e. cc e))) result
+    gave) old new)
     (over_out t ep toggle bytes old new settled single heard_when_sent result x)
 
 pub sink_over : (t : Target) (ep : ℕ) (toggle : Toggle) (bytes : List ℕ)
@@ -636,7 +700,7 @@ sink_between t ep toggle bytes outcomes old now settled trail onward single =
     (λ j s v rests run.
     let x : SinkOut t ep toggle bytes (Err NoAnswer) j s v =
     sink_out t ep toggle bytes (Err NoAnswer) (Unit {0})
-    (λ y gave. (refl, λ before at. at, λ c h. (refl, λ done e. cc e))) old now j s v rests
+    (λ y gave. (sink_same ep y, λ before at. at, λ c h. (refl, λ done e. cc e))) old now j s v rests
     (stopped tt run onward) in
     record { others = x.others; frame = x.frame; sink = x.sink })
     (over_out_trail t ep toggle bytes old now settled single trail)
@@ -656,9 +720,10 @@ sink_why t ep toggle bytes result old new settled three e single =
         → DidOut (out_attempt t ep toggle bytes) toggle bytes w j u y → Listens t j u
         × IsSink ep most u → Listens t j y × IsSink ep most y
     stays most w j u y d is =
-        let f : OnlySink u y = (stays_out (did_out t ep toggle bytes most w j u y d is.0.at is.1)).0
+        let f : OnlySink ep u y =
+        (stays_out (did_out t ep toggle bytes most w j u y d is.0.at is.1)).0
         in (
-          listens_on t j u y (ap (λ x. x.spec) f) (ap (λ x. x.registers) f) is.0,
+          listens_on t j u y (ap (λ x. x.spec) f.rest) (ap (λ x. x.registers) f.rest) is.0,
           sink_kept ep most u y f is.1,
         )
 
@@ -668,8 +733,8 @@ sink_why t ep toggle bytes result old new settled three e single =
       answered = λ l most i fits e. heeded (λ u. Listens t j u × IsSink ep most u)
           (λ w u y d n. stays most w j u y d) (l, i) three
           (λ w u y d is none f.
-          unheard_out (subst (λ h. Took most toggle bytes ((damage_in w ≡ None) × Listens t j u) u h
-          y) f (did_out t ep toggle bytes most w j u y d is.0.at is.1)) (none, is.0) fits)
+          unheard_out (subst (λ h. Took ep most toggle bytes ((damage_in w ≡ None) × Listens t j u)
+          u h y) f (did_out t ep toggle bytes most w j u y d is.0.at is.1)) (none, is.0) fits)
           (subst (λ r. RanOut t ep toggle bytes (IsOfBus r) r old new j s v) e x);
       waited = λ l most i e. spared (λ u. Listens t j u × IsSink ep most u)
           (λ w u y d n. stays most w j u y d) (l, i) (λ u. 0)

@@ -1,8 +1,8 @@
 -- SETUP: setup data that were accepted more than once are as if they were accepted once, the last
 -- time; and who is not reset by them.
-use Rattle.std.proofs.Common.{◌≡◌, ◌⊎◌, inl, inr, ℕ, ◌==◌, ◌&&◌, if◌then◌else◌, Bool, true, false}
-use Rattle.std.proofs.Common.{List, [], ◌∷◌, length, Option, None, Some, Result, Ok, Err, refl, sym}
-use Rattle.std.proofs.Common.{subst, ap, ◌∙◌, arith}
+use Rattle.std.proofs.Common.{◌≡◌, ◌⊎◌, inl, inr, ℕ, zero, suc, ◌==◌, ◌&&◌, if◌then◌else◌, Bool}
+use Rattle.std.proofs.Common.{true, false, List, [], ◌∷◌, length, map, get_or, Option, None, Some}
+use Rattle.std.proofs.Common.{Result, Ok, Err, refl, sym, subst, ap, ap₂, ◌∙◌, arith}
 use Rattle.std.proofs.lemmas.Option.{same_Some}
 use Rattle.usb_request.specs.{GET_STATUS, CLEAR_FEATURE, SET_FEATURE, SET_ADDRESS, GET_DESCRIPTOR}
 use Rattle.usb_request.specs.{GET_CONFIGURATION, SET_CONFIGURATION, DEVICE_IN, DEVICE_OUT}
@@ -12,7 +12,8 @@ use Rattle.usb_device.specs.{Leaves, Registers, Spec, Outcome, takes_configurati
 use Rattle.usb_device.specs.{registers_at_setup, port_feature, State, with_endpoints, begun}
 use Rattle.usb_device.specs.{accepted, effect_of_request, asked_by_setup, Way, is_whole, setup_law}
 use Rattle.usb_device.specs.{Ports, full, acted, row_of, Location, path_to, reach_on, state_on}
-use Rattle.usb_device.specs.{place_on, Place}
+use Rattle.usb_device.specs.{place_on, Place, OutEnd, InEnd, no_out, no_in, rested_out, rested_in}
+use Rattle.usb_device.specs.{halted, with_at, halts, unhalts, BulkOut, BulkIn}
 use Rattle.usb_device.specs.Attempt.{whole}
 use Rattle.usb_device.proofs.Interface.{asked_own-any}
 use Rattle.usb_world.specs.{Attempt, is_harmless, resets, Relation, Was, EachWas, DidSetup, IsMade}
@@ -82,8 +83,42 @@ asks_again s g r o e = e
 pub spec_stays : (d : State) (o : Outcome) → (with_endpoints d o).spec ≡ d.spec
 spec_stays d o = grind arith
 
+-- the same is done to an endpoint, or to each of a row, again
+
+module _ {A : Type 0} (none : A) (f : A → A) (same : (x : A) → f (f x) ≡ f x) where
+  abbrev done_at : ℕ → List A → List A
+  done_at n row = with_at none n (f (get_or row n none)) row
+
+  at_twice : (n : ℕ) (row : List A) → done_at n (done_at n row) ≡ done_at n row
+  unfolding with_at
+  at_twice zero [] = ap (λ x. x ∷ []) (same none)
+  at_twice zero (y ∷ row) = ap (λ x. x ∷ row) (same y)
+  at_twice (suc n) [] = ap (λ row. none ∷ row) (at_twice n [])
+  at_twice (suc n) (y ∷ row) = ap (λ more. y ∷ more) (at_twice n row)
+
+  each_twice : (row : List A) → map f (map f row) ≡ map f row
+  each_twice [] = refl
+  each_twice (y ∷ row) = ap₂ (λ x more. x ∷ more) (same y) (each_twice row)
+
 begun_twice : (d : State) (first row : List PortState) (wanted : ℕ) (o : Outcome)
     → begun (begun d first wanted o) row wanted o ≡ begun d row wanted o
+begun_twice d first row n (takes_configuration c) =
+    ap₂ (λ (outs : List OutEnd) (ins : List InEnd).
+    record (begun d row n (takes_configuration c)) { outs = outs; ins = ins })
+    (each_twice no_out rested_out (λ x. refl) d.outs)
+    (each_twice no_in rested_in (λ x. refl) d.ins)
+begun_twice d first row n (halts (BulkOut e)) =
+    ap (λ (outs : List OutEnd). record (begun d row n (halts (BulkOut e))) { outs = outs })
+    (at_twice no_out (λ x. record x { state = halted x.state }) (λ x. refl) e d.outs)
+begun_twice d first row n (halts (BulkIn e)) =
+    ap (λ (ins : List InEnd). record (begun d row n (halts (BulkIn e))) { ins = ins })
+    (at_twice no_in (λ x. record x { state = halted x.state }) (λ x. refl) e d.ins)
+begun_twice d first row n (unhalts (BulkOut e)) =
+    ap (λ (outs : List OutEnd). record (begun d row n (unhalts (BulkOut e))) { outs = outs })
+    (at_twice no_out rested_out (λ x. refl) e d.outs)
+begun_twice d first row n (unhalts (BulkIn e)) =
+    ap (λ (ins : List InEnd). record (begun d row n (unhalts (BulkIn e))) { ins = ins })
+    (at_twice no_in rested_in (λ x. refl) e d.ins)
 begun_twice d first row n o = grind arith
 
 asked_twice : (d : State) (first : List PortState) (r : Setup)

@@ -12,7 +12,7 @@ use std::test::Fail;
 use usb_bus::BusFault;
 use usb_packet::Toggle;
 use usb_port::PortPath;
-use usb_sim::{SimBus, Tracer};
+use usb_sim::{EndpointNumber, SimBus, Tracer};
 use usb_testbus::{plan_text, plugged, trace_of};
 use usb_transaction::{Done, Target, TransFault, data_in, data_out, poll_in, setup};
 
@@ -151,7 +151,8 @@ fn line_of(
 /// The line that reports what the bulk OUT endpoint took.
 fn sink_line(alloc: Global, bus: &SimBus<Tracer<Vec<u8>>>) -> Result<String, AllocError> {
     let path = PortPath::root(1).unwrap();
-    let taken = hex_of(alloc, bus.sink(&path).unwrap_or(&[]))?;
+    let number = EndpointNumber::new(number_of(Endpoint::Sink));
+    let taken = hex_of(alloc, bus.sink(&path, number).unwrap_or(&[]))?;
     format!(in alloc; "taken {taken}\n")
 }
 

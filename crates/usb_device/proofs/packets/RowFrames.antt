@@ -1,21 +1,25 @@
 -- What each row leaves as it is.
-use Rattle.std.proofs.Common.{ℕ, if◌then◌else◌, Bool, true, false, List, [], None, Some, Option}
-use Rattle.std.proofs.Common.{rules}
+use Rattle.std.proofs.Common.{◌≡◌, ℕ, ◌==◌, if◌then◌else◌, Bool, true, false, List, [], None, Some}
+use Rattle.std.proofs.Common.{Option, get_or, refl, ap, sym, ◌∙◌, rules}
+use Rattle.std.proofs.lemmas.Bool.{eqb-true}
 use Rattle.usb_packet.specs.{TokenKind, OutTok, InTok, SetupTok, Toggle, Zero, One, Packet, Token}
 use Rattle.usb_packet.specs.{Payload}
 use Rattle.usb_packet.specs.declared.Packet.TheVariants as packet
 use Rattle.arrayvec.specs.ArrayVec.{ArrayVec}
-use Rattle.usb_device.specs.{RememberedPacket, BulkOut, Outcome, halts, unhalts, Stage, idle}
+use Rattle.usb_device.specs.{RememberedPacket, BulkIn, BulkOut, Outcome, halts, unhalts, Stage, idle}
+use Rattle.usb_device.specs.{takes_configuration, halted, rested, InEnd, no_in, rested_in, with_at}
 use Rattle.usb_device.specs.{reading, max_packet, packet_at, toggle_at, State, Reply}
 use Rattle.usb_device.specs.{received, answered, forgotten, begun, gives, in_row, status_row}
 use Rattle.usb_device.specs.{out_row, ack_row, token_row, payload_row, source_row, held_row}
-use Rattle.usb_device.specs.{in_other_row, in_bulk_row, sink_row, out_bulk_row, bulk_ack_row}
-use Rattle.usb_device.specs.{after_memory, bulk_of, Keeps, Write, WriteData, Next, judged, writing}
+use Rattle.usb_device.specs.{in_other_row, in_end_row, sink_row, out_end_row, in_ack_row, in_end}
+use Rattle.usb_device.specs.{after_memory, in_max, Keeps, Write, WriteData, Next, judged, writing}
 use Rattle.usb_device.specs.{write_row}
+use Rattle.usb_device.specs.declared.bulk.EndpointState.{EndpointState}
 use Rattle.usb_device.specs.declared.transfer.InEndpoint.TheVariants as by
 use Rattle.usb_port.specs.{PortState}
 use Rattle.usb_device.specs.declared.transfer.RememberedPacket.TheVariants.{SetupSeen, OutSeen}
 use Rattle.usb_device.specs.declared.transfer.RememberedPacket.TheVariants.{AckAwaited}
+use Rattle.usb_device.proofs.RowsOfEnds.{at_mapped, at_other, at_same}
 
 keeps-if : (p : Packet) (d : State) (b : Bool) (x y : Reply) → Keeps p d x.1 → Keeps p d y.1
     → Keeps p d (if b then x else y).1
@@ -51,28 +55,69 @@ keeps-out u c d idle t b = search rules
 keeps-out u c d (writing w) t b = keeps-write u c d w b (judged (max_packet d.spec) w t b)
 keeps-out u c d s t b = search (rules, keeps-status)
 
+-- a row of IN endpoints where one has another state
+abbrev with_state : ℕ → EndpointState → List InEnd → InEnd
+with_state a x row = record (get_or row a no_in) { state = x }
+
+place-set : (a e : ℕ) (x : EndpointState) (row : List InEnd)
+    → (get_or (with_at no_in a (with_state a x row) row) e no_in).place ≡ (get_or row e no_in).place
+place-set a e x row = by_number (e == a) refl
+  where
+    by_number : (b : Bool) → (e == a) ≡ b
+        → (get_or (with_at no_in a (with_state a x row) row) e no_in).place
+        ≡ (get_or row e no_in).place
+    by_number true is =
+        ap (λ m. (get_or (with_at no_in a (with_state a x row) row) m no_in).place) (eqb-true e a is)
+        ∙ ap (λ i. i.place) (at_same no_in a (with_state a x row) row)
+        ∙ ap (λ m. (get_or row m no_in).place) (sym (eqb-true e a is))
+    by_number false is = ap (λ i. i.place) (at_other no_in a e (with_state a x row) row is)
+
+begun-place : (d : State) (row : List PortState) (n : ℕ) (o : Outcome) (e : ℕ)
+    → (in_end (begun d row n o) e).place ≡ (in_end d e).place
+begun-place d row n (takes_configuration c) e =
+    ap (λ i. i.place) (at_mapped no_in rested_in refl e d.ins)
+begun-place d row n (halts (BulkIn a)) e = place-set a e (halted (in_end d a).state) d.ins
+begun-place d row n (unhalts (BulkIn a)) e = place-set a e rested d.ins
+begun-place d row n o e = refl
+
+begun-spec : (d : State) (row : List PortState) (n : ℕ) (o : Outcome) → (begun d row n o).spec
+    ≡ d.spec
+begun-spec d row n (halts (BulkOut e)) = refl
+begun-spec d row n (unhalts (BulkOut e)) = refl
+begun-spec d row n o = refl
+
+begun-address : (d : State) (row : List PortState) (n : ℕ) (o : Outcome)
+    → (begun d row n o).registers.address ≡ d.registers.address
+begun-address d row n (takes_configuration c) = refl
+begun-address d row n o = refl
+
 keeps-begun : (t : Toggle) (b : ArrayVec ℕ) (d : State) (row : List PortState) (n : ℕ) (o : Outcome)
     → Keeps (Payload t b) d (begun d row n o)
-keeps-begun t b d row n (halts BulkOut) = search rules
-keeps-begun t b d row n (unhalts BulkOut) = search rules
-keeps-begun t b d row n o = search rules
+keeps-begun t b d row n o = record {
+  spec = begun-spec d row n o;
+  address = λ h. begun-address d row n o;
+  configuration = λ h. cc;
+  outs = λ h. cc;
+  place = λ h e. begun-place d row n o e;
+  taken = λ h. cc;
+}
 
-keeps-sink : (t : Toggle) (b : ArrayVec ℕ) (d : State) (max : ℕ) (bytes : List ℕ)
-    → Keeps (Payload t b) d (sink_row d max t bytes).1
-keeps-sink t b d max bytes = search (rules, keeps-if)
+keeps-sink : (t : Toggle) (b : ArrayVec ℕ) (d : State) (e max : ℕ) (bytes : List ℕ)
+    → Keeps (Payload t b) d (sink_row d e max t bytes).1
+keeps-sink t b d e max bytes = search (rules, keeps-if)
 
-keeps-out-bulk : (t : Toggle) (b : ArrayVec ℕ) (d : State) (e : ℕ) (end : Option (ℕ × ℕ))
-    (bytes : List ℕ) → Keeps (Payload t b) d (out_bulk_row d e end t bytes).1
-keeps-out-bulk t b d e None bytes = search rules
-keeps-out-bulk t b d e (Some end) bytes = search (rules, keeps-if, keeps-sink)
+keeps-out-end : (t : Toggle) (b : ArrayVec ℕ) (d : State) (e : ℕ) (most : Option ℕ)
+    (bytes : List ℕ) → Keeps (Payload t b) d (out_end_row d e most t bytes).1
+keeps-out-end t b d e None bytes = search rules
+keeps-out-end t b d e (Some max) bytes = keeps-sink t b d e max bytes
 
-keeps-source : (p : Packet) (d : State) (max : ℕ) → Keeps p d (source_row d max).1
-keeps-source p d max = search (rules, keeps-if)
+keeps-source : (p : Packet) (d : State) (e max : ℕ) → Keeps p d (source_row d e max).1
+keeps-source p d e max = search (rules, keeps-if)
 
-keeps-in-bulk : (p : Packet) (d : State) (e : ℕ) (end : Option (ℕ × ℕ))
-    → Keeps p d (in_bulk_row d e end).1
-keeps-in-bulk p d e None = search rules
-keeps-in-bulk p d e (Some end) = search (rules, keeps-if, keeps-source)
+keeps-in-end : (p : Packet) (d : State) (e : ℕ) (most : Option ℕ)
+    → Keeps p d (in_end_row d e most).1
+keeps-in-end p d e None = search rules
+keeps-in-end p d e (Some max) = keeps-source p d e max
 
 keeps-held : (p : Packet) (d : State) (row : List PortState) (h : Option ℕ)
     → Keeps p d (held_row d row h).1
@@ -81,12 +126,12 @@ keeps-held p d row (Some bits) = search rules
 
 keeps-in-other : (p : Packet) (d : State) (row : List PortState) (e : ℕ)
     → Keeps p d (in_other_row d row e).1
-keeps-in-other p d row e = search (rules, keeps-if, keeps-held, keeps-in-bulk)
+keeps-in-other p d row e = search (rules, keeps-if, keeps-held, keeps-in-end)
 
 keeps-payload : (t : Toggle) (b : ArrayVec ℕ) (d : State) (row : List PortState)
     (m : RememberedPacket) → Keeps (Payload t b) d (payload_row d row m t b.items).1
 keeps-payload Zero b d row SetupSeen = search (rules, keeps-if, keeps-begun)
-keeps-payload t b d row (OutSeen e) = search (rules, keeps-if, keeps-out, keeps-out-bulk)
+keeps-payload t b d row (OutSeen e) = search (rules, keeps-if, keeps-out, keeps-out-end)
 keeps-payload t b d row m = search rules
 
 keeps-token : (p : Packet) (d : State) (row : List PortState) (kind : TokenKind) (e : ℕ)
@@ -99,13 +144,13 @@ keeps-ack : (d : State) (s : Stage) → Keeps packet.Ack d (ack_row d s)
 keeps-ack d (reading answer wanted k) = search (rules, keeps-either)
 keeps-ack d _ = search rules
 
-keeps-bulk-ack : (d : State) (end : Option (ℕ × ℕ)) → Keeps packet.Ack d (bulk_ack_row d end)
-keeps-bulk-ack d None = search rules
-keeps-bulk-ack d (Some end) = search rules
+keeps-in-ack : (d : State) (e : ℕ) (most : Option ℕ) → Keeps packet.Ack d (in_ack_row d e most)
+keeps-in-ack d e None = search rules
+keeps-in-ack d e (Some max) = search rules
 
 keeps-after : (d : State) (m : RememberedPacket) → Keeps packet.Ack d (after_memory d m)
 keeps-after d (AckAwaited by.Control) = keeps-ack d d.stage
-keeps-after d (AckAwaited by.Bulk) = keeps-bulk-ack d (bulk_of d true)
+keeps-after d (AckAwaited (by.Bulk e)) = keeps-in-ack d e (in_max d e)
 keeps-after d m = search rules
 
 keeps-answered : (d : State) (row : List PortState) (m : RememberedPacket) (p : Packet)
@@ -125,7 +170,7 @@ keeps-received d row p =
       spec = k.spec;
       address = k.address;
       configuration = k.configuration;
-      sink = k.sink;
+      outs = k.outs;
       place = k.place;
       taken = k.taken;
     })

@@ -9,7 +9,7 @@ use Rattle.usb_port.specs.{PortState}
 use Rattle.usb_device.specs.declared.answer.Answer.TheVariants.{Nak, Stall}
 use Rattle.usb_device.specs.declared.transfer.InEndpoint.TheVariants as by
 use Rattle.usb_device.specs.{advanced, State, Reply, forgotten, payload, in_ack_row, in_end, in_max}
-use Rattle.usb_device.specs.{given_on, no_in, with_at, with_in, OnlySource}
+use Rattle.usb_device.specs.{given_on, no_in, with_in, OnlySource}
 use Rattle.usb_device.specs.{rest_of, Way, is_whole, heard, gave, source_law, changes_law}
 use Rattle.usb_device.specs.{in_control_law, in_other_law, in_end_law, in_law, taken_of, IsSource}
 use Rattle.usb_device.specs.{SourceAt, level, ahead, SourceOn}

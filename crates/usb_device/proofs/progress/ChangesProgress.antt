@@ -8,8 +8,8 @@ use Rattle.usb_port.specs.{PortState}
 use Rattle.usb_device.specs.declared.answer.Answer.TheVariants.{Nak, Stall}
 use Rattle.usb_device.specs.declared.transfer.InEndpoint.TheVariants as by
 use Rattle.usb_device.specs.{tells_changes, change_bits, State, Reply, forgotten, payload}
-use Rattle.usb_device.specs.{acknowledged, bulk_of, Way, is_whole, heard, gave, held_law}
-use Rattle.usb_device.specs.{changes_law, in_bulk_law, in_law, PollAt, level, told, ahead}
+use Rattle.usb_device.specs.{acknowledged, in_max, Way, is_whole, heard, gave, held_law}
+use Rattle.usb_device.specs.{changes_law, in_end_law, in_law, PollAt, level, told, ahead}
 use Rattle.usb_device.specs.{NeverTold, PollOn}
 use Rattle.usb_device.specs.Attempt.{whole}
 use Rattle.usb_device.proofs.progress.BulkProgress.{other-other}
@@ -25,8 +25,8 @@ true_not_false b h k = absurd cc
 pub law_is : (s : State) → tells_changes s.spec s.registers ≡ true
     → (row : List PortState) (max : ℕ) (t2 t3 : Way) → in_law s row 1 max whole t2 t3
     ≡ changes_law s row max t2 t3
-law_is s h row max t2 t3 = ap (λ z. if z then changes_law s row max t2 t3 else in_bulk_law s 1
-    (bulk_of s true) max t2 t3) h
+law_is s h row max t2 t3 = ap (λ z. if z then changes_law s row max t2 t3 else in_end_law s 1
+    (in_max s 1) max t2 t3) h
 
 -- what is so of a reply
 abbrev PollReply : (ℕ → Type 0) → ℕ → Toggle → Reply → Type 0

@@ -9,8 +9,8 @@ use Rattle.usb_device.specs.{Answer, Content, Whole, Broken, Sent, is_ack, State
 use Rattle.usb_device.specs.{unread, refused, Ports, ended, vacant, taken, called, changed, reach}
 use Rattle.usb_device.specs.{state_at, path_to, state_on, reply_to, answer_of, listed}
 use Rattle.usb_device.specs.{held_addresses, repeats, state_there, Place, answers}
-use Rattle.usb_device.specs.{Stage, Write, WriteData, bulk_of, data_row, is_busy, judged}
-use Rattle.usb_device.specs.{max_packet, nak_row, out_bulk_row, out_row, unless_busy, write_row}
+use Rattle.usb_device.specs.{Stage, Write, WriteData, data_row, is_busy, judged}
+use Rattle.usb_device.specs.{max_packet, nak_row, out_end_row, out_max, out_row, unless_busy, write_row}
 use Rattle.usb_device.specs.{writing, RememberedPacket, payload_row, forgotten, answered}
 use Rattle.usb_device.specs.declared.transfer.RememberedPacket.TheVariants.{SetupSeen, OutSeen}
 use Rattle.usb_device.specs.declared.answer.Answer.TheVariants as answer
@@ -157,7 +157,7 @@ no_data_after : (s : State) (e : ℕ) (t : Toggle) (bytes : List ℕ)
     → has_no_data (data_row s e t bytes).0 ≡ true
 no_data_after s e t bytes =
     no_data_if (e == 0) (unless_busy s (out_row s s.stage t bytes))
-    (out_bulk_row s e (bulk_of s false) t bytes)
+    (out_end_row s e (out_max s e) t bytes)
     (no_data_if (is_busy s) (nak_row s) (out_row s s.stage t bytes) refl
     (no_data_out s s.stage t bytes)) (grind arith)
 

@@ -4,7 +4,7 @@ use Rattle.std.proofs.Common.{◌∷◌, Option, Some, option_map, refl, ap, ap�
 use Rattle.usb_port.specs.{PortState}
 use Rattle.usb_device.specs.declared.answer.Answer.TheVariants as answer
 use Rattle.usb_device.specs.{ending, State, Reply, is_busy, ends_with_address, Way, is_whole}
-use Rattle.usb_device.specs.{in_law, in_stage_law, in_other_law, in_bulk_law, source_law, held_law}
+use Rattle.usb_device.specs.{in_law, in_stage_law, in_other_law, in_end_law, source_law, held_law}
 use Rattle.usb_device.specs.{Ports, row_of, reach_at, state_at}
 use Rattle.usb_device.specs.declared.transfer.InEndpoint.TheVariants as by
 use Rattle.usb_world.specs.{Attempt, World, at_attempt, damage_in, with_attempt, attempt, after}
@@ -29,17 +29,17 @@ kept_if : (s : State) (b : Bool) (x y : Reply) → AddressKept s x → AddressKe
 kept_if s b x y h g = grind arith
 
 module _ (s : State) (max : ℕ) (x y : Way) where
-  source_keeps : (most : ℕ) → AddressKept s (source_law s most max x y)
-  source_keeps most = grind arith
+  source_keeps : (e most : ℕ) → AddressKept s (source_law s e most max x y)
+  source_keeps e most = grind arith
 
-  bulk_law_keeps : (e : ℕ) (o : Option (ℕ × ℕ)) → AddressKept s (in_bulk_law s e o max x y)
-  bulk_law_keeps e o = grind arith
+  end_law_keeps : (e : ℕ) (o : Option ℕ) → AddressKept s (in_end_law s e o max x y)
+  end_law_keeps e o = grind (arith, source_keeps)
 
   held_keeps : (row : List PortState) (h : Option ℕ) → AddressKept s (held_law s row h max x y)
   held_keeps row h = grind arith
 
   other_keeps : (row : List PortState) (e : ℕ) → AddressKept s (in_other_law s row e max x y)
-  other_keeps row e = grind (arith, bulk_law_keeps, held_keeps, kept_if)
+  other_keeps row e = grind (arith, end_law_keeps, held_keeps, kept_if)
 
   stage_address : (n : ℕ) → s.stage ≡ ending (Some n)
       → address_of (in_stage_law s s.stage max x y).1

@@ -6,7 +6,7 @@ use std::alloc::{AllocError, Global};
 use usb_bus::{Attempt, Bus, BusFault, Destination, Outcome};
 use usb_packet::{Speed, Toggle};
 use usb_port::PortPath;
-use usb_sim::{Ask, SimBus, Trace};
+use usb_sim::{Ask, EndpointNumber, SimBus, Trace};
 
 /// One step. An attempt goes to endpoint 0 of an address where no other is named.
 #[derive(Clone, Copy)]
@@ -39,7 +39,7 @@ pub(super) enum Step {
     Status(u8),
     /// The address and the configuration of the device at a path.
     Registers(&'static str),
-    /// What the bulk OUT endpoint of the device at a path took.
+    /// What bulk OUT 2 of the device at a path took.
     Sink(&'static str),
 }
 
@@ -279,6 +279,6 @@ fn registers_told<T: Trace>(
 fn sink_told<T: Trace>(alloc: Global, bus: &SimBus<T>, path: &str) -> Result<String, AllocError> {
     match PortPath::from_text(path) {
         None => String::from_str(alloc, "no path"),
-        Some(path) => format!(in alloc; "{:?}", bus.sink(&path)),
+        Some(path) => format!(in alloc; "{:?}", bus.sink(&path, EndpointNumber::new(2))),
     }
 }
