@@ -1,6 +1,7 @@
 -- One device over the parts of a stretch, one after the other.
 use Rattle.std.proofs.Common.{◌≡◌, ◌∙◌, refl, sym, ap, subst, ℕ, ◌+◌, List, [], ◌∷◌, ◌++◌, length}
-use Rattle.std.proofs.Common.{false, drop, take, Option, None, Some, append-nil, length-append, arith}
+use Rattle.std.proofs.Common.{drop, take, false, Option, None, Some, append-nil, length-append}
+use Rattle.std.proofs.Common.{arith}
 use Rattle.usb_device.specs.{State, Spec, Location, in_end, out_end}
 use Rattle.usb_world.specs.{Was}
 use Rattle.usb_pipe.specs.{Bulk, InPipeInSync}
@@ -12,7 +13,8 @@ use Rattle.usb_streams.specs.{StreamsAt, bytes_for, bytes_from, is_done, is_end_
 use Rattle.usb_streams.specs.Streams.{Streams}
 use Rattle.usb_streams.proofs.Bytes.{SinkStep, joins_behind, next_joined, took_none, took_stay}
 use Rattle.usb_streams.proofs.Bytes.{took_then}
-use Rattle.usb_streams.proofs.PipeEnds.{SinksStay, end_of, is_end_of-same, sink_of-stays, sink_of-joined}
+use Rattle.usb_streams.proofs.PipeEnds.{SinksStay, end_of, is_end_of-same, sink_of-joined}
+use Rattle.usb_streams.proofs.PipeEnds.{sink_of-stays}
 
 -- Sources
 
@@ -127,8 +129,8 @@ pub streams_move : (path : List ℕ) (t : ToldItem) (told : List ToldItem) (p q 
     → Streams path (t ∷ told) p r s v
 unfolding AreTaken received_from
 streams_move path t told p q r s u v x y =
-    let went = joins_behind (is_done t.item) (bytes_for path t.due) (sink_of (pipe_out q) s) x.sink.0
-    (sink_of (pipe_out q) u) (sink_of (pipe_out q) v) x.sink.2 y.sink in
+    let went = joins_behind (is_done t.item) (bytes_for path t.due) (sink_of (pipe_out q) s)
+    x.sink.0 (sink_of (pipe_out q) u) (sink_of (pipe_out q) v) x.sink.2 y.sink in
     let taken : AreTaken path (t ∷ told) went.0 = (x.sink.0, x.sink.1, went.1) in
     record {
       took = λ all. took_then path t told (pipe_out q) (pipe_out r) s u v y.end (x.took all.1)

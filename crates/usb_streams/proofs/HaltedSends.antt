@@ -23,7 +23,8 @@ use Rattle.usb_streams.proofs.PipeEnds.{condition_cases}
 
 -- none of the packets was acknowledged
 record NoneGiven (t : Target) (ep : ℕ) (sent : List ℕ) (x : Location) (s v : State) : Type 0 where
-  halted : is_at s t ≡ true → IsSink ep t.max s → (out_end s ep).state.halted ≡ true → (v ≡ s) × (sent ≡ [])
+  halted : is_at s t ≡ true → IsSink ep t.max s → (out_end s ep).state.halted ≡ true
+      → (v ≡ s) × (sent ≡ [])
 
 given_settled : {t : Target} {ep : ℕ} {first : Toggle} {old : World} {n : ℕ} {sent : List ℕ}
     {new : World} → Gave t ep first old n sent new → IsSettled old.roots → IsSettled new.roots

@@ -10,7 +10,7 @@ use Rattle.usb_port.specs.{PortCall, PortState}
 use Rattle.usb_request.specs.{setup_of}
 use Rattle.usb_device.specs.{Content, Whole, Broken, Sent, Effect, Leaves, Calls, PortsOff, Stage}
 use Rattle.usb_device.specs.{RememberedPacket, Spec, State, Reply, Ports, Place, ended, vacant}
-use Rattle.usb_device.specs.{endpoint_state, halted, rested, taken, empty, full, before, acted, all_off, all_forgotten, forgotten}
+use Rattle.usb_device.specs.{taken, empty, full, before, acted, all_off, all_forgotten, forgotten}
 use Rattle.usb_device.specs.{answer_of, effect_of, after_packet, reply_to, received, unread, fresh}
 use Rattle.usb_device.specs.{reset_state, replaced, changed, changed_at, called, state_at, state_on}
 use Rattle.usb_device.specs.{new_ports, first_ports, Location, hears, row_of, in_row, ack_row}
@@ -19,7 +19,8 @@ use Rattle.usb_device.specs.{data_row, after_memory, answered, Outcome, Write, W
 use Rattle.usb_device.specs.{max_packet, write_row, writing, BulkIn, BulkOut, halts, in_end, no_in}
 use Rattle.usb_device.specs.{no_out, out_end, rested_in, rested_out, takes_configuration, unhalts}
 use Rattle.usb_device.specs.{with_at, with_endpoint_state, with_endpoints, EndpointState}
-use Rattle.usb_device.specs.{ServedEndpoint, InEnd, OutEnd, accepted, outcome}
+use Rattle.usb_device.specs.{ServedEndpoint, InEnd, OutEnd, accepted, outcome, endpoint_state}
+use Rattle.usb_device.specs.{halted, rested}
 use Rattle.usb_device.specs.declared.transfer.RememberedPacket.TheVariants.{Nothing, SetupSeen}
 use Rattle.usb_device.specs.declared.transfer.RememberedPacket.TheVariants.{OutSeen, AckAwaited}
 use Rattle.usb_device.specs.declared.transfer.InEndpoint.TheVariants as by

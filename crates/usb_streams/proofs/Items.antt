@@ -1,8 +1,9 @@
 -- What an item moves at a path.
 use Rattle.std.proofs.Common.{◌≡◌, ◌≢◌, ◌∙◌, refl, sym, ap, subst, Bool, true, false, ◌||◌, ◌+◌, ℕ}
 use Rattle.std.proofs.Common.{arith, List}
-use Rattle.std.proofs.Common.{[], length, Option, None, Some, Result, Ok, Err, append-nil, eq-eqb}
-use Rattle.std.proofs.Common.{◌==◌, eqb-true, get_or, ◌⊎◌, inl, inr, is_ok, is_some, if◌then◌else◌}
+use Rattle.std.proofs.Common.{[], length, Option, None, Some, Result, Ok, Err, eq-eqb}
+use Rattle.std.proofs.Common.{◌==◌, eqb-true, get_or}
+use Rattle.std.proofs.Common.{◌⊎◌, inl, inr, is_ok, is_some, if◌then◌else◌}
 use Rattle.std.specs.BTreeMap.{is_at as ties}
 use Rattle.std.specs.Global.{Vec}
 use Rattle.usb_port.specs.{path_cmp}
@@ -718,7 +719,8 @@ module _ (path : List ℕ) (device : Accepted) (old new : HostState)
           (sent_here bytes told) is
       sent_item to bytes told is false away =
           apart to (Some (Send to bytes)) (item.Sent to (sent_count (length bytes) told))
-          (TookBytes (pipe_out (pipes_at to (table_in old))) (is_ok told) bytes) away (ap (λ (b : Bool). if b then bytes else []) away)
+          (TookBytes (pipe_out (pipes_at to (table_in old))) (is_ok told) bytes) away
+          (ap (λ (b : Bool). if b then bytes else []) away)
           refl (is.call.did running).through
           (told_sent to old new knows.sound still running bytes told is).took.each
 

@@ -1,12 +1,12 @@
 -- Pipes to one endpoint, and what it has taken.
-use Rattle.std.proofs.Common.{◌≡◌, ◌≢◌, ◌∙◌, inl, inr, refl, sym, ap, true, false, ℕ, ◌==◌, List, ◌++◌}
-use Rattle.std.proofs.Common.{Option, None, Some, Result, Ok, Err, option_map, Bool, is_some, ◌||◌}
-use Rattle.std.specs.Global.{Vec}
-use Rattle.usb_device.specs.{State, Spec, Registers, InEnd, out_end}
+use Rattle.std.proofs.Common.{◌≡◌, ◌≢◌, ◌∙◌, inl, inr, refl, sym, ap, true, false, ℕ, ◌==◌, List}
+use Rattle.std.proofs.Common.{◌++◌, Option, None, Some, Result, Ok, Err, option_map, Bool}
+use Rattle.std.proofs.Common.{is_some, ◌||◌}
+use Rattle.usb_device.specs.{State, out_end}
 use Rattle.usb_world.specs.{World}
 use Rattle.usb_pipe.specs.declared.condition.Condition.TheVariants.{Ready, Halted, Broken}
 use Rattle.usb_pipe.specs.{Bulk, Clears, Condition, PipeFault, Sends, cleared}
-use Rattle.usb_table.specs.{BulkPipes, ClearedAfter, ClearedBy, ClearedIf, OnlySinkOf, Pipes}
+use Rattle.usb_table.specs.{BulkPipes, ClearedBy, ClearedIf, OnlySinkOf, Pipes}
 use Rattle.usb_table.specs.{Hub, Function, Absent, PipesCleared, PipesSent, SentBy, TableFault}
 use Rattle.usb_table.specs.{pipe_out, sink_of}
 use Rattle.usb_table.proofs.Interface.{empty_or_not}
@@ -33,8 +33,9 @@ is_end_of-same (Some pipe) (Some left) e end =
     let same : left.ep ≡ pipe.ep = cc end in ap (λ n. e == n) same
 
 -- what joined the sink of one pipe joined that of another one to its endpoint
-pub sink_of-joined : (pipe left : Option Bulk) (s v : State) (more : List ℕ) → end_of left ≡ end_of pipe
-    → sink_of pipe v ≡ sink_of pipe s ++ more → sink_of left v ≡ sink_of left s ++ more
+pub sink_of-joined : (pipe left : Option Bulk) (s v : State) (more : List ℕ)
+    → end_of left ≡ end_of pipe → sink_of pipe v ≡ sink_of pipe s ++ more
+    → sink_of left v ≡ sink_of left s ++ more
 sink_of-joined pipe left s v more end joins = sink_of-same pipe left v end ∙ joins
     ∙ ap (λ l. l ++ more) (sym (sink_of-same pipe left s end))
 
