@@ -55,10 +55,10 @@ began_on : (path : List ℕ) (w v : World) → EndpointsBegan path w → Endpoin
 began_on path w v began stayed x s is on stands =
     let was : Was SparesBulk w x s = stayed x s is on stands in
     λ e.
-        let fresh = began x was.before is was.on was.stands e in (
-          ap (λ (t : State). (out_end t e).state) was.so ∙ fresh.0,
-          ap (λ (t : State). (in_end t e).state) was.so ∙ fresh.1,
-        )
+    let fresh = began x was.before is was.on was.stands e in (
+      ap (λ (t : State). (out_end t e).state) was.so ∙ fresh.0,
+      ap (λ (t : State). (in_end t e).state) was.so ∙ fresh.1,
+    )
 
 stayed_none : (path : List ℕ) (w : World) {v : World} → v ≡ w → EndpointsStayed path w v
 stayed_none path w same = subst (EndpointsStayed path w) (sym same)
