@@ -7,15 +7,13 @@ use Rattle.usb_packet.specs.{Payload}
 use Rattle.usb_packet.specs.declared.Packet.TheVariants as packet
 use Rattle.arrayvec.specs.ArrayVec.{ArrayVec}
 use Rattle.usb_device.specs.{RememberedPacket, BulkIn, BulkOut, Outcome, halts, unhalts, Stage}
-use Rattle.usb_device.specs.{idle}
-use Rattle.usb_device.specs.{takes_configuration, halted, rested, InEnd, no_in, rested_in, with_at}
-use Rattle.usb_device.specs.{reading, max_packet, packet_at, toggle_at, State, Reply}
+use Rattle.usb_device.specs.{idle, takes_configuration, halted, rested, InEnd, no_in, rested_in}
+use Rattle.usb_device.specs.{with_at, reading, max_packet, packet_at, toggle_at, State, Reply}
 use Rattle.usb_device.specs.{received, answered, forgotten, begun, gives, in_row, status_row}
 use Rattle.usb_device.specs.{out_row, ack_row, token_row, payload_row, source_row, held_row}
 use Rattle.usb_device.specs.{in_other_row, in_end_row, sink_row, out_end_row, in_ack_row, in_end}
 use Rattle.usb_device.specs.{after_memory, in_max, Keeps, Write, WriteData, Next, judged, writing}
-use Rattle.usb_device.specs.{write_row}
-use Rattle.usb_device.specs.declared.bulk.EndpointState.{EndpointState}
+use Rattle.usb_device.specs.{write_row, EndpointState}
 use Rattle.usb_device.specs.declared.transfer.InEndpoint.TheVariants as by
 use Rattle.usb_port.specs.{PortState}
 use Rattle.usb_device.specs.declared.transfer.RememberedPacket.TheVariants.{SetupSeen, OutSeen}
