@@ -11,10 +11,10 @@ use Rattle.usb_device.specs.{reading, read, ending, writing, is_done, max_packet
 use Rattle.usb_device.specs.{toggle_at, State, Reply}
 use Rattle.usb_device.specs.{received, answered, unread, forgotten, accepted, payload, is_busy}
 use Rattle.usb_device.specs.{nak_row, unless_busy, gives, in_row, begun, data_row, token_row}
-use Rattle.usb_device.specs.{source_row, changes_row, held_row, in_other_row, in_end_row}
+use Rattle.usb_device.specs.{changes_row, held_row, in_other_row, in_end_row}
 use Rattle.usb_device.specs.{acknowledged, in_end, in_max, rest_of, Way, lost, heard, acked}
 use Rattle.usb_device.specs.{setup_exchange, out_exchange, in_exchange, setup_law, out_law, gave}
-use Rattle.usb_device.specs.{in_stage_law, source_law, changes_law, held_law, in_other_law}
+use Rattle.usb_device.specs.{in_stage_law, changes_law, held_law, in_other_law}
 use Rattle.usb_device.specs.{in_end_law, in_control_law, in_law, is_own, through, is_whole}
 use Rattle.usb_device.specs.declared.answer.Answer.TheVariants.{Ack, Nak, Stall}
 use Rattle.usb_device.specs.declared.transfer.RememberedPacket.TheVariants.{Nothing, SetupSeen}

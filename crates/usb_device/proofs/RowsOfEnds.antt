@@ -1,6 +1,6 @@
 -- Rows of endpoints: what stands at a number after another one was put there.
 use Rattle.std.proofs.Common.{◌≡◌, ℕ, zero, suc, ◌<◌, ◌==◌, true, false, List, [], ◌∷◌, length, map}
-use Rattle.std.proofs.Common.{get_or, slice_set, replicate, None, Some, Option, refl, ap, sym, ◌∙◌, arith}
+use Rattle.std.proofs.Common.{get_or, slice_set, None, Some, Option, refl, ap, sym, ◌∙◌, arith}
 use Rattle.std.proofs.Common.{if◌then◌else◌, Bool, Result, Ok, Err, IfOk}
 use Rattle.std.proofs.lemmas.Bool.Decides.{nat_tests}
 use Rattle.usb_device.proofs.Attempts.{same_number}
@@ -79,5 +79,6 @@ max_of-some e most (Some end) h = by_number (end.0 == e) refl h
 pub in_max-is : (e most : ℕ) (s : State) → bulk_of s true ≡ Some (e, most) → in_max s e ≡ Some most
 in_max-is e most s h = ap (max_of e) h ∙ ap (λ b. if b then Some most else None) (same_number e)
 
-pub out_max-is : (e most : ℕ) (s : State) → bulk_of s false ≡ Some (e, most) → out_max s e ≡ Some most
+pub out_max-is : (e most : ℕ) (s : State) → bulk_of s false ≡ Some (e, most)
+    → out_max s e ≡ Some most
 out_max-is e most s h = ap (max_of e) h ∙ ap (λ b. if b then Some most else None) (same_number e)

@@ -1,6 +1,6 @@
 -- The two rows of endpoints besides endpoint 0: each is kept by its number and its direction, from
 -- the plug on, whether a configuration has it or not (9.6.6).
-use Rattle.std.specs.Prelude.{ℕ, zero, suc, List, [], ◌∷◌, ◌++◌, length, Option, None}
+use Rattle.std.specs.Prelude.{ℕ, zero, suc, List, [], ◌∷◌, ◌++◌, Option, None}
 use Rattle.usb_device.specs.declared.bulk.EndpointState.{EndpointState}
 use Rattle.usb_device.specs.declared.ends.InEnd.{InEnd}
 use Rattle.usb_packet.specs.{other}

@@ -33,8 +33,8 @@ pub use DeviceSpecs.{AreDevices, Hub, IsHub, IsSpec, Spec, agrees, function, has
 pub use DeviceSpecs.{hub_fits, is_named, names_differ, no_stalls, usual_hub}
 unfoldable pub use SaidLengths.{said_length, said_lengths}
 pub use Bulk.{advanced, bulk_at, bulk_in, changed_bit, count_down, end_number, halted, has_value}
-pub use Bulk.{is_end}
-pub use Bulk.{is_last, max_of, rested, served, tells_changes, text_with, total_of, turned}
+pub use Bulk.{is_end, is_last, max_of, rested, served, tells_changes, text_with, total_of}
+pub use Bulk.{turned}
 unfoldable pub use Bulk.{change_bits}
 pub use Ends.{OutEnd, given_on, no_in, no_out, rested_in, rested_out, taken_on}
 unfoldable pub use Ends.{with_at}
@@ -85,7 +85,8 @@ pub use ReceivedBytes.{received_by}
 pub use AnswerPids.{Room, answer_from_pid, answer_with}
 pub use Hearings.{heard_with, pid_heard}
 pub use Attempt.{Way, acked, changes_law, gave, heard, held_law, in_control_law}
-pub use Attempt.{in_end_law, in_exchange, in_law, in_other_law, in_stage_law, is_good, is_own, is_whole, lost}
+pub use Attempt.{in_end_law, in_exchange, in_law, in_other_law, in_stage_law, is_good, is_own}
+pub use Attempt.{is_whole, lost}
 pub use Attempt.{new_changes_law, out_exchange, out_law, sends, setup_exchange, setup_law}
 pub use Attempt.{source_law, through, write_status_law}
 pub use PacketFrames.{Keeps, is_ack, is_data}

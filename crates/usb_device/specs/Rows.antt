@@ -1,9 +1,9 @@
 -- What a device answers to each packet, and what it is then (8.5).
-use Rattle.std.specs.Prelude.{ℕ, true, false, ◌+◌, ◌-◌, ◌==◌, nat_lt, not, ◌++◌, take, drop}
+use Rattle.std.specs.Prelude.{ℕ, true, false, ◌+◌, ◌-◌, ◌==◌, nat_lt, not, take, drop}
 use Rattle.std.specs.Prelude.{if◌then◌else◌, ◌&&◌, ◌||◌, Bool, List, [], ◌∷◌, length, Option, None}
 use Rattle.std.specs.Prelude.{Some, is_some, map, replicate, get_or}
 use Rattle.usb_packet.specs.{TokenKind, OutTok, InTok, SetupTok, Toggle, Zero, One, Packet, Token}
-use Rattle.usb_packet.specs.{Payload, other, is_same}
+use Rattle.usb_packet.specs.{Payload, is_same}
 use Rattle.usb_packet.specs.declared.Packet.TheVariants as packet
 use Rattle.usb_request.specs.{Setup, setup_of}
 use Rattle.usb_device.specs.declared.answer.Answer.{Answer}

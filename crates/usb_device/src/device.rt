@@ -121,8 +121,8 @@ impl Device {
     }
 
     /// A bus reset (9.1.1.3): the device has no address, no configuration and no transfer, and all
-    /// its ports are off. What its endpoints besides endpoint 0 took and gave stays, and so do their
-    /// states.
+    /// its ports are off. What its endpoints besides endpoint 0 took and gave stays, and so do
+    /// their states.
     pub fn reset(&mut self)
         ensures { self.new ≡ reset_whole self.old }
     {

@@ -224,7 +224,8 @@ impl OutEnds {
     /// Another state of the one with a number.
     pub fn set_state(&mut self, number: EndpointNumber, state: EndpointState)
         ensures { self.new
-            ≡ with_at no_out number (record (get_or self.old number no_out) { state = state }) self.old }
+            ≡ with_at no_out number (record (get_or self.old number no_out) { state = state })
+            self.old }
     {
         self.row[number.place()].state = state;
     }

@@ -278,8 +278,8 @@ impl FunctionState {
     }
 
     /// A bus reset (9.1.1.3): the device has no address, no configuration and no transfer. What its
-    /// bulk OUT endpoint and control writes have brought stays, and so do its place in its source
-    /// and the count until it halts.
+    /// OUT endpoints and control writes have brought stays, and so do their counts until they halt
+    /// and the places of its IN endpoints in its source.
     #[tactic(auto, unfolding(crate::specs::Rows::reset_state))]
     pub fn reset(&mut self)
         ensures { self.new ≡ reset_state self.old }

@@ -1,7 +1,7 @@
 -- What a device makes of a new address and of a configuration.
 use Rattle.std.proofs.Common.{◌≡◌, ℕ, ◌≤◌, ◌⊎◌, inl, inr, nat_le, Bool, true, false, List, Option}
 use Rattle.std.proofs.Common.{Some, Result, Ok, Err, refl, ap, sym, subst, ◌∙◌, arith, ◌==◌, ◌&&◌}
-use Rattle.std.proofs.Common.{not, None, if◌then◌else◌}
+use Rattle.std.proofs.Common.{not, None, if◌then◌else◌, get_or, map}
 use Rattle.std.proofs.lemmas.Bool.Decides.{nat_tests}
 use Rattle.usb_port.specs.{PortState}
 use Rattle.usb_request.specs.{Setup, set_address, set_configuration, setup_of, bytes_of}
@@ -9,7 +9,9 @@ use Rattle.usb_device.specs.{Registers, Spec, State, begun, accepted, takes_addr
 use Rattle.usb_device.specs.{outcome, Outcome, stalled, takes_configuration, is_value, refused}
 use Rattle.usb_device.specs.{ending, first_stage, StatusGiven, seen, unseen, address_then}
 use Rattle.usb_device.specs.{OnlyControl, PortsOff, EndpointState, rested, asked_by_setup}
-use Rattle.usb_device.specs.{effect_of_request, full, acted, Location, place_on}
+use Rattle.usb_device.specs.{effect_of_request, full, acted, Location, place_on, OutEnd, InEnd}
+use Rattle.usb_device.specs.{in_end, out_end, no_in, no_out, rested_in, rested_out, NothingMoved}
+use Rattle.usb_device.proofs.Interface.{at_mapped}
 use Rattle.usb_world.specs.{World, is_harmless, Relation, EachWas}
 use Rattle.usb_world.proofs.Interface.{each_both, each_wider}
 use Rattle.usb_tree.proofs.Interface.{decided}
@@ -322,36 +324,77 @@ set_refuses : (b : Bool) (value : ℕ) (row : List PortState) (taken : List ℕ)
 set_refuses true value row taken e = absurd cc
 set_refuses false value row taken e = refl
 
-abbrev with_settings : State → State → Registers → EndpointState → EndpointState → EndpointState
+abbrev with_settings : State → State → Registers → List OutEnd → List InEnd → EndpointState
     → Option ℕ → State
-with_settings s v g out into changes held =
+with_settings s v g outs ins changes held =
     record s {
       memory = v.memory;
       naks = v.naks;
       stage = v.stage;
       registers = g;
-      bulk_out = out;
-      bulk_in = into;
+      outs = outs;
+      ins = ins;
       changes = changes;
       held = held;
     }
 
 -- it is as it was but for its settings, which are these
-settings_frame : (s v : State) (out into changes : EndpointState) (held : Option ℕ) (value : ℕ)
-    → v ≡ with_settings s v v.registers out into changes held
-    → v.registers ≡ record s.registers { configuration = value } → OnlySet s v
-settings_frame s v out into changes held value h r =
-    h
-    ∙ ap (λ g. with_settings s v g out into changes held) (r
-    ∙ ap (λ (g : Registers). record s.registers { configuration = g.configuration }) (sym r))
-    ∙ ap (λ x. with_settings s v (record s.registers { configuration = v.registers.configuration })
-    x into changes held) (sym (ap (λ y. y.bulk_out) h))
-    ∙ ap (λ x. with_settings s v (record s.registers { configuration = v.registers.configuration })
-    v.bulk_out x changes held) (sym (ap (λ y. y.bulk_in) h))
-    ∙ ap (λ x. with_settings s v (record s.registers { configuration = v.registers.configuration })
-    v.bulk_out v.bulk_in x held) (sym (ap (λ y. y.changes) h))
-    ∙ ap (λ x. with_settings s v (record s.registers { configuration = v.registers.configuration })
-    v.bulk_out v.bulk_in v.changes x) (sym (ap (λ y. y.held) h))
+settings_frame : (s v : State) (outs : List OutEnd) (ins : List InEnd) (changes : EndpointState)
+    (held : Option ℕ) (value : ℕ) → v ≡ with_settings s v v.registers outs ins changes held
+    → v.registers ≡ record s.registers { configuration = value } → NothingMoved s v → OnlySet s v
+settings_frame s v outs ins changes held value h r moved = record {
+  rest = h
+      ∙ ap (λ g. with_settings s v g outs ins changes held) (r
+      ∙ ap (λ (g : Registers). record s.registers { configuration = g.configuration }) (sym r))
+      ∙ ap (λ x. with_settings s v set x ins changes held) (sym (ap (λ y. y.outs) h))
+      ∙ ap (λ x. with_settings s v set v.outs x changes held) (sym (ap (λ y. y.ins) h))
+      ∙ ap (λ x. with_settings s v set v.outs v.ins x held) (sym (ap (λ y. y.changes) h))
+      ∙ ap (λ x. with_settings s v set v.outs v.ins v.changes x) (sym (ap (λ y. y.held) h));
+  moved = moved;
+}
+  where
+    set : Registers
+    set = record s.registers { configuration = v.registers.configuration }
+
+-- its endpoints are as they were
+settings_kept : (s v : State) → v ≡ with_settings s v v.registers s.outs s.ins s.changes s.held
+    → v.registers ≡ s.registers → OnlySet s v
+settings_kept s v h r =
+    settings_frame s v s.outs s.ins s.changes s.held s.registers.configuration h r (record {
+      taken = λ e. (
+        ap (λ (y : State). (out_end y e).sink) h,
+        ap (λ (y : State). (out_end y e).until_halt) h,
+      );
+      given = λ e. ap (λ (y : State). (in_end y e).place) h;
+    })
+
+-- its endpoints have begun again
+module _ (s v : State) (h : v ≡ with_settings s v v.registers (map rested_out s.outs)
+    (map rested_in s.ins) rested None) where
+  out_rests : (e : ℕ) → out_end v e ≡ rested_out (out_end s e)
+  out_rests e = ap (λ (y : State). out_end y e) h ∙ at_mapped no_out rested_out refl e s.outs
+
+  in_rests : (e : ℕ) → in_end v e ≡ rested_in (in_end s e)
+  in_rests e = ap (λ (y : State). in_end y e) h ∙ at_mapped no_in rested_in refl e s.ins
+
+  settings_rest : (value : ℕ) → v.registers ≡ record s.registers { configuration = value }
+      → OnlySet s v × IsConfigured value s v
+  settings_rest value r = (
+    settings_frame s v (map rested_out s.outs) (map rested_in s.ins) rested None value h r
+        (record {
+          taken = λ e. (ap (λ x. x.sink) (out_rests e), ap (λ x. x.until_halt) (out_rests e));
+          given = λ e. ap (λ x. x.place) (in_rests e);
+        }),
+    record {
+      registers = r;
+      fresh = record {
+        outs = λ e. ap (λ x. x.state) (out_rests e);
+        ins = λ e. ap (λ x. x.state) (in_rests e);
+        changes = ap (λ y. y.changes) h;
+        held = ap (λ y. y.held) h;
+      };
+    },
+  )
 
 -- what a device is once it has accepted the request
 abbrev set_from : State → List PortState → Bool → ℕ → State
@@ -365,20 +408,8 @@ Set false value s v = v.registers ≡ s.registers
 set_frame : (b : Bool) (value : ℕ) (row : List PortState) (s v : State)
     → OnlyControl (set_from s row b value) v → v.registers ≡ (set_from s row b value).registers
     → OnlySet s v × Set b value s v
-set_frame true value row s v h r = (
-  settings_frame s v rested rested rested None value h r,
-  record {
-    registers = r;
-    fresh = record {
-      out = ap (λ y. y.bulk_out) h;
-      into = ap (λ y. y.bulk_in) h;
-      changes = ap (λ y. y.changes) h;
-      held = ap (λ y. y.held) h;
-    };
-  },
-)
-set_frame false value row s v h r =
-    (settings_frame s v s.bulk_out s.bulk_in s.changes s.held s.registers.configuration h r, r)
+set_frame true value row s v h r = settings_rest s v h value r
+set_frame false value row s v h r = (settings_kept s v h r, r)
 
 set_either : (b : Bool) (value : ℕ) (s v : State) → Set b value s v → (v.registers ≡ s.registers)
     ⊎ IsConfigured value s v
@@ -408,8 +439,7 @@ module _ (t : Target) (value : ℕ) (old new : World) where
 
   module _ (j : Location) (s v : State) where
     none_set : OnlyControl s v → v.registers ≡ s.registers → OnlySet s v
-    none_set h r = settings_frame s v s.bulk_out s.bulk_in s.changes s.held
-        s.registers.configuration h r
+    none_set h r = settings_kept s v h r
 
     whole_set : (row : List PortState) (address : Option ℕ)
         → first_stage row s.taken order.length (outcome s.spec s.registers order) ≡ ending address

@@ -3,6 +3,8 @@ use Rattle.usb_device.specs.{Location, ServedEndpoint, BulkOut, BulkIn, Register
 use Rattle.usb_device.specs.{bulk_at, is_end, served, outcome, unhalts, on_endpoint, first_stage}
 use Rattle.usb_device.specs.{ending, EndpointState, Changes, State, bulk_of, with_endpoint_state}
 use Rattle.usb_device.specs.{accepted, IsSink, IsSource, level, StatusGiven, OnlyControl, OnlyStage}
+use Rattle.usb_device.specs.{endpoint_state, in_end, out_end, no_in, no_out, InEnd, OutEnd}
+use Rattle.usb_device.proofs.Interface.{at_same, max_of-some}
 use Rattle.std.proofs.Common.{◌≡◌, ◌≢◌, ◌⊎◌, inl, inr, ◌∙◌, refl, sym, ap, subst, arith, false}
 use Rattle.std.proofs.Common.{true, Bool, ℕ, ◌+◌, ◌*◌, ◌/◌, ◌%◌, ◌<◌, ◌==◌, List, [], ◌∷◌, Option}
 use Rattle.std.proofs.Common.{None, Some, Result, Ok, Err, OnOk, MatchResult}
@@ -67,23 +69,26 @@ far : (e : ℕ) (o : Option (ℕ × ℕ)) → IsSmallEndpoint o → is_end (128 
 far e None small = refl
 far e (Some end) small = let lt : end.0 < 16 = small in grind (arith, nat_tests)
 
-names_out : (e most : ℕ) (s : State) → IsSink e most s → served s.spec s.registers e ≡ Some BulkOut
+names_out : (e most : ℕ) (s : State) → IsSink e most s → served s.spec s.registers e
+    ≡ Some (BulkOut e)
 names_out e most s i =
-    let small : e < 16 = rw i.endpoint at (small_out_end s.spec s.registers) in
+    let is : bulk_of s false ≡ Some (e, most) = max_of-some e most (bulk_of s false) i.endpoint in
+    let small : e < 16 = rw is at (small_out_end s.spec s.registers) in
     let not_status : (e == 129) ≡ false = grind (arith, nat_tests) in
     let is_out : (e + 0 == e) ≡ true = grind (arith, nat_tests) in
-    rw (not_status, i.endpoint, is_out)
+    rw (not_status, is, is_out)
 
 names_in : (e most : ℕ) (s : State) → IsSource e most s → served s.spec s.registers (128 + e)
-    ≡ Some BulkIn
+    ≡ Some (BulkIn e)
 names_in e most s i =
+    let is : bulk_of s true ≡ Some (e, most) = max_of-some e most (bulk_of s true) i.endpoint in
     let status : (128 + e == 129) ≡ (e == 1) = grind (arith, nat_tests) in
     let is_in : (e + 128 == 128 + e) ≡ true = grind (arith, nat_tests) in
     rw (
       status,
       i.alone,
       far e (bulk_of s false) (small_out_end s.spec s.registers),
-      i.endpoint,
+      is,
       is_in,
     )
 
@@ -115,12 +120,12 @@ abbrev pub clear_of : Bulk → Setup
 clear_of pipe = clear_endpoint_halt (halt_address pipe.ep pipe.is_in)
 
 pub asks_out : (pipe : Bulk) (s : State) → pipe.is_in ≡ false → IsSink pipe.ep pipe.max s
-    → outcome s.spec s.registers (clear_of pipe) ≡ unhalts BulkOut
+    → outcome s.spec s.registers (clear_of pipe) ≡ unhalts (BulkOut pipe.ep)
 asks_out pipe s out i = outcome-clear_halt s.spec s.registers (halt_address pipe.ep pipe.is_in)
     ∙ rw (out, names_out pipe.ep pipe.max s i)
 
 pub clear_of-in : (pipe : Bulk) (s : State) → pipe.is_in ≡ true → IsSource pipe.ep pipe.max s
-    → outcome s.spec s.registers (clear_of pipe) ≡ unhalts BulkIn
+    → outcome s.spec s.registers (clear_of pipe) ≡ unhalts (BulkIn pipe.ep)
 clear_of-in pipe s is i = outcome-clear_halt s.spec s.registers (halt_address pipe.ep pipe.is_in)
     ∙ rw (is, names_in pipe.ep pipe.max s i)
 
@@ -130,38 +135,35 @@ clear_of-in pipe s is i = outcome-clear_halt s.spec s.registers (halt_address pi
 abbrev OnlyRested : ServedEndpoint → State → State → Type 0
 OnlyRested which s v = OnlyStage (with_endpoint_state s which rested) v
 
-only_with : (which : ServedEndpoint) (s : State) (x : EndpointState) (v : State)
-    → OnlyStage (with_endpoint_state s which x) v → OnlyEndpoint which s v
-only_with BulkOut s x v o = o ∙ ap (λ (e : EndpointState). record s {
-  bulk_out = e;
-  memory = v.memory;
-  naks = v.naks;
-  stage = v.stage;
-}) (sym (ap (λ (x : State). x.bulk_out) o))
-only_with BulkIn s x v o = o ∙ ap (λ (e : EndpointState). record s {
-  bulk_in = e;
-  memory = v.memory;
-  naks = v.naks;
-  stage = v.stage;
-}) (sym (ap (λ (x : State). x.bulk_in) o))
-only_with Changes s x v o = o ∙ ap (λ (e : EndpointState). record s {
-  changes = e;
-  memory = v.memory;
-  naks = v.naks;
-  stage = v.stage;
-}) (sym (ap (λ (x : State). x.changes) o))
+-- an endpoint after its state is put
+out_with : (e : ℕ) (s : State) (x : EndpointState) → out_end (with_endpoint_state s (BulkOut e) x) e
+    ≡ record (out_end s e) { state = x }
+out_with e s x = at_same no_out e (record (out_end s e) { state = x }) s.outs
 
-only_kept : (which : ServedEndpoint) (s v : State) → OnlyStage s v → OnlyEndpoint which s v
-only_kept BulkOut s v o = only_with BulkOut s s.bulk_out v o
-only_kept BulkIn s v o = only_with BulkIn s s.bulk_in v o
-only_kept Changes s v o = only_with Changes s s.changes v o
+in_with : (e : ℕ) (s : State) (x : EndpointState) → in_end (with_endpoint_state s (BulkIn e) x) e
+    ≡ record (in_end s e) { state = x }
+in_with e s x = at_same no_in e (record (in_end s e) { state = x }) s.ins
+
+state_with : (which : ServedEndpoint) (s : State) (x : EndpointState)
+    → endpoint_state (with_endpoint_state s which x) which ≡ x
+state_with (BulkOut e) s x = ap (λ (end : OutEnd). end.state) (out_with e s x)
+state_with (BulkIn e) s x = ap (λ (end : InEnd). end.state) (in_with e s x)
+state_with Changes s x = refl
+
+-- the stage of endpoint 0 is none of it
+state_kept : (which : ServedEndpoint) (s v : State) → OnlyStage s v
+    → endpoint_state v which ≡ endpoint_state s which
+state_kept (BulkOut e) s v o = ap (λ (q : State). (out_end q e).state) o
+state_kept (BulkIn e) s v o = ap (λ (q : State). (in_end q e).state) o
+state_kept Changes s v o = ap (λ (q : State). q.changes) o
 
 only_rested : (which : ServedEndpoint) (s v : State) → OnlyRested which s v → OnlyEndpoint which s v
-only_rested which s v o = only_with which s rested v o
+only_rested which s v o = inr (subst (λ x. OnlyStage (with_endpoint_state s which x) v)
+    (sym (state_kept which (with_endpoint_state s which rested) v o ∙ state_with which s rested)) o)
 
 only_either : (which : ServedEndpoint) (s v : State) → OnlyStage s v ⊎ OnlyRested which s v
     → OnlyEndpoint which s v
-only_either which s v (inl o) = only_kept which s v o
+only_either which s v (inl o) = inl o
 only_either which s v (inr o) = only_rested which s v o
 
 -- a device that was asked, or any other
@@ -169,7 +171,7 @@ only_by : (which : ServedEndpoint) (s v : State) (at : Bool) → (at ≡ false �
     → (at ≡ true → OnlyEndpoint which s v) → OnlyEndpoint which s v
 only_by which s v true others asked = asked refl
 only_by which s v false others asked = subst (OnlyEndpoint which s) (sym (others refl))
-    (only_kept which s s refl)
+    (inl refl)
 
 registers_kept : (which : ServedEndpoint) (s : State)
     → (with_endpoint_state s which rested).registers ≡ s.registers
@@ -214,21 +216,23 @@ done_leaves pipe done unready j s v x = record {
   others = x.others;
   sink = λ at out f.
       let d = x.done at done refl in
-      let o = ended_rests (clear_of pipe) BulkOut s (asks_out pipe s out f.endpoint) d.row d.address
-      v d.is d.given d.rest in
+      let o = ended_rests (clear_of pipe) (BulkOut pipe.ep) s (asks_out pipe s out f.endpoint) d.row
+      d.address v d.is d.given d.rest in
+      let there = out_with pipe.ep s rested in
       rw (unready, o) (
         record {
           endpoint = record { endpoint = f.endpoint.endpoint; not_zero = f.endpoint.not_zero };
-          level = λ r. refl;
+          level = λ r. ap (λ end. end.state.toggle) there;
           halted = λ r. cc r;
         },
-        refl,
-        refl,
+        ap (λ end. end.sink) there,
+        ap (λ end. end.state) there,
       );
   source = λ at is got f.
       let d = x.done at done refl in
-      let o = ended_rests (clear_of pipe) BulkIn s (clear_of-in pipe s is f.endpoint) d.row
-      d.address v d.is d.given d.rest in
+      let o = ended_rests (clear_of pipe) (BulkIn pipe.ep) s (clear_of-in pipe s is f.endpoint)
+      d.row d.address v d.is d.given d.rest in
+      let there = in_with pipe.ep s rested in
       rw (unready, o) (
         record {
           endpoint = record {
@@ -236,35 +240,41 @@ done_leaves pipe done unready j s v x = record {
             not_zero = f.endpoint.not_zero;
             alone = f.endpoint.alone;
           };
-          level = λ r. level refl refl;
+          level = λ r. level (ap (λ end. end.place) there) (ap (λ end. end.state.toggle) there);
           halted = λ r. cc r;
         },
-        refl,
-        refl,
+        ap (λ end. end.place) there,
+        ap (λ end. end.state) there,
       );
-  only_sink = λ out i. only_by BulkOut s v (is_at s pipe.target) x.others (λ at.
+  only_sink = λ out i. only_by (BulkOut pipe.ep) s v (is_at s pipe.target) x.others (λ at.
       let d = x.done at done refl in
-      only_rested BulkOut s v (ended_rests (clear_of pipe) BulkOut s (asks_out pipe s out i) d.row
-      d.address v d.is d.given d.rest));
-  only_source = λ is i. only_by BulkIn s v (is_at s pipe.target) x.others (λ at.
+      only_rested (BulkOut pipe.ep) s v (ended_rests (clear_of pipe) (BulkOut pipe.ep) s
+      (asks_out pipe s out i) d.row d.address v d.is d.given d.rest));
+  only_source = λ is i. only_by (BulkIn pipe.ep) s v (is_at s pipe.target) x.others (λ at.
       let d = x.done at done refl in
-      only_rested BulkIn s v (ended_rests (clear_of pipe) BulkIn s (clear_of-in pipe s is i) d.row
-      d.address v d.is d.given d.rest));
+      only_rested (BulkIn pipe.ep) s v (ended_rests (clear_of pipe) (BulkIn pipe.ep) s
+      (clear_of-in pipe s is i) d.row d.address v d.is d.given d.rest));
 }
 
 -- one that failed
 
 failed_sink : (pipe : Bulk) (s v : State) → OutPipeInSync pipe s → OnlyStage s v
-    ⊎ OnlyRested BulkOut s v
-    → OutPipeInSync (record pipe { condition = Broken }) v × (v.sink ≡ s.sink)
-    × ((v.bulk_out ≡ s.bulk_out) ⊎ (v.bulk_out ≡ rested))
-failed_sink pipe s v f o = grind arith
+    ⊎ OnlyRested (BulkOut pipe.ep) s v
+    → OutPipeInSync (record pipe { condition = Broken }) v
+    × ((out_end v pipe.ep).sink ≡ (out_end s pipe.ep).sink)
+    × (((out_end v pipe.ep).state ≡ (out_end s pipe.ep).state)
+    ⊎ ((out_end v pipe.ep).state ≡ rested))
+failed_sink pipe s v f (inl o) = grind arith
+failed_sink pipe s v f (inr o) = let there = out_with pipe.ep s rested in grind (arith, there)
 
 failed_source : (pipe : Bulk) (got : ℕ) (s v : State) → InPipeInSync pipe got s → OnlyStage s v
-    ⊎ OnlyRested BulkIn s v
-    → InPipeInSync (record pipe { condition = Broken }) got v × (v.place ≡ s.place)
-    × ((v.bulk_in ≡ s.bulk_in) ⊎ (v.bulk_in ≡ rested))
-failed_source pipe got s v f o = grind arith
+    ⊎ OnlyRested (BulkIn pipe.ep) s v
+    → InPipeInSync (record pipe { condition = Broken }) got v
+    × ((in_end v pipe.ep).place ≡ (in_end s pipe.ep).place)
+    × (((in_end v pipe.ep).state ≡ (in_end s pipe.ep).state)
+    ⊎ ((in_end v pipe.ep).state ≡ rested))
+failed_source pipe got s v f (inl o) = grind arith
+failed_source pipe got s v f (inr o) = let there = in_with pipe.ep s rested in grind (arith, there)
 
 failed_leaves : (pipe : Bulk) (why : PipeFault) (old new : World) → FaultAfter 1 old why new
     → (j : Location) (s v : State) → WriteLeaves pipe.target (clear_of pipe) (Err why) old new j s v
@@ -274,26 +284,29 @@ failed_leaves pipe why old new ends j s v x = record {
   sink = λ at out f.
       let is = asks_out pipe s out f.endpoint in
       let told : why ≢ pipe_fault.Stalled =
-      λ e. not_refused (clear_of pipe) BulkOut s is (x.refused at (ap Err e)) in
+      λ e. not_refused (clear_of pipe) (BulkOut pipe.ep) s is (x.refused at (ap Err e)) in
       grind (
         arith,
         ends,
-        failed_sink pipe s v f (failed_rests (clear_of pipe) BulkOut s is v (x.failed why refl)),
+        failed_sink pipe s v f
+            (failed_rests (clear_of pipe) (BulkOut pipe.ep) s is v (x.failed why refl)),
       );
   source = λ at way got f.
       let is = clear_of-in pipe s way f.endpoint in
       let told : why ≢ pipe_fault.Stalled =
-      λ e. not_refused (clear_of pipe) BulkIn s is (x.refused at (ap Err e)) in
+      λ e. not_refused (clear_of pipe) (BulkIn pipe.ep) s is (x.refused at (ap Err e)) in
       grind (
         arith,
         ends,
         failed_source pipe got s v f
-            (failed_rests (clear_of pipe) BulkIn s is v (x.failed why refl)),
+            (failed_rests (clear_of pipe) (BulkIn pipe.ep) s is v (x.failed why refl)),
       );
-  only_sink = λ out i. only_either BulkOut s v
-      (failed_rests (clear_of pipe) BulkOut s (asks_out pipe s out i) v (x.failed why refl));
-  only_source = λ is i. only_either BulkIn s v
-      (failed_rests (clear_of pipe) BulkIn s (clear_of-in pipe s is i) v (x.failed why refl));
+  only_sink = λ out i. only_either (BulkOut pipe.ep) s v
+      (failed_rests (clear_of pipe) (BulkOut pipe.ep) s (asks_out pipe s out i) v
+      (x.failed why refl));
+  only_source = λ is i. only_either (BulkIn pipe.ep) s v
+      (failed_rests (clear_of pipe) (BulkIn pipe.ep) s (clear_of-in pipe s is i) v
+      (x.failed why refl));
 }
 
 -- one that makes no request
@@ -303,8 +316,8 @@ ready_leaves pipe ready j s = record {
   others = λ _. refl;
   sink = λ at out f. rw ready (f, refl, refl);
   source = λ at is got f. rw ready (f, refl, refl);
-  only_sink = λ out i. only_kept BulkOut s s refl;
-  only_source = λ is i. only_kept BulkIn s s refl;
+  only_sink = λ out i. inl refl;
+  only_source = λ is i. inl refl;
 }
 
 not_ready : (c : Condition) → c ≢ Ready → is_ready c ≡ false

@@ -1,7 +1,7 @@
 -- Bulk transfers: what sending and receiving leave of each device, in the end and at each moment,
 -- why they fail, and the record of a call.
 use Rattle.usb_device.specs.{Location, advanced, State, IsSink, SinkAt, level, ahead, Joined}
-use Rattle.usb_device.specs.{OnlySink, IsSource, SourceAt, OnlySource}
+use Rattle.usb_device.specs.{OnlySink, IsSource, SourceAt, OnlySource, in_end, out_end}
 use Rattle.std.proofs.Common.{◌≡◌, ◌≢◌, ◌∙◌, ◌⊎◌, inl, inr, refl, sym, ap, subst, arith, false}
 use Rattle.std.proofs.Common.{true, ℕ, ◌+◌, ◌-◌, ◌*◌, ◌<◌, ◌≤◌, List, [], ◌++◌, length, take, drop}
 use Rattle.std.proofs.Common.{Result, Ok, Err, OnOk, append_assoc, append-nil, drop-drop}
@@ -60,10 +60,12 @@ listens_packet t max place s u e f l = let k = listens_on t place s u e f l in
 record GaveLeaves (t : Target) (ep : ℕ) (first : Toggle) (n : ℕ) (sent : List ℕ) (j : Location)
     (s v : State) : Type 0 where
   others : is_at s t ≡ false → v ≡ s
-  frame : IsSink ep t.max s → OnlySink s v
-  sink : is_at s t ≡ true → IsSink ep t.max s → s.bulk_out.toggle ≡ first
-      → (v.sink ≡ s.sink ++ sent) × (v.bulk_out.toggle ≡ flips n first)
-  halted : is_at s t ≡ true → IsSink ep t.max s → s.bulk_out.halted ≡ true → (v ≡ s) × (sent ≡ [])
+  frame : IsSink ep t.max s → OnlySink ep s v
+  sink : is_at s t ≡ true → IsSink ep t.max s → (out_end s ep).state.toggle ≡ first
+      → ((out_end v ep).sink ≡ (out_end s ep).sink ++ sent)
+      × ((out_end v ep).state.toggle ≡ flips n first)
+  halted : is_at s t ≡ true → IsSink ep t.max s → (out_end s ep).state.halted ≡ true
+      → (v ≡ s) × (sent ≡ [])
 
 -- the endpoint behind them, which awaits the next one
 module _ {t : Target} {ep : ℕ} {first : Toggle} {n : ℕ} {sent : List ℕ} {j : Location} {s u : State}
@@ -74,29 +76,28 @@ module _ {t : Target} {ep : ℕ} {first : Toggle} {n : ℕ} {sent : List ℕ} {j
   sink_at : is_at s t ≡ true → is_at u t ≡ true
   sink_at h = at_kept t s u (x.frame i) h
 
-  sink_level : (bytes : List ℕ) → is_at s t ≡ true → s.bulk_out.toggle ≡ first
-      → SinkAt (s.sink ++ sent) bytes (flips n first) u
+  sink_level : (bytes : List ℕ) → is_at s t ≡ true → (out_end s ep).state.toggle ≡ first
+      → SinkAt ep ((out_end s ep).sink ++ sent) bytes (flips n first) u
   sink_level bytes h e = level (x.sink h i e).0 (x.sink h i e).1
 
-  sink_halted : is_at s t ≡ true → s.bulk_out.halted ≡ true → u.bulk_out.halted ≡ true
-  sink_halted h c = ap (λ q. q.bulk_out.halted) (x.halted h i c).0 ∙ c
+  sink_halted : is_at s t ≡ true → (out_end s ep).state.halted ≡ true
+      → (out_end u ep).state.halted ≡ true
+  sink_halted h c = ap (λ q. (out_end q ep).state.halted) (x.halted h i c).0 ∙ c
 
-  sink_frame : (v : State) → ((most : ℕ) → IsSink ep most u → OnlySink u v) → OnlySink s v
-  sink_frame v f = f t.max sink_then ∙ ap {A = State}
-      (λ q. record q {
-        memory = v.memory;
-        bulk_out = v.bulk_out;
-        sink = v.sink;
-        until_halt = v.until_halt;
-      }) (x.frame i)
+  sink_frame : (v : State) → ((most : ℕ) → IsSink ep most u → OnlySink ep u v) → OnlySink ep s v
+  sink_frame v f = let y = f t.max sink_then in record {
+    rest = y.rest ∙ ap {A = State} (λ q. record q { memory = v.memory; outs = v.outs })
+        (x.frame i).rest;
+    others = λ a h. y.others a h ∙ (x.frame i).others a h;
+  }
 
 gave_no_packets : (t : Target) (ep : ℕ) (first : Toggle) (j : Location) (s : State)
     → GaveLeaves t ep first 0 [] j s s
 unfolding flips
 gave_no_packets t ep first j s = record {
   others = λ h. refl;
-  frame = λ i. refl;
-  sink = λ h i e. (sym (append-nil s.sink), e);
+  frame = λ i. record { rest = refl; others = λ a h. refl };
+  sink = λ h i e. (sym (append-nil (out_end s ep).sink), e);
   halted = λ h i c. (refl, refl);
 }
 
@@ -108,10 +109,13 @@ gave_packet_then t ep first n sent bytes fits j s u v x y = record {
   others = others_stay_then t s u v x.others y.others;
   frame = λ i. sink_frame x i v y.frame;
   sink = λ h i e.
-      let z : Joined (s.sink ++ sent) bytes (flips n first) v =
-      y.sink (sink_at x i h) t.max (s.sink ++ sent) (sink_then x i) fits
-      (sink_level x i bytes h e) in
-      (z.sink ∙ append_assoc s.sink sent bytes, turned_on n first v.bulk_out.toggle z.toggle);
+      let before = (out_end s ep).sink in
+      let z : Joined ep (before ++ sent) bytes (flips n first) v =
+      y.sink (sink_at x i h) t.max (before ++ sent) (sink_then x i) fits
+      (sink_level x i bytes h e) in (
+        z.sink ∙ append_assoc before sent bytes,
+        turned_on n first (out_end v ep).state.toggle z.toggle,
+      );
   halted = λ h i c. absurd ((y.halted (sink_at x i h) t.max (sink_then x i) (sink_halted x i h c)).1
       [] refl);
 }
@@ -133,30 +137,28 @@ gave_damages (packet bytes g full some fits puts) = ended_damages puts ∙ gave_
 
 -- A packet that did not go
 
-lost_at : (before bytes : List ℕ) (t : Toggle) (why : PipeFault) (fault : TransFault) (v : State)
-    → why ≡ as_pipe_fault fault → SinkEnds before bytes t (Err fault) v → SinkAt before bytes t v
-    × (why ≡ pipe_fault.Stalled → v.bulk_out.halted ≡ true)
-lost_at before bytes t why fault v told x = grind arith
+lost_at : (ep : ℕ) (before bytes : List ℕ) (t : Toggle) (why : PipeFault) (fault : TransFault)
+    (v : State) → why ≡ as_pipe_fault fault → SinkEnds ep before bytes t (Err fault) v
+    → SinkAt ep before bytes t v
+    × (why ≡ pipe_fault.Stalled → (out_end v ep).state.halted ≡ true)
+lost_at ep before bytes t why fault v told x = grind arith
 
-sink_front_taken : (total sent rest : List ℕ) (k : ℕ) (t : Toggle) (s v : State)
-    → total ≡ sent ++ rest → SinkAt (s.sink ++ sent) (take k rest) t v → FrontTaken total s v
-sink_front_taken total sent rest k t s v split (level a b) =
+sink_front_taken : (ep : ℕ) (total before sent rest : List ℕ) (k : ℕ) (t : Toggle) (v : State)
+    → total ≡ sent ++ rest → SinkAt ep (before ++ sent) (take k rest) t v
+    → FrontTaken total before (out_end v ep).sink
+sink_front_taken ep total before sent rest k t v split (level a b) =
     record { front = sent; rest = rest; split = split; sink = a }
-sink_front_taken total sent rest k t s v split (ahead a b) = record {
+sink_front_taken ep total before sent rest k t v split (ahead a b) = record {
   front = sent ++ take k rest;
   rest = drop k rest;
   split = split ∙ ap (λ x. sent ++ x) (sym (take-append-drop k rest))
       ∙ sym (append_assoc sent (take k rest) (drop k rest));
-  sink = a ∙ append_assoc s.sink sent (take k rest);
+  sink = a ∙ append_assoc before sent (take k rest);
 }
 
-none_taken : (total : List ℕ) (s v : State) → v ≡ s → FrontTaken total s v
-none_taken total s v e = record {
-  front = [];
-  rest = total;
-  split = refl;
-  sink = ap (λ x. x.sink) e ∙ sym (append-nil s.sink);
-}
+none_taken : (total before : List ℕ) → FrontTaken total before before
+none_taken total before =
+    record { front = []; rest = total; split = refl; sink = sym (append-nil before) }
 
 fits_packet : (max : ℕ) (rest : List ℕ) → length (take max rest) ≤ max
 fits_packet max rest = let l = length-take max rest in omega (arith, l)
@@ -192,23 +194,29 @@ module _ (bytes : List ℕ) (pipe left : Bulk) (n : ℕ) (works : pipe.condition
   lost_sent old new sent rest why fault ends split told e j s u v x y =
       grind (arith, others_stay_then, frame, lost, sink_kept, x.others, y.others)
     where
-      frame : IsSink pipe.ep pipe.max s → OnlySink s v
+      frame : IsSink pipe.ep pipe.max s → OnlySink pipe.ep s v
       frame i = sink_frame x i v y.frame
 
-      lost : is_at s pipe.target ≡ true → OutPipeInSync pipe s → FrontTaken bytes s v
-          × (why ≡ pipe_fault.Stalled → v.bulk_out.halted ≡ true)
+      lost : is_at s pipe.target ≡ true → OutPipeInSync pipe s
+          → FrontTaken bytes (out_end s pipe.ep).sink (out_end v pipe.ep).sink
+          × (why ≡ pipe_fault.Stalled → (out_end v pipe.ep).state.halted ≡ true)
       lost h f =
-          let i = f.endpoint in ready_or _ pipe.condition works
+          let i = f.endpoint in
+          let before = (out_end s pipe.ep).sink in
+          ready_or _ pipe.condition works
           (λ r.
-          let z = lost_at (s.sink ++ sent) (take pipe.max rest) (flips n pipe.toggle) why fault v
-          told
-          (y.sink (sink_at x i h) pipe.max (s.sink ++ sent) (sink_then x i)
-          (fits_packet pipe.max rest) (sink_level x i (take pipe.max rest) h (f.level r))) in
-          (sink_front_taken bytes sent rest pipe.max (flips n pipe.toggle) s v split z.0, z.1))
+          let z = lost_at pipe.ep (before ++ sent) (take pipe.max rest) (flips n pipe.toggle) why
+          fault v told
+          (y.sink (sink_at x i h) pipe.max (before ++ sent) (sink_then x i)
+          (fits_packet pipe.max rest) (sink_level x i (take pipe.max rest) h (f.level r))) in (
+            sink_front_taken pipe.ep bytes before sent rest pipe.max (flips n pipe.toggle) v split
+                z.0,
+            z.1,
+          ))
           (λ r.
           let same : v ≡ s = (y.halted (sink_at x i h) pipe.max (sink_then x i)
           (sink_halted x i h (f.halted r))).0 ∙ (x.halted h i (f.halted r)).0 in
-          (none_taken bytes s v same, λ stalled. ap (λ q. q.bulk_out.halted) same ∙ f.halted r))
+          rw same (none_taken bytes before, λ stalled. f.halted r))
 
 -- A call that sends
 
@@ -258,8 +266,9 @@ lost_send pipe n sent rest why fault told j s u v x y = record {
 }
   where
     hears : Listens pipe.target j s → IsSink pipe.ep pipe.max s → Listens (end_of pipe) j u
-    hears l i = listens_packet pipe.target pipe.max j s u (ap (λ q. q.spec) (x.frame i))
-        (ap (λ q. q.registers) (x.frame i)) l
+    hears l i = let only = (x.frame i).rest in
+        listens_packet pipe.target pipe.max j s u (ap (λ q. q.spec) only)
+        (ap (λ q. q.registers) only) l
 
 module _ (bytes : List ℕ) (pipe left : Bulk) (old new : World) (single : new.shared ≡ false) where
   -- an answer that is neither fault
@@ -300,9 +309,9 @@ sending_then : (sent rest : List ℕ) (pipe : Bulk) (n : ℕ) (j : Location) (s 
 sending_then sent rest pipe n j s u v x y = record {
   others = others_stay_then pipe.target s u v x.others y.others;
   frame = λ i. sink_frame x i v y.frame;
-  way = λ h e f. let i = f.endpoint in y.sink (sink_at x i h) pipe.max (s.sink ++ sent)
-      (sink_then x i) (fits_packet pipe.max rest)
-      (sink_level x i (take pipe.max rest) h (f.level e));
+  way = λ h e f. let i = f.endpoint in
+      y.sink (sink_at x i h) pipe.max ((out_end s pipe.ep).sink ++ sent) (sink_then x i)
+      (fits_packet pipe.max rest) (sink_level x i (take pipe.max rest) h (f.level e));
 }
 
 pub sending_leaves : (bytes : List ℕ) (pipe : Bulk) (old now : World) → IsSettled old.roots
@@ -334,11 +343,12 @@ next_place got bytes xs place max now = grind (arith, length-append, length-take
 record CameLeaves (t : Target) (ep : ℕ) (first : Toggle) (n : ℕ) (got : List ℕ) (j : Location)
     (s v : State) : Type 0 where
   others : is_at s t ≡ false → v ≡ s
-  frame : IsSource ep t.max s → OnlySource s v
-  source : is_at s t ≡ true → IsSource ep t.max s → (place : ℕ) → SourceAt t.max place first s
+  frame : IsSource ep t.max s → OnlySource ep s v
+  source : is_at s t ≡ true → IsSource ep t.max s → (place : ℕ) → SourceAt ep t.max place first s
       → (got ≡ take (length got) (drop place s.spec.source))
-      × SourceAt t.max (place + length got) (flips n first) v
-  still : is_at s t ≡ true → IsSource ep t.max s → s.bulk_in.halted ≡ true → (v ≡ s) × (n ≡ 0)
+      × SourceAt ep t.max (place + length got) (flips n first) v
+  still : is_at s t ≡ true → IsSource ep t.max s → (in_end s ep).state.halted ≡ true
+      → (v ≡ s) × (n ≡ 0)
 
 -- the endpoint behind them
 module _ {t : Target} {ep : ℕ} {first : Toggle} {n : ℕ} {got : List ℕ} {j : Location} {s u : State}
@@ -349,21 +359,25 @@ module _ {t : Target} {ep : ℕ} {first : Toggle} {n : ℕ} {got : List ℕ} {j 
   source_at : is_at s t ≡ true → is_at u t ≡ true
   source_at h = source_at_kept t s u (x.frame i) h
 
-  source_halted : is_at s t ≡ true → s.bulk_in.halted ≡ true → u.bulk_in.halted ≡ true
-  source_halted h c = ap (λ q. q.bulk_in.halted) (x.still h i c).0 ∙ c
+  source_halted : is_at s t ≡ true → (in_end s ep).state.halted ≡ true
+      → (in_end u ep).state.halted ≡ true
+  source_halted h c = ap (λ q. (in_end q ep).state.halted) (x.still h i c).0 ∙ c
 
-  source_frame : (v : State) → ((most : ℕ) → IsSource ep most u → OnlySource u v) → OnlySource s v
-  source_frame v f = f t.max source_then
-      ∙ ap {A = State} (λ q. record q { memory = v.memory; bulk_in = v.bulk_in; place = v.place })
-      (x.frame i)
+  source_frame : (v : State) → ((most : ℕ) → IsSource ep most u → OnlySource ep u v)
+      → OnlySource ep s v
+  source_frame v f = let y = f t.max source_then in record {
+    rest = y.rest ∙ ap {A = State} (λ q. record q { memory = v.memory; ins = v.ins })
+        (x.frame i).rest;
+    others = λ a h. y.others a h ∙ (x.frame i).others a h;
+  }
 
 came_none : (t : Target) (ep : ℕ) (first : Toggle) (j : Location) (s : State)
     → CameLeaves t ep first 0 [] j s s
 unfolding flips
 came_none t ep first j s = record {
   others = λ h. refl;
-  frame = λ i. refl;
-  source = λ h i place at. (refl, subst (λ k. SourceAt t.max k first s) (omega arith) at);
+  frame = λ i. record { rest = refl; others = λ a h. refl };
+  source = λ h i place at. (refl, subst (λ k. SourceAt ep t.max k first s) (omega arith) at);
   still = λ h i c. (refl, refl);
 }
 
@@ -376,7 +390,7 @@ came_then t ep first n got bytes least j s u v x y = record {
   frame = λ i. source_frame x i v y.frame;
   source = λ h i place at.
       let before = x.source h i place at in
-      let now = rw (ap (λ q. q.spec.source) (x.frame i)) at
+      let now = rw (ap (λ q. q.spec.source) (x.frame i).rest) at
       (y.source (source_at x i h) t.max (place + length got) (source_then x i) least before.1)
       in (
         next_bytes got bytes s.spec.source place t.max before.0 now.0,
@@ -428,8 +442,8 @@ all_came pipe left bytes n works e turned j s v x = record {
   frame = x.frame;
   fits = λ h place f. subst (λ l. InPipeInSync l (place + length bytes.items) v) (sym e) (record {
     endpoint = source_then x f.endpoint;
-    level = λ r. subst (λ k. SourceAt pipe.max (place + length bytes.items) k v) (sym turned)
-        (came h place f).1;
+    level = λ r. subst (λ k. SourceAt pipe.ep pipe.max (place + length bytes.items) k v)
+        (sym turned) (came h place f).1;
     halted = λ r. cc r;
   });
   done = λ h place f given r. let same : given ≡ bytes = cc r in
@@ -439,7 +453,7 @@ all_came pipe left bytes n works e turned j s v x = record {
   where
     came : is_at s pipe.target ≡ true → (place : ℕ) → InPipeInSync pipe place s
         → (bytes.items ≡ take (length bytes.items) (drop place s.spec.source))
-        × SourceAt pipe.max (place + length bytes.items) (flips (n + 1) pipe.toggle) v
+        × SourceAt pipe.ep pipe.max (place + length bytes.items) (flips (n + 1) pipe.toggle) v
     came h place f = ready_or _ pipe.condition works (λ r. x.source h f.endpoint place (f.level r))
         (λ r. let none = (x.still h f.endpoint (f.halted r)).1 in absurd (omega (arith, none)))
 
@@ -448,9 +462,9 @@ all_came pipe left bytes n works e turned j s v x = record {
 lost_came : (old new : World) (pipe left : Bulk) (why : PipeFault) → FaultAfter 0 old why new
     → left ≡ record pipe { toggle = left.toggle; condition = after_fault pipe.condition why }
     → (j : Location) (s v : State) → (is_at s pipe.target ≡ false → v ≡ s)
-    → (IsSource pipe.ep pipe.max s → OnlySource s v)
+    → (IsSource pipe.ep pipe.max s → OnlySource pipe.ep s v)
     → (why ≡ pipe_fault.Stalled → is_at s pipe.target ≡ true → IsSource pipe.ep pipe.max s
-    → v.bulk_in.halted ≡ true) → ReceiveLeaves pipe (Err why) left j s v
+    → (in_end v pipe.ep).state.halted ≡ true) → ReceiveLeaves pipe (Err why) left j s v
 lost_came old new pipe left why ends e j s v others frame halted =
     grind (arith, source_kept, others, frame, halted)
 
@@ -475,7 +489,7 @@ module _ (wanted : ℕ) (pipe : Bulk) (n : ℕ) (got : List ℕ) (why : PipeFaul
       (λ stalled h i.
       let z = y.stalled (source_at x i h) pipe.max (source_then x i)
       (fell_same_fault (Vec ℕ) why fault trans.Stalled told (ap Err stalled)) in
-      ap (λ q. q.bulk_in.halted) z.1 ∙ z.0)
+      ap (λ q. (in_end q pipe.ep).state.halted) z.1 ∙ z.0)
 
   lost_why : SourceInFailure (end_of pipe) pipe.ep (flips n pipe.toggle) (Err fault) j u v
       → ReceiveFailure wanted pipe (Err why) j s v
@@ -494,12 +508,13 @@ module _ (wanted : ℕ) (pipe : Bulk) (n : ℕ) (got : List ℕ) (why : PipeFaul
     where
       hears : {place : ℕ} → Listens pipe.target j s → InPipeInSync pipe place s
           → Listens (end_of pipe) j u
-      hears l f = let only = x.frame f.endpoint in
+      hears l f = let only = (x.frame f.endpoint).rest in
           listens_packet pipe.target pipe.max j s u (ap (λ q. q.spec) only)
           (ap (λ q. q.registers) only) l
 
       at : {place : ℕ} → Listens pipe.target j s → InPipeInSync pipe place s
-          → pipe.condition ≡ Ready → SourceAt pipe.max (place + length got) (flips n pipe.toggle) u
+          → pipe.condition ≡ Ready
+          → SourceAt pipe.ep pipe.max (place + length got) (flips n pipe.toggle) u
       at {place} l f r = (x.source l.at f.endpoint place (f.level r)).1
 
       halted : {place : ℕ} → Listens pipe.target j s → InPipeInSync pipe place s
@@ -513,7 +528,7 @@ module _ (wanted : ℕ) (pipe : Bulk) (n : ℕ) (got : List ℕ) (why : PipeFaul
       rest {place} f more =
           let most : n * pipe.max ≤ (wanted - 1) * pipe.max =
           mul-le-mul_right pipe.max (omega (arith, few)) in
-          rw (ap (λ q. q.spec.source) (x.frame f.endpoint)) (omega (arith, full, most, more))
+          rw (ap (λ q. q.spec.source) (x.frame f.endpoint).rest) (omega (arith, full, most, more))
 
 -- A call that receives
 

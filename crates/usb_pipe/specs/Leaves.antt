@@ -263,9 +263,10 @@ BegunAgain pipe (Ok done) before after =
     after ≡ (if is_ready pipe.condition then before else rested)
 BegunAgain pipe (Err fault) before after = (after ≡ before) ⊎ (after ≡ rested)
 
--- nothing but this endpoint and where the control transfer stands changed
+-- nothing but where the control transfer stands changed, or the state of this endpoint too
 abbrev pub OnlyEndpoint : ServedEndpoint → State → State → Type 0
-OnlyEndpoint which s v = OnlyStage (with_endpoint_state s which (endpoint_state v which)) v
+OnlyEndpoint which s v = OnlyStage s v
+    ⊎ OnlyStage (with_endpoint_state s which (endpoint_state v which)) v
 
 -- a clear of a halt (9.4.5) moves no bytes, and both ends begin again together; each other endpoint
 -- stays as it was
@@ -280,8 +281,10 @@ pub record ClearLeaves (pipe : Bulk) (result : Result (Unit {0}) PipeFault) (lef
       → InPipeInSync (pipe_known result left) (got_after pipe got result s) v
       × ((in_end v pipe.ep).place ≡ (in_end s pipe.ep).place)
       × BegunAgain pipe result (in_end s pipe.ep).state (in_end v pipe.ep).state
-  pub only_sink : pipe.is_in ≡ false → IsSink pipe.ep pipe.max s → OnlyEndpoint (BulkOut pipe.ep) s v
-  pub only_source : pipe.is_in ≡ true → IsSource pipe.ep pipe.max s → OnlyEndpoint (BulkIn pipe.ep) s v
+  pub only_sink : pipe.is_in ≡ false → IsSink pipe.ep pipe.max s
+      → OnlyEndpoint (BulkOut pipe.ep) s v
+  pub only_source : pipe.is_in ≡ true → IsSource pipe.ep pipe.max s
+      → OnlyEndpoint (BulkIn pipe.ep) s v
 
 -- A hub's status pipe (11.12.3)
 

@@ -6,9 +6,11 @@ use Rattle.std.proofs.Math.Seq.{take-add}
 use Rattle.std.proofs.lemmas.List.{drop-drop}
 use Rattle.usb_device.specs.{State}
 use Rattle.usb_pipe.specs.{Condition, Bulk}
+use Rattle.usb_table.specs.{sink_of}
 use Rattle.usb_pipe.specs.declared.condition.Condition.TheVariants.{Ready, Halted, Broken}
 use Rattle.usb_streams.specs.{ToldItem, IsAtWork, IsFailedFront, Joins, TookSent, bytes_for}
 use Rattle.usb_streams.specs.{is_done, sent_to}
+use Rattle.usb_streams.proofs.PipeEnds.{end_of, sink_of-joined}
 
 -- the next bytes, and the next ones behind them
 pub next_joined : (a b source : List ℕ) (got : ℕ) → a ≡ take (length a) (drop got source)
@@ -48,23 +50,23 @@ front_joined first sent front bytes old new is none e =
     e ∙ ap (λ l. l ++ bytes) (is ∙ ap (λ l. first ++ (sent ++ l)) none
     ∙ ap (λ l. first ++ l) (append-nil sent)) ∙ append_assoc first sent bytes
 
--- what a send does to the sink of a device: all bytes join it where it is told done, and a front
+-- what a send does to a sink: all bytes join it where it is told done, and a front
 -- where it failed, which leaves no pipe that works; through a
 -- pipe that does not work nothing goes, and such a pipe stays so
-pub record SinkStep (done : Bool) (bytes : List ℕ) (pipe left : Option Bulk) (s v : State) : Type 0
-  where
-    pub whole : done ≡ true → IsAtWork pipe → v.sink ≡ s.sink ++ bytes
-    pub cut : done ≡ false → IsAtWork pipe → (front : List ℕ) × (rest : List ℕ)
-        × (bytes ≡ front ++ rest) × (v.sink ≡ s.sink ++ front) × (IsAtWork left → front ≡ [])
-    pub stuck : (IsAtWork pipe → ⊥) → (v.sink ≡ s.sink) × (done ≡ true → bytes ≡ [])
-        × (IsAtWork left → ⊥)
+pub record SinkStep (done : Bool) (bytes : List ℕ) (pipe left : Option Bulk) (old new : List ℕ)
+    : Type 0 where
+  pub whole : done ≡ true → IsAtWork pipe → new ≡ old ++ bytes
+  pub cut : done ≡ false → IsAtWork pipe → (front : List ℕ) × (rest : List ℕ)
+      × (bytes ≡ front ++ rest) × (new ≡ old ++ front) × (IsAtWork left → front ≡ [])
+  pub stuck : (IsAtWork pipe → ⊥) → (new ≡ old) × (done ≡ true → bytes ≡ [])
+      × (IsAtWork left → ⊥)
 
 -- what sends nothing
-pub sink_step_none : (done : Bool) (pipe left : Option Bulk) (s v : State) → left ≡ pipe
-    → v.sink ≡ s.sink → SinkStep done [] pipe left s v
-sink_step_none done pipe left s v kept same = record {
-  whole = λ told works. same ∙ sym (append-nil s.sink);
-  cut = λ told works. ([], [], refl, same ∙ sym (append-nil s.sink), λ works. refl);
+pub sink_step_none : (done : Bool) (pipe left : Option Bulk) (old new : List ℕ) → left ≡ pipe
+    → new ≡ old → SinkStep done [] pipe left old new
+sink_step_none done pipe left old new kept same = record {
+  whole = λ told works. same ∙ sym (append-nil old);
+  cut = λ told works. ([], [], refl, same ∙ sym (append-nil old), λ works. refl);
   stuck = λ stuck. (same, (λ told. refl), λ works. stuck (subst IsAtWork kept works));
 }
 
@@ -88,27 +90,33 @@ unfolding sent_to IsFailedFront
 took_none path left s = record {
   front = [];
   failed = refl;
-  sink = sym (append-nil s.sink);
+  sink = sym (append-nil (sink_of left s));
   works = λ works. refl;
 }
 
 -- the pipe stays
 pub took_stay : (path : List ℕ) (told : List ToldItem) (pipe left : Option Bulk) (s u v : State)
-    → left ≡ pipe → v.sink ≡ u.sink → TookSent path told pipe s u → TookSent path told left s v
-took_stay path told pipe left s u v kept same x = record {
-  front = x.front;
-  failed = x.failed;
-  sink = same ∙ x.sink;
-  works = λ works. x.works (subst IsAtWork kept works);
-}
+    → left ≡ pipe → sink_of pipe v ≡ sink_of pipe u → TookSent path told pipe s u
+    → TookSent path told left s v
+took_stay path told pipe left s u v kept same x = subst (λ p. TookSent path told p s v) (sym kept)
+    (record { front = x.front; failed = x.failed; sink = same ∙ x.sink; works = x.works })
 
 pub took_then : (path : List ℕ) (t : ToldItem) (told : List ToldItem) (pipe left : Option Bulk)
-    (s u v : State) → TookSent path told pipe s u
-    → SinkStep (is_done t.item) (bytes_for path t.due) pipe left u v
+    (s u v : State) → end_of left ≡ end_of pipe → TookSent path told pipe s u
+    → SinkStep (is_done t.item) (bytes_for path t.due) pipe left (sink_of pipe u) (sink_of pipe v)
     → TookSent path (t ∷ told) left s v
 unfolding sent_to IsFailedFront
-took_then path t told pipe left s u v x y = by_work (works_or_not pipe)
+took_then path t told pipe left s u v end x y = by_work (works_or_not pipe)
   where
+    first : List ℕ
+    first = sink_of pipe s
+
+    mid : List ℕ
+    mid = sink_of pipe u
+
+    last : List ℕ
+    last = sink_of pipe v
+
     bytes : List ℕ
     bytes = bytes_for path t.due
 
@@ -120,11 +128,11 @@ took_then path t told pipe left s u v x y = by_work (works_or_not pipe)
     by_done true e works = record {
       front = [];
       failed = inr (subst (IsFailedFront path told) (x.works works) x.failed);
-      sink = front_joined s.sink sent x.front bytes u.sink v.sink x.sink (x.works works)
-          (y.whole e works)
-          ∙ ap (λ (d : Bool). s.sink ++ (sent ++ (if d then bytes else []))) (sym e)
-          ∙ ap (λ l. s.sink ++ l)
-          (sym (append-nil (sent ++ (if is_done t.item then bytes else []))));
+      sink = sink_of-joined pipe left s v _ end
+          (front_joined first sent x.front bytes mid last x.sink (x.works works) (y.whole e works)
+          ∙ ap (λ (d : Bool). first ++ (sent ++ (if d then bytes else []))) (sym e)
+          ∙ ap (λ l. first ++ l)
+          (sym (append-nil (sent ++ (if is_done t.item then bytes else [])))));
       works = λ works. refl;
     }
     by_done false e works =
@@ -132,10 +140,11 @@ took_then path t told pipe left s u v x y = by_work (works_or_not pipe)
         record {
           front = c.0;
           failed = inl (e, (c.1, c.2));
-          sink = front_joined s.sink sent x.front c.0 u.sink v.sink x.sink (x.works works) c.3
-              ∙ ap (λ l. s.sink ++ (l ++ c.0)) (sym (append-nil sent))
-              ∙ ap (λ (d : Bool). s.sink ++ ((sent ++ (if d then bytes else [])) ++ c.0))
-              (sym e);
+          sink = sink_of-joined pipe left s v _ end
+              (front_joined first sent x.front c.0 mid last x.sink (x.works works) c.3
+              ∙ ap (λ l. first ++ (l ++ c.0)) (sym (append-nil sent))
+              ∙ ap (λ (d : Bool). first ++ ((sent ++ (if d then bytes else [])) ++ c.0))
+              (sym e));
           works = c.4;
         }
 
@@ -146,7 +155,8 @@ took_then path t told pipe left s u v x y = by_work (works_or_not pipe)
         record {
           front = x.front;
           failed = inr x.failed;
-          sink = n.0 ∙ x.sink ∙ ap (λ l. s.sink ++ (l ++ x.front)) (sym (append-nil sent)
-              ∙ ap (λ l. sent ++ l) (sym (none_done (is_done t.item) bytes n.1)));
+          sink = sink_of-joined pipe left s v _ end
+              (n.0 ∙ x.sink ∙ ap (λ l. first ++ (l ++ x.front)) (sym (append-nil sent)
+              ∙ ap (λ l. sent ++ l) (sym (none_done (is_done t.item) bytes n.1))));
           works = λ works. absurd (n.2 works);
         }

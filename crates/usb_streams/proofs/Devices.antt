@@ -1,31 +1,36 @@
 -- One device over the parts of a stretch, one after the other.
 use Rattle.std.proofs.Common.{◌≡◌, ◌∙◌, refl, sym, ap, subst, ℕ, ◌+◌, List, [], ◌∷◌, ◌++◌, length}
-use Rattle.std.proofs.Common.{drop, take, Option, None, Some, append-nil, length-append, arith}
-use Rattle.usb_device.specs.{State, Spec, Location}
+use Rattle.std.proofs.Common.{drop, take, false, Option, None, Some, append-nil, length-append}
+use Rattle.std.proofs.Common.{arith}
+use Rattle.usb_device.specs.{State, Spec, Location, in_end, out_end}
 use Rattle.usb_world.specs.{Was}
 use Rattle.usb_pipe.specs.{Bulk, InPipeInSync}
-use Rattle.usb_table.specs.{Pipes, pipe_in, pipe_out, FitsIn, SparesBulk, SameSettings}
+use Rattle.usb_table.specs.{sink_of, Pipes, pipe_in, pipe_out, FitsIn, SparesBulk, SameSettings}
 use Rattle.usb_table.proofs.Interface.{still_source}
 use Rattle.usb_host.specs.{SameBulk, HostState}
 use Rattle.usb_streams.specs.{ToldItem, AreTaken, ClearsNoIn, ClearsNoOut, GaveNextBy, Joins}
-use Rattle.usb_streams.specs.{StreamsAt, bytes_for, bytes_from, is_done, received_from}
+use Rattle.usb_streams.specs.{StreamsAt, bytes_for, bytes_from, is_done, is_end_of, received_from}
 use Rattle.usb_streams.specs.Streams.{Streams}
 use Rattle.usb_streams.proofs.Bytes.{SinkStep, joins_behind, next_joined, took_none, took_stay}
 use Rattle.usb_streams.proofs.Bytes.{took_then}
+use Rattle.usb_streams.proofs.PipeEnds.{SinksStay, end_of, is_end_of-same, sink_of-joined}
+use Rattle.usb_streams.proofs.PipeEnds.{sink_of-stays}
 
 -- Sources
 
 -- an IN pipe that stays, with its endpoint, gives nothing
 pub gave_no_bytes : (pipe left : Option Bulk) (x : Location) (s v : State) → left ≡ pipe
-    → SameSettings x s v → v.place ≡ s.place → v.bulk_in ≡ s.bulk_in → GaveNextBy [] pipe left s v
-gave_no_bytes None left x s v kept same place end = (refl, kept)
-gave_no_bytes (Some pipe) left x s v kept same place end =
+    → SameSettings x s v → ((e : ℕ) → (in_end v e).place ≡ (in_end s e).place)
+    → ((e : ℕ) → (in_end v e).state ≡ (in_end s e).state) → GaveNextBy [] pipe left s v
+gave_no_bytes None left x s v kept same place state = (refl, kept)
+gave_no_bytes (Some pipe) left x s v kept same place state =
     subst (λ l. GaveNextBy [] (Some pipe) l s v) (sym kept)
     (record { next = λ got f. refl; has = has })
   where
     has : (got : ℕ) → InPipeInSync pipe got s → InPipeInSync pipe (got + 0) v
     has got f = let same_got : got ≡ got + 0 = omega arith in
-        subst (λ n. InPipeInSync pipe n v) same_got (still_source pipe got s v same place end f)
+        subst (λ n. InPipeInSync pipe n v) same_got
+        (still_source pipe got s v same (place pipe.ep) (state pipe.ep) f)
 
 -- what comes next, and what comes next behind it
 pub gave_bytes_then : (a b : List ℕ) (p q r : Option Bulk) (s u v : State) → u.spec ≡ s.spec
@@ -49,7 +54,7 @@ gave_bytes_then a b (Some p) (Some q) (Some r) s u v same x y = record {
 
 -- what lies between two items moves no byte
 pub record DeviceStays (pipes left : Pipes) (s v : State) : Type 0 where
-  pub sink : v.sink ≡ s.sink
+  pub sinks : SinksStay s v
   pub out : pipe_out left ≡ pipe_out pipes
   pub gave : GaveNextBy [] (pipe_in pipes) (pipe_in left) s v
   pub spec : v.spec ≡ s.spec
@@ -57,10 +62,13 @@ pub record DeviceStays (pipes left : Pipes) (s v : State) : Type 0 where
 -- an item moves the bytes that it tells
 pub record DeviceMoves (path : List ℕ) (t : ToldItem) (pipes left : Pipes) (s v : State) : Type 0
   where
-    pub sink : Joins (is_done t.item) (bytes_for path t.due) s.sink v.sink
+    pub end : end_of (pipe_out left) ≡ end_of (pipe_out pipes)
+    pub sink : Joins (is_done t.item) (bytes_for path t.due) (sink_of (pipe_out pipes) s)
+        (sink_of (pipe_out pipes) v)
+    pub others : (e : ℕ) → is_end_of e (pipe_out pipes) ≡ false
+        → (out_end v e).sink ≡ (out_end s e).sink
     pub took : ClearsNoOut path t → SinkStep (is_done t.item) (bytes_for path t.due)
-        (pipe_out pipes)
-        (pipe_out left) s v
+        (pipe_out pipes) (pipe_out left) (sink_of (pipe_out pipes) s) (sink_of (pipe_out pipes) v)
     pub gave : ClearsNoIn path t → GaveNextBy (bytes_from path t.item) (pipe_in pipes)
         (pipe_in left)
         s v
@@ -71,11 +79,12 @@ pub spares_stays : (pipes left : Pipes) (x : Location) (s v : State) → SameBul
 spares_stays pipes left x s v same spares =
     let spec : v.spec ≡ s.spec = ap (λ (d : State). d.spec) spares in
     record {
-      sink = ap (λ (d : State). d.sink) spares;
+      sinks = λ e. ap (λ (d : State). (out_end d e).sink) spares;
       out = same.out;
       gave = gave_no_bytes (pipe_in pipes) (pipe_in left) x s v same.into
-          (spec, ap (λ (d : State). d.registers) spares) (ap (λ (d : State). d.place) spares)
-          (ap (λ (d : State). d.bulk_in) spares);
+          (spec, ap (λ (d : State). d.registers) spares)
+          (λ e. ap (λ (d : State). (in_end d e).place) spares)
+          (λ e. ap (λ (d : State). (in_end d e).state) spares);
       spec = spec;
     }
 
@@ -86,17 +95,27 @@ pub streams_none : (path : List ℕ) (pipes : Pipes) (x : Location) (s : State)
 unfolding AreTaken received_from
 streams_none path pipes x s had = record {
   took = λ all. took_none path (pipe_out pipes) s;
-  sink = ([], refl, sym (append-nil s.sink));
+  sink = ([], refl, sym (append-nil (sink_of (pipe_out pipes) s)));
+  others = λ e apart. refl;
   had = had;
-  gave = λ all. gave_no_bytes (pipe_in pipes) (pipe_in pipes) x s s refl (refl, refl) refl refl;
+  gave = λ all. gave_no_bytes (pipe_in pipes) (pipe_in pipes) x s s refl (refl, refl) (λ e. refl)
+      (λ e. refl);
   spec = refl;
 }
 
 pub streams_stay : (path : List ℕ) (told : List ToldItem) (p q r : Pipes) (s u v : State)
     → Streams path told p q s u → DeviceStays q r u v → Streams path told p r s v
 streams_stay path told p q r s u v x y = record {
-  took = λ all. took_stay path told (pipe_out q) (pipe_out r) s u v y.out y.sink (x.took all);
-  sink = (x.sink.0, x.sink.1, y.sink ∙ x.sink.2);
+  took = λ all. took_stay path told (pipe_out q) (pipe_out r) s u v y.out
+      (sink_of-stays (pipe_out q) u v y.sinks) (x.took all);
+  sink = (
+    x.sink.0,
+    x.sink.1,
+    sink_of-joined (pipe_out q) (pipe_out r) s v x.sink.0 (ap end_of y.out)
+        (sink_of-stays (pipe_out q) u v y.sinks ∙ x.sink.2),
+  );
+  others = λ e apart. y.sinks e
+      ∙ x.others e (subst (λ p. is_end_of e p ≡ false) y.out apart);
   had = x.had;
   gave = λ all.
       subst (λ l. GaveNextBy l (pipe_in p) (pipe_in r) s v) (append-nil (received_from path told))
@@ -110,13 +129,17 @@ pub streams_move : (path : List ℕ) (t : ToldItem) (told : List ToldItem) (p q 
     → Streams path (t ∷ told) p r s v
 unfolding AreTaken received_from
 streams_move path t told p q r s u v x y =
-    let went = joins_behind (is_done t.item) (bytes_for path t.due) s.sink x.sink.0 u.sink v.sink
-    x.sink.2 y.sink in
+    let went = joins_behind (is_done t.item) (bytes_for path t.due) (sink_of (pipe_out q) s)
+    x.sink.0 (sink_of (pipe_out q) u) (sink_of (pipe_out q) v) x.sink.2 y.sink in
     let taken : AreTaken path (t ∷ told) went.0 = (x.sink.0, x.sink.1, went.1) in
     record {
-      took = λ all. took_then path t told (pipe_out q) (pipe_out r) s u v (x.took all.1)
+      took = λ all. took_then path t told (pipe_out q) (pipe_out r) s u v y.end (x.took all.1)
           (y.took all.0);
-      sink = (went.0, taken, went.2);
+      sink = (went.0, taken, sink_of-joined (pipe_out q) (pipe_out r) s v went.0 y.end went.2);
+      others = λ e apart.
+          let before : is_end_of e (pipe_out q) ≡ false =
+          sym (is_end_of-same (pipe_out q) (pipe_out r) e y.end) ∙ apart in
+          y.others e before ∙ x.others e before;
       had = x.had;
       gave = λ all. gave_bytes_then (received_from path told) (bytes_from path t.item) (pipe_in p)
           (pipe_in q) (pipe_in r) s u v x.spec (x.gave all.1) (y.gave all.0);

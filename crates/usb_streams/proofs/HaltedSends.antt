@@ -4,7 +4,7 @@ use Rattle.std.proofs.Common.{◌≡◌, ◌≢◌, ◌∙◌, inl, inr, refl, s
 use Rattle.std.proofs.Common.{[], ◌++◌, length, take, Result, Ok, Err, is_ok}
 use Rattle.std.specs.Int.{div_ceil}
 use Rattle.usb_packet.specs.{Toggle, flips}
-use Rattle.usb_device.specs.{IsSink, State, Location}
+use Rattle.usb_device.specs.{IsSink, State, Location, out_end}
 use Rattle.usb_world.specs.{BusFault, EachWas, World}
 use Rattle.usb_tree.specs.{IsSettled}
 use Rattle.usb_world.proofs.Interface.{each_joined, each_none, each_wider}
@@ -17,12 +17,14 @@ use Rattle.usb_pipe.specs.declared.condition.Condition.TheVariants.{Ready, Halte
 use Rattle.usb_pipe.specs.declared.fault.PipeFault.TheVariants as pipe_fault
 use Rattle.usb_pipe.specs.Moves.{start, packet}
 use Rattle.usb_table.proofs.Interface.{empty_or_not}
+use Rattle.usb_streams.proofs.PipeEnds.{condition_cases}
 
 -- What was given to an endpoint that is halted
 
 -- none of the packets was acknowledged
 record NoneGiven (t : Target) (ep : ℕ) (sent : List ℕ) (x : Location) (s v : State) : Type 0 where
-  halted : is_at s t ≡ true → IsSink ep t.max s → s.bulk_out.halted ≡ true → (v ≡ s) × (sent ≡ [])
+  halted : is_at s t ≡ true → IsSink ep t.max s → (out_end s ep).state.halted ≡ true
+      → (v ≡ s) × (sent ≡ [])
 
 given_settled : {t : Target} {ep : ℕ} {first : Toggle} {old : World} {n : ℕ} {sent : List ℕ}
     {new : World} → Gave t ep first old n sent new → IsSettled old.roots → IsSettled new.roots
@@ -36,12 +38,12 @@ module _ (t : Target) (ep : ℕ) where
   one_given toggle sent bytes x s u v first second =
       record { halted = λ at sink halt. absurd (never at sink halt) }
     where
-      never : is_at s t ≡ true → IsSink ep t.max s → s.bulk_out.halted ≡ true → ⊥
+      never : is_at s t ≡ true → IsSink ep t.max s → (out_end s ep).state.halted ≡ true → ⊥
       never at sink halt =
           let same : u ≡ s = (first.halted at sink halt).0 in
           (second.halted (ap (λ q. is_at q t) same ∙ at) t.max
           (subst (IsSink ep t.max) (sym same) sink)
-          (ap (λ (q : State). q.bulk_out.halted) same ∙ halt)).1 [] refl
+          (ap (λ (q : State). (out_end q ep).state.halted) same ∙ halt)).1 [] refl
 
   none_given : {first : Toggle} {old : World} {n : ℕ} {sent : List ℕ} {new : World}
       → IsSettled old.roots → Gave t ep first old n sent new → new.shared ≡ false
@@ -61,14 +63,9 @@ module _ (t : Target) (ep : ℕ) where
 -- the device took nothing, and the send is done only where there was nothing to send
 pub record NoneSent (bytes : List ℕ) (pipe : Bulk) (answer : Result (Unit {0}) PipeFault)
     (x : Location) (s v : State) : Type 0 where
-  pub none : is_at s pipe.target ≡ true → OutPipeInSync pipe s → (v.sink ≡ s.sink)
+  pub none : is_at s pipe.target ≡ true → OutPipeInSync pipe s
+      → ((out_end v pipe.ep).sink ≡ (out_end s pipe.ep).sink)
       × (is_ok answer ≡ true → bytes ≡ [])
-
-condition_cases : (G : Type 0) (c : Condition) → (c ≡ Ready → G) → (c ≡ Halted → G)
-    → (c ≡ Broken → G) → G
-condition_cases G Ready ready halts breaks = ready refl
-condition_cases G Halted ready halts breaks = halts refl
-condition_cases G Broken ready halts breaks = breaks refl
 
 -- nothing was attempted
 idle_sends : (bytes : List ℕ) (pipe : Bulk) (answer : Result (Unit {0}) PipeFault) (old new : World)
@@ -90,7 +87,7 @@ module _ (bytes : List ℕ) (pipe : Bulk) (old new : World) (halts : pipe.condit
       (λ y s v given. record {
         none = λ at fits. let none =
             given.halted at fits.endpoint (fits.halted halts) in
-            (ap (λ (q : State). q.sink) none.0, λ ok. none.1);
+            (ap (λ (q : State). (out_end q pipe.ep).sink) none.0, λ ok. none.1);
       })
       old new (none_given End pipe.ep x.settled x.went.gone single)
   moved_halted n (Err why) left some x =
@@ -104,8 +101,8 @@ module _ (bytes : List ℕ) (pipe : Bulk) (old new : World) (halts : pipe.condit
             let later : v ≡ u =
             (lost.halted (ap (λ q. is_at q pipe.target) same ∙ at) pipe.max
             (subst (IsSink pipe.ep pipe.max) (sym same) fits.endpoint)
-            (ap (λ (q : State). q.bulk_out.halted) same ∙ fits.halted halts)).0 in
-            (ap (λ (q : State). q.sink) (later ∙ same), λ ok. absurd (cc ok));
+            (ap (λ (q : State). (out_end q pipe.ep).state.halted) same ∙ fits.halted halts)).0 in
+            (ap (λ (q : State). (out_end q pipe.ep).sink) (later ∙ same), λ ok. absurd (cc ok));
       })
       old g.mid new
       (none_given End pipe.ep x.settled g.before (transacted_unshared _ _ _ _ (Err g.fault) g.lost

@@ -2,10 +2,12 @@
 use Rattle.std.proofs.Common.{arith, ◌≡◌, inl, inr, ◌∙◌, refl, sym, ap, subst, ℕ, zero, suc}
 use Rattle.std.proofs.Common.{◌==◌, Bool, true, false, if◌then◌else◌, List, [], ◌∷◌, Option, None}
 use Rattle.std.proofs.Common.{Some, option_map}
+use Rattle.std.proofs.Common.{get_or, length, replicate, eqb-true}
 use Rattle.std.specs.Prelude.{⊤, ◌+◌, IfSome}
 use Rattle.usb_packet.specs.{Packet, Token, Payload, Ack, TokenKind, SetupTok, OutTok, InTok}
 use Rattle.usb_packet.specs.{Toggle, Zero, One}
 use Rattle.usb_port.specs.{PortCall, PortState}
+use Rattle.usb_request.specs.{setup_of}
 use Rattle.usb_device.specs.{Content, Whole, Broken, Sent, Effect, Leaves, Calls, PortsOff, Stage}
 use Rattle.usb_device.specs.{RememberedPacket, Spec, State, Reply, Ports, Place, ended, vacant}
 use Rattle.usb_device.specs.{taken, empty, full, before, acted, all_off, all_forgotten, forgotten}
@@ -14,10 +16,16 @@ use Rattle.usb_device.specs.{reset_state, replaced, changed, changed_at, called,
 use Rattle.usb_device.specs.{new_ports, first_ports, Location, hears, row_of, in_row, ack_row}
 use Rattle.usb_device.specs.{out_row, unless_busy, begun, setup_row, token_row, payload_row}
 use Rattle.usb_device.specs.{data_row, after_memory, answered, Outcome, Write, WriteData, judged}
-use Rattle.usb_device.specs.{max_packet, write_row, writing}
+use Rattle.usb_device.specs.{max_packet, write_row, writing, BulkIn, BulkOut, halts, in_end, no_in}
+use Rattle.usb_device.specs.{no_out, out_end, rested_in, rested_out, takes_configuration, unhalts}
+use Rattle.usb_device.specs.{with_at, with_endpoint_state, with_endpoints, EndpointState}
+use Rattle.usb_device.specs.{ServedEndpoint, InEnd, OutEnd, accepted, outcome, endpoint_state}
+use Rattle.usb_device.specs.{halted, rested}
 use Rattle.usb_device.specs.declared.transfer.RememberedPacket.TheVariants.{Nothing, SetupSeen}
 use Rattle.usb_device.specs.declared.transfer.RememberedPacket.TheVariants.{OutSeen, AckAwaited}
 use Rattle.usb_device.specs.declared.transfer.InEndpoint.TheVariants as by
+use Rattle.usb_device.specs.declared.answer.Answer.TheVariants as answer
+use Rattle.usb_device.proofs.Interface.{at_mapped, at_other, at_same}
 use Rattle.usb_tree.specs.{IsSettled, IfOut, after_sent, call_resets, reset_if}
 use Rattle.usb_world.specs.{Attempt, Damage, Mark, Step, World, here, step, after, after_event}
 use Rattle.usb_world.specs.{at_attempt, attempt, damage_in, event, payload_of, payload_out}
@@ -28,7 +36,7 @@ use Rattle.usb_world.proofs.Interface.{MadeOrNot, OverEvents, attempt_cases, cal
 use Rattle.usb_world.proofs.Interface.{happened_by, over_ready, over_taken, ready_settled}
 use Rattle.usb_world.proofs.Interface.{settled_after, settled_memory}
 use Rattle.usb_hub.specs.{ControlCourse, IsControlStep}
-use Rattle.usb_streams.specs.{KeepsStreams, MovesNothing}
+use Rattle.usb_streams.specs.{IsUntouched, KeepsStreams, MovesNothing}
 
 -- One device
 
@@ -38,7 +46,7 @@ AwaitsControl Nothing = ⊤
 AwaitsControl SetupSeen = ⊤
 AwaitsControl (OutSeen e) = e ≡ 0
 AwaitsControl (AckAwaited by.Control) = ⊤
-AwaitsControl (AckAwaited by.Bulk) = ⊥
+AwaitsControl (AckAwaited (by.Bulk e)) = ⊥
 AwaitsControl (AckAwaited by.Changes) = ⊤
 
 -- a packet of an attempt at endpoint 0
@@ -49,12 +57,25 @@ IsOfControl Broken = ⊤
 
 -- it took and gave nothing, and remembers nothing of a bulk endpoint
 record StaysOut (s v : State) : Type 0 where
-  sink : v.sink ≡ s.sink
-  place : v.place ≡ s.place
+  sink : (e : ℕ) → (out_end v e).sink ≡ (out_end s e).sink
+  place : (e : ℕ) → (in_end v e).place ≡ (in_end s e).place
   memory : AwaitsControl v.memory
 
 rest : (d : State) → AwaitsControl d.memory → StaysOut d d
-rest d m = record { sink = refl; place = refl; memory = m }
+rest d m = record { sink = λ e. refl; place = λ e. refl; memory = m }
+
+-- what is seen of each end stays where it stays of the one that is put in a row
+put_seen : {A X : Type 0} (none : A) (seen : A → X) (n : ℕ) (x : A) (row : List A)
+    → seen x ≡ seen (get_or row n none) → (m : ℕ)
+    → seen (get_or (with_at none n x row) m none) ≡ seen (get_or row m none)
+put_seen {A} {X} none seen n x row same m = by_number (m == n) refl
+  where
+    by_number : (b : Bool) → (m == n) ≡ b
+        → seen (get_or (with_at none n x row) m none) ≡ seen (get_or row m none)
+    by_number true at = subst (λ k. seen (get_or (with_at none n x row) k none)
+        ≡ seen (get_or row k none)) (sym (eqb-true m n at))
+        (ap seen (at_same none n x row) ∙ same)
+    by_number false apart = ap seen (at_other none n m x row apart)
 
 module _ (d : State) (m : AwaitsControl d.memory) where
   in_stage : (stage : Stage) → StaysOut d (in_row d stage).1
@@ -73,15 +94,50 @@ module _ (d : State) (m : AwaitsControl d.memory) where
   unless_busy_out : (r : Reply) → StaysOut d r.1 → StaysOut d (unless_busy d r).1
   unless_busy_out r h = grind (arith, rest)
 
+  halts_out : (which : ServedEndpoint) (state : EndpointState)
+      → StaysOut d (with_endpoint_state d which state)
+  halts_out (BulkOut n) state = record {
+    sink = put_seen no_out (λ (x : OutEnd). x.sink) n (record (out_end d n) { state = state })
+        d.outs refl;
+    place = λ e. refl;
+    memory = m;
+  }
+  halts_out (BulkIn n) state = record {
+    sink = λ e. refl;
+    place = put_seen no_in (λ (x : InEnd). x.place) n (record (in_end d n) { state = state }) d.ins
+        refl;
+    memory = m;
+  }
+  halts_out _ state = record { sink = λ e. refl; place = λ e. refl; memory = m }
+
+  ends_out : (o : Outcome) → StaysOut d (with_endpoints d o)
+  ends_out (takes_configuration c) = record {
+    sink = λ e. ap (λ (x : OutEnd). x.sink) (at_mapped no_out rested_out refl e d.outs);
+    place = λ e. ap (λ (x : InEnd). x.place) (at_mapped no_in rested_in refl e d.ins);
+    memory = m;
+  }
+  ends_out (halts which) = halts_out which (halted (endpoint_state d which))
+  ends_out (unhalts which) = halts_out which rested
+  ends_out _ = rest d m
+
   begun_out : (row : List PortState) (wanted : ℕ) (o : Outcome) → StaysOut d (begun d row wanted o)
-  begun_out row wanted o = grind (arith, rest)
+  begun_out row wanted o =
+      let x = ends_out o in record { sink = x.sink; place = x.place; memory = x.memory }
 
   set_up_out : (row : List PortState) (bytes : List ℕ) → StaysOut d (setup_row d row bytes).1
-  set_up_out row bytes = grind (arith, rest, begun_out)
+  set_up_out row bytes = by_length (length bytes == 8)
+    where
+      row_of_setup : Bool → Reply
+      row_of_setup b = if b then (Some answer.Ack, accepted d row (setup_of bytes)) else (None, d)
+
+      by_length : (b : Bool) → StaysOut d (row_of_setup b).1
+      by_length true = begun_out row (setup_of bytes).length
+          (outcome d.spec d.registers (setup_of bytes))
+      by_length false = rest d m
 
   token_stays : (row : List PortState) (kind : TokenKind) → StaysOut d (token_row d row kind 0).1
-  token_stays row SetupTok = record { sink = refl; place = refl; memory = tt }
-  token_stays row OutTok = record { sink = refl; place = refl; memory = refl }
+  token_stays row SetupTok = record { sink = λ e. refl; place = λ e. refl; memory = tt }
+  token_stays row OutTok = record { sink = λ e. refl; place = λ e. refl; memory = refl }
   token_stays row InTok = unless_busy_out (in_row d d.stage) (in_stage d.stage)
 
   payload_stays : (row : List PortState) (was : RememberedPacket) → AwaitsControl was → (t : Toggle)
@@ -96,8 +152,9 @@ module _ (d : State) (m : AwaitsControl d.memory) where
 
   ack_stays : (was : RememberedPacket) → AwaitsControl was → StaysOut d (after_memory d was)
   ack_stays (AckAwaited by.Control) h = ack_stage d.stage
-  ack_stays (AckAwaited by.Bulk) h = absurd h
-  ack_stays (AckAwaited by.Changes) h = record { sink = refl; place = refl; memory = m }
+  ack_stays (AckAwaited (by.Bulk e)) h = absurd h
+  ack_stays (AckAwaited by.Changes) h =
+      record { sink = λ e. refl; place = λ e. refl; memory = m }
   ack_stays _ h = rest d m
 
   packet_stays : (row : List PortState) (was : RememberedPacket) → AwaitsControl was → (p : Packet)
@@ -128,7 +185,7 @@ reply_stays Broken is s row m = heard s.spec.silent
   where
     heard : (silent : Bool) → StaysOut s (if silent then s else forgotten s)
     heard true = rest s m
-    heard false = record { sink = refl; place = refl; memory = tt }
+    heard false = record { sink = λ e. refl; place = λ e. refl; memory = tt }
 
 -- One place
 
@@ -152,8 +209,8 @@ out_then (Some s) (Some u) (Some v) x y = λ m.
     let first = x m in
     let second = y first.memory in
     record {
-      sink = second.sink ∙ first.sink;
-      place = second.place ∙ first.place;
+      sink = λ e. second.sink e ∙ first.sink e;
+      place = λ e. second.place e ∙ first.place e;
       memory = second.memory;
     }
 
@@ -170,7 +227,7 @@ answer_stays q is deep s a m = heard (hears q deep s)
 reset_stays : (reset : Bool) (o : Option State) → OutAt o (option_map (reset_if reset) o)
 unfolding reset_state
 reset_stays reset None = tt
-reset_stays true (Some s) = λ m. record { sink = refl; place = refl; memory = tt }
+reset_stays true (Some s) = λ m. record { sink = λ e. refl; place = λ e. refl; memory = tt }
 reset_stays false (Some s) = rest s
 
 off_stays : (k : Ports) (j : ℕ) (p : List ℕ) → OutAt (state_at k j p) (state_at (all_off k) j p)
@@ -198,7 +255,7 @@ forgotten_stays ended j p = tt
 forgotten_stays (vacant b k) zero p = tt
 forgotten_stays (vacant b k) (suc j) p = forgotten_stays k j p
 forgotten_stays (taken b s a k) zero [] =
-    λ m. record { sink = refl; place = refl; memory = tt }
+    λ m. record { sink = λ e. refl; place = λ e. refl; memory = tt }
 forgotten_stays (taken b s a k) zero (zero ∷ p) = tt
 forgotten_stays (taken b s a k) zero (suc j ∷ p) = forgotten_stays a j p
 forgotten_stays (taken b s a k) (suc j) p = forgotten_stays k j p
@@ -306,19 +363,19 @@ attempt_stays a d zero_is k j p =
 
 kept_same : (o : Option State) → KeepsStreams o o
 kept_same None = tt
-kept_same (Some s) = inl (record { sink = refl; place = refl })
+kept_same (Some s) = inl (record { sink = λ e. refl; place = λ e. refl })
 
 pub kept_then : (o p q : Option State) → KeepsStreams o p → KeepsStreams p q → KeepsStreams o q
 kept_then o p None x y = tt
 kept_then None None (Some v) x y = y
 kept_then None (Some u) (Some v) x (inl y) =
-    record { sink = y.sink ∙ x.sink; place = y.place ∙ x.place }
+    record { sink = λ e. y.sink e ∙ x.sink e; place = λ e. y.place e ∙ x.place e }
 kept_then None (Some u) (Some v) x (inr y) = y
 kept_then (Some s) None (Some v) x y = inr y
 kept_then (Some s) (Some u) (Some v) (inl x) (inl y) =
-    inl (record { sink = y.sink ∙ x.sink; place = y.place ∙ x.place })
+    inl (record { sink = λ e. y.sink e ∙ x.sink e; place = λ e. y.place e ∙ x.place e })
 kept_then (Some s) (Some u) (Some v) (inr x) (inl y) =
-    inr (record { sink = y.sink ∙ x.sink; place = y.place ∙ x.place })
+    inr (record { sink = λ e. y.sink e ∙ x.sink e; place = λ e. y.place e ∙ x.place e })
 kept_then (Some s) (Some u) (Some v) x (inr y) = inr y
 
 out_kept : (o p : Option State) → ((s : State) → o ≡ Some s → s.memory ≡ Nothing) → OutAt o p
@@ -340,16 +397,30 @@ unfolding state_at
 none_first spec j p = grind (arith, none_new)
 
 -- a device that is put somewhere is untouched
+row_new : {A X : Type 0} (none : A) (seen : A → X) (n : ℕ) (x : A) → seen x ≡ seen none → (e : ℕ)
+    → seen (get_or (replicate n x) e none) ≡ seen none
+row_new none seen zero x same e = refl
+row_new none seen (suc n) x same zero = same
+row_new none seen (suc n) x same (suc e) = row_new none seen n x same e
+
+new_untouched : (spec : Spec) → IsUntouched (fresh spec)
+unfolding fresh
+new_untouched spec = record {
+  sink = row_new no_out (λ (x : OutEnd). x.sink) 16
+      (record no_out { until_halt = spec.halt_after }) refl;
+  place = row_new no_in (λ (x : InEnd). x.place) 16 no_in refl;
+}
+
 put_kept : (o : Option Spec) (place : Place) (k : Ports) (p : List ℕ)
     → KeepsStreams (state_at (before place k) zero p)
     (state_at (before (replaced o place) k) zero p)
-unfolding state_at fresh
+unfolding state_at
 put_kept None place k p = tt
 put_kept (Some spec) place k [] = new_kept (state_at (before place k) zero [])
   where
     new_kept : (o : Option State) → KeepsStreams o (Some (fresh spec))
-    new_kept None = record { sink = refl; place = refl }
-    new_kept (Some s) = inr (record { sink = refl; place = refl })
+    new_kept None = new_untouched spec
+    new_kept (Some s) = inr (new_untouched spec)
 put_kept (Some spec) place k (zero ∷ p) = tt
 put_kept (Some spec) place k (suc j ∷ p) =
     subst (KeepsStreams (state_at (before place k) zero (suc j ∷ p))) (sym (none_first spec j p)) tt

@@ -1,13 +1,14 @@
 -- What an item moves at a path.
 use Rattle.std.proofs.Common.{◌≡◌, ◌≢◌, ◌∙◌, refl, sym, ap, subst, Bool, true, false, ◌||◌, ◌+◌, ℕ}
 use Rattle.std.proofs.Common.{arith, List}
-use Rattle.std.proofs.Common.{[], length, Option, None, Some, Result, Ok, Err, append-nil, eq-eqb}
+use Rattle.std.proofs.Common.{[], length, Option, None, Some, Result, Ok, Err, eq-eqb}
+use Rattle.std.proofs.Common.{◌==◌, eqb-true, get_or}
 use Rattle.std.proofs.Common.{◌⊎◌, inl, inr, is_ok, is_some, if◌then◌else◌}
 use Rattle.std.specs.BTreeMap.{is_at as ties}
 use Rattle.std.specs.Global.{Vec}
 use Rattle.usb_port.specs.{path_cmp}
 use Rattle.usb_device.specs.{EndpointState, State, Location, path_to, reach, reach_on, state_on}
-use Rattle.usb_device.specs.{state_there}
+use Rattle.usb_device.specs.{in_end, no_in, out_end, state_there}
 use Rattle.usb_world.specs.declared.event.Ask.{Ask}
 use Rattle.usb_world.specs.{Show, Send, Receive, Clear, ControlIn, ControlOut, Look as LookAt}
 use Rattle.usb_world.specs.{News as AskNews, BusFault, EachWas, IsWrite, Was, World, Write}
@@ -26,7 +27,7 @@ use Rattle.usb_table.specs.{is_below_hub, PipesInSync, FitsOut, ArePipesIf, AreP
 use Rattle.usb_table.specs.{GoesThrough, pipes_at, ClearedAfter, ClearedBy, ClearedIf, PipesCleared}
 use Rattle.usb_table.specs.{PipesReceived, PipesSent, ReceivedBy, SameSettings, SentBy}
 use Rattle.usb_table.specs.{control_target, ReadLeft, ReadMade, SparesBulk, table_answer}
-use Rattle.usb_table.specs.{TransferIf, WriteLeft, WriteMade, write_target}
+use Rattle.usb_table.specs.{sink_of, TransferIf, WriteLeft, WriteMade, write_target}
 use Rattle.usb_table.proofs.Interface.{held_address, path_itself, path_tied, done_through}
 use Rattle.usb_table.proofs.Interface.{cases_path, read_spares, spares-same, StillEnds}
 use Rattle.usb_table.proofs.Interface.{write_still}
@@ -41,9 +42,11 @@ use Rattle.usb_run.proofs.Interface.{answered_goes}
 use Rattle.usb_run.proofs.Interface.{count_done, told_cleared, told_received, told_sent, done_told}
 use Rattle.usb_run.proofs.Interface.{no_bus_fault}
 use Rattle.usb_streams.specs.{ToldItem, ClearsNoIn, ClearsNoOut, GaveNextBy, IsAtWork, Joins}
-use Rattle.usb_streams.specs.{StreamsAt, bytes_for, bytes_from, is_done}
+use Rattle.usb_streams.specs.{StreamsAt, bytes_for, bytes_from, is_done, is_end_of}
 use Rattle.usb_streams.proofs.Bytes.{SinkStep, joins_none, sink_step_none}
 use Rattle.usb_streams.proofs.Devices.{DeviceMoves, gave_no_bytes, spares_stays}
+use Rattle.usb_streams.proofs.PipeEnds.{SinksStay, cleared_end, end_of, only_others, only_rest}
+use Rattle.usb_streams.proofs.PipeEnds.{sent_end, sink_of-stays}
 use Rattle.usb_streams.proofs.HaltedSends.{NoneSent, empty_stuck, failed_stuck, none_sent}
 
 -- The pipes over a call
@@ -121,13 +124,18 @@ cleared_out (Function pipes) left old new result x none = ap pipe_out x.1
 cleared_out Absent left old new result x none = ap pipe_out x.1
 
 -- a pipe that works, or none, is left alone by a clear
-clears_alone : (done : Bool) (pipe left : Option Bulk) (before after : EndpointState)
+clears_alone : (done : Bool) (pipe left : Option Bulk) (before after : ℕ → EndpointState)
     → HaltClearedBy done pipe left before after → IsAtWork pipe → (pipe ≡ None → left ≡ None)
-    → (left ≡ pipe) × (after ≡ before)
+    → (left ≡ pipe) × ((e : ℕ) → after e ≡ before e)
 clears_alone done None left before after end works none = (none refl, end)
 clears_alone done (Some pipe) None before after end works none = absurd end
-clears_alone done (Some pipe) (Some left) before after end works none = let e = end.works works in
-    (ap Some e.0, e.1)
+clears_alone done (Some pipe) (Some left) before after end works none =
+    let alone = end.0.works works in (ap Some alone.0, λ e. by_number e (e == pipe.ep) refl)
+  where
+    by_number : (e : ℕ) (b : Bool) → (e == pipe.ep) ≡ b → after e ≡ before e
+    by_number e true at = subst (λ n. after n ≡ before n) (sym (eqb-true e pipe.ep at))
+        (end.0.works works).1
+    by_number e false apart = end.1 e apart
 
 pipe_address : (device : Accepted) (is_in : Bool) (endpoint : Option (ℕ × ℕ)) (pipe : Bulk)
     → IsPipe device is_in endpoint (Some pipe) → pipe.target.addr ≡ device.address
@@ -137,10 +145,10 @@ pipe_address device is_in (Some endpoint) pipe is = ap (λ (t : Target). t.addr)
 -- The device over a call
 
 -- what a send brings joins the sink
-joins_sink : (done : Bool) (bytes : List ℕ) (s v : State) → JoinsSink done bytes s v
-    → Joins done bytes s.sink v.sink
-joins_sink true bytes s v x = x
-joins_sink false bytes s v x = (x.front, x.rest, x.split, x.sink)
+joins_sink : (done : Bool) (bytes old new : List ℕ) → JoinsSink done bytes old new
+    → Joins done bytes old new
+joins_sink true bytes old new x = x
+joins_sink false bytes old new x = (x.front, x.rest, x.split, x.sink)
 
 gave_by : (bytes : List ℕ) (pipe left : Option Bulk) (s v : State) → GaveBy bytes pipe left s v
     → (pipe ≡ None → left ≡ None) → GaveNextBy bytes pipe left s v
@@ -148,12 +156,15 @@ gave_by bytes None left s v x none = (x.0, none refl)
 gave_by bytes (Some pipe) None s v x none = absurd x
 gave_by bytes (Some pipe) (Some left) s v x none = record { next = x.next; has = x.has }
 
-gave_sink : (bytes : List ℕ) (pipe left : Option Bulk) (s v : State) → GaveBy bytes pipe left s v
-    → (v.sink ≡ s.sink) × (v.spec ≡ s.spec)
-gave_sink bytes None left s v x = (ap (λ (d : State). d.sink) x.1, ap (λ (d : State). d.spec) x.1)
-gave_sink bytes (Some pipe) None s v x = absurd x
-gave_sink bytes (Some pipe) (Some left) s v x =
-    (ap (λ (d : State). d.sink) x.rest, ap (λ (d : State). d.spec) x.rest)
+gave_sinks : (bytes : List ℕ) (pipe left : Option Bulk) (s v : State) → GaveBy bytes pipe left s v
+    → SinksStay s v × (v.spec ≡ s.spec)
+gave_sinks bytes None left s v x =
+    (λ e. ap (λ (d : State). (out_end d e).sink) x.1, ap (λ (d : State). d.spec) x.1)
+gave_sinks bytes (Some pipe) None s v x = absurd x
+gave_sinks bytes (Some pipe) (Some left) s v x = (
+  λ e. ap (λ (d : State). (out_end d e).sink) x.rest.rest,
+  ap (λ (d : State). d.spec) x.rest.rest,
+)
 
 -- A send through the OUT pipe
 
@@ -162,38 +173,37 @@ one_stands : (w : World) (x : Location) (s u : State) → state_on w.roots x ≡
     → state_on w.roots x ≡ Some u → u ≡ s
 one_stands w x s u e f = cc (e, f)
 
+untried : (done : Bool) (bytes : List ℕ) (left : Option Bulk) → done ≡ false
+    → SinkStep done bytes None left [] []
+untried done bytes left failed = record {
+  whole = λ told works. absurd (cc (told, failed));
+  cut = λ told works. ([], bytes, refl, refl, λ works. refl);
+  stuck = λ stuck. absurd (stuck tt);
+}
+
 -- the device that is reached before and after it
 module _ (bytes : List ℕ) (old new : World) (x : Location) (s v : State) (on : reach_on new.roots x
     ≡ true) (stands : state_on new.roots x ≡ Some v) (stood : state_on old.roots x ≡ Some s) where
-  untried : (done : Bool) (pipe left : Option Bulk) → done ≡ false → pipe ≡ None → new ≡ old
-      → SinkStep done bytes pipe left s v
-  untried done pipe left failed none same =
-      let still : v.sink ≡ s.sink = ap (λ (d : State). d.sink)
-      (one_stands old x s v stood (sym (ap (λ (w : World). state_on w.roots x) same) ∙ stands))
-      in
-      record {
-        whole = λ told works. absurd (cc (told, failed));
-        cut = λ told works. ([], bytes, refl, still ∙ sym (append-nil s.sink), λ works. refl);
-        stuck = λ stuck. absurd (stuck (subst IsAtWork (sym none) tt));
-      }
-
   module _ (pipe left : Bulk) (at : is_at s pipe.target ≡ true) (fits : OutPipeInSync pipe s)
       (single : new.shared ≡ false) where
     nothing_sent : (answer : Result (Unit {0}) PipeFault) → Sends bytes pipe old answer left new
-        → pipe.condition ≢ Ready → (v.sink ≡ s.sink) × (is_ok answer ≡ true → bytes ≡ [])
+        → pipe.condition ≢ Ready → ((out_end v pipe.ep).sink ≡ (out_end s pipe.ep).sink)
+        × (is_ok answer ≡ true → bytes ≡ [])
     nothing_sent answer sends stuck =
         let was : Was (NoneSent bytes pipe answer) old x v =
         none_sent bytes pipe answer left old new stuck single sends x v on stands in
         let same : was.before ≡ s = one_stands old x s was.before stood was.stands in
         let none = was.so.none (ap (λ q. is_at q pipe.target) same
         ∙ at) (subst (OutPipeInSync pipe) (sym same) fits) in
-        (none.0 ∙ ap (λ (d : State). d.sink) same, none.1)
+        (none.0 ∙ ap (λ (d : State). (out_end d pipe.ep).sink) same, none.1)
 
     -- by what the pipe answered
     through : (answer : Result (Unit {0}) PipeFault)
         → ((why : BusFault) → answer ≢ Err (pipe_fault.Bus why))
-        → Sends bytes pipe old answer left new → JoinsSink (is_ok answer) bytes s v
-        → SinkStep (is_ok answer) bytes (Some pipe) (Some left) s v
+        → Sends bytes pipe old answer left new
+        → JoinsSink (is_ok answer) bytes (out_end s pipe.ep).sink (out_end v pipe.ep).sink
+        → SinkStep (is_ok answer) bytes (Some pipe) (Some left) (out_end s pipe.ep).sink
+        (out_end v pipe.ep).sink
     through (Ok done) other sends joins = record {
       whole = λ told works. joins;
       cut = λ told works. absurd (cc told);
@@ -218,35 +228,40 @@ module _ (bytes : List ℕ) (old new : World) (x : Location) (s v : State) (on :
   by_pipe : (out left : Option Bulk) (result : Result (Unit {0}) TableFault)
       → ((why : BusFault) → result ≢ Err (table.Bus why)) → new.shared ≡ false
       → ((pipe : Bulk) → out ≡ Some pipe → (is_at s pipe.target ≡ true) × OutPipeInSync pipe s)
-      → SentBy out bytes old result left new → JoinsSink (is_ok result) bytes s v
-      → SinkStep (is_ok result) bytes out left s v
+      → SentBy out bytes old result left new
+      → JoinsSink (is_ok result) bytes (sink_of out s) (sink_of out v)
+      → SinkStep (is_ok result) bytes out left (sink_of out s) (sink_of out v)
   by_pipe None left result other single fits x joins =
-      untried (is_ok result) None left (ap is_ok x.0) refl x.2
+      untried (is_ok result) bytes left (ap is_ok x.0)
   by_pipe (Some pipe) None result other single fits x joins = absurd x
   by_pipe (Some pipe) (Some left) result other single fits x joins =
       let same : is_ok x.answer ≡ is_ok result = done_through x.answer result x.told in
-      subst (λ d. SinkStep d bytes (Some pipe) (Some left) s v) same
+      subst (λ d. SinkStep d bytes (Some pipe) (Some left) (out_end s pipe.ep).sink
+      (out_end v pipe.ep).sink) same
       (through pipe left (fits pipe refl).0 (fits pipe refl).1 single x.answer
       (λ why e. other why (x.told ∙ ap table_answer e)) x.sends
-      (subst (λ d. JoinsSink d bytes s v) (sym same) joins))
+      (subst (λ d. JoinsSink d bytes (out_end s pipe.ep).sink (out_end v pipe.ep).sink) (sym same)
+      joins))
 
   by_pipes : (pipes left : Pipes) (result : Result (Unit {0}) TableFault)
       → ((why : BusFault) → result ≢ Err (table.Bus why)) → new.shared ≡ false
       → ((pipe : Bulk) → pipe_out pipes ≡ Some pipe → (is_at s pipe.target ≡ true)
       × OutPipeInSync pipe s) → PipesSent pipes bytes old result left new
-      → JoinsSink (is_ok result) bytes s v
-      → SinkStep (is_ok result) bytes (pipe_out pipes) (pipe_out left) s v
+      → JoinsSink (is_ok result) bytes (sink_of (pipe_out pipes) s) (sink_of (pipe_out pipes) v)
+      → SinkStep (is_ok result) bytes (pipe_out pipes) (pipe_out left)
+      (sink_of (pipe_out pipes) s) (sink_of (pipe_out pipes) v)
   by_pipes (Hub pipe) left result other single fits x joins =
-      untried (is_ok result) None (pipe_out left) (ap is_ok x.0) refl x.2
+      untried (is_ok result) bytes (pipe_out left) (ap is_ok x.0)
   by_pipes (Function pipes) left result other single fits x joins =
-      subst (λ (p : Pipes). SinkStep (is_ok result) bytes pipes.out (pipe_out p) s v) (sym x.1)
+      subst (λ (p : Pipes). SinkStep (is_ok result) bytes pipes.out (pipe_out p)
+      (sink_of pipes.out s) (sink_of pipes.out v)) (sym x.1)
       (by_pipe pipes.out x.0 result other single fits x.2 joins)
   by_pipes Absent left result other single fits x joins =
-      untried (is_ok result) None (pipe_out left) (ap is_ok x.0) refl x.2
+      untried (is_ok result) bytes (pipe_out left) (ap is_ok x.0)
 
 ends_same : (s v : State) → v ≡ s → StillEnds s v
 ends_same s v same = record {
-  sink = ap (λ (d : State). d.sink) same;
+  sink = λ e. ap (λ (d : State). (out_end d e).sink) same;
   spec = ap (λ (d : State). d.spec) same;
   into = λ pipe got fits. subst (InPipeInSync pipe got) (sym same) fits;
 }
@@ -264,30 +279,52 @@ gave_still (Some pipe) left s v kept ends =
 
 -- what an item moves, by the bytes that it has for the path
 module _ (path : List ℕ) (t : ToldItem) (pipes left : Pipes) (s v : State) where
+  abbrev first : List ℕ
+  first = sink_of (pipe_out pipes) s
+
+  abbrev last : List ℕ
+  last = sink_of (pipe_out pipes) v
+
   moved : (to from : List ℕ) → bytes_for path t.due ≡ to → bytes_from path t.item ≡ from
-      → Joins (is_done t.item) to s.sink v.sink
-      → (ClearsNoOut path t → SinkStep (is_done t.item) to (pipe_out pipes) (pipe_out left) s v)
+      → end_of (pipe_out left) ≡ end_of (pipe_out pipes) → Joins (is_done t.item) to first last
+      → ((e : ℕ) → is_end_of e (pipe_out pipes) ≡ false → (out_end v e).sink ≡ (out_end s e).sink)
+      → (ClearsNoOut path t
+      → SinkStep (is_done t.item) to (pipe_out pipes) (pipe_out left) first last)
       → (ClearsNoIn path t → GaveNextBy from (pipe_in pipes) (pipe_in left) s v) → v.spec ≡ s.spec
       → DeviceMoves path t pipes left s v
-  moved to from e f sink took gave spec = record {
-    sink = subst (λ l. Joins (is_done t.item) l s.sink v.sink) (sym e) sink;
-    took = λ none. subst (λ l. SinkStep (is_done t.item) l (pipe_out pipes) (pipe_out left) s v)
-        (sym e) (took none);
+  moved to from e f end sink others took gave spec = record {
+    end = end;
+    sink = subst (λ l. Joins (is_done t.item) l first last) (sym e) sink;
+    others = others;
+    took = λ none. subst (λ l. SinkStep (is_done t.item) l (pipe_out pipes) (pipe_out left) first
+        last) (sym e) (took none);
     gave = λ none. subst (λ l. GaveNextBy l (pipe_in pipes) (pipe_in left) s v) (sym f) (gave none);
     spec = spec;
   }
+
+  -- no endpoint took anything
+  unsent : (from : List ℕ) → bytes_for path t.due ≡ [] → bytes_from path t.item ≡ from
+      → end_of (pipe_out left) ≡ end_of (pipe_out pipes)
+      → (ClearsNoOut path t → pipe_out left ≡ pipe_out pipes) → SinksStay s v
+      → (ClearsNoIn path t → GaveNextBy from (pipe_in pipes) (pipe_in left) s v) → v.spec ≡ s.spec
+      → DeviceMoves path t pipes left s v
+  unsent from e f end kept stay gave spec =
+      let same : last ≡ first = sink_of-stays (pipe_out pipes) s v stay in
+      moved [] from e f end (joins_none (is_done t.item) [] first last refl same)
+      (λ a apart. stay a)
+      (λ none. sink_step_none (is_done t.item) (pipe_out pipes) (pipe_out left) first last
+      (kept none) same) gave spec
 
   -- nothing there
   unmoved : bytes_for path t.due ≡ [] → bytes_from path t.item ≡ [] → left ≡ pipes → v ≡ s
       → DeviceMoves path t pipes left s v
   unmoved e f kept same =
-      moved [] [] e f (joins_none (is_done t.item) [] s.sink v.sink refl
-      (ap (λ (d : State). d.sink) same))
-      (λ none. sink_step_none (is_done t.item) (pipe_out pipes) (pipe_out left) s v
-      (ap pipe_out kept) (ap (λ (d : State). d.sink) same))
+      unsent [] e f (ap (λ p. end_of (pipe_out p)) kept) (λ none. ap pipe_out kept)
+      (λ a. ap (λ (d : State). (out_end d a).sink) same)
       (λ none. gave_no_bytes (pipe_in pipes) (pipe_in left) (record { row = 0; rest = [] }) s v
       (ap pipe_in kept) (ap (λ (d : State). d.spec) same, ap (λ (d : State). d.registers) same)
-      (ap (λ (d : State). d.place) same) (ap (λ (d : State). d.bulk_in) same))
+      (λ a. ap (λ (d : State). (in_end d a).place) same)
+      (λ a. ap (λ (d : State). (in_end d a).state) same))
       (ap (λ (d : State). d.spec) same)
 
   -- a device whose endpoints stay, with its pipes
@@ -295,17 +332,14 @@ module _ (path : List ℕ) (t : ToldItem) (pipes left : Pipes) (s v : State) whe
       → (x : Location) → SparesBulk x s v → DeviceMoves path t pipes left s v
   spared_moves e f same x spares =
       let stays = spares_stays pipes left x s v same spares in
-      moved [] [] e f (joins_none (is_done t.item) [] s.sink v.sink refl stays.sink)
-      (λ none. sink_step_none (is_done t.item) (pipe_out pipes) (pipe_out left) s v stays.out
-      stays.sink) (λ none. stays.gave) stays.spec
+      unsent [] e f (ap end_of stays.out) (λ none. stays.out) stays.sinks (λ none. stays.gave)
+      stays.spec
 
   -- a device through whose endpoints nothing moves, with its pipes
   ends_move : bytes_for path t.due ≡ [] → bytes_from path t.item ≡ [] → left ≡ pipes
       → StillEnds s v → DeviceMoves path t pipes left s v
   ends_move e f kept ends =
-      moved [] [] e f (joins_none (is_done t.item) [] s.sink v.sink refl ends.sink)
-      (λ none. sink_step_none (is_done t.item) (pipe_out pipes) (pipe_out left) s v
-      (ap pipe_out kept) ends.sink)
+      unsent [] e f (ap (λ p. end_of (pipe_out p)) kept) (λ none. ap pipe_out kept) ends.sink
       (λ none. gave_still (pipe_in pipes) (pipe_in left) s v (ap pipe_in kept) ends) ends.spec
 
 -- Hosts
@@ -480,10 +514,11 @@ module _ (path : List ℕ) (device : Accepted) (old new : HostState)
           sym (ap transfer_ended hands.told) ∙ is.tells in
           let done : is_ok hands.answer ≡ is_ok (sent_count (length bytes) told) =
           done_told hands.answer told tells ∙ count_done (length bytes) told in
-          here (Some (Send path bytes)) made (TookBytes (is_ok told) bytes) hands.through
+          here (Some (Send path bytes)) made (TookBytes (pipe_out before) (is_ok told) bytes)
+          hands.through
           (told_sent path old new knows.sound still running bytes told is).took.each
           (λ x s v is_path was_on on stands stood took.
-          let spec : v.spec ≡ s.spec = ap (λ (d : State). d.spec) took.rest in
+          let rest = only_rest (pipe_out before) s v took.rest in
           let reached : reach old.world.roots path ≡ true = ap (reach old.world.roots) is_path
           ∙ was_on in
           let there : state_there old.world.roots path ≡ Some s =
@@ -498,19 +533,24 @@ module _ (path : List ℕ) (device : Accepted) (old new : HostState)
           moved path (record { due = Some (Send path bytes); asked = old; item = made }) before left
           s
           v bytes [] (ap (λ (b : Bool). if b then bytes else []) (path_itself path)) refl
-          (subst (λ d. Joins d bytes s.sink v.sink) (count_done (length bytes) told)
-          (joins_sink (is_ok told) bytes s v took.joins))
-          (λ none. subst (λ d. SinkStep d bytes (pipe_out before) (pipe_out left) s v) done
+          (sent_end before left bytes old.world new.world hands.answer hands.moves)
+          (subst (λ d. Joins d bytes (sink_of (pipe_out before) s) (sink_of (pipe_out before) v))
+          (count_done (length bytes) told)
+          (joins_sink (is_ok told) bytes (sink_of (pipe_out before) s)
+          (sink_of (pipe_out before) v) took.joins))
+          (only_others (pipe_out before) s v took.rest)
+          (λ none. subst (λ d. SinkStep d bytes (pipe_out before) (pipe_out left)
+          (sink_of (pipe_out before) s) (sink_of (pipe_out before) v)) done
           (by_pipes bytes old.world new.world x s v on stands stood before left hands.answer
           (no_bus_fault hands.answer told tells) single (fits_out before s are has level)
           hands.moves
-          (subst (λ d. JoinsSink d bytes s v) (sym (done_told hands.answer told tells))
-          took.joins)))
+          (subst (λ d. JoinsSink d bytes (sink_of (pipe_out before) s)
+          (sink_of (pipe_out before) v)) (sym (done_told hands.answer told tells)) took.joins)))
           (λ none. gave_no_bytes (pipe_in before) (pipe_in left) x s v
           (sent_in before left bytes old.world new.world hands.answer hands.moves)
-          (spec, ap (λ (d : State). d.registers) took.rest)
-          (ap (λ (d : State). d.place) took.rest) (ap (λ (d : State). d.bulk_in) took.rest))
-          spec)
+          (rest.spec, rest.registers) (λ e. ap (λ row. (get_or row e no_in).place) rest.ins)
+          (λ e. ap (λ row. (get_or row e no_in).state) rest.ins))
+          rest.spec)
 
       received_here : (packets : ℕ) (told : Result (Vec ℕ) TransferFault)
           → Transfers (ReceiveTells path packets) old told new
@@ -523,17 +563,16 @@ module _ (path : List ℕ) (device : Accepted) (old new : HostState)
           (GaveBy (bytes_in told) (pipe_in before) (pipe_in left)) hands.through
           (told_received path old new knows.sound still running packets told is).gave.each
           (λ x s v is_path was_on on stands stood gave.
-          let kept = gave_sink (bytes_in told) (pipe_in before) (pipe_in left) s v gave in
-          moved path (record {
+          let kept = gave_sinks (bytes_in told) (pipe_in before) (pipe_in left) s v gave in
+          let out : pipe_out left ≡ pipe_out before =
+          received_out before left packets old.world new.world hands.answer hands.moves in
+          unsent path (record {
             due = Some (Receive path packets);
             asked = old;
             item = item.Received path told;
-          }) before left s v [] (bytes_in told) refl
-          (ap (λ (b : Bool). if b then bytes_in told else []) (path_itself path))
-          (joins_none (is_ok told) [] s.sink v.sink refl kept.0)
-          (λ none. sink_step_none (is_ok told) (pipe_out before) (pipe_out left) s v
-          (received_out before left packets old.world new.world hands.answer hands.moves)
-          kept.0)
+          }) before left s v (bytes_in told) refl
+          (ap (λ (b : Bool). if b then bytes_in told else []) (path_itself path)) (ap end_of out)
+          (λ none. out) kept.0
           (λ none. gave_by (bytes_in told) (pipe_in before) (pipe_in left) s v gave
           (received_in before left packets old.world new.world hands.answer hands.moves))
           kept.1)
@@ -554,22 +593,23 @@ module _ (path : List ℕ) (device : Accepted) (old new : HostState)
           hands.keeps.worlds.devices.same single x v on stands in
           let same : SameSettings x s v = subst (λ (d : State). SameSettings x d v)
           (one_stands old.world x s was.before stood was.stands) was.so in
-          moved path (record {
+          unsent path (record {
             due = Some (Clear path);
             asked = old;
             item = item.Cleared path told;
           })
-          before left s v [] [] refl refl
-          (joins_none (is_ok told) [] s.sink v.sink refl cleared.sink)
-          (λ works. sink_step_none (is_ok told) (pipe_out before) (pipe_out left) s v
-          (clears_alone (is_ok told) (pipe_out before) (pipe_out left) s.bulk_out v.bulk_out
-          cleared.out (works refl) (cleared_out before left old.world new.world hands.answer
-          hands.moves)).0 cleared.sink)
+          before left s v [] refl refl
+          (cleared_end before left old.world new.world hands.answer hands.moves)
+          (λ works. (clears_alone (is_ok told) (pipe_out before) (pipe_out left)
+          (λ e. (out_end s e).state) (λ e. (out_end v e).state) cleared.out (works refl)
+          (cleared_out before left old.world new.world hands.answer hands.moves)).0)
+          (λ e. (cleared.moved.taken e).0)
           (λ works.
-          let alone = clears_alone (is_ok told) (pipe_in before) (pipe_in left) s.bulk_in v.bulk_in
-          cleared.into (works refl) (cleared_in before left old.world new.world hands.answer
-          hands.moves) in
-          gave_no_bytes (pipe_in before) (pipe_in left) x s v alone.0 same cleared.place alone.1)
+          let alone = clears_alone (is_ok told) (pipe_in before) (pipe_in left)
+          (λ e. (in_end s e).state) (λ e. (in_end v e).state) cleared.into (works refl)
+          (cleared_in before left old.world new.world hands.answer hands.moves) in
+          gave_no_bytes (pipe_in before) (pipe_in left) x s v alone.0 same cleared.moved.given
+          alone.1)
           same.0)
 
       -- a read, of which device it may be
@@ -679,7 +719,8 @@ module _ (path : List ℕ) (device : Accepted) (old new : HostState)
           (sent_here bytes told) is
       sent_item to bytes told is false away =
           apart to (Some (Send to bytes)) (item.Sent to (sent_count (length bytes) told))
-          (TookBytes (is_ok told) bytes) away (ap (λ (b : Bool). if b then bytes else []) away)
+          (TookBytes (pipe_out (pipes_at to (table_in old))) (is_ok told) bytes) away
+          (ap (λ (b : Bool). if b then bytes else []) away)
           refl (is.call.did running).through
           (told_sent to old new knows.sound still running bytes told is).took.each
 

@@ -3,6 +3,7 @@ mod Devices
 mod HaltedSends
 mod Heads
 mod Items
+mod PipeEnds
 mod Starts
 mod Stretches
 mod Streams

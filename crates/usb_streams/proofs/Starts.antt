@@ -2,7 +2,7 @@
 use Rattle.std.proofs.Common.{◌≡◌, ◌∙◌, refl, sym, ap, subst, Bool, true, false, ℕ, Option, None}
 use Rattle.std.proofs.Common.{Some, option_map, is_some, if◌then◌else◌}
 use Rattle.usb_packet.specs.{Zero, other}
-use Rattle.usb_device.specs.{EndpointState, rested, SourceAt, State}
+use Rattle.usb_device.specs.{EndpointState, rested, SourceAt, State, in_end}
 use Rattle.usb_pipe.specs.declared.condition.Condition.TheVariants.{Ready}
 use Rattle.usb_pipe.specs.{Bulk, InPipeInSync}
 use Rattle.usb_descriptor.specs.{status_endpoint_of}
@@ -58,10 +58,12 @@ new_in device below pipe e = by_hub (is_some device.hub) refl
 -- through such a pipe to an endpoint that has begun again, the host has got as many bytes as the
 -- device counts
 pub begun_place : (pipe : Bulk) (got : ℕ) (s : State) → pipe.condition ≡ Ready → pipe.toggle ≡ Zero
-    → s.bulk_in ≡ rested → InPipeInSync pipe got s → InPipeInSync pipe s.place s
+    → (in_end s pipe.ep).state ≡ rested → InPipeInSync pipe got s
+    → InPipeInSync pipe (in_end s pipe.ep).place s
 begun_place pipe got s works first begun fits = by_source (fits.level works)
   where
-    by_source : SourceAt pipe.max got pipe.toggle s → InPipeInSync pipe s.place s
+    by_source : SourceAt pipe.ep pipe.max got pipe.toggle s
+        → InPipeInSync pipe (in_end s pipe.ep).place s
     by_source (SourceAt.level place toggle) = subst (λ n. InPipeInSync pipe n s) (sym place) fits
     by_source (SourceAt.ahead place more toggle) =
         absurd (cc (sym (ap (λ (x : EndpointState). x.toggle) begun) ∙ toggle ∙ ap other first))

@@ -2,6 +2,7 @@
 use Rattle.std.proofs.Common.{◌≡◌, ◌⊎◌, inl, inr, ◌∙◌, refl, sym, ap, subst, true, ℕ, List, [], ◌∷◌}
 use Rattle.std.proofs.Common.{Option, None, Some, Ok}
 use Rattle.usb_device.specs.{State, Location, path_to, reach, reach_on, state_on, state_there}
+use Rattle.usb_device.specs.{in_end, out_end}
 use Rattle.usb_world.specs.declared.event.Ask.{Ask}
 use Rattle.usb_world.specs.{Look, Was, World}
 use Rattle.usb_world.proofs.Interface.{settled_course}
@@ -66,7 +67,7 @@ renewed_starts path device a b renewed knows still at x s pipe is on stands e =
     let fits : FitsIn (Some pipe) s = subst (λ p. FitsIn p s) e
     (level_in (pipes_at path (table_in b)) s
     (level_at path device b knows still at x s is on stands)) in
-    begun_place pipe fits.0 s new.0 new.1 (renewed.endpoints x s is on stands).1 fits.1
+    begun_place pipe fits.0 s new.0 new.1 (renewed.endpoints x s is on stands pipe.ep).1 fits.1
 
 -- with what it had taken and given before
 renewed_head : (path : List ℕ) (device : Accepted) (a b : HostState)
@@ -80,8 +81,8 @@ renewed_head path device a b renewed knows still x v is on stands =
     (course_kept renewed.control (settled_course renewed.before (knows.sound.order still).settled)
     x))
     (inl (record {
-      sink = ap (λ (d : State). d.sink) was.so;
-      place = ap (λ (d : State). d.place) was.so;
+      sink = λ e. ap (λ (d : State). (out_end d e).sink) was.so;
+      place = λ e. ap (λ (d : State). (in_end d e).place) was.so;
     }))
 
 -- what lies between two items leaves it, with its bulk endpoints

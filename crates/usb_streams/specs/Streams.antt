@@ -1,7 +1,7 @@
 -- What the device at a path takes and gives over a stretch of a run: transfers join end to end
 -- (5.8).
-use Rattle.std.specs.Prelude.{◌≡◌, ◌⊎◌, ⊤, ℕ, ◌+◌, ◌==◌, List, [], ◌∷◌, ◌++◌, length, take, drop, Bool}
-use Rattle.std.specs.Prelude.{true, false, if◌then◌else◌, Option, None, Some, Ok, is_ok}
+use Rattle.std.specs.Prelude.{◌≡◌, ◌⊎◌, ⊤, ℕ, ◌+◌, ◌==◌, List, [], ◌∷◌, ◌++◌, length, take, drop}
+use Rattle.std.specs.Prelude.{Bool, true, false, if◌then◌else◌, Option, None, Some, Ok, is_ok}
 use Rattle.std.specs.BTreeMap.{is_at}
 use Rattle.std.specs.List.{AllByRecursion}
 use Rattle.usb_port.specs.{path_cmp}
@@ -95,8 +95,8 @@ abbrev pub ClearsNoOut : List ℕ → ToldItem → Type 0
 ClearsNoOut path t = t.due ≡ Some (Clear path)
     → IsAtWork (pipe_out (pipes_at path (table_in t.asked)))
 
--- the sends that are told done are, end to end, what the endpoint of the pipe got, with at most a front of a failed
--- one behind them, and none where the pipe works still
+-- the sends that are told done are, end to end, what the endpoint of the pipe got, with at most a
+-- front of a failed one behind them, and none where the pipe works still
 pub record TookSent (path : List ℕ) (told : List ToldItem) (left : Option Bulk) (s v : State) :
     Type 0 where
   pub front : List ℕ
@@ -161,7 +161,8 @@ pub record StoodAt (path : List ℕ) (device : Accepted) (told : List ToldItem)
 abbrev pub StartsAt : List ℕ → HostState → Type 0
 StartsAt path h = (x : Location) (s : State) (pipe : Bulk) → path ≡ path_to x
     → reach_on h.world.roots x ≡ true → state_on h.world.roots x ≡ Some s
-    → pipe_in (pipes_at path (table_in h)) ≡ Some pipe → InPipeInSync pipe (in_end s pipe.ep).place s
+    → pipe_in (pipes_at path (table_in h)) ≡ Some pipe
+    → InPipeInSync pipe (in_end s pipe.ep).place s
 
 -- the call of a stretch in which a device is found anew, from the host that makes it, and with what
 -- it tells: a round, or a look that an event asks of a host that had settled

@@ -32,8 +32,8 @@ abbrev pub sink_of : Option Bulk → State → List ℕ
 sink_of None s = []
 sink_of (Some pipe) s = (out_end s pipe.ep).sink
 
--- these bytes joined what had been taken, each once and in order; where the transfer failed, a front
--- of them
+-- these bytes joined what had been taken, each once and in order; where the transfer failed, a
+-- front of them
 abbrev pub JoinsSink : Bool → List ℕ → List ℕ → List ℕ → Type 0
 JoinsSink true bytes before after = after ≡ before ++ bytes
 JoinsSink false bytes before after = FrontTaken bytes before after

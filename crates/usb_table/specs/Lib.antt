@@ -18,8 +18,8 @@ pub use Controls.{control_target, target_asked, without_bytes}
 pub use Controls.{TableWrites, WriteIf, WriteLeft, WriteLeftIf, WriteMade, unreserved, write_asked}
 pub use Controls.{write_target}
 pub use Deliveries.{ChangesAt, Collected, Delivered, GaveBy, GaveBytes, HaltCleared, HaltClearedBy}
-pub use Deliveries.{HaltsCleared, JoinsSink, OnlySinkOf, Restarted, TookBytes, TransfersAt, bytes_in}
-pub use Deliveries.{pipe_in, pipe_out, sink_of}
+pub use Deliveries.{HaltsCleared, JoinsSink, OnlySinkOf, Restarted, TookBytes, TransfersAt}
+pub use Deliveries.{bytes_in, pipe_in, pipe_out, sink_of}
 pub use TableEntries.{Entries, Replaced, Rises, has_at, is_at_or_below, without}
 pub use Findings.{HasDevice, HasNewAddress, HasNoDevice, IsSoundDevice, IsSoundFinding}
 pub use Findings.{accepted_device_at, accepted_device_of, address_found, at_full_speed, in_endpoint}

@@ -79,7 +79,8 @@ data SourceGave (e most max : ℕ) (awaited : Toggle) (Clear : Type 0) (s : Stat
   moved : (b : ArrayVec ℕ) (came : Bool) → (in_end s e).state.halted ≡ false
       → SourceStep e most awaited s (Some b.items) (stepped e most s came)
       → SourceGave e most max awaited Clear s (Moved b) (stepped e most s came)
-  again : (came : Bool) → (in_end s e).state.halted ≡ false → is_same awaited (in_end s e).state.toggle ≡ false
+  again : (came : Bool) → (in_end s e).state.halted ≡ false
+      → is_same awaited (in_end s e).state.toggle ≡ false
       → (Clear → came ≡ true) → SourceStep e most awaited s None (stepped e most s came)
       → SourceGave e most max awaited Clear s Repeat (stepped e most s came)
 
@@ -117,7 +118,8 @@ module _ (e most max : ℕ) (awaited : Toggle) (s : State) (Clear : Type 0) wher
   gave_in i row whole t2 t3 c =
       rw (bulk_law_is e most s i row max t2 t3)
       (by_law i (in_end s e).state.halted (length (rest_of s e) == 0)
-      (nat_le (length (take most (rest_of s e))) max) (is_same awaited (in_end s e).state.toggle) t2 t3
+      (nat_le (length (take most (rest_of s e))) max) (is_same awaited (in_end s e).state.toggle)
+      t2 t3
       refl refl refl refl (λ d. ((c d).1, (c d).2)))
   gave_in i row t1 t2 t3 c = λ on. unheard (λ d. cc (c d).0)
 
@@ -147,7 +149,8 @@ source_ends_stepped e most n awaited s (Err (Bus fault)) v (one_came x) = one_ca
 source_ends_stepped e most n awaited s _ v x = x
 
 module _ {e most max : ℕ} {awaited : Toggle} {Clear : Type 0} {s : State} where
-  kept : {h : HeardOutcome} {v : State} → SourceGave e most max awaited Clear s h v → OnlySource e s v
+  kept : {h : HeardOutcome} {v : State} → SourceGave e most max awaited Clear s h v
+      → OnlySource e s v
       × ((in_end s e).state.halted ≡ true → v ≡ s)
   kept (moved b true f on) = (only_stepped e most s, λ c. false_true (sym f ∙ c))
   kept (again true f q c on) = (only_stepped e most s, λ c. false_true (sym f ∙ c))
@@ -210,7 +213,8 @@ module _ {e most max : ℕ} {awaited : Toggle} {Clear : Type 0} {s : State} wher
 
   -- it goes on listening
   stays_in : {j : Location} {v : State} (t : Target) {h : HeardOutcome}
-      → SourceGave e most max awaited Clear s h v → Listens t j s × IsSource e most s → Listens t j v
+      → SourceGave e most max awaited Clear s h v → Listens t j s × IsSource e most s
+      → Listens t j v
       × IsSource e most v
   stays_in {j} {v} t g is =
       let f : OnlySource e s v = (kept g).0 in (
@@ -260,7 +264,8 @@ module _ (t : Target) (ep : ℕ) (awaited : Toggle) where
       away : is_at s t ≡ false → v ≡ s
       away = stays_away t (λ w u y. in_others t ep w j u y) x
 
-      left : is_at s t ≡ true → (most : ℕ) → IsSource ep most s → SourceLeft ep most awaited result s v
+      left : is_at s t ≡ true → (most : ℕ) → IsSource ep most s
+          → SourceLeft ep most awaited result s v
       left h most i =
           at_end hear (λ outcomes w u. (is_at u t ≡ true) × IsSource ep most u
           × ((y : State) → SourceLeft ep most awaited result u y
@@ -306,7 +311,8 @@ source_between t ep awaited outcomes old now settled trail onward single =
     (λ j s v run.
     let x : SourceIn t ep awaited (Err NoAnswer) j s v =
     source_in t ep awaited (Err NoAnswer) (Unit {0})
-    (λ most y gave. (only_same ep y, λ n m at. at, λ e. cc e, λ c. (refl, λ b e. cc e))) old now j s v
+    (λ most y gave. (only_same ep y, λ n m at. at, λ e. cc e, λ c. (refl, λ b e. cc e)))
+    old now j s v
     (stopped tt run onward) in
     record { others = x.others; frame = x.frame; source = x.source })
     (over_in_trail t ep old now settled single trail)
@@ -316,12 +322,15 @@ source_between t ep awaited outcomes old now settled trail onward single =
 module _ (t : Target) (ep : ℕ) (awaited : Toggle) (old : World) (three : NoThreeDamaged old) where
   -- it is level, or it is behind, and then all attempts were damaged
   data Stands (most had n : ℕ) (w : World) (u : State) : Type 0 where
-    even : (in_end u ep).place ≡ had → (in_end u ep).state.toggle ≡ awaited → n ≤ 3 → Stands most had n w u
-    behind : had ≡ advanced (in_end u ep).place most (length u.spec.source) → (in_end u ep).place < length u.spec.source
+    even : (in_end u ep).place ≡ had → (in_end u ep).state.toggle ≡ awaited → n ≤ 3
+        → Stands most had n w u
+    behind : had ≡ advanced (in_end u ep).place most (length u.spec.source)
+        → (in_end u ep).place < length u.spec.source
         → (in_end u ep).state.toggle ≡ other awaited
         → (k : ℕ) → LostRun old.damages k w.attempts → n ≤ k → Stands most had n w u
 
-  first_stands : (most had : ℕ) (s : State) → SourceAt ep most had awaited s → Stands most had 0 old s
+  first_stands : (most had : ℕ) (s : State) → SourceAt ep most had awaited s
+      → Stands most had 0 old s
   first_stands most had s (level g q) = even g q (omega arith)
   first_stands most had s (ahead g p q) = behind g p q 0 (lost_run_none old.damages old.attempts)
       (omega arith)
@@ -346,7 +355,8 @@ module _ (t : Target) (ep : ℕ) (awaited : Toggle) (old : World) (three : NoThr
       absurd (omega (arith, p, d))
   next_stands had n w trail made c m left (again came f r d on) z (even g q few) =
       false_true (sym r ∙ ap (is_same awaited) q ∙ is_same-refl awaited)
-  next_stands {most} {u = u} had n w trail made c m left (again true f r d on) z (behind g p q k ran few) =
+  next_stands {most} {u = u} had n w trail made c m left (again true f r d on) z
+      (behind g p q k ran few) =
       even (ap (λ x. x.place) (stepped_end ep most u) ∙ sym g)
       (ap (λ x. x.state.toggle) (stepped_end ep most u) ∙ ap other q ∙ other-other awaited)
       (omega (arith, few, run_short old k w.attempts three ran))
@@ -356,7 +366,8 @@ module _ (t : Target) (ep : ℕ) (awaited : Toggle) (old : World) (three : NoThr
   next_stands had n w trail made c m left _ z y = elim z [ ]
 
   waits_few : (new : World) (j : Location) (s v : State) (most had : ℕ) → Listens t j s
-      × IsSource ep most s → SourceAt ep most had awaited s → most ≤ t.max → had < length s.spec.source
+      × IsSource ep most s → SourceAt ep most had awaited s → most ≤ t.max
+      → had < length s.spec.source
       → Ran t ep awaited (IsOfBus {A = List ℕ} (Err Busy)) (Err Busy) old new j s v → ⊥
   unfolding waits_in
   waits_few new j s v most had is at m left x =
@@ -454,12 +465,14 @@ sink_then e s u v x y = record {
   others = λ a h. y.others a h ∙ x.others a h;
 }
 
-sink_at_forgotten : {e : ℕ} {before bytes : List ℕ} {t : Toggle} {s : State} → SinkAt e before bytes t s
+sink_at_forgotten : {e : ℕ} {before bytes : List ℕ} {t : Toggle} {s : State}
+    → SinkAt e before bytes t s
     → SinkAt e before bytes t (forgotten s)
 sink_at_forgotten (level a b) = level a b
 sink_at_forgotten (ahead a b) = ahead a b
 
-joins : {e : ℕ} {before bytes : List ℕ} {t : Toggle} {s : State} → is_same t (out_end s e).state.toggle ≡ true
+joins : {e : ℕ} {before bytes : List ℕ} {t : Toggle} {s : State}
+    → is_same t (out_end s e).state.toggle ≡ true
     → SinkAt e before bytes t s → Joined e before bytes t (forgotten (sunk s e bytes))
 joins {e} {bytes = bytes} {s = s} h (level a b) = record {
   sink = ap (λ x. x.sink) (sunk_end e bytes s) ∙ ap (λ x. x ++ bytes) a;
@@ -467,7 +480,8 @@ joins {e} {bytes = bytes} {s = s} h (level a b) = record {
 }
 joins {t = t} h (ahead a b) = false_true (sym (ap (is_same t) b ∙ other_toggle t) ∙ h)
 
-had : {e : ℕ} {before bytes : List ℕ} {t : Toggle} {s : State} → is_same t (out_end s e).state.toggle ≡ false
+had : {e : ℕ} {before bytes : List ℕ} {t : Toggle} {s : State}
+    → is_same t (out_end s e).state.toggle ≡ false
     → SinkAt e before bytes t s → Joined e before bytes t (forgotten s)
 had {t = t} h (level a b) = false_true (sym h ∙ ap (is_same t) b ∙ is_same-refl t)
 had h (ahead a b) = record { sink = a; toggle = b }
@@ -522,26 +536,32 @@ module _ (e most max : ℕ) (s : State) (i : IsSink e most s) (t : Toggle) (byte
       → Took e most t bytes Clear s (heard_when_sent (got max (out_law s e t bytes t1 t2 t3).0))
       (out_law s e t bytes t1 t2 t3).1
   took_out whole whole t3 c =
-      subst (Answers t3) (sym row_is) (by_row (out_end s e).state.halted (nat_lt most (length bytes))
-      (is_same t (out_end s e).state.toggle) t3 refl (λ m. not_long most bytes m) refl (λ d. (c d).2))
-  took_out t1 t2 t3 c = unheard _ (λ d. (let x = c d in cc)) (sink_same e s, λ before at. at, λ g f. refl)
+      subst (Answers t3) (sym row_is) (by_row (out_end s e).state.halted
+      (nat_lt most (length bytes))
+      (is_same t (out_end s e).state.toggle) t3 refl (λ m. not_long most bytes m)
+      refl (λ d. (c d).2))
+  took_out t1 t2 t3 c = unheard _ (λ d. (let x = c d in cc))
+      (sink_same e s, λ before at. at, λ g f. refl)
 
 pub sink_kept : (ep most : ℕ) (s u : State) → OnlySink ep s u → IsSink ep most s → IsSink ep most u
 sink_kept ep most s u e i = subst (λ x. IsSink ep most x) (sym e.rest)
     (record { endpoint = i.endpoint; not_zero = i.not_zero })
 
-pub at_kept : (t : Target) {ep : ℕ} (s u : State) → OnlySink ep s u → is_at s t ≡ true → is_at u t ≡ true
+pub at_kept : (t : Target) {ep : ℕ} (s u : State) → OnlySink ep s u → is_at s t ≡ true
+    → is_at u t ≡ true
 at_kept t s u e h = ap (λ x. is_at x t) e.rest ∙ h
 
 -- what a transaction leaves of the endpoint
 abbrev SinkLeft : ℕ → Toggle → List ℕ → Result (List ℕ) TransFault → State → State → Type 0
 SinkLeft e t bytes result s v =
-    OnlySink e s v × ((before : List ℕ) → SinkAt e before bytes t s → SinkEnds e before bytes t result v)
+    OnlySink e s v × ((before : List ℕ) → SinkAt e before bytes t s
+    → SinkEnds e before bytes t result v)
     × ((out_end s e).state.halted ≡ true → forgotten s ≡ s → (v ≡ s)
     × ((done : List ℕ) → result ≡ Ok done → ⊥))
 
 module _ {e most : ℕ} {t : Toggle} {bytes : List ℕ} {Clear : Type 0} {s : State} where
-  stays_out : {h : HeardOutcome} {v : State} → Took e most t bytes Clear s h v → SinkStays e t bytes s v
+  stays_out : {h : HeardOutcome} {v : State} → Took e most t bytes Clear s h v
+      → SinkStays e t bytes s v
   stays_out (unheard v c x) = x
   stays_out (refused f) = (only_forgotten e s, λ before at. sink_at_forgotten at, λ g h. h)
   stays_out (acked v f x on) = (
@@ -580,7 +600,8 @@ module _ {e most : ℕ} {t : Toggle} {bytes : List ℕ} {Clear : Type 0} {s : St
   no_waits_out (refused f) n = omega arith
   no_waits_out g n = omega arith
 
-after_stay : (e : ℕ) (t : Toggle) (bytes : List ℕ) (result : Result (List ℕ) TransFault) (s u v : State)
+after_stay : (e : ℕ) (t : Toggle) (bytes : List ℕ) (result : Result (List ℕ) TransFault)
+    (s u v : State)
     → SinkStays e t bytes s u → SinkLeft e t bytes result u v → SinkLeft e t bytes result s v
 after_stay e t bytes result s u v x l = (
   sink_then e s u v x.0 l.0,
@@ -657,7 +678,8 @@ sink_leaves t ep toggle bytes result old new settled x single =
     each_rests _ (SinkOut t ep toggle bytes result) old new settled
     (sink_out t ep toggle bytes result (IsOfBus result)
     (λ v gave. of_bus (λ r. SinkLeft ep toggle bytes r v v)
-    (λ fault. (sink_same ep v, λ before at. at, λ c h. (refl, λ done e. cc e))) result gave) old new)
+    (λ fault. (sink_same ep v, λ before at. at, λ c h. (refl, λ done e. cc e))) result
+    gave) old new)
     (over_out t ep toggle bytes old new settled single heard_when_sent result x)
 
 pub sink_over : (t : Target) (ep : ℕ) (toggle : Toggle) (bytes : List ℕ)
@@ -698,7 +720,8 @@ sink_why t ep toggle bytes result old new settled three e single =
         → DidOut (out_attempt t ep toggle bytes) toggle bytes w j u y → Listens t j u
         × IsSink ep most u → Listens t j y × IsSink ep most y
     stays most w j u y d is =
-        let f : OnlySink ep u y = (stays_out (did_out t ep toggle bytes most w j u y d is.0.at is.1)).0
+        let f : OnlySink ep u y =
+        (stays_out (did_out t ep toggle bytes most w j u y d is.0.at is.1)).0
         in (
           listens_on t j u y (ap (λ x. x.spec) f.rest) (ap (λ x. x.registers) f.rest) is.0,
           sink_kept ep most u y f is.1,
@@ -710,8 +733,8 @@ sink_why t ep toggle bytes result old new settled three e single =
       answered = λ l most i fits e. heeded (λ u. Listens t j u × IsSink ep most u)
           (λ w u y d n. stays most w j u y d) (l, i) three
           (λ w u y d is none f.
-          unheard_out (subst (λ h. Took ep most toggle bytes ((damage_in w ≡ None) × Listens t j u) u h
-          y) f (did_out t ep toggle bytes most w j u y d is.0.at is.1)) (none, is.0) fits)
+          unheard_out (subst (λ h. Took ep most toggle bytes ((damage_in w ≡ None) × Listens t j u)
+          u h y) f (did_out t ep toggle bytes most w j u y d is.0.at is.1)) (none, is.0) fits)
           (subst (λ r. RanOut t ep toggle bytes (IsOfBus r) r old new j s v) e x);
       waited = λ l most i e. spared (λ u. Listens t j u × IsSink ep most u)
           (λ w u y d n. stays most w j u y d) (l, i) (λ u. 0)

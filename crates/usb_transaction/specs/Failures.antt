@@ -81,7 +81,8 @@ pub record SourceInFailure (t : Target) (ep : ℕ) (awaited : Toggle)
   pub answered : Listens t x s → (most got : ℕ) → IsSource ep most s
       → SourceAt ep most got awaited s → most ≤ t.max → result ≢ Err NoAnswer
   pub waited : Listens t x s → (most got : ℕ) → IsSource ep most s → 1 ≤ most
-      → SourceAt ep most got awaited s → most ≤ t.max → got < length s.spec.source → result ≢ Err Busy
+      → SourceAt ep most got awaited s → most ≤ t.max → got < length s.spec.source
+      → result ≢ Err Busy
   pub halted : Listens t x s → (most : ℕ) → IsSource ep most s
       → (in_end s ep).state.halted ≡ true → (result ≢ Err NoAnswer) × (result ≢ Err Busy)
 

@@ -6,7 +6,8 @@ use Rattle.usb_packet.specs.{TokenKind, OutTok, InTok, SetupTok, Toggle, Zero, O
 use Rattle.usb_packet.specs.{Payload}
 use Rattle.usb_packet.specs.declared.Packet.TheVariants as packet
 use Rattle.arrayvec.specs.ArrayVec.{ArrayVec}
-use Rattle.usb_device.specs.{RememberedPacket, BulkIn, BulkOut, Outcome, halts, unhalts, Stage, idle}
+use Rattle.usb_device.specs.{RememberedPacket, BulkIn, BulkOut, Outcome, halts, unhalts, Stage}
+use Rattle.usb_device.specs.{idle}
 use Rattle.usb_device.specs.{takes_configuration, halted, rested, InEnd, no_in, rested_in, with_at}
 use Rattle.usb_device.specs.{reading, max_packet, packet_at, toggle_at, State, Reply}
 use Rattle.usb_device.specs.{received, answered, forgotten, begun, gives, in_row, status_row}
@@ -67,7 +68,8 @@ place-set a e x row = by_number (e == a) refl
         → (get_or (with_at no_in a (with_state a x row) row) e no_in).place
         ≡ (get_or row e no_in).place
     by_number true is =
-        ap (λ m. (get_or (with_at no_in a (with_state a x row) row) m no_in).place) (eqb-true e a is)
+        ap (λ m. (get_or (with_at no_in a (with_state a x row) row) m no_in).place)
+        (eqb-true e a is)
         ∙ ap (λ i. i.place) (at_same no_in a (with_state a x row) row)
         ∙ ap (λ m. (get_or row m no_in).place) (sym (eqb-true e a is))
     by_number false is = ap (λ i. i.place) (at_other no_in a e (with_state a x row) row is)

@@ -9,7 +9,7 @@ use Rattle.usb_port.specs.{PortState}
 use Rattle.usb_device.specs.declared.answer.Answer.TheVariants.{Nak, Stall}
 use Rattle.usb_device.specs.declared.transfer.InEndpoint.TheVariants as by
 use Rattle.usb_device.specs.{advanced, State, Reply, forgotten, payload, in_ack_row, in_end, in_max}
-use Rattle.usb_device.specs.{given_on, no_in, with_at, with_in, OnlySource}
+use Rattle.usb_device.specs.{given_on, no_in, with_in, OnlySource}
 use Rattle.usb_device.specs.{rest_of, Way, is_whole, heard, gave, source_law, changes_law}
 use Rattle.usb_device.specs.{in_control_law, in_other_law, in_end_law, in_law, taken_of, IsSource}
 use Rattle.usb_device.specs.{SourceAt, level, ahead, SourceOn}
@@ -139,7 +139,8 @@ module _ (e most got : ℕ) (t : Toggle) (s : State) (i : IsSource e most s) whe
   source_stalled at max whole = at
   source_stalled at max t2 = at
 
-  busy_on : SourceAt e most got t s → (max : ℕ) (t2 : Way) → SourceReply max (heard t2 (Some Nak), s)
+  busy_on : SourceAt e most got t s → (max : ℕ) (t2 : Way)
+      → SourceReply max (heard t2 (Some Nak), s)
   busy_on at max whole = at
   busy_on at max t2 = at
 
@@ -154,7 +155,8 @@ module _ (e most got : ℕ) (t : Toggle) (s : State) (i : IsSource e most s) whe
   source_here : 1 ≤ most → SourceAt e most got t s → (row : List PortState) (max : ℕ)
       (t1 t2 t3 : Way) → SourceReply max (in_law s row e max t1 t2 t3)
   source_here m at row max whole t2 t3 =
-      let given = gave s (by.Bulk e) max (in_end s e).state.toggle (take most (rest_of s e)) t2 t3 in
+      let given = gave s (by.Bulk e) max (in_end s e).state.toggle (take most (rest_of s e)) t2
+      t3 in
       subst (SourceReply max) (sym (bulk_law_is e most s i row max t2 t3))
       (by_rest at max t2 given (in_end s e).state.halted (length (rest_of s e) == 0)
       (gave_on m at max t2 t3))
@@ -164,14 +166,16 @@ pub source_on : (e most got : ℕ) (t : Toggle) (s : State) → IsSource e most 
     → SourceAt e most got t s → (row : List PortState) (max : ℕ) (t1 t2 t3 : Way)
     → SourceOn e most got t s (taken_of t max (in_law s row e max t1 t2 t3).0)
     (in_law s row e max t1 t2 t3).1
-source_on e most got t s i m at row max t1 t2 t3 = source_here e most got t s i m at row max t1 t2 t3
+source_on e most got t s i m at row max t1 t2 t3 =
+    source_here e most got t s i m at row max t1 t2 t3
 
 -- no other endpoint changes
 
 only_same : (e : ℕ) (s : State) → OnlySource e s s
 only_same e s = record { rest = refl; others = λ a h. refl }
 
-only_acked : (e : ℕ) (s : State) (most : Option ℕ) → OnlySource e s (forgotten (in_ack_row s e most))
+only_acked : (e : ℕ) (s : State) (most : Option ℕ)
+    → OnlySource e s (forgotten (in_ack_row s e most))
 only_acked e s None = record { rest = refl; others = λ a h. refl }
 only_acked e s (Some max) = record {
   rest = refl;

@@ -1,11 +1,11 @@
 -- An OUT endpoint besides endpoint 0, one attempt after another.
-use Rattle.std.proofs.Common.{◌≡◌, ◌≤◌, ◌==◌, ℕ, nat_lt, if◌then◌else◌, Bool, true, false, List}
+use Rattle.std.proofs.Common.{◌≡◌, ◌≤◌, ℕ, nat_lt, if◌then◌else◌, Bool, true, false, List}
 use Rattle.std.proofs.Common.{◌++◌, length, None, Some, refl, ap, sym, subst, ◌∙◌, arith}
 use Rattle.std.proofs.lemmas.Bool.Decides.{nat_tests}
 use Rattle.usb_packet.specs.{Toggle, other, is_same}
 use Rattle.usb_device.specs.declared.answer.Answer.TheVariants.{Ack, Stall}
-use Rattle.usb_device.specs.{State, Reply, forgotten, no_out, taken_on, out_end, out_max, with_at}
-use Rattle.usb_device.specs.{sunk, sink_row, data_row, out_row, out_end_row, unless_busy, Way, heard}
+use Rattle.usb_device.specs.{State, Reply, forgotten, no_out, taken_on, out_end, out_max}
+use Rattle.usb_device.specs.{sunk, sink_row, out_row, out_end_row, unless_busy, Way, heard}
 use Rattle.usb_device.specs.{out_law, IsSink, OnlySink, SinkAt, level, ahead, SinkOn, Joined}
 use Rattle.usb_device.specs.Attempt.{whole}
 use Rattle.usb_device.proofs.RowsOfEnds.{at_same, at_other}

@@ -244,8 +244,8 @@ configuration_sets t value result old new ordered what keeps = record {
   devices = λ single.
       each_wider (ConfigurationAsked t value result new) (StaysBut t.addr)
       (λ j s v x. record {
-        spec = ap (λ y. y.spec) x.frame;
-        same = ap (λ y. y.registers.address) x.frame;
+        spec = ap (λ y. y.spec) x.frame.rest;
+        same = ap (λ y. y.registers.address) x.frame.rest;
         stays = λ apart. stays_as_same j s v (x.others apart);
       }) old new (what single);
   ports = λ none. ordered.elsewhere refl (ends_without_fault 2 result old new ordered.ends none);

@@ -1,5 +1,5 @@
 -- How what is learned of a device joins where it is configured.
-use Rattle.usb_device.specs.{Location, Spec, OnlyStage, State}
+use Rattle.usb_device.specs.{Location, Spec, OnlyStage, State, in_end, out_end}
 use Rattle.std.proofs.Common.{◌≡◌, ℕ, ◌==◌, List, Option, Result, Ok, false, refl, ap, subst, ◌∙◌}
 use Rattle.usb_descriptor.specs.{configuration_value, configuration_count}
 use Rattle.usb_world.specs.{EachWas, World}
@@ -17,8 +17,8 @@ use Rattle.usb_enum.proofs.devices.SharedAddresses.{went_unshared}
 -- where nothing changed but where its transfer stands
 fresh_on : (s v : State) → OnlyStage s v → IsFresh s → IsFresh v
 fresh_on s v frame fresh = record {
-  out = ap (λ y. y.bulk_out) frame ∙ fresh.out;
-  into = ap (λ y. y.bulk_in) frame ∙ fresh.into;
+  outs = λ e. ap (λ (y : State). (out_end y e).state) frame ∙ fresh.outs e;
+  ins = λ e. ap (λ (y : State). (in_end y e).state) frame ∙ fresh.ins e;
   changes = ap (λ y. y.changes) frame ∙ fresh.changes;
   held = ap (λ y. y.held) frame ∙ fresh.held;
 }
@@ -31,8 +31,8 @@ set_after : (So : Spec → Type 0) (t : Target) (value : ℕ) (last : World) (j 
     (s u v : State) → Learned So t j s u → ConfigurationAsked t value (Ok tt) last j u v
     → LearnedSet (Allowed So) t value j s v
 set_after So t value last j s u v a x = record {
-  spec = ap (λ y. y.spec) x.frame ∙ stays-spec s u a.frame;
-  address = ap (λ y. y.registers.address) x.frame
+  spec = ap (λ y. y.spec) x.frame.rest ∙ stays-spec s u a.frame;
+  address = ap (λ y. y.registers.address) x.frame.rest
       ∙ ap (λ r. r.address) (stays-registers s u a.frame);
   so = λ at.
       let set = x.done (ap (λ r. r.address == t.addr) (stays-registers s u a.frame) ∙ at) refl in (

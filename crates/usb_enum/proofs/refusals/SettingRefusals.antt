@@ -105,8 +105,8 @@ setting_refused t value outcome stop old new some is what why three single =
     each_joint (ConfigurationAsked t value (Err failed.0) new) (WriteFailure t (Err failed.0))
     (Explained Hears (RefusesValue t value stop) t)
     (λ j s v x y. record {
-      spec = ap (λ z. z.spec) x.frame;
-      address = ap (λ z. z.registers.address) x.frame;
+      spec = ap (λ z. z.spec) x.frame.rest;
+      address = ap (λ z. z.registers.address) x.frame.rest;
       so = λ h ruled taken r. subst (λ z. IsRefusedFor setting_fault z s.spec) failed.2
           (setting_stop t value new some failed.0 j s v x y h ruled taken r);
     })

@@ -5,7 +5,7 @@ use Rattle.std.proofs.Common.{List, Option, None, Some, option_map, Result}
 use Rattle.std.specs.BTreeMap.{is_at}
 use Rattle.arrayvec.specs.ArrayVec.{ArrayVec}
 use Rattle.usb_port.specs.{path_cmp}
-use Rattle.usb_device.specs.{rested, State, reach, state_there}
+use Rattle.usb_device.specs.{in_end, out_end, State, reach, state_there}
 use Rattle.usb_world.specs.{Was, EachWas, AnyStep, Course, after, event, here, World}
 use Rattle.usb_tree.specs.{address_of, is_way}
 use Rattle.usb_world.proofs.Interface.{course_joined, each_wider, way_itself}
@@ -54,10 +54,10 @@ began_on : (path : List ℕ) (w v : World) → EndpointsBegan path w → Endpoin
     → EndpointsBegan path v
 began_on path w v began stayed x s is on stands =
     let was : Was SparesBulk w x s = stayed x s is on stands in
-    let fresh : (was.before.bulk_out ≡ rested) × (was.before.bulk_in ≡ rested) =
-    began x was.before is was.on was.stands in (
-      ap (λ (t : State). t.bulk_out) was.so ∙ fresh.0,
-      ap (λ (t : State). t.bulk_in) was.so ∙ fresh.1,
+    λ e.
+    let fresh = began x was.before is was.on was.stands e in (
+      ap (λ (t : State). (out_end t e).state) was.so ∙ fresh.0,
+      ap (λ (t : State). (in_end t e).state) was.so ∙ fresh.1,
     )
 
 stayed_none : (path : List ℕ) (w : World) {v : World} → v ≡ w → EndpointsStayed path w v

@@ -148,7 +148,7 @@ module _ (n : ℕ) (path : List ℕ) (port : KnownPort) (pool : Addresses) (a b 
         e.own.truth (claims a.entries) path begins.at begins.free begins.taken begins.owned
         (regular_order begins.order) device (ap Ok found) t (ap (reach b.world.roots) is ∙ on)
         (ap (state_there b.world.roots) is ∙ stands) in
-        (own.2.out, own.2.into))
+        λ number. (own.2.outs number, own.2.ins number))
 
     pub entered_sound : KeepsPort path a (Ok tt) b → InvariantAfterPort path (Ok tt) b
     entered_sound k = record {

@@ -1,10 +1,12 @@
 -- What each call through pipes leaves of the device at their other ends: it is as far as the pipes.
 use Rattle.usb_device.specs.{Location, EndpointState, Registers, advanced, bulk_at, tells_changes}
 use Rattle.usb_device.specs.{SourceAt, PollAt, NeverTold, OnlyStage, OnlySink, OnlySource}
-use Rattle.usb_device.specs.{OnlyWrite, State}
+use Rattle.usb_device.specs.{OnlyWrite, State, in_end, in_max, max_of, no_in, no_out, out_end}
+use Rattle.usb_device.specs.{out_max}
 use Rattle.usb_device.specs.{Spec}
 use Rattle.std.proofs.Common.{◌≡◌, ◌∙◌, refl, sym, ap, subst, Bool, true, false, ℕ, ◌+◌, ◌==◌, ◌<◌}
 use Rattle.std.proofs.Common.{◌&&◌, List, [], length, Option, None, Some, Result, Ok, Err, IsOk}
+use Rattle.std.proofs.Common.{get_or}
 use Rattle.std.specs.Global.{Vec}
 use Rattle.arrayvec.specs.ArrayVec.{ArrayVec}
 use Rattle.usb_packet.specs.{Toggle}
@@ -14,7 +16,7 @@ use Rattle.usb_pipe.specs.{PipeFault, Bulk, Interrupt, OutPipeInSync, InPipeInSy
 use Rattle.usb_pipe.specs.{came_with, got_after, SendLeaves, ReceiveLeaves, ClearLeaves, PollLeaves}
 use Rattle.usb_table.specs.{Pipes, Hub, Function, Absent, StatusPipeInSync, FitsOut, FitsIn}
 use Rattle.usb_table.specs.{PipesInSync, SameSettings}
-use Rattle.usb_table.proofs.transfers.HaltClears.{ClearSpares}
+use Rattle.usb_table.proofs.transfers.HaltClears.{in_cleared, out_cleared}
 use Rattle.usb_table.proofs.transfers.DevicesKept.{RanAs}
 
 -- An endpoint that nothing moved at
@@ -28,55 +30,70 @@ pub same_end : (way : Bool) (s v : State) → SameSettings root s v → bulk_at 
 same_end way s v k = ap (λ (x : Spec). bulk_at x v.registers way) k.0
     ∙ ap (λ (g : Registers). bulk_at s.spec g way) k.1
 
+pub same_out_max : (e : ℕ) (s v : State) → SameSettings root s v → out_max v e ≡ out_max s e
+same_out_max e s v k = ap (max_of e) (same_end false s v k)
+
+pub same_in_max : (e : ℕ) (s v : State) → SameSettings root s v → in_max v e ≡ in_max s e
+same_in_max e s v k = ap (max_of e) (same_end true s v k)
+
 pub same_tells : (s v : State) → SameSettings root s v → tells_changes v.spec v.registers
     ≡ tells_changes s.spec s.registers
 same_tells s v k = ap (λ (x : Spec). tells_changes x v.registers) k.0
     ∙ ap (λ (g : Registers). tells_changes s.spec g) k.1
 
-still_sink : (pipe : Bulk) (s v : State) → SameSettings root s v → v.bulk_out ≡ s.bulk_out
-    → OutPipeInSync pipe s → OutPipeInSync pipe v
+still_sink : (pipe : Bulk) (s v : State) → SameSettings root s v
+    → (out_end v pipe.ep).state ≡ (out_end s pipe.ep).state → OutPipeInSync pipe s
+    → OutPipeInSync pipe v
 still_sink pipe s v k e f = record {
   endpoint = record {
-    endpoint = same_end false s v k ∙ f.endpoint.endpoint;
+    endpoint = same_out_max pipe.ep s v k ∙ f.endpoint.endpoint;
     not_zero = f.endpoint.not_zero;
   };
   level = λ ready. ap (λ (x : EndpointState). x.toggle) e ∙ f.level ready;
   halted = λ halts. ap (λ (x : EndpointState). x.halted) e ∙ f.halted halts;
 }
 
-still_source_at : (most got : ℕ) (t : Toggle) (s v : State) → SameSettings root s v
-    → v.place ≡ s.place → v.bulk_in ≡ s.bulk_in → SourceAt most got t s → SourceAt most got t v
-still_source_at most got t s v k place e (SourceAt.level a b) =
+still_source_at : (ep most got : ℕ) (t : Toggle) (s v : State) → SameSettings root s v
+    → (in_end v ep).place ≡ (in_end s ep).place → (in_end v ep).state ≡ (in_end s ep).state
+    → SourceAt ep most got t s → SourceAt ep most got t v
+still_source_at ep most got t s v k place e (SourceAt.level a b) =
     SourceAt.level (place ∙ a) (ap (λ (x : EndpointState). x.toggle) e ∙ b)
-still_source_at most got t s v k place e (SourceAt.ahead a b c) =
+still_source_at ep most got t s v k place e (SourceAt.ahead a b c) =
     SourceAt.ahead (a ∙ ap (λ n. advanced n most (length s.spec.source)) (sym place)
-    ∙ ap (λ (x : Spec). advanced v.place most (length x.source)) (sym k.0))
-    (subst (λ (x : Spec). v.place < length x.source) (sym k.0)
+    ∙ ap (λ (x : Spec). advanced (in_end v ep).place most (length x.source)) (sym k.0))
+    (subst (λ (x : Spec). (in_end v ep).place < length x.source) (sym k.0)
     (subst (λ n. n < length s.spec.source) (sym place) b))
     (ap (λ (x : EndpointState). x.toggle) e ∙ c)
 
 -- the endpoint of a bulk IN pipe is as far as it was
-pub still_source : (pipe : Bulk) (got : ℕ) (s v : State) → SameSettings root s v → v.place ≡ s.place
-    → v.bulk_in ≡ s.bulk_in → InPipeInSync pipe got s → InPipeInSync pipe got v
+pub still_source : (pipe : Bulk) (got : ℕ) (s v : State) → SameSettings root s v
+    → (in_end v pipe.ep).place ≡ (in_end s pipe.ep).place
+    → (in_end v pipe.ep).state ≡ (in_end s pipe.ep).state → InPipeInSync pipe got s
+    → InPipeInSync pipe got v
 still_source pipe got s v k place e f = record {
   endpoint = record {
-    endpoint = same_end true s v k ∙ f.endpoint.endpoint;
+    endpoint = same_in_max pipe.ep s v k ∙ f.endpoint.endpoint;
     not_zero = f.endpoint.not_zero;
     alone = ap (λ b. pipe.ep == 1 && b) (same_tells s v k) ∙ f.endpoint.alone;
   };
-  level = λ ready. still_source_at pipe.max got pipe.toggle s v k place e (f.level ready);
+  level = λ ready. still_source_at pipe.ep pipe.max got pipe.toggle s v k place e (f.level ready);
   halted = λ halts. ap (λ (x : EndpointState). x.halted) e ∙ f.halted halts;
 }
 
-still_out : (out : Option Bulk) (s v : State) → SameSettings root s v → v.bulk_out ≡ s.bulk_out
+still_out : (out : Option Bulk) (s v : State) → SameSettings root s v → v.outs ≡ s.outs
     → FitsOut out s → FitsOut out v
 still_out None s v k e f = tt
-still_out (Some pipe) s v k e f = still_sink pipe s v k e f
+still_out (Some pipe) s v k e f =
+    still_sink pipe s v k (ap (λ row. (get_or row pipe.ep no_out).state) e) f
 
-fits_in-same : (into : Option Bulk) (s v : State) → SameSettings root s v → v.place ≡ s.place
-    → v.bulk_in ≡ s.bulk_in → FitsIn into s → FitsIn into v
-fits_in-same None s v k place e f = tt
-fits_in-same (Some pipe) s v k place e f = (f.0, still_source pipe f.0 s v k place e f.1)
+fits_in-same : (into : Option Bulk) (s v : State) → SameSettings root s v → v.ins ≡ s.ins
+    → FitsIn into s → FitsIn into v
+fits_in-same None s v k e f = tt
+fits_in-same (Some pipe) s v k e f = (
+  f.0,
+  still_source pipe f.0 s v k (ap (λ row. (get_or row pipe.ep no_in).place) e)
+      (ap (λ row. (get_or row pipe.ep no_in).state) e) f.1,
+)
 
 still_poll : (t : Toggle) (s v : State) → v.changes ≡ s.changes → v.held ≡ s.held
     → PollAt NeverTold t s → PollAt NeverTold t v
@@ -99,16 +116,15 @@ record StillEnds (s v : State) : Type 0 where
   settings : SameSettings root s v
   changes : v.changes ≡ s.changes
   held : v.held ≡ s.held
-  out : v.bulk_out ≡ s.bulk_out
-  into : v.bulk_in ≡ s.bulk_in
-  place : v.place ≡ s.place
+  outs : v.outs ≡ s.outs
+  ins : v.ins ≡ s.ins
 
 still_ends : (pipes : Pipes) (s v : State) → StillEnds s v → PipesInSync pipes s
     → PipesInSync pipes v
 still_ends (Hub pipe) s v x f = still_status pipe s v x.settings x.changes x.held f
 still_ends (Function pipes) s v x f = (
-  still_out pipes.out s v x.settings x.out f.0,
-  fits_in-same pipes.into s v x.settings x.place x.into f.1,
+  still_out pipes.out s v x.settings x.outs f.0,
+  fits_in-same pipes.into s v x.settings x.ins f.1,
 )
 still_ends Absent s v x f = tt
 
@@ -119,9 +135,8 @@ still_level pipes s v frame = still_ends pipes s v (record {
   settings = (ap (λ (d : State). d.spec) frame, ap (λ (d : State). d.registers) frame);
   changes = ap (λ (d : State). d.changes) frame;
   held = ap (λ (d : State). d.held) frame;
-  out = ap (λ (d : State). d.bulk_out) frame;
-  into = ap (λ (d : State). d.bulk_in) frame;
-  place = ap (λ (d : State). d.place) frame;
+  outs = ap (λ (d : State). d.outs) frame;
+  ins = ap (λ (d : State). d.ins) frame;
 })
 
 -- and the data that control transfers brought
@@ -131,9 +146,8 @@ written_level pipes s v frame = still_ends pipes s v (record {
   settings = (ap (λ (d : State). d.spec) frame, ap (λ (d : State). d.registers) frame);
   changes = ap (λ (d : State). d.changes) frame;
   held = ap (λ (d : State). d.held) frame;
-  out = ap (λ (d : State). d.bulk_out) frame;
-  into = ap (λ (d : State). d.bulk_in) frame;
-  place = ap (λ (d : State). d.place) frame;
+  outs = ap (λ (d : State). d.outs) frame;
+  ins = ap (λ (d : State). d.ins) frame;
 })
 
 -- A call through the pipes to the device of an address
@@ -182,10 +196,9 @@ send_moves ends bytes pipe left into answer j s v is x k = record {
   others = x.others;
   same = ap (λ (g : Registers). g.address) k.1;
   itself = λ e at f.
-      let frame : OnlySink s v = x.frame f.0.endpoint in (
+      let frame : OnlySink pipe.ep s v = x.frame f.0.endpoint in (
         known_itself ends answer left v OutPipeInSync is e (x.fits at f.0),
-        fits_in-same into s v k (ap (λ (d : State). d.place) frame)
-            (ap (λ (d : State). d.bulk_in) frame) f.1,
+        fits_in-same into s v k (ap (λ (d : State). d.ins) frame.rest) f.1,
       );
 }
 
@@ -199,9 +212,9 @@ receive_moves ends pipe left out answer j s v is x k = record {
   others = x.others;
   same = ap (λ (g : Registers). g.address) k.1;
   itself = λ e at f.
-      let frame : OnlySource s v = x.frame f.1.1.endpoint in
+      let frame : OnlySource pipe.ep s v = x.frame f.1.1.endpoint in
       let got : ℕ = f.1.0 + came_with answer in (
-        still_out out s v k (ap (λ (d : State). d.bulk_out) frame) f.0,
+        still_out out s v k (ap (λ (d : State). d.outs) frame.rest) f.0,
         (
           got,
           known_itself ends answer left v (λ b. InPipeInSync b got) is e (x.fits at f.1.0 f.1.1),
@@ -211,31 +224,29 @@ receive_moves ends pipe left out answer j s v is x k = record {
 
 module _ (ends : Type 0) (pipe left : Bulk) (answer : Result (Unit {0}) PipeFault) (j : Location)
     (s v : State) (is : ends → pipe_known answer left ≡ left)
-    (x : ClearLeaves pipe answer left j s v) (y : ClearSpares pipe j s v) (k : SameSettings j s v)
-  where
-    pub clear_out_moves : (into : Option Bulk) → pipe.is_in ≡ false
-        → PipesMove pipe.target.addr ends (Function (record { out = Some pipe; into = into }))
-        (Function (record { out = Some left; into = into })) j s v
-    clear_out_moves into way = record {
-      others = x.others;
-      same = ap (λ (g : Registers). g.address) k.1;
-      itself = λ e at f.
-          let apart = y.into way f.0.endpoint in (
-            known_itself ends answer left v OutPipeInSync is e (x.sink at way f.0).0,
-            fits_in-same into s v k apart.1 apart.0 f.1,
-          );
-    }
+    (x : ClearLeaves pipe answer left j s v) (k : SameSettings j s v) where
+  pub clear_out_moves : (into : Option Bulk) → pipe.is_in ≡ false
+      → PipesMove pipe.target.addr ends (Function (record { out = Some pipe; into = into }))
+      (Function (record { out = Some left; into = into })) j s v
+  clear_out_moves into way = record {
+    others = x.others;
+    same = ap (λ (g : Registers). g.address) k.1;
+    itself = λ e at f. (
+      known_itself ends answer left v OutPipeInSync is e (x.sink at way f.0).0,
+      fits_in-same into s v k (out_cleared pipe.ep s v (x.only_sink way f.0.endpoint)).ins f.1,
+    );
+  }
 
-    pub clear_in_moves : (out : Option Bulk) → pipe.is_in ≡ true
-        → PipesMove pipe.target.addr ends (Function (record { out = out; into = Some pipe }))
-        (Function (record { out = out; into = Some left })) j s v
-    clear_in_moves out way = record {
-      others = x.others;
-      same = ap (λ (g : Registers). g.address) k.1;
-      itself = λ e at f.
-          let fits = x.source at way f.1.0 f.1.1 in
-          let got : ℕ = got_after pipe f.1.0 answer s in (
-            still_out out s v k (y.out way f.1.1.endpoint).0 f.0,
-            (got, known_itself ends answer left v (λ b. InPipeInSync b got) is e fits.0),
-          );
-    }
+  pub clear_in_moves : (out : Option Bulk) → pipe.is_in ≡ true
+      → PipesMove pipe.target.addr ends (Function (record { out = out; into = Some pipe }))
+      (Function (record { out = out; into = Some left })) j s v
+  clear_in_moves out way = record {
+    others = x.others;
+    same = ap (λ (g : Registers). g.address) k.1;
+    itself = λ e at f.
+        let fits = x.source at way f.1.0 f.1.1 in
+        let got : ℕ = got_after pipe f.1.0 answer s in (
+          still_out out s v k (in_cleared pipe.ep s v (x.only_source way f.1.1.endpoint)).outs f.0,
+          (got, known_itself ends answer left v (λ b. InPipeInSync b got) is e fits.0),
+        );
+  }

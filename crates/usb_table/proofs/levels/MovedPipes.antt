@@ -1,10 +1,9 @@
 -- What transfers leave of the pipes to a device.
 use Rattle.usb_device.specs.{Location, State}
-use Rattle.std.proofs.Common.{◌≡◌, ◌≢◌, inl, inr, refl, sym, subst, arith, Bool, true, false, ℕ}
+use Rattle.std.proofs.Common.{◌≡◌, ◌≢◌, refl, sym, subst, arith, Bool, true, false, ℕ}
 use Rattle.std.proofs.Common.{◌≤◌, List, Option, Some, None, Result, Ok, Err}
 use Rattle.std.specs.Global.{Vec}
 use Rattle.usb_world.specs.{BusFault, Relation, EachWas, World}
-use Rattle.usb_world.proofs.Interface.{each_both, each_none}
 use Rattle.usb_transaction.specs.{Target}
 use Rattle.usb_pipe.specs.{PipeFault, Bulk, Sends, Receives, Clears, pipe_known, SendLeaves}
 use Rattle.usb_pipe.specs.{ReceiveLeaves, ClearLeaves}
@@ -13,9 +12,7 @@ use Rattle.usb_pipe.proofs.Interface.{clear_leaves, receive_leaves, send_leaves}
 use Rattle.usb_enum.specs.{Accepted}
 use Rattle.usb_enum.proofs.Interface.{each_joint}
 use Rattle.usb_table.specs.{Pipes, Function, IsBulkPipe, SameSettings, both_sides}
-use Rattle.usb_table.proofs.transfers.HaltClears.{ClearSpares, cleared_apart}
 use Rattle.usb_table.proofs.levels.FittingPipes.{PipesMove, send_moves, receive_moves}
-use Rattle.usb_table.proofs.levels.KeptPipes.{ready_or_not}
 use Rattle.usb_table.proofs.transfers.DevicesKept.{PipeKeeps, clear_keeps, receive_keeps}
 use Rattle.usb_table.proofs.transfers.DevicesKept.{send_keeps}
 
@@ -83,27 +80,12 @@ module _ (device : Accepted) (endpoint : ℕ × ℕ) (pipe left : Bulk) (other :
       old new (receive_leaves wanted pipe answer left old new least x single)
       (kept.worlds.devices.same single))
 
--- the clear of one that is ready does nothing
-clear_spared : (pipe : Bulk) (old : World) (answer : Result (Unit {0}) PipeFault) (left : Bulk)
-    (new : World) → Clears pipe old answer left new → new.shared ≡ false
-    → EachWas (ClearSpares pipe) old new
-clear_spared pipe old answer left new x single = elim (ready_or_not pipe.condition) [
-  | inl ready ↦
-      subst (EachWas (ClearSpares pipe) old) (sym (x.ready ready).world_kept)
-      (each_none (ClearSpares pipe)
-      (λ j s. record { into = λ w i. (refl, refl); out = λ w i. (refl, refl) }) old)
-  | inr not ↦ cleared_apart pipe old answer left new (x.sent not) single
-]
-
 module _ (pipe : Bulk) (old : World) (answer : Result (Unit {0}) PipeFault) (left : Bulk)
     (new : World) (x : Clears pipe old answer left new) where
   pub clear_whole : (R : Relation) → ((j : Location) (s v : State)
-      → ClearLeaves pipe answer left j s v → ClearSpares pipe j s v → SameSettings j s v
-      → R j s v) → new.shared ≡ false → EachWas R old new
+      → ClearLeaves pipe answer left j s v → SameSettings j s v → R j s v) → new.shared ≡ false
+      → EachWas R old new
   clear_whole R f single =
-      each_joint (λ j s v. ClearLeaves pipe answer left j s v × ClearSpares pipe j s v) SameSettings
-      R (λ j s v a k. f j s v a.0 a.1 k) old new
-      (each_both (ClearLeaves pipe answer left) (ClearSpares pipe) old new
+      each_joint (ClearLeaves pipe answer left) SameSettings R f old new
       (clear_leaves pipe answer left old new x single)
-      (clear_spared pipe old answer left new x single))
       ((clear_keeps pipe old answer left new x).worlds.devices.same single)

@@ -7,7 +7,8 @@ use Rattle.usb_request.specs.{HUB_CLASS}
 use Rattle.usb_descriptor.specs.{bulk_out_of, bulk_in_of, status_endpoint_of}
 use Rattle.usb_device.specs.{EndpointState, tells_changes, bulk_in as bulk_of_text, PollAt}
 use Rattle.usb_device.specs.{SourceAt, State, bulk_of, Hub as HubSpec, IsSpec, has_hub_class}
-use Rattle.usb_device.specs.{hub_fits}
+use Rattle.usb_device.specs.{hub_fits, in_end}
+use Rattle.usb_device.proofs.Interface.{in_max-is, out_max-is}
 use Rattle.usb_tree.proofs.Interface.{and_false}
 use Rattle.usb_hub.specs.{IsFresh}
 use Rattle.usb_enum.specs.{Accepted, HubFacts, IsAs, texts_of, is_good_hub, gives_hub}
@@ -116,12 +117,12 @@ module _ (tier supply : ℕ) (device : Accepted) (below_hub : Bool) (s : State)
         → FitsOut (new_bulk device false (at_full_speed low o)) s
     out_level false (Some endpoint) fast e = record {
       endpoint = record {
-        endpoint = bulk_is false fast ∙ e;
+        endpoint = out_max-is endpoint.0 endpoint.1 s (bulk_is false fast ∙ e);
         not_zero =
             subst (λ x. IfSome x (λ n. (n.0 == 0) ≡ false)) e
             (bulk_out_end (configuration_of device));
       };
-      level = λ ready. ap (λ (p : EndpointState). p.toggle) fresh.out;
+      level = λ ready. ap (λ (p : EndpointState). p.toggle) (fresh.outs endpoint.0);
       halted = λ halts. cc halts;
     }
     out_level _ _ fast e = tt
@@ -130,15 +131,16 @@ module _ (tier supply : ℕ) (device : Accepted) (below_hub : Bool) (s : State)
         → bulk_in_of (configuration_of device) ≡ o
         → FitsIn (new_bulk device true (at_full_speed low o)) s
     in_level false (Some endpoint) fast e = (
-      s.place,
+      (in_end s endpoint.0).place,
       record {
         endpoint = record {
-          endpoint = bulk_is true fast ∙ e;
+          endpoint = in_max-is endpoint.0 endpoint.1 s (bulk_is true fast ∙ e);
           not_zero = subst (λ x. IfSome x (λ n. (n.0 == 0) ≡ false)) e
               (bulk_in_end (configuration_of device));
           alone = ap (λ b. endpoint.0 == 1 && b) quiet ∙ and_false (endpoint.0 == 1);
         };
-        level = λ ready. SourceAt.level refl (ap (λ (p : EndpointState). p.toggle) fresh.into);
+        level = λ ready. SourceAt.level refl
+            (ap (λ (p : EndpointState). p.toggle) (fresh.ins endpoint.0));
         halted = λ halts. cc halts;
       },
     )

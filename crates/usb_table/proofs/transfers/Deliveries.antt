@@ -1,6 +1,7 @@
 -- Bytes that are sent through the pipes at a path are taken by the device there.
 use Rattle.std.proofs.Common.{◌≡◌, ◌≢◌, refl, sym, ap, subst, Bool, true, false, ℕ, ◌==◌}
-use Rattle.std.proofs.Common.{append-nil, List, [], Some, Result, Ok, Err, is_ok, is_some}
+use Rattle.std.proofs.Common.{append-nil, List, [], None, Option, Some, Result, Ok, Err, is_ok}
+use Rattle.std.proofs.Common.{is_some}
 use Rattle.usb_device.specs.{State, reach, Location}
 use Rattle.usb_tree.specs.{address_of}
 use Rattle.usb_world.specs.{World}
@@ -10,27 +11,41 @@ use Rattle.usb_pipe.proofs.Interface.{send_leaves, who_sends}
 use Rattle.usb_enum.specs.{Accepted}
 use Rattle.usb_table.specs.{TableFault, Transfer, TransferFault, TookBytes, Delivered}
 use Rattle.usb_table.specs.{accepted_device_at, is_below_hub, PipesInSync, IsHeld, InSyncAt, Table}
-use Rattle.usb_table.specs.{pipes_at, ArePipesAt, PipesSent, SentThrough}
+use Rattle.usb_table.specs.{pipes_at, ArePipesAt, OnlySinkOf, pipe_out, PipesSent, SentThrough}
+use Rattle.usb_table.specs.{sink_of, TransfersAt}
 use Rattle.usb_table.proofs.transfers.PathTransfers.{PathReaches, answers_there, changes_there}
 use Rattle.usb_table.proofs.transfers.PathTransfers.{done_through, levels_there, none_changes}
 use Rattle.usb_table.proofs.ThroughPipes.{through_pipes}
 
 module _ (path bytes : List ℕ) (old new : Table) (before after : World) where
-  none_taken : (s : State) → TookBytes false bytes s s
-  none_taken s = record {
-    joins = record { front = []; rest = bytes; split = refl; sink = sym (append-nil s.sink) };
-    rest = refl;
+  -- they were sent through a pipe, if there is one
+  record Takes (pipe : Option Bulk) (done : Bool) : Type 0 where
+    took : TransfersAt path done (TookBytes pipe done bytes) old before after
+    there : done ≡ true → bytes ≢ [] → reach after.roots path ≡ true
+
+  only_none : (pipe : Option Bulk) (s : State) → OnlySinkOf pipe s s
+  only_none None s = refl
+  only_none (Some pipe) s = record { rest = refl; others = λ a apart. refl }
+
+  none_taken : (pipe : Option Bulk) (s : State) → TookBytes pipe false bytes s s
+  none_taken pipe s = record {
+    joins = record {
+      front = [];
+      rest = bytes;
+      split = refl;
+      sink = sym (append-nil (sink_of pipe s));
+    };
+    rest = only_none pipe s;
   }
 
-  not_sent : (result : Result (Unit {0}) TableFault) (fault : TransferFault)
-      → result ≡ Err (Transfer fault) → after ≡ before
-      → Delivered path (is_ok result) bytes old before new after
-  not_sent result fault e same =
-      subst (λ (b : Bool). Delivered path b bytes old before new after) (sym (ap is_ok e))
+  not_sent : (result : Result (Unit {0}) TableFault) (pipe : Option Bulk) (fault : TransferFault)
+      → result ≡ Err (Transfer fault) → after ≡ before → Takes pipe (is_ok result)
+  not_sent result pipe fault e same =
+      subst (Takes pipe) (sym (ap is_ok e))
       (record {
         took = record {
-          each = none_changes path (TookBytes false bytes) before after same
-              (λ s on there. none_taken s);
+          each = none_changes path (TookBytes pipe false bytes) before after same
+              (λ s on there. none_taken pipe s);
           known = λ done. absurd (cc done);
         };
         there = λ done some. absurd (cc done);
@@ -43,7 +58,7 @@ module _ (path bytes : List ℕ) (old new : Table) (before after : World) where
       taken : (answer : Result (Unit {0}) PipeFault) (left : Bulk) (s : State)
           → OutPipeInSync pipe s → (j : Location) (v : State)
           → SendLeaves bytes pipe answer left j s v → (address_of s == pipe.target.addr) ≡ true
-          → TookBytes (is_ok answer) bytes s v
+          → TookBytes (Some pipe) (is_ok answer) bytes s v
       taken (Ok u) left s fit j v x at = record {
         joins = x.done at fit u refl;
         rest = x.frame fit.endpoint;
@@ -63,11 +78,11 @@ module _ (path bytes : List ℕ) (old new : Table) (before after : World) where
 
       through : (answer : Result (Unit {0}) PipeFault) (left : Bulk)
           → Sends bytes pipe before answer left after
-          → Delivered path (is_ok answer) bytes old before new after
+          → Takes (Some pipe) (is_ok answer)
       through answer left sends = record {
         took = record {
           each = changes_there path old before held device found pipe.target.addr is
-              (SendLeaves bytes pipe answer left) (TookBytes (is_ok answer) bytes) after
+              (SendLeaves bytes pipe answer left) (TookBytes (Some pipe) (is_ok answer) bytes) after
               (λ j s v x. x.others)
               (λ s on there. taken answer left s (fits s on there))
               (send_leaves bytes pipe answer left before after sends single);
@@ -81,16 +96,16 @@ module _ (path bytes : List ℕ) (old new : Table) (before after : World) where
       → PipesSent (pipes_at path old) bytes before result (pipes_at path new) after
       → Delivered path (is_ok result) bytes old before new after
   sent_delivers result held level single are x =
+      let t =
       through_pipes false (λ p. SentThrough p bytes) before result after
       (accepted_device_at path old.entries) (is_below_hub path)
-      (λ p l. PathReaches path before (PipesInSync p)
-      → Delivered path (is_ok result) bytes old before new after)
-      (λ pipes fault none e same l. not_sent result fault e same)
+      (λ p l. PathReaches path before (PipesInSync p) → Takes (pipe_out p) (is_ok result))
+      (λ pipes fault none e same l. not_sent result (pipe_out pipes) fault e same)
       (λ device endpoint pipe left other found is y l.
       let fits : PathReaches path before (OutPipeInSync pipe) =
       λ s on there. (l s on there).0 in
-      subst (λ (b : Bool). Delivered path b bytes old before new after)
-      (done_through y.answer result y.told)
+      subst (Takes (Some pipe)) (done_through y.answer result y.told)
       (through held single device found pipe (ap (λ (t : Target). t.addr) is.target) fits
       y.answer left y.sends))
-      (pipes_at path old) (pipes_at path new) are x (levels_there path old before level are)
+      (pipes_at path old) (pipes_at path new) are x (levels_there path old before level are) in
+      record { took = t.took; there = t.there }

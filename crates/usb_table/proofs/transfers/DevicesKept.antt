@@ -330,8 +330,8 @@ clear_outcome endpoint spec g = of_endpoint _
 
 pipe_spec : (s : State) (which : ServedEndpoint) (pipe : EndpointState)
     → (with_endpoint_state s which pipe).spec ≡ s.spec
-pipe_spec s BulkOut pipe = refl
-pipe_spec s BulkIn pipe = refl
+pipe_spec s (BulkOut e) pipe = refl
+pipe_spec s (BulkIn e) pipe = refl
 pipe_spec s Changes pipe = refl
 
 begun_same : (s : State) (row : List PortState) (n : ℕ) (o : Outcome) → IsOfEndpoint o

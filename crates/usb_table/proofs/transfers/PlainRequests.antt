@@ -2,7 +2,7 @@
 use Rattle.std.proofs.Common.{◌≡◌, ◌∙◌, refl, sym, ap, subst, ℕ, ◌==◌, true, false, Bool, List}
 use Rattle.std.proofs.Common.{None}
 use Rattle.std.proofs.Common.{Option, Some, Result, Ok, Err, is_ok, is_some, OnOk, ◌≢◌, ◌<◌, ◌&&◌}
-use Rattle.std.proofs.Common.{length, ◌+◌, ◌*◌}
+use Rattle.std.proofs.Common.{get_or, length, ◌+◌, ◌*◌}
 use Rattle.std.specs.Int.{div_ceil}
 use Rattle.std.specs.Global.{Vec}
 use Rattle.usb_request.specs.{IsToHost, Setup}
@@ -11,7 +11,8 @@ use Rattle.usb_port.specs.{PortState}
 use Rattle.usb_device.specs.{accepted, advanced, begun, BulkIn, BulkOut, Changes, EndpointState}
 use Rattle.usb_device.specs.{ending, first_stage, OnlyControl, OnlyStage, Outcome}
 use Rattle.usb_device.specs.{outcome, Spec, State, Stage, answers_taken, takes}
-use Rattle.usb_device.specs.{halts, Location, SourceAt, stalled, tells_port}
+use Rattle.usb_device.specs.{halted, halts, in_end, Location, no_in, no_out, NothingMoved, out_end}
+use Rattle.usb_device.specs.{SourceAt, stalled, tells_port}
 use Rattle.usb_device.specs.Request.{answers}
 use Rattle.usb_world.specs.{BusFault, HasFault, is_harmless, World}
 use Rattle.usb_transaction.specs.{Answerer, Target}
@@ -32,10 +33,12 @@ use Rattle.usb_enum.specs.{Accepted}
 use Rattle.usb_enum.proofs.Interface.{ends_without_fault}
 use Rattle.usb_table.specs.{Absent, ArePipesTo, FitsIn, FitsOut, Function, Hub, is_below_hub}
 use Rattle.usb_table.specs.{Pipes, pipes_at, PipesInSync, SameSettings, Table, without_bytes}
-use Rattle.usb_table.proofs.levels.FittingPipes.{root, same_end, same_tells, still_level}
-use Rattle.usb_table.proofs.levels.FittingPipes.{still_status, written_level}
+use Rattle.usb_table.proofs.levels.FittingPipes.{root, same_in_max, same_out_max, same_tells}
+use Rattle.usb_table.proofs.levels.FittingPipes.{still_level, still_status, written_level}
 use Rattle.usb_table.proofs.transfers.FreeRequests.{IsAllowed, IsFree, free_asks_no_port}
 use Rattle.usb_table.proofs.transfers.FreeRequests.{free_is_harmless, outcome_fine}
+use Rattle.usb_table.proofs.transfers.HaltClears.{at_each, in_moved, moved_then, out_moved}
+use Rattle.usb_table.proofs.transfers.HaltClears.{same_rows-moved}
 use Rattle.usb_table.proofs.transfers.PlainTransfers.{IsPlain}
 
 bus_told : {A : Type 0} (k : ℕ) (answer : Result A PipeFault) (old new : World)
@@ -79,18 +82,28 @@ abbrev pub MayHalt : EndpointState → EndpointState → Type 0
 MayHalt before after = (after.toggle ≡ before.toggle) × (before.halted ≡ true
     → after.halted ≡ true)
 
-pub same_halts : (before after : EndpointState) → after ≡ before → MayHalt before after
+-- settings and toggles are as they were, and no byte moved
+pub record KeepsEnds (s v : State) : Type 0 where
+  pub settings : SameSettings root s v
+  pub moved : NothingMoved s v
+  pub out : (e : ℕ) → MayHalt (out_end s e).state (out_end v e).state
+  pub into : (e : ℕ) → MayHalt (in_end s e).state (in_end v e).state
+
+same_halts : (before after : EndpointState) → after ≡ before → MayHalt before after
 same_halts before after e = (
   ap (λ (x : EndpointState). x.toggle) e,
   λ h. ap (λ (x : EndpointState). x.halted) e ∙ h,
 )
 
--- settings and toggles are as they were, and so is what is left of the source
-pub record KeepsEnds (s v : State) : Type 0 where
-  pub settings : SameSettings root s v
-  pub place : v.place ≡ s.place
-  pub out : MayHalt s.bulk_out v.bulk_out
-  pub into : MayHalt s.bulk_in v.bulk_in
+-- no endpoint but endpoint 0 and a hub's endpoint 1 changed
+pub same_rows-kept : (s v : State) → SameSettings root s v → v.outs ≡ s.outs → v.ins ≡ s.ins
+    → KeepsEnds s v
+same_rows-kept s v same outs ins = record {
+  settings = same;
+  moved = same_rows-moved s v outs ins;
+  out = λ e. same_halts _ _ (ap (λ row. (get_or row e no_out).state) outs);
+  into = λ e. same_halts _ _ (ap (λ row. (get_or row e no_in).state) ins);
+}
 
 record KeepsChanges (s v : State) : Type 0 where
   changes : v.changes ≡ s.changes
@@ -98,33 +111,25 @@ record KeepsChanges (s v : State) : Type 0 where
 
 module _ (s : State) (row : List PortState) (n : ℕ) where
   ends_kept : (stage : Stage) → KeepsEnds s (record s { naks = s.spec.naks; stage = stage })
-  ends_kept stage = record {
-    settings = (refl, refl);
-    place = refl;
-    out = (refl, λ h. h);
-    into = (refl, λ h. h);
-  }
+  ends_kept stage = same_rows-kept s _ (refl, refl) refl refl
 
   pub began_ends : (to_hub : Bool) (o : Outcome) → IsAllowed to_hub o → KeepsEnds s (begun s row n
       o)
-  began_ends to_hub (halts BulkOut) fine = record {
+  began_ends to_hub (halts (BulkOut a)) fine = record {
     settings = (refl, refl);
-    place = refl;
-    out = (refl, λ h. refl);
-    into = (refl, λ h. h);
+    moved = out_moved s _ a _ refl refl refl refl;
+    out = at_each no_out (λ x y. MayHalt x.state y.state) (λ x. (refl, λ h. h)) a
+        (record (out_end s a) { state = halted (out_end s a).state }) s.outs (refl, λ h. refl);
+    into = λ e. (refl, λ h. h);
   }
-  began_ends to_hub (halts BulkIn) fine = record {
+  began_ends to_hub (halts (BulkIn a)) fine = record {
     settings = (refl, refl);
-    place = refl;
-    out = (refl, λ h. h);
-    into = (refl, λ h. refl);
+    moved = in_moved s _ a _ refl refl refl;
+    out = λ e. (refl, λ h. h);
+    into = at_each no_in (λ x y. MayHalt x.state y.state) (λ x. (refl, λ h. h)) a
+        (record (in_end s a) { state = halted (in_end s a).state }) s.ins (refl, λ h. refl);
   }
-  began_ends to_hub (halts Changes) fine = record {
-    settings = (refl, refl);
-    place = refl;
-    out = (refl, λ h. h);
-    into = (refl, λ h. h);
-  }
+  began_ends to_hub (halts Changes) fine = same_rows-kept s _ (refl, refl) refl refl
   began_ends to_hub stalled fine = ends_kept _
   began_ends to_hub (answers bytes) fine = ends_kept _
   began_ends to_hub (tells_port i) fine = ends_kept _
@@ -151,18 +156,16 @@ module _ (s : State) (row : List PortState) (n : ℕ) where
 
 pub ends_on : (s u v : State) → KeepsEnds s u → OnlyControl u v → v.registers ≡ u.registers
     → KeepsEnds s v
-ends_on s u v x frame same = record {
-  settings = (ap (λ (d : State). d.spec) frame ∙ x.settings.0, same ∙ x.settings.1);
-  place = ap (λ (d : State). d.place) frame ∙ x.place;
-  out = (
-    ap (λ (d : State). d.bulk_out.toggle) frame ∙ x.out.0,
-    λ h. ap (λ (d : State). d.bulk_out.halted) frame ∙ x.out.1 h,
-  );
-  into = (
-    ap (λ (d : State). d.bulk_in.toggle) frame ∙ x.into.0,
-    λ h. ap (λ (d : State). d.bulk_in.halted) frame ∙ x.into.1 h,
-  );
-}
+ends_on s u v x frame same =
+    let outs : v.outs ≡ u.outs = ap (λ (d : State). d.outs) frame in
+    let ins : v.ins ≡ u.ins = ap (λ (d : State). d.ins) frame in
+    let y = same_rows-kept u v (ap (λ (d : State). d.spec) frame, same) outs ins in
+    record {
+      settings = (y.settings.0 ∙ x.settings.0, y.settings.1 ∙ x.settings.1);
+      moved = moved_then s u v x.moved y.moved;
+      out = λ e. ((y.out e).0 ∙ (x.out e).0, λ h. (y.out e).1 ((x.out e).1 h));
+      into = λ e. ((y.into e).0 ∙ (x.into e).0, λ h. (y.into e).1 ((x.into e).1 h));
+    }
 
 changes_on : (s u v : State) → KeepsChanges s u → OnlyControl u v → KeepsChanges s v
 changes_on s u v x frame = record {
@@ -176,34 +179,35 @@ out_kept : (out : Option Bulk) (s v : State) → KeepsEnds s v → FitsOut out s
 out_kept None s v x f = tt
 out_kept (Some pipe) s v x f = record {
   endpoint = record {
-    endpoint = same_end false s v x.settings ∙ f.endpoint.endpoint;
+    endpoint = same_out_max pipe.ep s v x.settings ∙ f.endpoint.endpoint;
     not_zero = f.endpoint.not_zero;
   };
-  level = λ ready. x.out.0 ∙ f.level ready;
-  halted = λ halts. x.out.1 (f.halted halts);
+  level = λ ready. (x.out pipe.ep).0 ∙ f.level ready;
+  halted = λ halts. (x.out pipe.ep).1 (f.halted halts);
 }
 
-source_kept : (most got : ℕ) (t : Toggle) (s v : State) → KeepsEnds s v → SourceAt most got t s
-    → SourceAt most got t v
-source_kept most got t s v x (SourceAt.level a b) = SourceAt.level (x.place ∙ a) (x.into.0 ∙ b)
-source_kept most got t s v x (SourceAt.ahead a b c) =
+source_kept : (ep most got : ℕ) (t : Toggle) (s v : State) → KeepsEnds s v
+    → SourceAt ep most got t s → SourceAt ep most got t v
+source_kept ep most got t s v x (SourceAt.level a b) =
+    SourceAt.level (x.moved.given ep ∙ a) ((x.into ep).0 ∙ b)
+source_kept ep most got t s v x (SourceAt.ahead a b c) =
     SourceAt.ahead
-    (a ∙ ap (λ n. advanced n most (length s.spec.source)) (sym x.place)
-    ∙ ap (λ (d : Spec). advanced v.place most (length d.source)) (sym x.settings.0))
-    (subst (λ (d : Spec). v.place < length d.source) (sym x.settings.0)
-    (subst (λ n. n < length s.spec.source) (sym x.place) b))
-    (x.into.0 ∙ c)
+    (a ∙ ap (λ n. advanced n most (length s.spec.source)) (sym (x.moved.given ep))
+    ∙ ap (λ (d : Spec). advanced (in_end v ep).place most (length d.source)) (sym x.settings.0))
+    (subst (λ (d : Spec). (in_end v ep).place < length d.source) (sym x.settings.0)
+    (subst (λ n. n < length s.spec.source) (sym (x.moved.given ep)) b))
+    ((x.into ep).0 ∙ c)
 
 pub into_kept : (pipe : Bulk) (got : ℕ) (s v : State) → KeepsEnds s v → InPipeInSync pipe got s
     → InPipeInSync pipe got v
 into_kept pipe got s v x f = record {
   endpoint = record {
-    endpoint = same_end true s v x.settings ∙ f.endpoint.endpoint;
+    endpoint = same_in_max pipe.ep s v x.settings ∙ f.endpoint.endpoint;
     not_zero = f.endpoint.not_zero;
     alone = ap (λ b. pipe.ep == 1 && b) (same_tells s v x.settings) ∙ f.endpoint.alone;
   };
-  level = λ ready. source_kept pipe.max got pipe.toggle s v x (f.level ready);
-  halted = λ halts. x.into.1 (f.halted halts);
+  level = λ ready. source_kept pipe.ep pipe.max got pipe.toggle s v x (f.level ready);
+  halted = λ halts. (x.into pipe.ep).1 (f.halted halts);
 }
 
 in_kept : (into : Option Bulk) (s v : State) → KeepsEnds s v → FitsIn into s → FitsIn into v

@@ -1,8 +1,9 @@
 -- The halts that are cleared through the pipes at a path are those of the device there.
 use Rattle.std.proofs.Common.{◌≡◌, ◌≢◌, inl, inr, ◌∙◌, refl, sym, ap, subst, Bool, true, false, ℕ}
 use Rattle.std.proofs.Common.{◌==◌, List, Option, None, Some, Result, Ok, Err, is_ok, is_some}
-use Rattle.std.proofs.Common.{if◌then◌else◌}
-use Rattle.usb_device.specs.{EndpointState as End, rested, State, Location}
+use Rattle.std.proofs.Common.{get_or, if◌then◌else◌}
+use Rattle.usb_device.specs.{EndpointState as End, in_end, InEnd, Location, no_in, no_out}
+use Rattle.usb_device.specs.{NothingMoved, out_end, OutEnd, rested, State}
 use Rattle.usb_world.specs.{BusFault, EachWas, World}
 use Rattle.usb_tree.specs.{address_of}
 use Rattle.usb_world.proofs.Interface.{each_joined, each_none, each_wider}
@@ -19,6 +20,8 @@ use Rattle.usb_table.specs.{is_below_hub, PipesInSync, IsHeld, InSyncAt, IsBulkP
 use Rattle.usb_table.specs.{pipes_at, ArePipesAt, ClearedBy, ClearedAfter, PipesCleared, both_sides}
 use Rattle.usb_table.specs.{table_answer}
 use Rattle.usb_table.proofs.levels.FittingPipes.{PipesMove, clear_out_moves, clear_in_moves}
+use Rattle.usb_table.proofs.transfers.HaltClears.{in_cleared, moved_then, out_cleared}
+use Rattle.usb_table.proofs.transfers.HaltClears.{same_rows-moved}
 use Rattle.usb_table.proofs.levels.KeptPipes.{ready_or_not}
 use Rattle.usb_table.proofs.levels.MovedPipes.{EachMoves, clear_whole, known_left}
 use Rattle.usb_table.proofs.transfers.PathTransfers.{PathReaches, changes_there, done_through}
@@ -53,11 +56,13 @@ begun_ends done pipe old (Err why) left new less x before after b = record {
   either = b;
 }
 
-none_ends : (done : Bool) (pipe : Option Bulk) → (done ≡ true → ⊥) → (end : End)
-    → HaltClearedBy done pipe pipe end end
-none_ends done None not end = refl
-none_ends done (Some pipe) not end =
-    record { works = λ ready. (refl, refl); begun = λ e. absurd (not e); either = inl refl }
+none_ends : (done : Bool) (pipe : Option Bulk) → (done ≡ true → ⊥) → (ends : ℕ → End)
+    → HaltClearedBy done pipe pipe ends ends
+none_ends done None not ends = λ e. refl
+none_ends done (Some pipe) not ends = (
+  record { works = λ ready. (refl, refl); begun = λ e. absurd (not e); either = inl refl },
+  λ e apart. refl,
+)
 
 -- no address was held twice before
 pub cleared_single : (pipe left : Option Bulk) (old : World) (answer : Result (Unit {0}) PipeFault)
@@ -69,27 +74,34 @@ cleared_single (Some pipe) (Some left) old answer new x single =
 
 -- One device at the address, over the clear of one pipe or of both
 
-abbrev EndRelation : Type 1
-EndRelation = End → End → Type 0
+abbrev RowRelation : Type 0 → Type 1
+RowRelation E = List E → List E → Type 0
 
-record ClearsIt (Out Into : EndRelation) (left : BulkPipes) (s v : State) : Type 0 where
-  sink : v.sink ≡ s.sink
-  place : v.place ≡ s.place
-  out : Out s.bulk_out v.bulk_out
-  into : Into s.bulk_in v.bulk_in
+abbrev RowStays : {E : Type 0} → RowRelation E
+RowStays before after = after ≡ before
+
+abbrev OutHalts : Bool → Option Bulk → Option Bulk → RowRelation OutEnd
+OutHalts done pipe left before after = HaltClearedBy done pipe left
+    (λ e. (get_or before e no_out).state) (λ e. (get_or after e no_out).state)
+
+abbrev InHalts : Bool → Option Bulk → Option Bulk → RowRelation InEnd
+InHalts done pipe left before after = HaltClearedBy done pipe left
+    (λ e. (get_or before e no_in).state) (λ e. (get_or after e no_in).state)
+
+record ClearsIt (Out : RowRelation OutEnd) (Into : RowRelation InEnd) (left : BulkPipes)
+    (s v : State) : Type 0 where
+  moved : NothingMoved s v
+  out : Out s.outs v.outs
+  into : Into s.ins v.ins
   level : PipesInSync (Function left) v
 
 -- where the call ends so
-record ClearStep (ends : Type 0) (a : ℕ) (Out Into : EndRelation) (pipes left : BulkPipes)
-    (j : Location)
-    (s v : State) : Type 0 where
+record ClearStep (ends : Type 0) (a : ℕ) (Out : RowRelation OutEnd) (Into : RowRelation InEnd)
+    (pipes left : BulkPipes) (j : Location) (s v : State) : Type 0 where
   others : (address_of s == a) ≡ false → v ≡ s
   same : address_of v ≡ address_of s
   itself : ends → (address_of s == a) ≡ true → PipesInSync (Function pipes) s
       → ClearsIt Out Into left s v
-
-abbrev EndStays : EndRelation
-EndStays before after = after ≡ before
 
 -- a call is done only if the answer is one of success; where it ends so, that is not the bus's own
 record FitsAnswer (ends : Type 0) (done : Bool) (answer : Result (Unit {0}) PipeFault)
@@ -98,32 +110,33 @@ record FitsAnswer (ends : Type 0) (done : Bool) (answer : Result (Unit {0}) Pipe
   less : done ≡ true → is_ok answer ≡ true
 
 module _ (ends : Type 0) where
-  abbrev ClearSteps : ℕ → EndRelation → EndRelation → BulkPipes → BulkPipes → World → World → Type 0
+  abbrev ClearSteps : ℕ → RowRelation OutEnd → RowRelation InEnd → BulkPipes → BulkPipes → World
+      → World → Type 0
   ClearSteps a Out Into pipes left = EachWas (ClearStep ends a Out Into pipes left)
 
-  clear_step_none : (a : ℕ) (Out Into : EndRelation) (pipes : BulkPipes)
-      → ((end : End) → Out end end)
-      → ((end : End) → Into end end) → (w : World) → ClearSteps a Out Into pipes pipes w w
+  clear_step_none : (a : ℕ) (Out : RowRelation OutEnd) (Into : RowRelation InEnd)
+      (pipes : BulkPipes) → ((row : List OutEnd) → Out row row)
+      → ((row : List InEnd) → Into row row) → (w : World) → ClearSteps a Out Into pipes pipes w w
   clear_step_none a Out Into pipes out into w =
       each_none (ClearStep ends a Out Into pipes pipes)
       (λ j s. record {
         others = λ h. refl;
         same = refl;
         itself = λ e at level. record {
-          sink = refl;
-          place = refl;
-          out = out s.bulk_out;
-          into = into s.bulk_in;
+          moved = same_rows-moved s s refl refl;
+          out = out s.outs;
+          into = into s.ins;
           level = level;
         };
       }) w
 
-  steps_then : (a : ℕ) (Out Into : EndRelation) (pipes mid left : BulkPipes) (u w v : World)
-      → ClearSteps a Out EndStays pipes mid u w → ClearSteps a EndStays Into mid left w v
+  steps_then : (a : ℕ) (Out : RowRelation OutEnd) (Into : RowRelation InEnd)
+      (pipes mid left : BulkPipes) (u w v : World)
+      → ClearSteps a Out RowStays pipes mid u w → ClearSteps a RowStays Into mid left w v
       → ClearSteps a Out Into pipes left u v
   steps_then a Out Into pipes mid left =
-      each_joined (ClearStep ends a Out EndStays pipes mid)
-      (ClearStep ends a EndStays Into mid left)
+      each_joined (ClearStep ends a Out RowStays pipes mid)
+      (ClearStep ends a RowStays Into mid left)
       (ClearStep ends a Out Into pipes left)
       (λ j s t v x y. record {
         others = λ h. y.others (ap (λ n. n == a) x.same ∙ h) ∙ x.others h;
@@ -132,10 +145,9 @@ module _ (ends : Type 0) where
             let p = x.itself e at level in
             let q = y.itself e (ap (λ n. n == a) x.same ∙ at) p.level in
             record {
-              sink = q.sink ∙ p.sink;
-              place = q.place ∙ p.place;
-              out = subst (λ (o : End). Out s.bulk_out o) (sym q.out) p.out;
-              into = subst (λ (o : End). Into o v.bulk_in) p.into q.into;
+              moved = moved_then s t v p.moved q.moved;
+              out = subst (Out s.outs) (sym q.out) p.out;
+              into = subst (λ row. Into row v.ins) p.into q.into;
               level = q.level;
             };
       })
@@ -143,14 +155,14 @@ module _ (ends : Type 0) where
   module _ (done : Bool) (device : Accepted) (other : Option Bulk) (old : World)
       (answer : Result (Unit {0}) PipeFault) (new : World) (so : FitsAnswer ends done answer)
       (single : new.shared ≡ false) where
-    abbrev OutSteps : ℕ → EndRelation → Option Bulk → Option Bulk → Type 0
+    abbrev OutSteps : ℕ → RowRelation OutEnd → Option Bulk → Option Bulk → Type 0
     OutSteps a Out pipe left =
-        ClearSteps a Out EndStays (both_sides false pipe other) (both_sides false left other) old
+        ClearSteps a Out RowStays (both_sides false pipe other) (both_sides false left other) old
         new
 
-    abbrev InSteps : ℕ → EndRelation → Option Bulk → Option Bulk → Type 0
+    abbrev InSteps : ℕ → RowRelation InEnd → Option Bulk → Option Bulk → Type 0
     InSteps a Into pipe left =
-        ClearSteps a EndStays Into (both_sides true pipe other) (both_sides true left other) old new
+        ClearSteps a RowStays Into (both_sides true pipe other) (both_sides true left other) old new
 
     -- Through one pipe of a device that was found
 
@@ -159,49 +171,51 @@ module _ (ends : Type 0) where
       surely_known e = known_left answer left (so.sure e)
 
       out_step : IsBulkPipe device false endpoint pipe
-          → OutSteps device.address (HaltCleared done pipe left) (Some pipe) (Some left)
+          → OutSteps device.address (OutHalts done (Some pipe) (Some left)) (Some pipe) (Some left)
       out_step is =
-          let Out = HaltCleared done pipe left in
+          let Out : RowRelation OutEnd = OutHalts done (Some pipe) (Some left) in
           subst (λ (t : Target). OutSteps t.addr Out (Some pipe) (Some left)) is.target
           (clear_whole pipe old answer left new x _
-          (λ j s v a b k.
-          let m = clear_out_moves ends pipe left answer j s v surely_known a b k other is.way in
+          (λ j s v a k.
+          let m = clear_out_moves ends pipe left answer j s v surely_known a k other is.way in
           record {
             others = m.others;
             same = m.same;
             itself = λ e at level.
                 let leaves = a.sink at is.way level.0 in
-                let spares = b.into is.way level.0.endpoint in
+                let c = out_cleared pipe.ep s v (a.only_sink is.way level.0.endpoint) in
                 record {
-                  sink = leaves.1;
-                  place = spares.1;
-                  out = begun_ends done pipe old answer left new so.less x s.bulk_out v.bulk_out
-                      leaves.2;
-                  into = spares.0;
+                  moved = c.moved;
+                  out = (
+                    begun_ends done pipe old answer left new so.less x _ _ leaves.2,
+                    λ e apart. ap (λ (o : OutEnd). o.state) (c.others e apart),
+                  );
+                  into = c.ins;
                   level = m.itself e at level;
                 };
           }) single)
 
       in_step : IsBulkPipe device true endpoint pipe
-          → InSteps device.address (HaltCleared done pipe left) (Some pipe) (Some left)
+          → InSteps device.address (InHalts done (Some pipe) (Some left)) (Some pipe) (Some left)
       in_step is =
-          let Into = HaltCleared done pipe left in
+          let Into : RowRelation InEnd = InHalts done (Some pipe) (Some left) in
           subst (λ (t : Target). InSteps t.addr Into (Some pipe) (Some left)) is.target
           (clear_whole pipe old answer left new x _
-          (λ j s v a b k.
-          let m = clear_in_moves ends pipe left answer j s v surely_known a b k other is.way in
+          (λ j s v a k.
+          let m = clear_in_moves ends pipe left answer j s v surely_known a k other is.way in
           record {
             others = m.others;
             same = m.same;
             itself = λ e at level.
                 let leaves = a.source at is.way level.1.0 level.1.1 in
-                let spares = b.out is.way level.1.1.endpoint in
+                let c = in_cleared pipe.ep s v (a.only_source is.way level.1.1.endpoint) in
                 record {
-                  sink = spares.1;
-                  place = leaves.1;
-                  out = spares.0;
-                  into = begun_ends done pipe old answer left new so.less x s.bulk_in v.bulk_in
-                      leaves.2;
+                  moved = c.moved;
+                  out = c.outs;
+                  into = (
+                    begun_ends done pipe old answer left new so.less x _ _ leaves.2,
+                    λ e apart. ap (λ (o : InEnd). o.state) (c.others e apart),
+                  );
                   level = m.itself e at level;
                 };
           }) single)
@@ -210,20 +224,20 @@ module _ (ends : Type 0) where
 
     out_by : (endpoint : Option (ℕ × ℕ)) (out left : Option Bulk) → IsPipe device false endpoint out
         → ClearedBy out old answer left new
-        → OutSteps device.address (HaltClearedBy done out left) out left
+        → OutSteps device.address (OutHalts done out left) out left
     out_by endpoint None left is x =
-        rw (x.1, x.2) (clear_step_none device.address (HaltClearedBy done None None) EndStays
-        (both_sides false None other) (λ end. refl) (λ end. refl) old)
+        rw (x.1, x.2) (clear_step_none device.address (OutHalts done None None) RowStays
+        (both_sides false None other) (λ row e. refl) (λ row. refl) old)
     out_by endpoint (Some pipe) None is x = absurd x
     out_by None (Some pipe) (Some left) is x = absurd is
     out_by (Some endpoint) (Some pipe) (Some left) is x = out_step endpoint pipe left x.clears is
 
     in_by : (endpoint : Option (ℕ × ℕ)) (into left : Option Bulk) → IsPipe device true endpoint into
         → ClearedBy into old answer left new
-        → InSteps device.address (HaltClearedBy done into left) into left
+        → InSteps device.address (InHalts done into left) into left
     in_by endpoint None left is x =
-        rw (x.1, x.2) (clear_step_none device.address EndStays (HaltClearedBy done None None)
-        (both_sides true None other) (λ end. refl) (λ end. refl) old)
+        rw (x.1, x.2) (clear_step_none device.address RowStays (InHalts done None None)
+        (both_sides true None other) (λ row. refl) (λ row e. refl) old)
     in_by endpoint (Some pipe) None is x = absurd x
     in_by None (Some pipe) (Some left) is x = absurd is
     in_by (Some endpoint) (Some pipe) (Some left) is x = in_step endpoint pipe left x.clears is
@@ -238,8 +252,8 @@ module _ (ends : Type 0) where
       (less : done ≡ true → is_ok result ≡ true) (old mid new : World) where
     abbrev BothSteps : Option Bulk → Type 0
     BothSteps rest =
-        ClearSteps device.address (HaltClearedBy done pipes.out left.out)
-        (HaltClearedBy done pipes.into rest) pipes (record { out = left.out; into = rest }) old new
+        ClearSteps device.address (OutHalts done pipes.out left.out)
+        (InHalts done pipes.into rest) pipes (record { out = left.out; into = rest }) old new
 
     -- the answer of a pipe
     pipe_answers : (answer : Result (Unit {0}) PipeFault) → result ≡ table_answer answer
@@ -268,8 +282,9 @@ module _ (ends : Type 0) where
         (record pipes { out = left.out }) old new new
         (out_by done device pipes.into old (Err fault) new (pipe_answers (Err fault) y.0) single
         (out_endpoint device) pipes.out left.out out (rw y.2 x))
-        (clear_step_none device.address EndStays (HaltClearedBy done pipes.into pipes.into)
-        (record pipes { out = left.out }) (λ end. refl) (none_ends done pipes.into not) new))
+        (clear_step_none device.address RowStays (InHalts done pipes.into pipes.into)
+        (record pipes { out = left.out }) (λ row. refl)
+        (λ row. none_ends done pipes.into not (λ e. (get_or row e no_in).state)) new))
 
     pub in_turn_moves : (first : Result (Unit {0}) PipeFault)
         → ClearedBy pipes.out old first left.out mid
@@ -297,10 +312,9 @@ module _ (path : List ℕ) (old : Table) (before after : World) where
       (record {
         each = none_changes path (HaltsCleared false pipes pipes) before after same
             (λ s on there. record {
-              sink = refl;
-              place = refl;
-              out = none_ends false (pipe_out pipes) (λ e. cc e) s.bulk_out;
-              into = none_ends false (pipe_in pipes) (λ e. cc e) s.bulk_in;
+              moved = same_rows-moved s s refl refl;
+              out = none_ends false (pipe_out pipes) (λ e. cc e) (λ e. (out_end s e).state);
+              into = none_ends false (pipe_in pipes) (λ e. cc e) (λ e. (in_end s e).state);
               level = level s on there;
             });
         known = λ done. absurd (cc done);
@@ -321,7 +335,7 @@ module _ (path : List ℕ) (old : Table) (before after : World) where
             (λ j s v z. z.others)
             (λ s on there j v z at.
             let c = z.itself tt at (l s on there) in
-            record { sink = c.sink; place = c.place; out = c.out; into = c.into; level = c.level })
+            record { moved = c.moved; out = c.out; into = c.into; level = c.level })
             (in_turn (Unit {0}) (is_ok result) device pipes left out into result (λ e. other)
             (λ e. e) before y.mid after y.first y.out y.into single);
         known = λ done. ap is_some found;

@@ -4,7 +4,7 @@ use super::packets::{ADDRESSING, Exchange, Host, are_answered, is_answered};
 use super::{attempts, bulk, hubs, requests, writes};
 use std::alloc::{AllocError, Global};
 use std::test::Fail;
-use usb_device::{Device, Parent};
+use usb_device::{Device, EndpointNumber, Parent};
 
 #[derive(Clone, Copy)]
 pub(super) enum Step {
@@ -25,6 +25,7 @@ pub(super) enum Step {
     /// The device has this address and this configuration.
     Registers(u8, u8),
     AwaitsAddress(bool),
+    /// What the bulk OUT endpoint has taken.
     Sink(&'static [u8]),
     /// What control writes have brought.
     Taken(&'static [u8]),
@@ -47,16 +48,24 @@ pub(super) struct Row {
     pub steps: &'static [Step],
 }
 
+/// The number of the bulk OUT endpoint of `BULK`.
+const BULK_OUT: u8 = 2;
+
+/// What the bulk OUT endpoint has taken.
+fn sink(device: &Device) -> &[u8] {
+    device.sink(EndpointNumber::new(BULK_OUT))
+}
+
 /// Whether the answer is the printed one, at once or after memory was refused.
 fn is_answered_at_last(device: &mut Device, host: Host, text: &str) -> Result<bool, AllocError> {
-    let sink = device.sink().len();
+    let sunk = sink(device).len();
     let taken = device.taken().len();
     let address = device.address();
     let value = device.configuration();
     if let Ok(is) = is_answered(device, host, text) {
         return Ok(is);
     }
-    let is_same = device.sink().len() == sink
+    let is_same = sink(device).len() == sunk
         && device.taken().len() == taken
         && device.address() == address
         && device.configuration() == value;
@@ -141,7 +150,7 @@ fn tells(device: &Device, step: Step) -> bool {
             device.address() == address && device.configuration() == value
         }
         Step::AwaitsAddress(awaits) => device.awaits_address() == awaits,
-        Step::Sink(bytes) => device.sink() == bytes,
+        Step::Sink(bytes) => sink(device) == bytes,
         Step::Taken(bytes) => device.taken() == bytes,
         Step::PortBytes(port, bytes) => device.port_bytes(port) == bytes,
         Step::ChildAddress(address) => child_address(device) == address,
