@@ -234,8 +234,8 @@ impl<T: Trace> SimBus<T> {
         Some((device.address(), device.configuration()))
     }
 
-    /// All bytes that the OUT endpoint with a number, of the device at the path, has taken since its
-    /// plug; None if no device is there.
+    /// All bytes that the OUT endpoint with a number has taken since the plug of its device, which is
+    /// at the path; None if none is there.
     pub fn sink(&self, path: &PortPath, number: EndpointNumber) -> Option<&[u8]>
         ensures { option_map (λ s. s.now) result
             ≡ option_map (λ d. (out_end d.own number).sink) (device_at self.now path.now) }
