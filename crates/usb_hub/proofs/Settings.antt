@@ -1,7 +1,7 @@
 -- What a device makes of a new address and of a configuration.
 use Rattle.std.proofs.Common.{◌≡◌, ℕ, ◌≤◌, ◌⊎◌, inl, inr, nat_le, Bool, true, false, List, Option}
 use Rattle.std.proofs.Common.{Some, Result, Ok, Err, refl, ap, sym, subst, ◌∙◌, arith, ◌==◌, ◌&&◌}
-use Rattle.std.proofs.Common.{not, None, if◌then◌else◌, get_or, map}
+use Rattle.std.proofs.Common.{not, None, if◌then◌else◌, map}
 use Rattle.std.proofs.lemmas.Bool.Decides.{nat_tests}
 use Rattle.usb_port.specs.{PortState}
 use Rattle.usb_request.specs.{Setup, set_address, set_configuration, setup_of, bytes_of}
