@@ -196,7 +196,7 @@ impl OutEnds {
     pub fn new(alloc: Global, until_halt: Option<u16>) -> Result<Self, AllocError>
         ensures { IfOk result (λ e. e ≡ replicate 16 (record no_out { until_halt = until_halt })) }
     {
-        let mut row = Vec::new(alloc);
+        let mut row = Vec::with_capacity(alloc, ENDPOINTS)?;
         'ends: for _ in 0..ENDPOINTS {
             row.push(OutEnd {
                 state: RESTED,
