@@ -2,32 +2,33 @@
 use Rattle.std.proofs.Common.{◌≡◌, refl, ap, arith, add-one, ℕ, suc, ◌+◌, List, [], ◌∷◌, ◌++◌}
 use Rattle.std.proofs.Common.{length, Some, slice_get}
 use Rattle.usb_enum.specs.{Finding}
-use Rattle.usb_table.specs.{Entries}
-use Rattle.usb_drawing.specs.{Style, deepest, drawing_lines, entry_line, drawn_entries, granted_at}
+use Rattle.usb_table.specs.{Entries, SpecTree}
+use Rattle.usb_drawing.specs.{Style, drawing_lines, drawn_entries, ruled_line}
 
-length-entry_lines : (style : Style) (most : ℕ) (all entries : Entries)
-    → length (drawn_entries style most all entries) ≡ length entries
-length-entry_lines style most all [] = refl
-length-entry_lines style most all (entry ∷ behind) =
-    ap suc (length-entry_lines style most all behind)
+length-entry_lines : (style : Style) (tree : SpecTree) (all entries : Entries)
+    → length (drawn_entries style tree all entries) ≡ length entries
+length-entry_lines style tree all [] = refl
+length-entry_lines style tree all (entry ∷ behind) =
+    ap suc (length-entry_lines style tree all behind)
 
-pub drawing_lines-length : (style : Style) (number : ℕ) (entries : Entries)
-    → length (drawing_lines style number entries) ≡ length entries + 1
+pub drawing_lines-length : (style : Style) (number : ℕ) (tree : SpecTree) (entries : Entries)
+    → length (drawing_lines style number tree entries) ≡ length entries + 1
 unfolding drawing_lines
-drawing_lines-length style number entries = let each =
-    length-entry_lines style (deepest entries) entries entries in omega (arith, each)
+drawing_lines-length style number tree entries = let each =
+    length-entry_lines style tree entries entries in omega (arith, each)
 
-entry_lines_at : (style : Style) (most : ℕ) (all before behind : Entries) (e : List ℕ × Finding)
-    → slice_get (drawn_entries style most all (before ++ e ∷ behind)) (length before)
-    ≡ Some (entry_line style most (granted_at e.0 all) e behind)
-entry_lines_at style most all [] behind e = refl
-entry_lines_at style most all (b ∷ before) behind e = entry_lines_at style most all before behind e
+entry_lines_at : (style : Style) (tree : SpecTree) (all before behind : Entries)
+    (e : List ℕ × Finding)
+    → slice_get (drawn_entries style tree all (before ++ e ∷ behind)) (length before)
+    ≡ Some (ruled_line style tree all e behind)
+entry_lines_at style tree all [] behind e = refl
+entry_lines_at style tree all (b ∷ before) behind e =
+    entry_lines_at style tree all before behind e
 
-pub order : (style : Style) (number : ℕ) (before behind : Entries) (e : List ℕ × Finding)
-    → slice_get (drawing_lines style number (before ++ e ∷ behind)) (length before + 1)
-    ≡ Some (entry_line style (deepest (before ++ e ∷ behind))
-    (granted_at e.0 (before ++ e ∷ behind)) e behind)
+pub order : (style : Style) (number : ℕ) (tree : SpecTree) (before behind : Entries)
+    (e : List ℕ × Finding)
+    → slice_get (drawing_lines style number tree (before ++ e ∷ behind)) (length before + 1)
+    ≡ Some (ruled_line style tree (before ++ e ∷ behind) e behind)
 unfolding drawing_lines
-order style number before behind e =
-    let all = before ++ e ∷ behind in
-    rw add-one (entry_lines_at style (deepest all) all before behind e)
+order style number tree before behind e =
+    rw add-one (entry_lines_at style tree (before ++ e ∷ behind) before behind e)

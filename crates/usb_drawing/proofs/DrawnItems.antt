@@ -33,7 +33,7 @@ pub record DrawnSoFar (style : Style) (plan : PlanData) (before : Option (List �
   pub so_far : Transcript Tree false first items over new
   pub knows : over ≡ false → Knows new
   pub numbered : ItemsNumbered items number over new.world
-  pub text : Appends before now (drawn_items style items)
+  pub text : Appends before now (drawn_items style plan items)
 
 pub drawn_begun : (style : Style) (plan : PlanData) (before thrown : Option (List ℕ)) (over : Bool)
     (h : HostState) → Opens plan thrown h → over ≡ false → h.world.taken + to_come h.world ≤ 10000
@@ -51,12 +51,12 @@ drawn_begun style plan before thrown over h opens at_work few = record {
 }
 
 -- the text of an item's lines
-drawn_next : (style : Style) (items : List Item) (next : ℕ) (item : Item) (vs : List (Vec ℕ))
-    → map (λ v. v.items) vs ≡ drawn_lines style next item → next ≡ number_of item (listings items)
-    → written_lines vs ≡ drawn_item style items item
-drawn_next style items next item vs lines is =
+drawn_next : (style : Style) (plan : PlanData) (items : List Item) (next : ℕ) (item : Item) (vs : List (Vec ℕ))
+    → map (λ v. v.items) vs ≡ drawn_lines style plan next item → next ≡ number_of item (listings items)
+    → written_lines vs ≡ drawn_item style plan items item
+drawn_next style plan items next item vs lines is =
     sym (flat_map-map (λ line. line ++ 10 ∷ []) (λ v. v.items) vs) ∙ ap lines_text lines
-    ∙ ap (λ n. lines_text (drawn_lines style n item)) is
+    ∙ ap (λ n. lines_text (drawn_lines style plan n item)) is
 
 pub drawn_told : {style : Style} {plan : PlanData} {before : Option (List ℕ)} {number : ℕ}
     {over : Bool} {h : HostState} {now : Option (List ℕ)}
@@ -64,11 +64,11 @@ pub drawn_told : {style : Style} {plan : PlanData} {before : Option (List ℕ)} 
     (next : ℕ) (item : Item) (on : Bool) (k : HostState) (vs : List (Vec ℕ)) (s : Option (List ℕ))
     → (number < 18446744073709551615 → next ≡ number_of item number)
     → Next over h (Ok (Some item)) on k → items_left on k.world < items_left over h.world
-    → map (λ v. v.items) vs ≡ drawn_lines style next item
+    → map (λ v. v.items) vs ≡ drawn_lines style plan next item
     → Appends now s (written_lines vs)
     → DrawnSoFar style plan before next on k s
 unfolding drawn_items
-drawn_told {style = style} {before = before} {now = now} r next item on k vs s counted makes fewer
+drawn_told {style = style} {plan = plan} {before = before} {now = now} r next item on k vs s counted makes fewer
     lines appends = record {
       items = item ∷ r.items;
       thrown = r.thrown;
@@ -77,8 +77,8 @@ drawn_told {style = style} {before = before} {now = now} r next item on k vs s c
       so_far = told_next r.so_far makes (appends_no_text k);
       knows = λ _. makes_knows makes.1;
       numbered = numbered_next r.numbered next item on k.world k.world counted fewer refl;
-      text = Appends-trans before now s (drawn_items style r.items) (drawn_item style r.items item)
-          r.text (subst (λ t. Appends now s t) (drawn_next style r.items next item vs lines
+      text = Appends-trans before now s (drawn_items style plan r.items) (drawn_item style plan r.items item)
+          r.text (subst (λ t. Appends now s t) (drawn_next style plan r.items next item vs lines
           (number_next r.numbered next item counted)) appends);
     }
 
@@ -92,7 +92,7 @@ run_drawn : (style : Style) (plan : PlanData) (before thrown : Option (List ℕ)
     (result : Result (Unit {0}) ServeFault) (now : Option (List ℕ))
     → RunsTo Tree of_run never false first items result k
     → IfErr result (λ f. IsCausedInTree f k.world) → k.world.shared ≡ false
-    → DrawnText style items before result now → RunDrawn style plan before result now
+    → DrawnText style plan items before result now → RunDrawn style plan before result now
 run_drawn style plan before thrown first opens items k result now ends caused single text =
     inr (record {
       thrown = thrown;
@@ -117,7 +117,7 @@ drawn_ended : (style : Style) (plan : PlanData) (before thrown : Option (List �
     (now : Option (List ℕ)) (said : ServeFault)
     → IsErrAnd result (λ e. e ≡ said) → StoppedRun Tree (λ why. said ≡ of_run why) ⊥ false first
     items k → IsCausedInTree said k.world → k.world.shared ≡ false
-    → DrawnText style items before (Err said) now → RunDrawn style plan before result now
+    → DrawnText style plan items before (Err said) now → RunDrawn style plan before result now
 drawn_ended style plan before thrown first opens items k result now said is stopped caused single
     text =
     at_fault (λ x. RunDrawn style plan before x now) result said is
@@ -157,18 +157,18 @@ pub drawn_cut : {style : Style} {plan : PlanData} {before : Option (List ℕ)} {
     → IsErrAnd result (λ e. e ≡ serve.Write)
     → (number < 18446744073709551615 → next ≡ number_of item number)
     → Next over h (Ok (Some item)) on k
-    → map (λ v. v.items) vs ≡ drawn_lines style next item → k.world.shared ≡ false
+    → map (λ v. v.items) vs ≡ drawn_lines style plan next item → k.world.shared ≡ false
     → AppendsFront now s (written_lines vs)
     → RunDrawn style plan before result s
 unfolding drawn_items
 drawn_cut {style} {plan} {before} {now = now} r next item on k vs result s is counted makes lines
     single front =
     let part = subst (λ t. AppendsFront now s t)
-    (drawn_next style r.items next item vs lines (number_next r.numbered next item counted))
+    (drawn_next style plan r.items next item vs lines (number_next r.numbered next item counted))
     front in
     drawn_ended style plan before r.thrown r.first r.opens (item ∷ r.items) k result s serve.Write
     is (behind (λ cut. cut) (told_next r.so_far makes (appends_no_text k))) tt single
-    (front_after_first before now s (drawn_items style r.items) (drawn_item style r.items item)
+    (front_after_first before now s (drawn_items style plan r.items) (drawn_item style plan r.items item)
     r.text part)
 
 -- a run that is over

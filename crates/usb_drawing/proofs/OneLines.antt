@@ -18,90 +18,19 @@ use Rattle.usb_enum.specs.{NoPower, BadHub, Lost, NoAddress, Request, Accepted, 
 use Rattle.usb_enum.specs.{Strings, configuration_of, need_of}
 use Rattle.usb_enum.specs.declared.cause.Request.TheVariants as request
 use Rattle.usb_enum.specs.declared.finding.Finding.TheVariants.{Device, Refused}
-use Rattle.usb_table.specs.{Entries}
+use Rattle.usb_table.specs.{Entries, SpecTree}
 use Rattle.usb_text.specs.{escaped_text, is_plain_unit, unit_text}
 use Rattle.usb_drawing.specs.{Style, Lines, Ascii, art, branch, goes_on, trunk, trunks, codes_of}
 use Rattle.usb_drawing.specs.{ports_text, address_column, cause_number, cause_words, device_text}
 use Rattle.usb_drawing.specs.{finding_text, identity_text, ids_text, power_text, speed_column}
 use Rattle.usb_drawing.specs.{stall_words, strings_text, supply_text, word_digits, heading_end}
 use Rattle.usb_drawing.specs.{deepest, drawing_lines, entry_line, drawn_entries, gap, granted_at}
-use Rattle.usb_drawing.specs.{heading, is_unbroken, is_pair, is_shown, labelled_text}
+use Rattle.usb_drawing.specs.{heading, is_pair, is_shown, labelled_text, rule_text}
 use Rattle.usb_drawing.specs.{shown_or_escaped, shown_unit, shown_units, string_text}
 use Rattle.usb_class.specs.{ClassCodes, class_text, class_word, hid_word, word_or_number}
-
-abbrev HasNoLineFeed : List ℕ → Type 0
-HasNoLineFeed bytes = is_unbroken bytes ≡ true
-
--- one after the other
-no_line_feed-append : (xs ys : List ℕ) → HasNoLineFeed xs → HasNoLineFeed ys
-    → HasNoLineFeed (xs ++ ys)
-no_line_feed-append xs ys p q = list_all-append (λ (byte : ℕ). not (byte == 10)) xs ys
-    ∙ ap₂ (λ (a b : Bool). a && b) p q
-
-other : (x : ℕ) → x ≢ 10 → not (x == 10) ≡ true
-other x differs = grind (arith, nat_tests)
-
-one_no_line_feed : (x : ℕ) → x ≢ 10 → HasNoLineFeed (x ∷ [])
-one_no_line_feed x differs = ap (λ b. b && true) (other x differs)
-
-no_line_feed-cons : (x : ℕ) (xs : List ℕ) → x ≢ 10 → HasNoLineFeed xs → HasNoLineFeed (x ∷ xs)
-no_line_feed-cons x xs differs rest = ap₂ (λ (a b : Bool). a && b) (other x differs) rest
-
-choice : (b : Bool) (xs ys : List ℕ) → HasNoLineFeed xs → HasNoLineFeed ys
-    → HasNoLineFeed (if b then xs else ys)
-choice true xs ys p q = p
-choice false xs ys p q = q
-
--- Numbers
-
-glyph_other : (d : ℕ) → digit_glyph false d ≢ 10
-glyph_other d = split (nat_lt d 10)
-  where
-    split : (b : Bool) → (if b then 48 + d else 87 + d) ≢ 10
-    split true e = omega (arith, e)
-    split false e = omega (arith, e)
-
-digits_onto-no_line_feed : (k n : ℕ) (acc : List ℕ) → HasNoLineFeed acc
-    → HasNoLineFeed (digits_onto k 10 false n acc)
-digits_onto-no_line_feed zero n acc p = p
-digits_onto-no_line_feed (suc k) n acc p =
-    let more = no_line_feed-cons (digit_glyph false (n % 10)) acc (glyph_other (n % 10)) p in
-    choice (n / 10 == 0) _ _ more (digits_onto-no_line_feed k (n / 10)
-    (digit_glyph false (n % 10) ∷ acc) more)
-
-number : (n : ℕ) → HasNoLineFeed (decimal n)
-unfolding digits
-number n = digits_onto-no_line_feed 64 n [] refl
-
--- no item of such bytes is a newline, nor is what stands for none
-slice_index-no_line_feed : (xs : List ℕ) (i : ℕ) → HasNoLineFeed xs → not (slice_index xs i == 10)
-    ≡ true
-slice_index-no_line_feed [] i p = refl
-slice_index-no_line_feed (x ∷ xs) zero p = first (not (x == 10)) (is_unbroken xs) p
-  where
-    first : (a b : Bool) → (a && b) ≡ true → a ≡ true
-    first true b e = refl
-    first false b e = e
-slice_index-no_line_feed (x ∷ xs) (suc i) p =
-    slice_index-no_line_feed xs i (rest (not (x == 10)) (is_unbroken xs) p)
-  where
-    rest : (a b : Bool) → (a && b) ≡ true → b ≡ true
-    rest true b e = e
-    rest false b e = absurd (cc e)
-
-encoded : (table bytes : List ℕ) → HasNoLineFeed table → HasNoLineFeed (encode_with table bytes)
-unfolding encode_with
-encoded table [] p = refl
-encoded table (b ∷ bytes) p = ap₂ (λ (x y : Bool). x && y)
-    (slice_index-no_line_feed table (b / 16) p)
-    (ap₂ (λ (x y : Bool). x && y) (slice_index-no_line_feed table (b % 16) p)
-    (encoded table bytes p))
-
-lower : (bytes : List ℕ) → HasNoLineFeed (encode_with lower_digits bytes)
-lower bytes = encoded lower_digits bytes refl
-
-upper : (bytes : List ℕ) → HasNoLineFeed (encode_with upper_digits bytes)
-upper bytes = encoded upper_digits bytes refl
+use Rattle.usb_drawing.proofs.NoLineFeeds.{HasNoLineFeed, choice, lower, no_line_feed-append}
+use Rattle.usb_drawing.proofs.NoLineFeeds.{no_line_feed-cons, number, one_no_line_feed, upper}
+use Rattle.usb_drawing.proofs.RuleLines.{rule_unbroken}
 
 path : (numbers : List ℕ) → HasNoLineFeed (path_text numbers)
 unfolding path_text
@@ -384,12 +313,15 @@ entry_unbroken style most granted e behind =
     (path e.0)) (gap_unbroken (most - length e.0))) refl)
     (finding_unbroken style granted e.1)
 
-entries_unbroken : (style : Style) (most : ℕ) (all entries : Entries)
-    → AllByRecursion HasNoLineFeed (drawn_entries style most all entries)
-entries_unbroken style most all [] = tt
-entries_unbroken style most all (e ∷ behind) = (
-  entry_unbroken style most (granted_at e.0 all) e behind,
-  entries_unbroken style most all behind,
+entries_unbroken : (style : Style) (tree : SpecTree) (all entries : Entries)
+    → AllByRecursion HasNoLineFeed (drawn_entries style tree all entries)
+entries_unbroken style tree all [] = tt
+entries_unbroken style tree all (e ∷ behind) = (
+  no_line_feed-append (entry_line style (deepest all) (granted_at e.0 all) e behind)
+      (rule_text (tree e.0) e.1)
+      (entry_unbroken style (deepest all) (granted_at e.0 all) e behind)
+      (rule_unbroken (tree e.0) e.1),
+  entries_unbroken style tree all behind,
 )
 
 heading_end_unbroken : (entries : Entries) → HasNoLineFeed (heading_end entries)
@@ -403,12 +335,11 @@ heading_unbroken n entries =
     (no_line_feed-append (codes "listing ") (decimal n) refl (number n))
     (heading_end_unbroken entries)
 
-pub drawing_lines-unbroken : (style : Style) (n : ℕ) (entries : Entries)
-    → All HasNoLineFeed (drawing_lines style n entries)
+pub drawing_lines-unbroken : (style : Style) (n : ℕ) (tree : SpecTree) (entries : Entries)
+    → All HasNoLineFeed (drawing_lines style n tree entries)
 unfolding drawing_lines
-drawing_lines-unbroken style n entries =
-    All-from_recursion HasNoLineFeed (heading n entries ∷ drawn_entries style (deepest entries)
-    entries entries) (
+drawing_lines-unbroken style n tree entries =
+    All-from_recursion HasNoLineFeed (heading n entries ∷ drawn_entries style tree entries entries) (
       heading_unbroken n entries,
-      entries_unbroken style (deepest entries) entries entries,
+      entries_unbroken style tree entries entries,
     )

@@ -8,10 +8,11 @@ use Rattle.usb_port.specs.{parent_of, path_text}
 use Rattle.usb_resources.specs.{supply_of}
 use Rattle.usb_enum.specs.{Finding, HubFacts}
 use Rattle.usb_enum.specs.declared.finding.Finding.TheVariants.{Device, Refused}
-use Rattle.usb_table.specs.{Entries}
+use Rattle.usb_table.specs.{Entries, SpecTree}
 use Rattle.usb_drawing.specs.declared.art.Style.{Style}
 use Rattle.usb_drawing.specs.Art.{art}
 use Rattle.usb_drawing.specs.Devices.{finding_text}
+use Rattle.usb_drawing.specs.Rules.{rule_text}
 
 -- what each port of a hub gives, in mA
 abbrev pub hub_supply : Option HubFacts → Option ℕ
@@ -53,11 +54,18 @@ entry_line style most granted entry behind =
     art style entry.0 behind ++ path_text entry.0 ++ gap (most - length entry.0) ++ codes "  " ++
     finding_text style granted entry.1
 
+-- the line of an entry of a listing, with the rule that a refused device's bytes break; what is
+-- plugged where is given
+abbrev pub ruled_line : Style → SpecTree → Entries → List ℕ × Finding → Entries → List ℕ
+ruled_line style tree all entry behind =
+    entry_line style (deepest all) (granted_at entry.0 all) entry behind ++ rule_text (tree entry.0)
+    entry.1
+
 -- a line for each of the entries, which are the last ones of a listing
-abbrev pub drawn_entries : Style → ℕ → Entries → Entries → List (List ℕ)
-drawn_entries style most all [] = []
-drawn_entries style most all (entry ∷ behind) = entry_line style most (granted_at entry.0 all) entry
-    behind ∷ drawn_entries style most all behind
+abbrev pub drawn_entries : Style → SpecTree → Entries → Entries → List (List ℕ)
+drawn_entries style tree all [] = []
+drawn_entries style tree all (entry ∷ behind) = ruled_line style tree all entry behind
+    ∷ drawn_entries style tree all behind
 
 -- what stands behind the number of a listing
 abbrev pub heading_end : Entries → List ℕ
@@ -68,9 +76,9 @@ unfoldable pub heading : ℕ → Entries → List ℕ
 heading number entries = codes "listing " ++ decimal number ++ heading_end entries
 
 -- the heading, and a line for each entry by rising path
-unfoldable pub drawing_lines : Style → ℕ → Entries → List (List ℕ)
-drawing_lines style number entries = heading number entries ∷ drawn_entries style (deepest entries)
-    entries entries
+unfoldable pub drawing_lines : Style → ℕ → SpecTree → Entries → List (List ℕ)
+drawing_lines style number tree entries = heading number entries ∷ drawn_entries style tree entries
+    entries
 
 -- bytes among which is no newline
 abbrev pub is_unbroken : List ℕ → Bool

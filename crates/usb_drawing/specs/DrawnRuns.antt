@@ -4,6 +4,7 @@ use Rattle.std.specs.Prelude.{Result, Ok, Err, IfErr, IfSome, IsErrOf}
 use Rattle.std.specs.Io.KnownBytes.{Appends}
 use Rattle.usb_world.specs.{PlanData}
 use Rattle.usb_bus.specs.{AppendsFront}
+use Rattle.usb_table.specs.{tree_after}
 use Rattle.usb_host.specs.{HostState}
 use Rattle.usb_plan.specs.{spelled_plan}
 use Rattle.usb_run.specs.{Item, Listing, Sent, Received, Cleared, Read, Written, Looked, Tree}
@@ -16,39 +17,44 @@ use Rattle.usb_text.specs.{lines_text}
 use Rattle.usb_drawing.specs.declared.art.Style.{Style}
 use Rattle.usb_drawing.specs.Drawings.{drawing_lines}
 
--- the lines of an item, all but those of a listing as in mode Tree; the number is that of a listing
-abbrev pub drawn_lines : Style → ℕ → Item → List (List ℕ)
-drawn_lines style number (Listing entries taken) = drawing_lines style number entries
-drawn_lines style number (Sent path sent) = item_lines number (Sent path sent)
-drawn_lines style number (Received path received) = item_lines number (Received path received)
-drawn_lines style number (Cleared path cleared) = item_lines number (Cleared path cleared)
-drawn_lines style number (Read path read) = item_lines number (Read path read)
-drawn_lines style number (Written path written) = item_lines number (Written path written)
-drawn_lines style number (Looked path looked) = item_lines number (Looked path looked)
-drawn_lines style number (News news) = item_lines number (News news)
+-- the lines of an item of a plan's run, all but those of a listing as in mode Tree; the number is
+-- that of a listing
+abbrev pub drawn_lines : Style → PlanData → ℕ → Item → List (List ℕ)
+drawn_lines style plan number (Listing entries taken) = drawing_lines style number
+    (tree_after plan taken) entries
+drawn_lines style plan number (Sent path sent) = item_lines number (Sent path sent)
+drawn_lines style plan number (Received path received) = item_lines number (Received path received)
+drawn_lines style plan number (Cleared path cleared) = item_lines number (Cleared path cleared)
+drawn_lines style plan number (Read path read) = item_lines number (Read path read)
+drawn_lines style plan number (Written path written) = item_lines number (Written path written)
+drawn_lines style plan number (Looked path looked) = item_lines number (Looked path looked)
+drawn_lines style plan number (News news) = item_lines number (News news)
 
 -- the text of an item; those made before it are given, the newest first
-abbrev pub drawn_item : Style → List Item → Item → List ℕ
-drawn_item style items item = lines_text (drawn_lines style (number_of item (listings items)) item)
+abbrev pub drawn_item : Style → PlanData → List Item → Item → List ℕ
+drawn_item style plan items item = lines_text
+    (drawn_lines style plan (number_of item (listings items)) item)
 
 -- the text of items, of which the newest stands first
-unfoldable pub drawn_items : Style → List Item → List ℕ
-drawn_items style [] = []
-drawn_items style (item ∷ items) = drawn_items style items ++ drawn_item style items item
+unfoldable pub drawn_items : Style → PlanData → List Item → List ℕ
+drawn_items style plan [] = []
+drawn_items style plan (item ∷ items) = drawn_items style plan items
+    ++ drawn_item style plan items item
 
 -- all items that were made are drawn, but for the last one where memory was refused for it; a front
 -- of that where the writer failed
-abbrev pub DrawnText : Style → List Item → Option (List ℕ) → Result (Unit {0}) ServeFault
-    → Option (List ℕ) → Type 0
-DrawnText style items before (Ok done) now = Appends before now (drawn_items style items)
-DrawnText style items before (Err serve.Read) now = ⊥
-DrawnText style items before (Err serve.TooLong) now = ⊥
-DrawnText style items before (Err (serve.Plan fault)) now = ⊥
-DrawnText style items before (Err (serve.Run fault)) now =
-    Appends before now (drawn_items style items)
-DrawnText style items before (Err serve.Write) now =
-    AppendsFront before now (drawn_items style items)
-DrawnText style items before (Err serve.Memory) now = Appends before now (drawn_items style items)
+abbrev pub DrawnText : Style → PlanData → List Item → Option (List ℕ)
+    → Result (Unit {0}) ServeFault → Option (List ℕ) → Type 0
+DrawnText style plan items before (Ok done) now = Appends before now (drawn_items style plan items)
+DrawnText style plan items before (Err serve.Read) now = ⊥
+DrawnText style plan items before (Err serve.TooLong) now = ⊥
+DrawnText style plan items before (Err (serve.Plan fault)) now = ⊥
+DrawnText style plan items before (Err (serve.Run fault)) now =
+    Appends before now (drawn_items style plan items)
+DrawnText style plan items before (Err serve.Write) now =
+    AppendsFront before now (drawn_items style plan items)
+DrawnText style plan items before (Err serve.Memory) now =
+    Appends before now (drawn_items style plan items)
 
 -- the drawings of a run of a plan, whose trace is thrown away; each of its items is right when it
 -- is made
@@ -64,7 +70,7 @@ pub record Drawn (style : Style) (plan : PlanData) (before : Option (List ℕ))
   pub limit : last.world.limit ≡ plan.limit
   pub single : last.world.shared ≡ false
   pub lists : ListsRight plan items last.world
-  pub text : DrawnText style items before result now
+  pub text : DrawnText style plan items before result now
 
 abbrev pub RunDrawn : Style → PlanData → Option (List ℕ) → Result (Unit {0}) ServeFault
     → Option (List ℕ) → Type 0

@@ -66,17 +66,28 @@ fn draw_run<W: Write>(
     let mut number = 0;
     'items: while let Some(item) = next_untraced(&mut runner)? {
         number = number_of(&item, number);
-        write_lines(writer, drawn_lines(alloc, style, number, &item)?.as_slice())?;
+        write_lines(
+            writer,
+            drawn_lines(alloc, style, plan, number, &item)?.as_slice(),
+        )?;
     }
     Ok(())
 }
 
-/// The lines of an item; the number is that of a listing.
-fn drawn_lines(alloc: Global, style: Style, number: u64, item: &Item) -> Result<Lines, AllocError>
-    ensures { IfOk result (λ lines. lines ≡ drawn_lines style number item.now) }
+/// The lines of an item of a plan's run; the number is that of a listing.
+fn drawn_lines(
+    alloc: Global,
+    style: Style,
+    plan: &Plan,
+    number: u64,
+    item: &Item,
+) -> Result<Lines, AllocError>
+    ensures { IfOk result (λ lines. lines ≡ drawn_lines style plan.now number item.now) }
 {
     match item {
-        Item::Listing(tree, _) => drawing_lines(alloc, style, number, tree.entries()),
+        Item::Listing(tree, taken) => {
+            drawing_lines(alloc, style, number, plan, *taken, tree.entries())
+        }
         Item::Sent(_, _) | Item::Received(_, _) | Item::Cleared(_, _) => {
             item_lines(alloc, number, item)
         }

@@ -1,20 +1,23 @@
 //! The lines of a drawn listing.
 ghost use Rattle.std.specs.Prelude.{◌≡◌, ◌+◌, ◌++◌, ◌∷◌, All, ℕ, List, length, slice_get, true, Some, OnOk, IfOk};
 ghost use Rattle.usb_enum.specs.declared.finding.Finding.{Finding as AFinding};
+ghost use Rattle.usb_table.specs.Listing.{SpecTree, tree_after};
 ghost use Rattle.usb_table.specs.TableEntries.{Entries};
 ghost use Rattle.usb_drawing.specs.declared.art.Style.{Style as AStyle};
-ghost use Rattle.usb_drawing.specs.Drawings.{deepest, drawing_lines, entry_line, drawn_entries, finding_supply, gap, granted_at, heading, heading_end, hub_supply, is_unbroken, listed_supply};
+ghost use Rattle.usb_drawing.specs.Drawings.{deepest, drawing_lines, entry_line, drawn_entries, finding_supply, gap, granted_at, heading, heading_end, hub_supply, is_unbroken, listed_supply, ruled_line};
 
 use crate::art::{Style, push_art};
 use crate::device::push_finding;
+use crate::rule::push_rule;
 use std::alloc::{AllocError, Global};
 use usb_enum::{Finding, HubFacts};
 use usb_port::PortPath;
 use usb_resources::supply;
+use usb_sim::Plan;
 use usb_text::{Lines, push_decimal, push_path};
 
 /// The lines of a drawn listing: its number, then a line for each entry, which says by its art what the entry is
-/// below.
+/// below. The listing was made in a run of the plan, after this number of its events.
 ///
 /// # Errors
 ///
@@ -24,13 +27,16 @@ pub fn drawing_lines(
     alloc: Global,
     style: Style,
     number: u64,
+    plan: &Plan,
+    taken: u64,
     entries: &[(PortPath, Finding)],
 ) -> Result<Lines, AllocError>
-    ensures { IfOk result (λ lines. lines ≡ drawing_lines style number entries.now) }
+    ensures { IfOk result (λ lines. lines
+        ≡ drawing_lines style number (tree_after plan.now taken) entries.now) }
 {
     let mut lines = Lines::new(alloc);
     lines.push(heading(alloc, number, entries)?)?;
-    push_entries(alloc, &mut lines, style, entries)?;
+    push_entries(alloc, &mut lines, style, plan, taken, entries)?;
     Ok(lines)
 }
 
@@ -64,16 +70,20 @@ fn push_entries(
     alloc: Global,
     lines: &mut Lines,
     style: Style,
+    plan: &Plan,
+    taken: u64,
     entries: &[(PortPath, Finding)],
 ) -> Result<(), AllocError>
-    ensures { OnOk result (lines.new
-        ≡ lines.old ++ drawn_entries style (deepest entries.now) entries.now entries.now) }
+    ensures { OnOk result (lines.new ≡ lines.old
+        ++ drawn_entries style (tree_after plan.now taken) entries.now entries.now) }
 {
     let most = deepest(entries);
     let mut rest = entries;
     'entries: while let Some((entry, behind)) = rest.split_first() {
         let granted = granted_at(&entry.0, entries);
-        lines.push(entry_line(alloc, style, most, granted, entry, behind)?)?;
+        let mut line = entry_line(alloc, style, most, granted, entry, behind)?;
+        push_rule(alloc, &mut line, plan, taken, entry)?;
+        lines.push(line)?;
         rest = behind;
     }
     Ok(())
@@ -169,15 +179,14 @@ fn hub_supply(hub: &Option<HubFacts>) -> Option<u16>
 /// A drawn listing leaves no entry out, and gives each one line.
 pub fn drawing_laws()
     // One line is the heading, and each other one an entry's.
-    ensures count { (style : AStyle) (number : ℕ) (entries : Entries)
-        → length (drawing_lines style number entries) ≡ length entries + 1 }
+    ensures count { (style : AStyle) (number : ℕ) (tree : SpecTree) (entries : Entries)
+        → length (drawing_lines style number tree entries) ≡ length entries + 1 }
     // The lines are in the order of the entries, accepted or refused.
-    ensures order { (style : AStyle) (number : ℕ) (before behind : Entries)
+    ensures order { (style : AStyle) (number : ℕ) (tree : SpecTree) (before behind : Entries)
         (e : List ℕ × AFinding)
-        → slice_get (drawing_lines style number (before ++ e ∷ behind)) (length before + 1)
-        ≡ Some (entry_line style (deepest (before ++ e ∷ behind))
-        (granted_at e.0 (before ++ e ∷ behind)) e behind) }
+        → slice_get (drawing_lines style number tree (before ++ e ∷ behind)) (length before + 1)
+        ≡ Some (ruled_line style tree (before ++ e ∷ behind) e behind) }
     // No line has a newline.
-    ensures whole { (style : AStyle) (number : ℕ) (entries : Entries)
-        → All (λ line. is_unbroken line ≡ true) (drawing_lines style number entries) }
+    ensures whole { (style : AStyle) (number : ℕ) (tree : SpecTree) (entries : Entries)
+        → All (λ line. is_unbroken line ≡ true) (drawing_lines style number tree entries) }
 {}

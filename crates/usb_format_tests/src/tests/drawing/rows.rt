@@ -1,4 +1,5 @@
 //! Plans, with what is drawn of each.
+use super::rule_rows::{BROKEN_RULES, RULES_OF_WHAT_IS_PLUGGED};
 
 /// A plan, and what is drawn of it in both styles.
 #[derive(Clone, Copy)]
@@ -274,7 +275,7 @@ after = 0
 ├─ 3  refused: stalls the request to take an address
 ├─ 4  refused: stalls the request for a configuration
 ├─ 5  refused: stalls the request to be configured
-├─ 6  refused: malformed or repeated: configuration 0
+├─ 6  refused: malformed or repeated: configuration 0; configs[0], byte 2: wTotalLength is 8, it is at least 9
 └─ 7  refused: each configuration needs more than its port gives, 500 mA
 "#,
     ascii: r#"listing 1
@@ -283,7 +284,7 @@ after = 0
 |- 3  refused: stalls the request to take an address
 |- 4  refused: stalls the request for a configuration
 |- 5  refused: stalls the request to be configured
-|- 6  refused: malformed or repeated: configuration 0
+|- 6  refused: malformed or repeated: configuration 0; configs[0], byte 2: wTotalLength is 8, it is at least 9
 `- 7  refused: each configuration needs more than its port gives, 500 mA
 "#,
 };
@@ -483,7 +484,7 @@ after = 0
 "#,
 };
 
-pub(super) const ROWS: [Row; 7] = [
+pub(super) const ROWS: [Row; 9] = [
     A_FUNCTION,
     A_TREE_OF_HUBS,
     A_HUB_BESIDE_A_FUNCTION,
@@ -491,4 +492,6 @@ pub(super) const ROWS: [Row; 7] = [
     STRINGS,
     TRANSFERS,
     CLASSES,
+    BROKEN_RULES,
+    RULES_OF_WHAT_IS_PLUGGED,
 ];
