@@ -1,6 +1,6 @@
 -- Texts in which no newline is.
 use Rattle.std.proofs.Common.{◌≡◌, ◌≢◌, ◌∙◌, refl, ap, ap₂, arith, ℕ, zero, suc, ◌+◌, ◌/◌, ◌%◌}
-use Rattle.std.proofs.Common.{Bool, true, false, List, [], ◌∷◌, ◌++◌, ◌<◌, ◌==◌, ◌&&◌, not, nat_lt}
+use Rattle.std.proofs.Common.{Bool, true, false, List, [], ◌∷◌, ◌++◌, ◌==◌, ◌&&◌, not, nat_lt}
 use Rattle.std.proofs.Common.{slice_index, decimal, if◌then◌else◌}
 use Rattle.std.specs.Fmt.{digit_glyph, digits, digits_onto}
 use Rattle.std.proofs.lemmas.Bool.Decides.{nat_tests}

@@ -1,15 +1,12 @@
 -- No line of a drawing has a newline.
-use Rattle.std.proofs.Common.{◌≡◌, ◌≢◌, ◌∙◌, refl, sym, ap, ap₂, subst, arith, ℕ, zero, suc, ◌+◌}
+use Rattle.std.proofs.Common.{◌≡◌, ◌≢◌, ◌∙◌, refl, sym, subst, arith, ℕ, zero, suc, ◌+◌}
 use Rattle.std.proofs.Common.{◌-◌, ◌/◌, ◌%◌, Bool, true, false, List, [], ◌∷◌, ◌++◌, append-nil}
-use Rattle.std.proofs.Common.{flat_map, get_or, length, ◌<◌, Option, None, Some, ◌==◌, ◌&&◌, not}
-use Rattle.std.proofs.Common.{nat_lt, cond, slice_index, codes, decimal, encode_utf8, All}
+use Rattle.std.proofs.Common.{flat_map, get_or, length, ◌<◌, Option, None, Some, ◌==◌, ◌&&◌}
+use Rattle.std.proofs.Common.{nat_lt, cond, codes, decimal, encode_utf8, All}
 use Rattle.std.proofs.Common.{if◌then◌else◌}
 use Rattle.std.specs.Char.Utf16.{lone_unit_char, surrogate_pair_char}
-use Rattle.std.specs.Fmt.{digit_glyph, digits, digits_onto}
 use Rattle.std.specs.List.{AllByRecursion}
-use Rattle.std.proofs.lemmas.Bool.Decides.{nat_tests}
 use Rattle.std.proofs.lemmas.List.Elements.{All-from_recursion}
-use Rattle.std.proofs.lemmas.List.Folds.{list_all-append}
 use Rattle.std.proofs.lemmas.Str.{inside_one}
 use Rattle.hex.specs.Hex.{encode_with, lower_digits, upper_digits}
 use Rattle.usb_port.specs.{path_text}
@@ -28,7 +25,7 @@ use Rattle.usb_drawing.specs.{deepest, drawing_lines, entry_line, drawn_entries,
 use Rattle.usb_drawing.specs.{heading, is_pair, is_shown, labelled_text, rule_text}
 use Rattle.usb_drawing.specs.{shown_or_escaped, shown_unit, shown_units, string_text}
 use Rattle.usb_class.specs.{ClassCodes, class_text, class_word, hid_word, word_or_number}
-use Rattle.usb_drawing.proofs.NoLineFeeds.{HasNoLineFeed, choice, lower, no_line_feed-append}
+use Rattle.usb_drawing.proofs.NoLineFeeds.{HasNoLineFeed, lower, no_line_feed-append}
 use Rattle.usb_drawing.proofs.NoLineFeeds.{no_line_feed-cons, number, one_no_line_feed, upper}
 use Rattle.usb_drawing.proofs.RuleLines.{rule_unbroken}
 

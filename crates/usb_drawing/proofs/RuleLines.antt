@@ -1,7 +1,6 @@
 -- No rule that is told has a newline.
 use Rattle.std.proofs.Common.{refl, ℕ, ◌-◌, ◌==◌, Bool, List, [], ◌++◌, length, drop, Option, None}
 use Rattle.std.proofs.Common.{Some, get_or, nat_lt, slice_index_or, codes, decimal}
-use Rattle.usb_request.specs.{ENDPOINT, INTERFACE}
 use Rattle.usb_descriptor.specs.{DescriptorFault}
 use Rattle.usb_descriptor.specs.declared.fault.DescriptorFault.TheVariants as flaw
 use Rattle.usb_device.specs.{Spec}
@@ -79,7 +78,7 @@ cut text =
     (number (length text))) refl
 
 item_kind : (kind : ℕ) → HasNoLineFeed (item_rule kind)
-item_kind kind = choice (kind == INTERFACE) _ _ refl (choice (kind == ENDPOINT) _ _ refl refl)
+item_kind kind = choice (kind == 4) _ _ refl (choice (kind == 5) _ _ refl refl)
 
 passing : (text : List ℕ) (at : ℕ) → HasNoLineFeed (passing_words text at)
 passing text at =
