@@ -1,6 +1,6 @@
 -- A whole attempt with one device.
-use Rattle.std.proofs.Common.{◌≡◌, ℕ, ◌==◌, nat_le, if◌then◌else◌, ◌&&◌, Bool, true, false, List}
-use Rattle.std.proofs.Common.{[], ◌∷◌, length, Option, None, Some, take, refl, ap, ◌∙◌, arith}
+use Rattle.std.proofs.Common.{◌≡◌, ℕ, ◌==◌, nat_le, nat_lt, if◌then◌else◌, ◌&&◌, Bool, true, false}
+use Rattle.std.proofs.Common.{List, [], ◌∷◌, length, Option, None, Some, refl, ap, ◌∙◌, arith}
 use Rattle.std.proofs.lemmas.Bool.Decides.{nat_tests}
 use Rattle.usb_packet.specs.{OutTok, InTok, SetupTok, Toggle, Zero, One, Packet, Token, Payload}
 use Rattle.usb_packet.specs.declared.Packet.TheVariants as packet
@@ -12,8 +12,9 @@ use Rattle.usb_device.specs.{toggle_at, State, Reply}
 use Rattle.usb_device.specs.{received, answered, unread, forgotten, accepted, payload, is_busy}
 use Rattle.usb_device.specs.{nak_row, unless_busy, gives, in_row, begun, data_row, token_row}
 use Rattle.usb_device.specs.{changes_row, held_row, in_other_row, in_end_row}
-use Rattle.usb_device.specs.{acknowledged, in_end, in_max, rest_of, Way, lost, heard, acked}
-use Rattle.usb_device.specs.{setup_exchange, out_exchange, in_exchange, setup_law, out_law, gave}
+use Rattle.usb_device.specs.{acknowledged, in_end, in_max, next_packet, given_row, in_hesitates}
+use Rattle.usb_device.specs.{Way, lost, heard, acked, setup_exchange, out_exchange, in_exchange}
+use Rattle.usb_device.specs.{setup_law, out_law, gave, given_law}
 use Rattle.usb_device.specs.{in_stage_law, changes_law, held_law, in_other_law}
 use Rattle.usb_device.specs.{in_end_law, in_control_law, in_law, is_own, through, is_whole}
 use Rattle.usb_device.specs.declared.answer.Answer.TheVariants.{Ack, Nak, Stall}
@@ -279,25 +280,40 @@ in_whole d row max loud t2 t3 false = in_stage_is d row max loud t2 t3 d.stage
 
 -- ---- IN of an endpoint that is served
 
-source_is : (d : State) (row : List PortState) (e most max : ℕ) → d.spec.silent ≡ false
-    → (t2 t3 : Way) (halted empty : Bool)
-    → acked row max t2 t3 (if halted then (Some Stall, forgotten d) else if empty
-    then (Some Nak, forgotten d) else gives (forgotten d) (by.Bulk e) (in_end d e).state.toggle
-    (take most (rest_of d e)))
-    ≡ (if halted then attempt_reply (heard t2 (Some Stall)) (forgotten d) else if empty
-    then attempt_reply (heard t2 (Some Nak)) (forgotten d) else gave (forgotten d) (by.Bulk e) max
-    (in_end d e).state.toggle (take most (rest_of d e)) t2 t3)
-source_is d row e most max loud t2 t3 true empty = stalls row max t2 t3 d
-source_is d row e most max loud t2 t3 false true = acked-nak row max t2 t3 d
-source_is d row e most max loud t2 t3 false false =
-    gave_is d row (by.Bulk e) (in_end d e).state.toggle (take most (rest_of d e)) max loud t2 t3
+given_is : (d : State) (row : List PortState) (e max : ℕ) → d.spec.silent ≡ false
+    → (t2 t3 : Way) (bytes : List ℕ) (hesitates : Bool)
+    → acked row max t2 t3 (if hesitates then attempt_reply (Some Nak) (in_hesitates (forgotten d) e)
+    else gives (forgotten d) (by.Bulk e) (in_end d e).state.toggle bytes)
+    ≡ (if hesitates then attempt_reply (heard t2 (Some Nak)) (in_hesitates (forgotten d) e)
+    else gave (forgotten d) (by.Bulk e) max (in_end d e).state.toggle bytes t2 t3)
+given_is d row e max loud t2 t3 bytes true = acked-nak row max t2 t3 (in_hesitates d e)
+given_is d row e max loud t2 t3 bytes false =
+    gave_is d row (by.Bulk e) (in_end d e).state.toggle bytes max loud t2 t3
+
+next_is : (d : State) (row : List PortState) (e max : ℕ) → d.spec.silent ≡ false
+    → (t2 t3 : Way) (next : Option (List ℕ))
+    → acked row max t2 t3 (given_row (forgotten d) e next)
+    ≡ given_law (forgotten d) e next max t2 t3
+next_is d row e max loud t2 t3 None = acked-nak row max t2 t3 d
+next_is d row e max loud t2 t3 (Some bytes) =
+    given_is d row e max loud t2 t3 bytes (nat_lt 0 (in_end d e).pace.naks)
+
+source_is : (d : State) (row : List PortState) (e max : ℕ) → d.spec.silent ≡ false
+    → (t2 t3 : Way) (next : Option (List ℕ)) (halted : Bool)
+    → acked row max t2 t3 (if halted then attempt_reply (Some Stall) (forgotten d)
+    else given_row (forgotten d) e next)
+    ≡ (if halted then attempt_reply (heard t2 (Some Stall)) (forgotten d)
+    else given_law (forgotten d) e next max t2 t3)
+source_is d row e max loud t2 t3 next true = stalls row max t2 t3 d
+source_is d row e max loud t2 t3 next false = next_is d row e max loud t2 t3 next
 
 in_end_is : (d : State) (row : List PortState) (e max : ℕ) → d.spec.silent ≡ false
     → (t2 t3 : Way) (most : Option ℕ) → acked row max t2 t3 (in_end_row (forgotten d) e most)
     ≡ in_end_law (forgotten d) e most max t2 t3
 in_end_is d row e max loud t2 t3 None = acked-none row max t2 t3 (forgotten d)
 in_end_is d row e max loud t2 t3 (Some most) =
-    source_is d row e most max loud t2 t3 (in_end d e).state.halted (length (rest_of d e) == 0)
+    source_is d row e max loud t2 t3 (next_packet d e most (in_end d e).place)
+    (in_end d e).state.halted
 
 -- ---- IN 1 of a hub
 

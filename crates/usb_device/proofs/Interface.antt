@@ -1,8 +1,11 @@
 -- The lemmas that crates above cite. All others are for this crate alone.
 pub use Rattle.usb_device.proofs.Attempts.{in_is, out_is, same_number, setup_is, silent-stays}
 pub use Rattle.usb_device.proofs.Attempts.{silent-unread}
-pub use Rattle.usb_device.proofs.RowsOfEnds.{at_mapped, at_other, at_same, in_max-is, max_of-some}
-pub use Rattle.usb_device.proofs.RowsOfEnds.{out_max-is}
+pub use Rattle.usb_device.proofs.RowsOfEnds.{at_each, at_mapped, at_other, at_same}
+pub use Rattle.usb_device.proofs.ServedNumbers.{in_max-is, in_max-small, out_max-is, out_max-small}
+pub use Rattle.usb_device.proofs.ServedNumbers.{served-in, served-out}
+pub use Rattle.usb_device.proofs.EndpointPackets.{gives-append, joined_bytes, place_of_joined}
+pub use Rattle.usb_device.proofs.EndpointPackets.{source_within}
 pub use Rattle.usb_device.proofs.progress.BulkProgress.{bulk_law_is, other-other, source_on}
 pub use Rattle.usb_device.proofs.progress.BulkProgress.{source_only}
 pub use Rattle.usb_device.proofs.progress.ChangesProgress.{law_is, other_toggle, poll_on}

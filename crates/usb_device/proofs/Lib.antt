@@ -5,6 +5,8 @@ pub mod OwnOutcomes
 pub mod Hubs
 pub mod Endpoints
 pub mod RowsOfEnds
+pub mod ServedNumbers
+pub mod EndpointPackets
 pub mod Attempts
 pub mod Deliveries
 pub mod MarkedAddresses

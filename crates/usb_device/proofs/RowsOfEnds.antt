@@ -1,10 +1,9 @@
 -- Rows of endpoints: what stands at a number after another one was put there.
 use Rattle.std.proofs.Common.{◌≡◌, ℕ, zero, suc, ◌<◌, ◌==◌, true, false, List, [], ◌∷◌, length, map}
-use Rattle.std.proofs.Common.{get_or, slice_set, None, Some, Option, refl, ap, sym, ◌∙◌, arith}
-use Rattle.std.proofs.Common.{if◌then◌else◌, Bool, Result, Ok, Err, IfOk}
+use Rattle.std.proofs.Common.{get_or, slice_set, refl, ap, sym, ◌∙◌, arith}
+use Rattle.std.proofs.Common.{Bool, Result, Ok, Err, IfOk, eqb-true}
 use Rattle.std.proofs.lemmas.Bool.Decides.{nat_tests}
-use Rattle.usb_device.proofs.Attempts.{same_number}
-use Rattle.usb_device.specs.{with_at, max_of, State, bulk_of, in_max, out_max}
+use Rattle.usb_device.specs.{with_at}
 
 none_less : {P : Type 0} (n : ℕ) → n < 0 → P
 none_less n h = absurd (lt_zero n h)
@@ -66,19 +65,13 @@ pub if_ok-so : {T E P Q : Type 0} (r : Result T E) → (P → Q) → IfOk r (λ 
 if_ok-so (Ok v) f h = f h
 if_ok-so (Err e) f h = tt
 
--- the maximum is that of the endpoint with the number
-pub max_of-some : (e most : ℕ) (o : Option (ℕ × ℕ)) → max_of e o ≡ Some most → o ≡ Some (e, most)
-max_of-some e most None h = cc h
-max_of-some e most (Some end) h = by_number (end.0 == e) refl h
+-- what is so of the end at one number is so of each, where it is so of any that stays
+pub at_each : {A : Type 0} (none : A) (R : A → A → Type 0) → ((y : A) → R y y) → (n : ℕ) (x : A)
+    (row : List A) → R (get_or row n none) x → (m : ℕ)
+    → R (get_or row m none) (get_or (with_at none n x row) m none)
+at_each {A} none R same n x row put m = by_test (m == n) refl
   where
-    by_number : (b : Bool) → (end.0 == e) ≡ b → (if b then Some end.1 else None) ≡ Some most
-        → Some end ≡ Some (e, most)
-    by_number true at g = grind (arith, nat_tests, at, g)
-    by_number false at g = cc g
-
-pub in_max-is : (e most : ℕ) (s : State) → bulk_of s true ≡ Some (e, most) → in_max s e ≡ Some most
-in_max-is e most s h = ap (max_of e) h ∙ ap (λ b. if b then Some most else None) (same_number e)
-
-pub out_max-is : (e most : ℕ) (s : State) → bulk_of s false ≡ Some (e, most)
-    → out_max s e ≡ Some most
-out_max-is e most s h = ap (max_of e) h ∙ ap (λ b. if b then Some most else None) (same_number e)
+    by_test : (b : Bool) → (m == n) ≡ b
+        → R (get_or row m none) (get_or (with_at none n x row) m none)
+    by_test true e = rw (eqb-true m n e, at_same none n x row) put
+    by_test false e = rw (at_other none n m x row e) (same (get_or row m none))

@@ -1,6 +1,6 @@
 -- What a whole attempt does to the device that it speaks to: each packet of it comes whole, broken
 -- or not at all (8.5).
-use Rattle.std.specs.Prelude.{ℕ, nat_le, ◌==◌, take, if◌then◌else◌, ◌&&◌, Bool, true, false, List}
+use Rattle.std.specs.Prelude.{ℕ, nat_le, nat_lt, ◌==◌, if◌then◌else◌, ◌&&◌, Bool, true, false, List}
 use Rattle.std.specs.Prelude.{[], ◌∷◌, length, Option, None, Some}
 use Rattle.usb_packet.specs.{OutTok, InTok, SetupTok, Toggle, Zero, One, Packet, Token, Payload}
 use Rattle.usb_packet.specs.declared.Packet.TheVariants as packet
@@ -15,7 +15,7 @@ use Rattle.usb_port.specs.{PortState}
 use Rattle.usb_device.specs.Bulk.{tells_changes, change_bits}
 use Rattle.usb_device.specs.Rows.{State, Reply, received, unread, forgotten, accepted, payload}
 use Rattle.usb_device.specs.Rows.{is_busy, nak_row, data_row, acknowledged, in_end, in_max}
-use Rattle.usb_device.specs.Rows.{rest_of}
+use Rattle.usb_device.specs.Rows.{next_packet, in_hesitates}
 
 -- how a packet comes: as it was sent, as bytes that spell none, or not at all
 pub data Way : Type 0 where
@@ -113,12 +113,18 @@ in_stage_law d read max t2 t3 = (None, d)
 in_stage_law d (ending a) max t2 t3 = gave d by.Control max One [] t2 t3
 in_stage_law d (writing w) max t2 t3 = write_status_law d w max t2 t3
 
+-- IN of an endpoint that is not halted, by its next packet
+abbrev pub given_law : State → ℕ → Option (List ℕ) → ℕ → Way → Way → Reply
+given_law d e None max t2 t3 = (heard t2 (Some Nak), d)
+given_law d e (Some bytes) max t2 t3 =
+    if nat_lt 0 (in_end d e).pace.naks then (heard t2 (Some Nak), in_hesitates d e)
+    else gave d (by.Bulk e) max (in_end d e).state.toggle bytes t2 t3
+
 -- IN of an endpoint whose packets have at most this many bytes
 abbrev pub source_law : State → ℕ → ℕ → ℕ → Way → Way → Reply
 source_law d e most max t2 t3 =
     if (in_end d e).state.halted then (heard t2 (Some Stall), d)
-    else if length (rest_of d e) == 0 then (heard t2 (Some Nak), d)
-    else gave d (by.Bulk e) max (in_end d e).state.toggle (take most (rest_of d e)) t2 t3
+    else given_law d e (next_packet d e most (in_end d e).place) max t2 t3
 
 -- IN 1 of a configured hub with no byte that is still to be acknowledged
 abbrev pub new_changes_law : State → ℕ → ℕ → Way → Way → Reply

@@ -6,6 +6,7 @@ use Rattle.std.specs.Prelude.{Option, None, Some, is_some}
 use Rattle.usb_packet.specs.{other, Zero}
 use Rattle.usb_request.specs.{DIRECTION_IN, STATUS_ENDPOINT}
 use Rattle.usb_descriptor.specs.{bulk_out_of, bulk_in_of, configuration_value, total_length}
+use Rattle.usb_descriptor.specs.{usable_of, UsableEndpoint}
 use Rattle.usb_device.specs.declared.bulk.EndpointState.{EndpointState}
 use Rattle.usb_device.specs.declared.bulk.ServedEndpoint.{ServedEndpoint}
 use Rattle.usb_device.specs.declared.bulk.ServedEndpoint.TheVariants.{BulkOut, BulkIn, Changes}
@@ -51,22 +52,22 @@ abbrev pub bulk_in : Bool → List ℕ → Option (ℕ × ℕ)
 bulk_in true text = bulk_in_of text
 bulk_in false text = bulk_out_of text
 
--- number and maximum of the bulk endpoint of a direction; a device of low speed or without a
+-- the text of the configuration, as long as it says and is
+abbrev pub text_of : Spec → Registers → List ℕ
+text_of s g =
+    let text = text_with g.configuration s.configs in
+    take (min (total_of text) (length text)) text
+
+-- number and maximum of the first bulk endpoint of a direction; a device of low speed or without a
 -- configuration has none
 abbrev pub bulk_at : Spec → Registers → Bool → Option (ℕ × ℕ)
 bulk_at s g is_in =
-    if s.low || g.configuration == 0 then None
-    else (let text = text_with g.configuration s.configs in
-    bulk_in is_in (take (min (total_of text) (length text)) text))
+    if s.low || g.configuration == 0 then None else bulk_in is_in (text_of s g)
 
-abbrev pub is_end : ℕ → ℕ → Option (ℕ × ℕ) → Bool
-is_end index offset None = false
-is_end index offset (Some end) = end.0 + offset == index
-
--- the number of an endpoint, if there is one
-abbrev pub end_number : Option (ℕ × ℕ) → ℕ
-end_number None = 0
-end_number (Some end) = end.0
+-- the endpoint with this direction and this number, if the configuration has a usable one
+abbrev pub served_at : Spec → Registers → Bool → ℕ → Option UsableEndpoint
+served_at s g is_in e =
+    if g.configuration == 0 then None else usable_of s.low is_in e (text_of s g)
 
 -- IN 1 of a configured hub tells which of its ports changed (11.12.1)
 abbrev pub tells_changes : Spec → Registers → Bool
@@ -76,15 +77,15 @@ tells_changes s g = is_some s.hub && not (g.configuration == 0)
 abbrev pub served : Spec → Registers → ℕ → Option ServedEndpoint
 served s g index =
     if index == STATUS_ENDPOINT && tells_changes s g then Some Changes
-    else if is_end index 0 (bulk_at s g false) then Some (BulkOut (end_number (bulk_at s g false)))
-    else if is_end index DIRECTION_IN (bulk_at s g true)
-    then Some (BulkIn (end_number (bulk_at s g true)))
+    else if is_some (served_at s g false index) then Some (BulkOut index)
+    else if nat_le DIRECTION_IN index && is_some (served_at s g true (index - DIRECTION_IN))
+    then Some (BulkIn (index - DIRECTION_IN))
     else None
 
--- the maximum packet of an endpoint, if its number is this one
-abbrev pub max_of : ℕ → Option (ℕ × ℕ) → Option ℕ
-max_of e None = None
-max_of e (Some end) = if end.0 == e then Some end.1 else None
+-- an endpoint has this number
+abbrev pub is_numbered : ℕ → Option (ℕ × ℕ) → Bool
+is_numbered e None = false
+is_numbered e (Some end) = end.0 == e
 
 -- the place after another packet of at most max bytes of len
 abbrev pub advanced : ℕ → ℕ → ℕ → ℕ

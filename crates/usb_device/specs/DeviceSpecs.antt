@@ -8,6 +8,7 @@ use Rattle.usb_request.specs.{HUB_CLASS, HUB, HUB_LENGTH}
 use Rattle.usb_descriptor.specs.{device_class, hub_spelled, port_count}
 use Rattle.usb_device.specs.declared.spec.Stalls.{Stalls}
 use Rattle.usb_device.specs.declared.own_request.OwnRequest.{OwnRequest}
+use Rattle.usb_device.specs.declared.endpoint_spec.EndpointSpec.{EndpointSpec}
 
 -- a hub: its ports, and its hub descriptor (11.23.2.1)
 pub record Hub : Type 0 where
@@ -30,10 +31,13 @@ pub record Spec : Type 0 where
   pub naks : ℕ
   pub stalls : Stalls
   pub hub : Option Hub
-  -- what bulk IN gives
+  -- what the first bulk IN endpoint gives, where no row names it
   pub source : List ℕ
-  -- bulk OUT halts once, when so many packets were taken since the plug
+  -- the first bulk OUT endpoint halts once, when so many packets were taken since the plug, where no
+  -- row names it
   pub halt_after : Option ℕ
+  -- its endpoints; of an address the first row counts
+  pub endpoints : List EndpointSpec
   -- its own requests, the first that fits first
   pub requests : List OwnRequest
 
@@ -68,6 +72,7 @@ pub record IsSpec (s : Spec) : Type 0 where
   pub texts : All (λ text. length text ≤ 65535) s.configs
   pub strings : length s.strings ≤ 256
   pub halt : IfSome s.halt_after (λ packets. 1 ≤ packets)
+  pub endpoints : length s.endpoints ≤ 30
   pub requests : length s.requests ≤ 64
 
 -- a hub whose ports are switched one by one
@@ -106,6 +111,7 @@ function name descriptor configs = record {
   hub = None;
   source = [];
   halt_after = None;
+  endpoints = [];
   requests = [];
 }
 

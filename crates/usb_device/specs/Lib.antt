@@ -1,6 +1,7 @@
 pub mod DeviceSpecs
 pub mod OwnRequests
 pub mod SaidLengths
+pub mod EndpointSpecs
 pub mod Bulk
 pub mod Ends
 pub mod ServedBulk
@@ -32,11 +33,13 @@ pub mod AloneAttempts
 pub use DeviceSpecs.{AreDevices, Hub, IsHub, IsSpec, Spec, agrees, function, has_hub_class}
 pub use DeviceSpecs.{hub_fits, is_named, names_differ, no_stalls, usual_hub}
 unfoldable pub use SaidLengths.{said_length, said_lengths}
-pub use Bulk.{advanced, bulk_at, bulk_in, changed_bit, count_down, end_number, halted, has_value}
-pub use Bulk.{is_end, is_last, max_of, rested, served, tells_changes, text_with, total_of}
+pub use EndpointSpecs.{GivesOn, endpoint_row, if_some, packet_in, place_behind}
+pub use Bulk.{advanced, bulk_at, bulk_in, changed_bit, count_down, halted, has_value, is_last}
+pub use Bulk.{is_numbered, rested, served, served_at, tells_changes, text_of, text_with, total_of}
 pub use Bulk.{turned}
 unfoldable pub use Bulk.{change_bits}
-pub use Ends.{OutEnd, given_on, no_in, no_out, rested_in, rested_out, taken_on}
+pub use Ends.{OutEnd, end_numbers, given_on, hesitated, no_in, no_out, pace_by, paced_on}
+pub use Ends.{plugged_in_end, plugged_out, renewed, rested_in, rested_out, steady, taken_on}
 unfoldable pub use Ends.{with_at}
 pub use ServedBulk.{AreServed}
 pub use OwnRequests.{bytes_given, fits, goes_so, is_or_any, is_to_host, own_bytes, own_place}
@@ -53,11 +56,13 @@ pub use Transfer.{writes, writing, written_on}
 pub use Transfer.{Stage, ending, first_stage, idle, max_packet, packet_at, packet_count}
 pub use Transfer.{packets_joined, put_if, read, reading, reads, reads_port, refused, toggle_at}
 pub use Rows.{Reply, State, accepted, ack_row, acknowledged, after_memory, answered, awaits_control}
-pub use Rows.{begun, bulk_of, changes_row, configured, data_row, end_sinks}
+pub use Rows.{begun, begun_again, bulk_of, changes_row, configured, data_by, data_row, end_sinks}
+pub use Rows.{given_row, in_data, in_hesitates, next_packet, next_place, out_halts, out_hesitates}
+pub use Rows.{taken_row}
 pub use Rows.{endpoint_state, ends_with_address, forgotten, gives, held_row, in_ack_row}
 pub use Rows.{in_end, in_end_row, in_max, out_end, out_end_row, out_max, with_in, with_out}
 pub use Rows.{in_other_row, in_row, is_busy, is_other_out, nak_row, new_changes_row}
-pub use Rows.{out_row, packet_sinks, payload, payload_row, payload_sinks, rest_of, setup_row}
+pub use Rows.{out_row, packet_sinks, payload, payload_row, payload_sinks, setup_row}
 pub use Rows.{sink_grows, sink_row, sinks, source_row, status_row, sunk, token_row, unless_busy}
 pub use Rows.{out_sinks, stage_takes, with_endpoint_state, with_endpoints, write_row}
 pub use Rows.{write_status_row, wrote}
@@ -84,7 +89,7 @@ pub use ReceivedBytes.{Answers, AnswersPacket, GrowsBy, after_receiving, answer_
 pub use ReceivedBytes.{received_by}
 pub use AnswerPids.{Room, answer_from_pid, answer_with}
 pub use Hearings.{heard_with, pid_heard}
-pub use Attempt.{Way, acked, changes_law, gave, heard, held_law, in_control_law}
+pub use Attempt.{Way, acked, changes_law, gave, given_law, heard, held_law, in_control_law}
 pub use Attempt.{in_end_law, in_exchange, in_law, in_other_law, in_stage_law, is_good, is_own}
 pub use Attempt.{is_whole, lost}
 pub use Attempt.{new_changes_law, out_exchange, out_law, sends, setup_exchange, setup_law}
@@ -96,7 +101,7 @@ pub use StrayPackets.{awaits_ack, awaits_data, concerns, is_for, is_token}
 unfoldable pub use StrayPackets.{concerns_some}
 pub use Progress.{IsPacketOf, OnlyWrite, WriteAt, WriteEnded, WriteOn, WriteStatusOn, WritingAt}
 pub use Progress.{IsRead, IsSink, IsSource, Joined, NeverTold, NothingMoved, OnlyChanges}
-pub use Progress.{OnlyControl, OnlySink}
+pub use Progress.{GivesWithin, HasPackets, IsPrompt, NextBytes, OnlyControl, OnlySink}
 pub use Progress.{OnlySource, OnlyStage, PollAt, PollOn, ReadOn, ReadingAt, SinkAt, SinkOn}
 pub use Progress.{SourceAt, SourceOn, StatusGiven, StatusOn, ToldByte, address_then, ahead, level}
 pub use Progress.{seen, taken_of, told, unseen}
@@ -127,7 +132,11 @@ pub use declared.delivery.Heard.{Heard}
 pub use declared.delivery.Sent.{Sent}
 pub use declared.effect.Effect.{Effect}
 pub use declared.effect.Effect.TheVariants.{Calls, Leaves, PortsOff}
+pub use declared.endpoint_spec.EndpointData.{EndpointData}
+pub use declared.endpoint_spec.EndpointData.TheVariants.{Packets, Source}
+pub use declared.endpoint_spec.EndpointSpec.{EndpointSpec}
 pub use declared.ends.InEnd.{InEnd}
+pub use declared.ends.Pace.{Pace}
 pub use declared.hearing.HeardPid.{HeardPid}
 pub use declared.holders.Holder.{Holder}
 pub use declared.own_request.OwnAnswer.{OwnAnswer}

@@ -1,16 +1,20 @@
 -- How far a transfer is, as the host's end and the device's end see it: level, or the host one
 -- packet ahead where the device did
 -- not see its last ACK, or the device one ahead where the host did not see its own (8.6).
-use Rattle.std.specs.Prelude.{◌≡◌, ◌≢◌, ◌⊎◌, ℕ, ◌+◌, ◌<◌, ◌≤◌, ◌==◌, nat_le, ◌&&◌, true, false}
-use Rattle.std.specs.Prelude.{if◌then◌else◌, List, [], ◌∷◌, ◌++◌, length, take, drop, Option, None}
-use Rattle.std.specs.Prelude.{Some, is_some}
+use Rattle.std.specs.Prelude.{◌≡◌, ◌⊎◌, ⊤, ℕ, zero, suc, ◌+◌, ◌≤◌, ◌==◌, nat_le, ◌&&◌, true}
+use Rattle.std.specs.Prelude.{false, if◌then◌else◌, List, [], ◌∷◌, ◌++◌, length, Option}
+use Rattle.std.specs.Prelude.{None, Some, is_some}
+use Rattle.std.specs.List.{concat}
 use Rattle.usb_packet.specs.{Toggle, other, is_same}
 use Rattle.usb_device.specs.declared.answer.Answer.{Answer}
 use Rattle.usb_device.specs.declared.answer.Answer.TheVariants.{Ack, Nak, Stall, Data}
-use Rattle.usb_device.specs.Bulk.{advanced, tells_changes}
+use Rattle.usb_device.specs.declared.ends.Pace.{Pace}
+use Rattle.usb_device.specs.EndpointSpecs.{GivesOn}
+use Rattle.usb_device.specs.Bulk.{tells_changes}
 use Rattle.usb_device.specs.Transfer.{reading, read, ending, idle, max_packet, packet_at, Write}
 use Rattle.usb_device.specs.Transfer.{writing, written_on, taken_with, is_done}
-use Rattle.usb_device.specs.Rows.{State, in_end, in_max, out_end, out_max}
+use Rattle.usb_device.specs.Rows.{State, in_data, in_end, in_max, next_packet, next_place, out_end}
+use Rattle.usb_device.specs.Rows.{out_max}
 
 -- what a host that awaits a toggle takes of an answer: its bytes, where they have the toggle and
 -- are at most max
@@ -103,18 +107,39 @@ pub record IsSource (e most : ℕ) (s : State) : Type 0 where
   pub not_zero : (e == 0) ≡ false
   pub alone : (e == 1 && tells_changes s.spec s.registers) ≡ false
 
--- the host has got this many bytes of its source, and awaits a toggle
+-- the host has got what stands before this place, and awaits a toggle
 pub data SourceAt (e most : ℕ) (got : ℕ) (t : Toggle) (s : State) : Type 0 where
   level : (in_end s e).place ≡ got → (in_end s e).state.toggle ≡ t → SourceAt e most got t s
-  ahead : got ≡ advanced (in_end s e).place most (length s.spec.source)
-      → (in_end s e).place < length s.spec.source → (in_end s e).state.toggle ≡ other t
-      → SourceAt e most got t s
+  ahead : got ≡ next_place s e most (in_end s e).place
+      → is_some (next_packet s e most (in_end s e).place) ≡ true
+      → (in_end s e).state.toggle ≡ other t → SourceAt e most got t s
 
+-- after one more IN: the packet at this place came, or none did
 abbrev pub SourceOn : ℕ → ℕ → ℕ → Toggle → State → Option (List ℕ) → State → Type 0
 SourceOn e most got t s None s' = SourceAt e most got t s'
-SourceOn e most got t s (Some bytes) s' = (bytes ≡ take most (drop got s.spec.source))
-    × (bytes ≢ [])
-    × SourceAt e most (advanced got most (length s.spec.source)) (other t) s'
+SourceOn e most got t s (Some bytes) s' = (next_packet s e most got ≡ Some bytes)
+    × SourceAt e most (next_place s e most got) (other t) s'
+
+-- these bytes are the next packets from a place on, end to end, and this is the place behind them
+pub record NextBytes (e most got : ℕ) (bytes : List ℕ) (behind : ℕ) (s : State) : Type 0 where
+  pub packets : List (List ℕ)
+  pub come : GivesOn (in_data s e) most got packets behind
+  pub joined : bytes ≡ concat packets
+
+-- so many packets are there from a place on
+abbrev pub HasPackets : ℕ → ℕ → ℕ → ℕ → State → Type 0
+HasPackets e most got zero s = ⊤
+HasPackets e most got (suc n) s = (is_some (next_packet s e most got) ≡ true)
+    × HasPackets e most (next_place s e most got) n s
+
+-- no packet that it has is longer
+abbrev pub GivesWithin : ℕ → ℕ → ℕ → State → Type 0
+GivesWithin limit e most s = (place : ℕ) (bytes : List ℕ)
+    → next_packet s e most place ≡ Some bytes → length bytes ≤ limit
+
+-- an endpoint gives few NAKs before each packet, so that a host does not give up
+abbrev pub IsPrompt : Pace → Type 0
+IsPrompt pace = (pace.naks ≤ 100) × (pace.each ≤ 100)
 
 -- An OUT endpoint besides endpoint 0 (5.8)
 
@@ -138,7 +163,7 @@ pub record Joined (e : ℕ) (before bytes : List ℕ) (t : Toggle) (s : State) :
 abbrev pub SinkOn : ℕ → List ℕ → List ℕ → Toggle → Option Answer → State → Type 0
 SinkOn e before bytes t None s' = SinkAt e before bytes t s'
 SinkOn e before bytes t (Some Ack) s' = Joined e before bytes t s'
-SinkOn e before bytes t (Some Nak) s' = ⊥
+SinkOn e before bytes t (Some Nak) s' = SinkAt e before bytes t s'
 SinkOn e before bytes t (Some Stall) s' = SinkAt e before bytes t s'
     × ((out_end s' e).state.halted ≡ true)
 SinkOn e before bytes t (Some (Data u b)) s' = ⊥
@@ -212,8 +237,9 @@ pub record OnlySink (e : ℕ) (s s' : State) : Type 0 where
 -- endpoints may halt, or begin again; what each took and gave stays
 pub record NothingMoved (s s' : State) : Type 0 where
   pub taken : (e : ℕ) → ((out_end s' e).sink ≡ (out_end s e).sink)
-      × ((out_end s' e).until_halt ≡ (out_end s e).until_halt)
-  pub given : (e : ℕ) → (in_end s' e).place ≡ (in_end s e).place
+      × ((out_end s' e).pace.until_halt ≡ (out_end s e).pace.until_halt)
+  pub given : (e : ℕ) → ((in_end s' e).place ≡ (in_end s e).place)
+      × ((in_end s' e).pace.until_halt ≡ (in_end s e).pace.until_halt)
 
 abbrev pub OnlyChanges : State → State → Type 0
 OnlyChanges s s' = s' ≡ record s { memory = s'.memory; changes = s'.changes; held = s'.held }

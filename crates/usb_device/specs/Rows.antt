@@ -1,11 +1,12 @@
 -- What a device answers to each packet, and what it is then (8.5).
-use Rattle.std.specs.Prelude.{ℕ, true, false, ◌+◌, ◌-◌, ◌==◌, nat_lt, not, take, drop}
+use Rattle.std.specs.Prelude.{ℕ, true, false, ◌+◌, ◌-◌, ◌==◌, nat_lt, not}
 use Rattle.std.specs.Prelude.{if◌then◌else◌, ◌&&◌, ◌||◌, Bool, List, [], ◌∷◌, length, Option, None}
-use Rattle.std.specs.Prelude.{Some, is_some, map, replicate, get_or}
+use Rattle.std.specs.Prelude.{Some, is_some, map, get_or}
 use Rattle.usb_packet.specs.{TokenKind, OutTok, InTok, SetupTok, Toggle, Zero, One, Packet, Token}
 use Rattle.usb_packet.specs.{Payload, is_same}
 use Rattle.usb_packet.specs.declared.Packet.TheVariants as packet
-use Rattle.usb_request.specs.{Setup, setup_of}
+use Rattle.usb_request.specs.{DIRECTION_IN, Setup, setup_of}
+use Rattle.usb_descriptor.specs.{max_of_usable}
 use Rattle.usb_device.specs.declared.answer.Answer.{Answer}
 use Rattle.usb_device.specs.declared.answer.Answer.TheVariants.{Ack, Nak, Stall, Data}
 use Rattle.usb_device.specs.declared.request.Registers.{Registers}
@@ -20,10 +21,14 @@ use Rattle.usb_device.specs.declared.bulk.ServedEndpoint.TheVariants.{BulkOut, B
 use Rattle.usb_port.specs.{PortState}
 use Rattle.usb_device.specs.DeviceSpecs.{Spec}
 use Rattle.usb_device.specs.declared.ends.InEnd.{InEnd}
+use Rattle.usb_device.specs.declared.endpoint_spec.EndpointData.{EndpointData}
+use Rattle.usb_device.specs.declared.endpoint_spec.EndpointData.TheVariants as content
+use Rattle.usb_device.specs.declared.endpoint_spec.EndpointSpec.{EndpointSpec}
 use Rattle.usb_device.specs.Bulk.{rested, turned, halted, bulk_at}
-use Rattle.usb_device.specs.Bulk.{max_of, tells_changes, change_bits}
+use Rattle.usb_device.specs.Bulk.{served_at, is_numbered, tells_changes, change_bits}
+use Rattle.usb_device.specs.EndpointSpecs.{endpoint_row, packet_in, place_behind}
 use Rattle.usb_device.specs.Ends.{OutEnd, no_out, no_in, rested_out, rested_in, with_at, taken_on}
-use Rattle.usb_device.specs.Ends.{given_on}
+use Rattle.usb_device.specs.Ends.{given_on, hesitated, plugged_out, plugged_in_end, end_numbers}
 use Rattle.usb_device.specs.Request.{Outcome, stalled, answers, takes_address, takes_configuration}
 use Rattle.usb_device.specs.Request.{halts, unhalts, tells_port, calls_port, outcome}
 use Rattle.usb_device.specs.Request.{answers_taken, takes}
@@ -85,6 +90,12 @@ with_endpoint_state d (BulkOut e) state = with_out d e (record (out_end d e) { s
 with_endpoint_state d (BulkIn e) state = with_in d e (record (in_end d e) { state = state })
 with_endpoint_state d Changes state = record d { changes = state }
 
+-- the endpoint begins again, as a configuration leaves it
+abbrev pub begun_again : State → ServedEndpoint → State
+begun_again d (BulkOut e) = with_out d e (rested_out (out_end d e))
+begun_again d (BulkIn e) = with_in d e (rested_in (in_end d e))
+begun_again d Changes = record d { changes = rested }
+
 -- what a request makes of the endpoints (9.1.1.5, 9.4.5)
 abbrev pub with_endpoints : State → Outcome → State
 with_endpoints d stalled = d
@@ -99,7 +110,7 @@ with_endpoints d (takes_configuration c) = record d {
 }
 with_endpoints d (halts endpoint) = with_endpoint_state d endpoint
     (halted (endpoint_state d endpoint))
-with_endpoints d (unhalts endpoint) = with_endpoint_state d endpoint rested
+with_endpoints d (unhalts endpoint) = begun_again d endpoint
 with_endpoints d (tells_port i) = d
 with_endpoints d (calls_port c i) = d
 with_endpoints d answers_taken = d
@@ -203,33 +214,59 @@ ack_row d (ending (Some a)) = record d {
 ack_row d (writing w) = record d { stage = idle }
 ack_row d stage = d
 
--- the bulk endpoint of a direction
+-- the first bulk endpoint of a direction
 abbrev pub bulk_of : State → Bool → Option (ℕ × ℕ)
 bulk_of d is_in = bulk_at d.spec d.registers is_in
 
 -- the maximum packet of the endpoint with this number, if it is served
 abbrev pub out_max : State → ℕ → Option ℕ
-out_max d e = max_of e (bulk_of d false)
+out_max d e = max_of_usable (served_at d.spec d.registers false e)
 
 abbrev pub in_max : State → ℕ → Option ℕ
-in_max d e = max_of e (bulk_of d true)
+in_max d e = max_of_usable (served_at d.spec d.registers true e)
 
--- what is left of the source of an IN endpoint
-abbrev pub rest_of : State → ℕ → List ℕ
-rest_of d e = drop (in_end d e).place d.spec.source
+-- what an IN endpoint gives: what its row says, else the source of the device if it is the first
+-- bulk one
+abbrev pub data_by : Option EndpointSpec → List ℕ → Bool → EndpointData
+data_by None source first = content.Source (if first then source else [])
+data_by (Some row) source first = row.data
 
--- IN of an endpoint: the next bytes of its source
+abbrev pub in_data : State → ℕ → EndpointData
+in_data d e = data_by (endpoint_row d.spec.endpoints (DIRECTION_IN + e)) d.spec.source
+    (is_numbered e (bulk_of d true))
+
+-- its packet at a place, where packets have at most so many bytes, and the place behind it
+abbrev pub next_packet : State → ℕ → ℕ → ℕ → Option (List ℕ)
+next_packet d e most place = packet_in (in_data d e) most place
+
+abbrev pub next_place : State → ℕ → ℕ → ℕ → ℕ
+next_place d e most place = place_behind (in_data d e) most place
+
+-- a NAK of an endpoint that has a packet, or that could take one
+abbrev pub in_hesitates : State → ℕ → State
+in_hesitates d e = with_in d e (record (in_end d e) { pace = hesitated (in_end d e).pace })
+
+abbrev pub out_hesitates : State → ℕ → State
+out_hesitates d e = with_out d e (record (out_end d e) { pace = hesitated (out_end d e).pace })
+
+-- IN of an endpoint that is not halted, by its next packet
+abbrev pub given_row : State → ℕ → Option (List ℕ) → Reply
+given_row d e None = (Some Nak, d)
+given_row d e (Some bytes) =
+    if nat_lt 0 (in_end d e).pace.naks then (Some Nak, in_hesitates d e)
+    else gives d (by.Bulk e) (in_end d e).state.toggle bytes
+
+-- IN of an endpoint
 abbrev pub source_row : State → ℕ → ℕ → Reply
 source_row d e max =
     if (in_end d e).state.halted then (Some Stall, d)
-    else if length (rest_of d e) == 0 then (Some Nak, d)
-    else gives d (by.Bulk e) (in_end d e).state.toggle (take max (rest_of d e))
+    else given_row d e (next_packet d e max (in_end d e).place)
 
 -- the host's ACK of what an endpoint gave
 abbrev pub in_ack_row : State → ℕ → Option ℕ → State
 in_ack_row d e None = d
 in_ack_row d e (Some max) =
-    with_in d e (given_on max (length d.spec.source) (in_end d e))
+    with_in d e (given_on (next_place d e max (in_end d e).place) (in_end d e))
 
 -- IN 1 of a configured hub with no byte that is still to be acknowledged: the ports with a change
 abbrev pub new_changes_row : State → ℕ → Reply
@@ -251,22 +288,32 @@ acknowledged d by.Control = ack_row d d.stage
 acknowledged d (by.Bulk e) = in_ack_row d e (in_max d e)
 acknowledged d by.Changes = record d { changes = turned d.changes; held = None }
 
+-- the plan says when this OUT endpoint halts: in a row of its own, or as the first bulk one
+abbrev pub out_halts : State → ℕ → Bool
+out_halts d e = is_some (endpoint_row d.spec.endpoints e) || is_numbered e (bulk_of d false)
+
 -- a packet joins the sink of an endpoint
 abbrev pub sunk : State → ℕ → List ℕ → State
-sunk d e bytes = with_out d e (taken_on bytes (out_end d e))
+sunk d e bytes = with_out d e (taken_on (out_halts d e) bytes (out_end d e))
+
+-- the next packet for an endpoint that is not halted
+abbrev pub taken_row : State → ℕ → List ℕ → Reply
+taken_row d e bytes =
+    if nat_lt 0 (out_end d e).pace.naks then (Some Nak, out_hesitates d e)
+    else (Some Ack, sunk d e bytes)
 
 -- OUT of an endpoint
 abbrev pub sink_row : State → ℕ → ℕ → Toggle → List ℕ → Reply
 sink_row d e max t bytes =
     if (out_end d e).state.halted then (Some Stall, d)
     else if nat_lt max (length bytes) then (None, d)
-    else if is_same t (out_end d e).state.toggle then (Some Ack, sunk d e bytes)
+    else if is_same t (out_end d e).state.toggle then taken_row d e bytes
     else (Some Ack, d)
 
 -- the packet makes the sink grow
 abbrev pub sinks : State → ℕ → ℕ → Toggle → List ℕ → Bool
 sinks d e max t bytes = not (out_end d e).state.halted && not (nat_lt max (length bytes)) &&
-    is_same t (out_end d e).state.toggle
+    is_same t (out_end d e).state.toggle && not (nat_lt 0 (out_end d e).pace.naks)
 
 -- IN of an endpoint that is neither endpoint 0 nor a hub's endpoint 1, by its maximum packet
 abbrev pub in_end_row : State → ℕ → Option ℕ → Reply
@@ -361,8 +408,8 @@ fresh s = record {
       Nothing;
   naks = 0;
   stage = idle;
-  outs = replicate 16 (record no_out { until_halt = s.halt_after });
-  ins = replicate 16 no_in;
+  outs = map (plugged_out s) end_numbers;
+  ins = map (plugged_in_end s) end_numbers;
   changes = rested;
   held =
       None;

@@ -1,16 +1,15 @@
 //! The endpoints of a device besides endpoint 0 (5.8, 11.12): which ones there are, their toggles
 //! and their halts.
 ghost use Rattle.std.specs.Prelude.{◌≡◌, ◌≤◌};
-ghost use Rattle.std.specs.Option.{IfSome};
-ghost use Rattle.usb_descriptor.specs.Choice.{IsUsable};
-ghost use Rattle.usb_device.specs.Bulk.{turned, halted, count_down, is_last, text_with, total_of, bulk_in, bulk_at, is_end, end_number, served, advanced, tells_changes};
+ghost use Rattle.usb_descriptor.specs.Usable.{IsTableOf, usable_of};
+ghost use Rattle.usb_device.specs.Bulk.{turned, halted, count_down, is_last, text_with, total_of, text_of, bulk_in, bulk_at, is_numbered, served, served_at, advanced, tells_changes};
 ghost use Rattle.usb_device.specs.ServedBulk.{AreServed};
 
 use crate::ends::EndpointNumber;
 use crate::lists::Bytes;
 use crate::request::{Registers, has_value};
 use crate::spec::DeviceSpec;
-use usb_descriptor::read_config;
+use usb_descriptor::{UsableEndpoints, read_config};
 use usb_packet::Toggle;
 use usb_request::endpoint_address::{DIRECTION_IN, STATUS_ENDPOINT};
 
@@ -32,28 +31,24 @@ pub const RESTED: EndpointState = EndpointState {
 /// An endpoint besides endpoint 0, as a request names it.
 #[derive(Clone, Copy, Debug)]
 pub enum ServedEndpoint {
-    /// The bulk OUT endpoint with this number.
+    /// The OUT endpoint with this number.
     BulkOut(EndpointNumber),
-    /// The bulk IN endpoint with this number.
+    /// The IN endpoint with this number.
     BulkIn(EndpointNumber),
     /// IN 1 of a hub.
     Changes,
 }
 
-/// The bulk endpoints that a device serves: of each its number and its maximum packet (9.6.6).
+/// The endpoints that a device serves.
 #[derive(Clone, Copy, Debug)]
-pub struct BulkEndpoints {
-    /// The bulk OUT endpoint.
+pub struct ServedEndpoints {
+    /// The number and the maximum packet of the first bulk OUT endpoint.
     pub bulk_out: Option<(u8, u8)>,
-    /// The bulk IN endpoint.
+    /// Those of the first bulk IN endpoint.
     pub bulk_in: Option<(u8, u8)>,
+    /// All of them.
+    pub table: UsableEndpoints,
 }
-
-/// Those of a device that is not configured: none.
-pub const NO_BULK: BulkEndpoints = BulkEndpoints {
-    bulk_out: None,
-    bulk_in: None,
-};
 
 /// The endpoint after a packet that moved.
 pub fn turned(state: EndpointState) -> EndpointState
@@ -122,11 +117,19 @@ fn total_of(text: &[u8]) -> usize
     }
 }
 
+/// The text of the configuration, as long as it says and is.
+fn text_of(spec: &DeviceSpec, registers: Registers) -> &[u8]
+    ensures { result.now ≡ text_of spec.now registers }
+{
+    let text = text_with(u16::from(registers.configuration), spec.configs());
+    let total = total_of(text).min(text.len());
+    &text[..total]
+}
+
 /// The first bulk endpoint of a direction in a text, if it is a configuration.
 #[tactic(auto, using(crate::proofs::Endpoints::endpoints))]
 fn bulk_in(is_in: bool, text: &[u8]) -> Option<(u8, u8)>
-    ensures value { result ≡ bulk_in is_in text.now }
-    ensures usable { IfSome result IsUsable }
+    ensures { result ≡ bulk_in is_in text.now }
 {
     let config = read_config(text).ok()?;
     if is_in {
@@ -136,47 +139,55 @@ fn bulk_in(is_in: bool, text: &[u8]) -> Option<(u8, u8)>
     }
 }
 
-/// The bulk endpoint of a direction that is served: its number and its maximum packet.
+/// The first bulk endpoint of a direction that is served: its number and its maximum packet.
 fn bulk_at(spec: &DeviceSpec, registers: Registers, is_in: bool) -> Option<(u8, u8)>
-    ensures value { result ≡ bulk_at spec.now registers is_in }
-    ensures usable { IfSome result IsUsable }
+    ensures { result ≡ bulk_at spec.now registers is_in }
 {
     if spec.is_low() || registers.configuration == 0 {
         return None;
     }
-    let text = text_with(u16::from(registers.configuration), spec.configs());
-    let total = total_of(text).min(text.len());
-    bulk_in(is_in, &text[..total])
+    bulk_in(is_in, text_of(spec, registers))
 }
 
-/// Both bulk endpoints that are served.
-pub fn bulk_endpoints(spec: &DeviceSpec, registers: Registers) -> BulkEndpoints
-    ensures { AreServed spec.now registers result }
+/// All endpoints of a text that pipes can use, if it is a configuration.
+#[tactic(auto, using(crate::proofs::Endpoints::endpoints))]
+fn table_of(low: bool, text: &[u8]) -> UsableEndpoints
+    ensures { IsTableOf (λ is_in e. usable_of low is_in e text.now) result }
 {
-    BulkEndpoints {
-        bulk_out: bulk_at(spec, registers, false),
-        bulk_in: bulk_at(spec, registers, true),
+    match read_config(text) {
+        Ok(config) => config.usable_endpoints(low),
+        Err(_) => UsableEndpoints::none(),
     }
 }
 
-fn is_end(index: u16, offset: u16, end: Option<(u8, u8)>) -> bool
-    requires { offset ≤ DIRECTION_IN }
-    ensures { result ≡ is_end index offset end }
+/// All endpoints that are served.
+fn table_at(spec: &DeviceSpec, registers: Registers) -> UsableEndpoints
+    ensures { IsTableOf (served_at spec.now registers) result }
+{
+    if registers.configuration == 0 {
+        return UsableEndpoints::none();
+    }
+    table_of(spec.is_low(), text_of(spec, registers))
+}
+
+/// The endpoints that are served by a device with these registers.
+pub fn served_endpoints(spec: &DeviceSpec, registers: Registers) -> ServedEndpoints
+    ensures { AreServed spec.now registers result }
+{
+    ServedEndpoints {
+        bulk_out: bulk_at(spec, registers, false),
+        bulk_in: bulk_at(spec, registers, true),
+        table: table_at(spec, registers),
+    }
+}
+
+/// Whether an endpoint has this number.
+pub(crate) fn is_numbered(number: u8, end: Option<(u8, u8)>) -> bool
+    ensures { result ≡ is_numbered number end }
 {
     match end {
         None => false,
-        Some((number, _)) => u16::from(number) + offset == index,
-    }
-}
-
-/// The number of an endpoint, if there is one.
-pub(crate) fn number_of(end: Option<(u8, u8)>) -> EndpointNumber
-    requires { IfSome end IsUsable }
-    ensures { result ≡ end_number end }
-{
-    match end {
-        None => EndpointNumber::new(0),
-        Some((number, _)) => EndpointNumber::new(number),
+        Some((found, _)) => found == number,
     }
 }
 
@@ -188,25 +199,30 @@ pub fn tells_changes(spec: &DeviceSpec, registers: Registers) -> bool
 }
 
 /// The served endpoint that wIndex of a request names (9.3.4).
+#[tactic(auto, using(crate::proofs::ServedNumbers::far))]
 pub fn served(spec: &DeviceSpec, registers: Registers, index: u16) -> Option<ServedEndpoint>
     ensures { result ≡ served spec.now registers index }
 {
     if index == u16::from(STATUS_ENDPOINT) && tells_changes(spec, registers) {
         return Some(ServedEndpoint::Changes);
     }
-    let served = bulk_endpoints(spec, registers);
-    if is_end(index, 0, served.bulk_out) {
-        Some(ServedEndpoint::BulkOut(number_of(served.bulk_out)))
-    } else if is_end(index, u16::from(DIRECTION_IN), served.bulk_in) {
-        Some(ServedEndpoint::BulkIn(number_of(served.bulk_in)))
+    if index > 0xff {
+        return None;
+    }
+    let number = index as u8;
+    let table = table_at(spec, registers);
+    if table.get(number, false).is_some() {
+        Some(ServedEndpoint::BulkOut(EndpointNumber::new(number)))
+    } else if number >= DIRECTION_IN && table.get(number - DIRECTION_IN, true).is_some() {
+        Some(ServedEndpoint::BulkIn(EndpointNumber::new(number - DIRECTION_IN)))
     } else {
         None
     }
 }
 
 /// The place after another packet of at most `max` bytes of `len`.
-pub fn advanced(place: usize, max: u8, len: usize) -> usize
+pub fn advanced(place: u16, max: u8, len: u16) -> u16
     ensures { result ≡ advanced place max len }
 {
-    place + len.saturating_sub(place).min(usize::from(max))
+    place + len.saturating_sub(place).min(u16::from(max))
 }

@@ -1,14 +1,17 @@
 //! The endpoints of a device besides endpoint 0, from the plug on: one row of those that take data,
 //! and one of those that give them.
-ghost use Rattle.std.specs.Prelude.{◌≡◌, ◌==◌, ◌<◌, map, replicate, get_or, IfOk, OnErr};
-ghost use Rattle.usb_device.specs.Ends.{no_out, no_in, rested_out, rested_in, with_at, taken_on, given_on};
+ghost use Rattle.std.specs.Prelude.{◌≡◌, ◌<◌, map, get_or, None, option_copied, IfOk, OnErr};
+ghost use Rattle.usb_device.specs.Ends.{no_out, no_in, rested_out, rested_in, with_at, taken_on, given_on, hesitated, renewed, paced_on, pace_by, plugged_out, plugged_in_end, end_numbers};
 
-use crate::bulk::{EndpointState, RESTED, advanced, counted_down, is_last, turned};
+use crate::bulk::{EndpointState, RESTED, counted_down, is_last, turned};
+use crate::endpoint_spec::EndpointSpec;
+use crate::spec::DeviceSpec;
 use std::alloc::{AllocError, Global};
 use std::marker::Model;
+use usb_request::endpoint_address::DIRECTION_IN;
 
 /// How many endpoints a direction has room for, endpoint 0 included (9.6.6).
-const ENDPOINTS: usize = 16;
+const ENDPOINTS: u8 = 16;
 
 /// The number of an endpoint: 0 to 15 (9.6.6).
 #[derive(Clone, Copy, Debug)]
@@ -54,28 +57,100 @@ impl EndpointNumber {
     }
 }
 
+/// How an endpoint hesitates, and when it halts.
+#[derive(Clone, Copy, Debug)]
+pub struct Pace {
+    /// How many NAKs it still gives before its next packet.
+    pub naks: u16,
+    /// How many it gives before each packet.
+    pub each: u16,
+    /// How many packets it still moves until it halts; None if it does not halt by itself.
+    pub until_halt: Option<u16>,
+}
+
+/// After one of its NAKs.
+fn hesitated(pace: Pace) -> Pace
+    ensures { result ≡ hesitated pace }
+{
+    Pace {
+        naks: pace.naks.saturating_sub(1),
+        ..pace
+    }
+}
+
+/// At a beginning: all its NAKs come before the next packet.
+fn renewed(pace: Pace) -> Pace
+    ensures { result ≡ renewed pace }
+{
+    Pace {
+        naks: pace.each,
+        ..pace
+    }
+}
+
+/// After a packet that moved.
+fn paced_on(pace: Pace) -> Pace
+    ensures { result ≡ paced_on pace }
+{
+    Pace {
+        naks: pace.each,
+        each: pace.each,
+        until_halt: counted_down(pace.until_halt),
+    }
+}
+
+/// As a plan describes it; `halt_after` is for an endpoint without a row.
+fn pace_by(row: Option<&EndpointSpec>, halt_after: Option<u16>) -> Pace
+    ensures { result ≡ pace_by (option_copied row.entry) halt_after }
+{
+    match row {
+        None => Pace {
+            naks: 0,
+            each: 0,
+            until_halt: halt_after,
+        },
+        Some(row) => Pace {
+            naks: row.naks,
+            each: row.naks,
+            until_halt: row.halt_after,
+        },
+    }
+}
+
 /// An IN endpoint besides endpoint 0.
 #[derive(Clone, Copy, Debug)]
 pub struct InEnd {
     /// Its toggle and its halt.
     pub state: EndpointState,
-    /// How many bytes of its source the host has acknowledged.
-    pub place: usize,
+    /// How it hesitates, and when it halts.
+    pub pace: Pace,
+    /// How much of its data the host has acknowledged: bytes of a source, or whole packets.
+    pub place: u16,
 }
 
-/// One that has given nothing.
-const NO_IN: InEnd = InEnd {
-    state: RESTED,
-    place: 0,
-};
-
-/// The endpoint after the host's ACK of a packet of at most `max` bytes of the `len` of its source.
-pub(crate) fn given_on(max: u8, len: usize, end: InEnd) -> InEnd
-    ensures { result ≡ given_on max len end }
+/// The endpoint after the host's ACK of a packet, with this place behind it.
+pub(crate) fn given_on(place: u16, end: InEnd) -> InEnd
+    ensures { result ≡ given_on place end }
 {
     InEnd {
-        state: turned(end.state),
-        place: advanced(end.place, max, len),
+        state: EndpointState {
+            toggle: turned(end.state).toggle,
+            halted: is_last(end.pace.until_halt),
+        },
+        pace: paced_on(end.pace),
+        place,
+    }
+}
+
+/// The endpoint as it is at the plug.
+fn plugged_in_end(spec: &DeviceSpec, number: u8) -> InEnd
+    requires { number < 16 }
+    ensures { result ≡ plugged_in_end spec.now number }
+{
+    InEnd {
+        state: RESTED,
+        pace: pace_by(spec.endpoints().row(DIRECTION_IN + number), None),
+        place: 0,
     }
 }
 
@@ -83,10 +158,9 @@ pub(crate) fn given_on(max: u8, len: usize, end: InEnd) -> InEnd
 #[derive(Debug, Drop)]
 struct OutEnd {
     state: EndpointState,
+    pace: Pace,
     /// What it has taken since the plug.
     sink: Vec<u8>,
-    /// How many packets it is still to take until it halts; None if it does not.
-    until_halt: Option<u16>,
 }
 
 impl Model for OutEnd {
@@ -96,9 +170,51 @@ impl Model for OutEnd {
 
     ghost view = { λ end. record {
       state = end.state;
+      pace = end.pace;
       sink = end.sink.items;
-      until_halt = end.until_halt;
     } };
+}
+
+impl OutEnd {
+    /// As it is at the plug.
+    fn plugged(alloc: Global, spec: &DeviceSpec, number: u8) -> Self
+        ensures { result ≡ plugged_out spec.now number }
+    {
+        OutEnd {
+            state: RESTED,
+            pace: pace_by(spec.endpoints().row(number), spec.halt_after()),
+            sink: Vec::new(alloc),
+        }
+    }
+
+    /// It gave a NAK.
+    fn hesitate(&mut self)
+        ensures { self.new ≡ record self.old { pace = hesitated self.old.pace } }
+    {
+        self.pace = hesitated(self.pace);
+    }
+
+    /// It begins again.
+    fn begin_again(&mut self)
+        ensures { self.new ≡ rested_out self.old }
+    {
+        self.state = RESTED;
+        self.pace = renewed(self.pace);
+    }
+
+    /// A packet joins what it has taken.
+    fn take(&mut self, halts: bool, bytes: &[u8]) -> Result<(), AllocError>
+        ensures taken { IfOk result (λ done. self.new ≡ taken_on halts bytes.now self.old) }
+        ensures refused { OnErr result (self.new ≡ self.old) }
+    {
+        self.sink.extend_from_slice(bytes)?;
+        self.state = EndpointState {
+            toggle: turned(self.state).toggle,
+            halted: halts && is_last(self.pace.until_halt),
+        };
+        self.pace = paced_on(self.pace);
+        Ok(())
+    }
 }
 
 #[cycle(rest_ins)]
@@ -107,6 +223,7 @@ fn rest_ins(row: &mut [InEnd])
 {
     if let Some((end, more)) = row.split_first_mut() {
         end.state = RESTED;
+        end.pace = renewed(end.pace);
         rest_ins(more);
     }
 }
@@ -116,7 +233,7 @@ fn rest_outs(row: &mut [OutEnd])
     ensures { row.new ≡ map rested_out row.old }
 {
     if let Some((end, more)) = row.split_first_mut() {
-        end.state = RESTED;
+        end.begin_again();
         rest_outs(more);
     }
 }
@@ -140,11 +257,28 @@ impl Model for InEnds {
 
 impl InEnds {
     /// Those of a device that was just plugged.
-    pub fn new() -> Self
-        ensures { result ≡ replicate 16 no_in }
+    pub fn new(spec: &DeviceSpec) -> Self
+        ensures { result ≡ map (plugged_in_end spec.now) end_numbers }
     {
         InEnds {
-            row: [NO_IN; ENDPOINTS],
+            row: [
+                plugged_in_end(spec, 0),
+                plugged_in_end(spec, 1),
+                plugged_in_end(spec, 2),
+                plugged_in_end(spec, 3),
+                plugged_in_end(spec, 4),
+                plugged_in_end(spec, 5),
+                plugged_in_end(spec, 6),
+                plugged_in_end(spec, 7),
+                plugged_in_end(spec, 8),
+                plugged_in_end(spec, 9),
+                plugged_in_end(spec, 10),
+                plugged_in_end(spec, 11),
+                plugged_in_end(spec, 12),
+                plugged_in_end(spec, 13),
+                plugged_in_end(spec, 14),
+                plugged_in_end(spec, 15),
+            ],
         }
     }
 
@@ -153,6 +287,38 @@ impl InEnds {
         ensures { result ≡ get_or self.now number no_in }
     {
         self.row[number.place()]
+    }
+
+    /// The one with a number gave a NAK.
+    pub fn hesitate(&mut self, number: EndpointNumber)
+        ensures { self.new ≡ with_at no_in number
+            (record (get_or self.old number no_in)
+            { pace = hesitated (get_or self.old number no_in).pace }) self.old }
+    {
+        let end = self.get(number);
+        self.set(
+            number,
+            InEnd {
+                pace: hesitated(end.pace),
+                ..end
+            },
+        );
+    }
+
+    /// The one with a number begins again.
+    pub fn begin_again(&mut self, number: EndpointNumber)
+        ensures { self.new
+            ≡ with_at no_in number (rested_in (get_or self.old number no_in)) self.old }
+    {
+        let end = self.get(number);
+        self.set(
+            number,
+            InEnd {
+                state: RESTED,
+                pace: renewed(end.pace),
+                ..end
+            },
+        );
     }
 
     /// Another one takes its place.
@@ -188,21 +354,17 @@ impl Model for OutEnds {
 }
 
 impl OutEnds {
-    /// Those of a device that was just plugged; each halts after so many packets, if it does.
+    /// Those of a device that was just plugged.
     ///
     /// # Errors
     ///
     /// Memory was refused.
-    pub fn new(alloc: Global, until_halt: Option<u16>) -> Result<Self, AllocError>
-        ensures { IfOk result (λ e. e ≡ replicate 16 (record no_out { until_halt = until_halt })) }
+    pub fn new(alloc: Global, spec: &DeviceSpec) -> Result<Self, AllocError>
+        ensures { IfOk result (λ e. e ≡ map (plugged_out spec.now) end_numbers) }
     {
-        let mut row = Vec::with_capacity(alloc, ENDPOINTS)?;
-        'ends: for _ in 0..ENDPOINTS {
-            row.push(OutEnd {
-                state: RESTED,
-                sink: Vec::new(alloc),
-                until_halt,
-            })?;
+        let mut row = Vec::with_capacity(alloc, usize::from(ENDPOINTS))?;
+        'ends: for number in 0..ENDPOINTS {
+            row.push(OutEnd::plugged(alloc, spec, number))?;
         }
         Ok(OutEnds { row })
     }
@@ -230,17 +392,46 @@ impl OutEnds {
         self.row[number.place()].state = state;
     }
 
-    /// A packet joins what the one with a number has taken.
+    /// How the one with a number hesitates, and when it halts.
+    pub fn pace(&self, number: EndpointNumber) -> Pace
+        ensures { result ≡ (get_or self.now number no_out).pace }
+    {
+        self.row[number.place()].pace
+    }
+
+    /// The one with a number gave a NAK.
+    pub fn hesitate(&mut self, number: EndpointNumber)
+        ensures { self.new ≡ with_at no_out number
+            (record (get_or self.old number no_out)
+            { pace = hesitated (get_or self.old number no_out).pace }) self.old }
+    {
+        self.row[number.place()].hesitate();
+    }
+
+    /// The one with a number begins again.
+    pub fn begin_again(&mut self, number: EndpointNumber)
+        ensures { self.new
+            ≡ with_at no_out number (rested_out (get_or self.old number no_out)) self.old }
+    {
+        self.row[number.place()].begin_again();
+    }
+
+    /// A packet joins what the one with a number has taken; its plan may say that it halts.
     ///
     /// # Errors
     ///
     /// Memory was refused, and nothing changes.
-    pub fn take(&mut self, number: EndpointNumber, bytes: &[u8]) -> Result<(), AllocError>
-        ensures taken { IfOk result (λ done. self.new
-            ≡ with_at no_out number (taken_on bytes.now (get_or self.old number no_out)) self.old) }
+    pub fn take(
+        &mut self,
+        number: EndpointNumber,
+        halts: bool,
+        bytes: &[u8],
+    ) -> Result<(), AllocError>
+        ensures taken { IfOk result (λ done. self.new ≡ with_at no_out number
+            (taken_on halts bytes.now (get_or self.old number no_out)) self.old) }
         ensures refused { OnErr result (self.new ≡ self.old) }
     {
-        self.row[number.place()].take(bytes)
+        self.row[number.place()].take(halts, bytes)
     }
 
     /// A configuration is taken (9.4.7): what they took stays.
@@ -248,20 +439,5 @@ impl OutEnds {
         ensures { self.new ≡ map rested_out self.old }
     {
         rest_outs(self.row.as_mut_slice());
-    }
-}
-
-impl OutEnd {
-    fn take(&mut self, bytes: &[u8]) -> Result<(), AllocError>
-        ensures taken { IfOk result (λ done. self.new ≡ taken_on bytes.now self.old) }
-        ensures refused { OnErr result (self.new ≡ self.old) }
-    {
-        self.sink.extend_from_slice(bytes)?;
-        self.state = EndpointState {
-            toggle: turned(self.state).toggle,
-            halted: is_last(self.until_halt),
-        };
-        self.until_halt = counted_down(self.until_halt);
-        Ok(())
     }
 }

@@ -2,7 +2,10 @@
 //!
 //! Each call does nothing; what it ensures is for proofs to cite. They speak of one attempt with a
 //! device, whose packets come whole, broken or not at all.
-ghost use Rattle.std.specs.Prelude.{◌≡◌, ◌<◌, ◌≤◌, ◌+◌, ◌==◌, ◌&&◌, ℕ, nat_lt, Bool, List, [], length, take, true, false, None, Some, is_some};
+ghost use Rattle.std.specs.Prelude.{◌≡◌, ◌<◌, ◌≤◌, ◌+◌, ◌==◌, ◌&&◌, ℕ, nat_lt, Bool, List, [], length, take, drop, true, false, None, Some, is_some};
+ghost use Rattle.std.specs.List.{concat};
+ghost use Rattle.usb_device.specs.EndpointSpecs.{GivesOn};
+ghost use Rattle.usb_device.specs.declared.endpoint_spec.EndpointData.TheVariants as EndpointData;
 ghost use Rattle.usb_packet.specs.declared.Packet.{Packet};
 ghost use Rattle.usb_packet.specs.declared.Packet.TheVariants.{Token};
 ghost use Rattle.usb_packet.specs.declared.TokenKind.{TokenKind};
@@ -102,8 +105,8 @@ pub fn control_write_goes_on()
         × ((in_law s row 0 max t1 t2 t3).1.registers ≡ s.registers) }
 {}
 
-/// IN of an endpoint besides endpoint 0 (5.8): each byte of its source comes once, in order,
-/// whatever is lost.
+/// IN of an endpoint besides endpoint 0 (5.7, 5.8): each packet comes once, in order, whatever is
+/// lost.
 #[tactic(auto, using(crate::proofs::progress::BulkProgress::sources))]
 pub fn source_goes_on()
     ensures source { (e most got : ℕ) (t : Toggle) (s : State)
@@ -123,6 +126,17 @@ pub fn source_goes_on()
     ensures frame { (e most : ℕ) (s : State)
         → IsSource e most s → (row : List PortState) (max : ℕ) (t1 t2 t3 : Way)
         → OnlySource e s (in_law s row e max t1 t2 t3).1 }
+{}
+
+/// The packets of a source, end to end, are its next bytes: none twice and none left out.
+#[tactic(auto, using(crate::proofs::EndpointPackets::packets_of_a_source))]
+pub fn source_is_cut()
+    ensures bytes { (source : List ℕ) (most got behind : ℕ) (packets : List (List ℕ)) → 1 ≤ most
+        → GivesOn (EndpointData.Source source) most got packets behind
+        → concat packets ≡ take (length (concat packets)) (drop got source) }
+    ensures place { (source : List ℕ) (most got behind : ℕ) (packets : List (List ℕ)) → 1 ≤ most
+        → GivesOn (EndpointData.Source source) most got packets behind
+        → behind ≡ got + length (concat packets) }
 {}
 
 /// OUT of an endpoint besides endpoint 0 (5.8): what is acknowledged joined its sink once, whatever

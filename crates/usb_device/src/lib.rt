@@ -23,6 +23,7 @@ mod delivery;
 mod device;
 mod devices;
 mod effect;
+mod endpoint_spec;
 mod ends;
 mod hearing;
 mod holders;
@@ -46,16 +47,17 @@ pub use delivery::{Content, Heard, Sent};
 pub use device::Device;
 pub use devices::Devices;
 pub use effect::{Effect, keeps_enable};
-pub use ends::{EndpointNumber, InEnd};
+pub use endpoint_spec::{EndpointData, EndpointSpec, EndpointSpecs};
+pub use ends::{EndpointNumber, InEnd, Pace};
 pub use hearing::{HeardPid, Hearing};
 pub use holders::{Holder, Holders};
 pub use hub_spec::{HubSpec, has_hub_class};
 pub use laws::{
     answer_laws, attempt_laws, control_read_goes_on, control_write_goes_on, sink_goes_on,
-    source_goes_on, stray_laws,
+    source_goes_on, source_is_cut, stray_laws,
 };
 pub use lent_packet::LentPacket;
-pub use lists::{Bytes, ConfigTexts, Name, StringTexts, Texts};
+pub use lists::{Bytes, ConfigTexts, Name, Packets, StringTexts, Texts};
 pub use own_request::{OwnAnswer, OwnRequest, OwnRequests};
 pub use ports::Ports;
 pub use spec::{DeviceSpec, Stalls};

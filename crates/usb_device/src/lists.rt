@@ -1,6 +1,7 @@
 //! Names, bytes and texts of a device, with their bounds in their types.
 ghost use Rattle.std.specs.Prelude.{◌≡◌, IfOk};
 
+use crate::endpoint_spec::EndpointSpecs;
 use crate::own_request::OwnRequests;
 use std::alloc::{AllocError, Global};
 use std::marker::Model;
@@ -191,6 +192,13 @@ impl<const COUNT: usize, const MAX: usize> Texts<COUNT, MAX> {
         OwnRequests::new(*self.texts.allocator())
     }
 
+    /// No endpoints that a plan describes, by the allocator of the texts.
+    pub(crate) fn no_endpoints_beside(&self) -> EndpointSpecs
+        ensures { result ≡ [] }
+    {
+        EndpointSpecs::new(*self.texts.allocator())
+    }
+
     /// The same texts in memory of their own.
     ///
     /// # Errors
@@ -211,3 +219,6 @@ pub type ConfigTexts = Texts<8, 65535>;
 
 /// The string descriptors of a device (9.6.7), by their index: at most 256 of at most 255 bytes.
 pub type StringTexts = Texts<256, 255>;
+
+/// The packets of an endpoint, in their order: at most 1,000 of at most 64 bytes.
+pub type Packets = Texts<1000, 64>;

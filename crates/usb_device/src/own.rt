@@ -1,7 +1,8 @@
 //! A device without its ports: its transfers, packet by packet (8.5).
-ghost use Rattle.std.specs.Prelude.{◌≡◌, ◌≤◌, ◌==◌, ℕ, List, None, if◌then◌else◌, is_some, length};
-ghost use Rattle.std.specs.Option.{IfSome};
-ghost use Rattle.usb_descriptor.specs.Choice.{IsUsable};
+ghost use Rattle.std.specs.Prelude.{◌≡◌, ◌≤◌, ◌==◌, ℕ, List, None, Some, nat_lt, if◌then◌else◌, is_some, length};
+ghost use Rattle.usb_device.specs.Bulk.{is_numbered};
+ghost use Rattle.usb_device.specs.EndpointSpecs.{packet_in, place_behind};
+ghost use Rattle.usb_device.specs.declared.endpoint_spec.EndpointData.TheVariants as EndpointData;
 ghost use Rattle.usb_device.specs.DeviceSpecs.{Spec};
 ghost use Rattle.usb_device.specs.Code.{source_bytes, hub_text, text_at, meaning_of, stage_of};
 ghost use Rattle.usb_device.specs.OwnRequests.{own_bytes};
@@ -15,10 +16,11 @@ ghost use Rattle.usb_packet.specs.declared.Packet.TheVariants.{Token as token};
 
 use crate::answer::AnswerPid;
 use crate::bulk::{
-    BulkEndpoints, EndpointState, NO_BULK, RESTED, ServedEndpoint, bulk_endpoints, halted,
-    tells_changes, turned,
+    EndpointState, RESTED, ServedEndpoint, ServedEndpoints, advanced, halted, is_numbered,
+    served_endpoints, tells_changes, turned,
 };
 use crate::effect::Effect;
+use crate::endpoint_spec::EndpointData;
 use crate::ends::{EndpointNumber, InEnd, InEnds, OutEnds, given_on};
 use crate::lists::Bytes;
 use crate::ports::Ports;
@@ -34,16 +36,17 @@ use std::marker::Model;
 use std::rc::Rc;
 use usb_packet::{Packet, Toggle, TokenKind};
 use usb_request::Setup;
+use usb_request::endpoint_address::DIRECTION_IN;
 
 /// A plugged device, without its ports: it takes one packet after the other, and answers some of
-/// them (8.5). It has endpoint 0, a bulk endpoint for each direction where its configuration
-/// describes one, and IN 1 where it is a hub.
+/// them (8.5). It has endpoint 0, each endpoint of its configuration that a pipe can use, and IN 1
+/// where it is a hub.
 #[derive(Debug, Drop)]
 pub struct FunctionState {
     spec: Rc<DeviceSpec>,
     registers: Registers,
-    /// The bulk endpoints of the configuration.
-    served: BulkEndpoints,
+    /// The endpoints of the configuration.
+    served: ServedEndpoints,
     /// What the packet before left.
     memory: RememberedPacket,
     /// How many NAKs are still to be given in this transfer.
@@ -187,12 +190,60 @@ fn awaits_ack(memory: RememberedPacket) -> bool
     }
 }
 
+/// Puts the packet of a source at a place into the room, and returns whether there is one.
+fn put_source(source: &[u8], max: u8, place: usize, room: &mut ArrayVec<u8, 64>) -> bool
+    requires most { max ≤ 64 }
+    requires least { 1 ≤ max }
+    ensures { put_if result room.new ≡ packet_in (EndpointData.Source source.now) max place }
+{
+    let rest = source.get(place..).unwrap_or(&[]);
+    if rest.is_empty() {
+        return false;
+    }
+    fill(room, &rest[..rest.len().min(usize::from(max))]);
+    true
+}
+
+/// Puts the packet at a place into the room, and returns whether there is one.
+fn put_data(data: &EndpointData, max: u8, place: usize, room: &mut ArrayVec<u8, 64>) -> bool
+    requires most { max ≤ 64 }
+    requires least { 1 ≤ max }
+    ensures { put_if result room.new ≡ packet_in data.now max place }
+{
+    match data {
+        EndpointData::Source(bytes) => put_source(bytes.as_slice(), max, place, room),
+        EndpointData::Packets(packets) => match packets.as_slice().get(place) {
+            Some(packet) => {
+                fill(room, packet.as_slice());
+                true
+            }
+            None => false,
+        },
+    }
+}
+
+/// The place behind the packet at a place.
+fn behind_data(data: &EndpointData, max: u8, place: u16) -> u16
+    ensures { result ≡ place_behind data.now max place }
+{
+    match data {
+        EndpointData::Source(bytes) => advanced(place, max, bytes.as_slice().len() as u16),
+        EndpointData::Packets(packets) => {
+            if usize::from(place) < packets.as_slice().len() {
+                place + 1
+            } else {
+                place
+            }
+        }
+    }
+}
+
 impl FunctionState {
     ghost use Rattle.usb_device.specs.StrayPackets.{is_for};
     ghost use Rattle.std.specs.Prelude.{IfOk, OnErr, true, false, not, ◌&&◌, [], ◌∷◌};
     ghost use Rattle.usb_device.specs.declared.transfer.InEndpoint.TheVariants as by;
     ghost use Rattle.usb_device.specs.Effects.{asks, asked_by_data, asked_by_setup};
-    ghost use Rattle.usb_device.specs.Rows.{State, received, unread, forgotten, awaits_address, ends_with_address, fresh, reset_state, accepted, configured, begun, is_busy, nak_row, gives, in_row, status_row, out_row, ack_row, token_row, setup_row, payload_row, answered, unless_busy, endpoint_state, with_endpoint_state, bulk_of, in_end, out_end, in_max, out_max, rest_of, source_row, in_ack_row, acknowledged, sink_row, sinks, in_end_row, out_end_row, end_sinks, data_row, payload_sinks, out_sinks, stage_takes, sink_grows, is_other_out, after_memory, with_endpoints, in_other_row, changes_row, new_changes_row};
+    ghost use Rattle.usb_device.specs.Rows.{State, received, unread, forgotten, awaits_address, ends_with_address, fresh, reset_state, accepted, configured, begun, is_busy, nak_row, gives, in_row, status_row, out_row, ack_row, token_row, setup_row, payload_row, answered, unless_busy, endpoint_state, with_endpoint_state, bulk_of, in_end, out_end, in_max, out_max, next_packet, next_place, out_halts, taken_row, begun_again, source_row, in_ack_row, acknowledged, sink_row, sinks, in_end_row, out_end_row, end_sinks, data_row, payload_sinks, out_sinks, stage_takes, sink_grows, is_other_out, after_memory, with_endpoints, in_other_row, changes_row, new_changes_row};
 
     /// A device that was just plugged; it shares its description.
     ///
@@ -206,12 +257,12 @@ impl FunctionState {
         Ok(FunctionState {
             spec: spec.clone()?,
             registers: AT_RESET,
-            served: NO_BULK,
+            served: served_endpoints(spec, AT_RESET),
             memory: RememberedPacket::Nothing,
             naks: 0,
             progress: Progress::Idle,
-            outs: OutEnds::new(alloc, spec.halt_after())?,
-            ins: InEnds::new(),
+            outs: OutEnds::new(alloc, spec)?,
+            ins: InEnds::new(spec),
             changes: RESTED,
             held: None,
             taken: Vec::new(alloc),
@@ -286,7 +337,7 @@ impl FunctionState {
     {
         self.attempt_over();
         self.registers = AT_RESET;
-        self.served = NO_BULK;
+        self.served = served_endpoints(&self.spec, AT_RESET);
         self.naks = 0;
         self.progress = Progress::Idle;
         self.held = None;
@@ -596,12 +647,12 @@ impl FunctionState {
         self.progress = first_progress(ports, &mut self.write, wanted, reaction);
     }
 
-    /// A configuration is taken, and its bulk endpoints are served from here on (9.4.7).
+    /// A configuration is taken, and its endpoints are served from here on (9.4.7).
     fn configure(&mut self, value: u8)
         ensures { self.new ≡ configured self.old value }
     {
         self.registers.configuration = value;
-        self.served = bulk_endpoints(&self.spec, self.registers);
+        self.served = served_endpoints(&self.spec, self.registers);
     }
 
     /// What a request makes of the endpoints.
@@ -619,7 +670,7 @@ impl FunctionState {
                 let state = halted(self.endpoint(endpoint));
                 self.set_endpoint(endpoint, state);
             }
-            Reaction::Unhalt(endpoint) => self.set_endpoint(endpoint, RESTED),
+            Reaction::Unhalt(endpoint) => self.begin_again(endpoint),
             Reaction::Refuse
             | Reaction::Answer(_)
             | Reaction::TakeAddress(_)
@@ -820,22 +871,6 @@ impl FunctionState {
         }
     }
 
-    /// The bulk OUT endpoint: its number and its maximum packet.
-    fn served_out(&self) -> Option<(u8, u8)>
-        ensures value { result ≡ bulk_of self.now false }
-        ensures usable { IfSome result IsUsable }
-    {
-        self.served.bulk_out
-    }
-
-    /// The bulk IN endpoint: its number and its maximum packet.
-    fn served_in(&self) -> Option<(u8, u8)>
-        ensures value { result ≡ bulk_of self.now true }
-        ensures usable { IfSome result IsUsable }
-    {
-        self.served.bulk_in
-    }
-
     fn endpoint(&self, endpoint: &ServedEndpoint) -> EndpointState
         ensures { result ≡ endpoint_state self.now endpoint.now }
     {
@@ -852,23 +887,59 @@ impl FunctionState {
         match endpoint {
             ServedEndpoint::BulkOut(number) => self.outs.set_state(*number, state),
             ServedEndpoint::BulkIn(number) => {
-                let place = self.ins.get(*number).place;
-                self.ins.set(*number, InEnd { state, place });
+                let end = self.ins.get(*number);
+                self.ins.set(*number, InEnd { state, ..end });
             }
             ServedEndpoint::Changes => self.changes = state,
         }
     }
 
-    /// What is left of the source of an IN endpoint.
-    fn rest(&self, number: EndpointNumber) -> &[u8]
-        ensures { result.now ≡ rest_of self.now number }
+    /// The endpoint begins again, as a configuration leaves it.
+    fn begin_again(&mut self, endpoint: &ServedEndpoint)
+        ensures { self.new ≡ begun_again self.old endpoint.now }
     {
-        let source = self.spec.source();
-        let place = self.ins.get(number).place;
-        if place < source.len() {
-            &source[place..]
+        match endpoint {
+            ServedEndpoint::BulkOut(number) => self.outs.begin_again(*number),
+            ServedEndpoint::BulkIn(number) => self.ins.begin_again(*number),
+            ServedEndpoint::Changes => self.changes = RESTED,
+        }
+    }
+
+    /// What an IN endpoint gives that no row of the plan names.
+    fn source_of(&self, number: EndpointNumber) -> &[u8]
+        ensures value { result.now ≡ (if is_numbered number (bulk_of self.now true)
+            then self.now.spec.source else []) }
+        ensures bound { length result.now ≤ 65535 }
+    {
+        if is_numbered(number.get(), self.served.bulk_in) {
+            self.spec.source()
         } else {
             &[]
+        }
+    }
+
+    /// Puts the next packet of an IN endpoint into the room, and returns whether there is one.
+    fn put_next(&self, number: EndpointNumber, max: u8, room: &mut ArrayVec<u8, 64>) -> bool
+        requires most { max ≤ 64 }
+        requires least { 1 ≤ max }
+        ensures { put_if result room.new
+            ≡ next_packet self.now number max (in_end self.now number).place }
+    {
+        let place = usize::from(self.ins.get(number).place);
+        match self.spec.endpoints().row(DIRECTION_IN + number.get()) {
+            Some(row) => put_data(&row.data, max, place, room),
+            None => put_source(self.source_of(number), max, place, room),
+        }
+    }
+
+    /// The place of an IN endpoint behind its next packet.
+    fn place_behind(&self, number: EndpointNumber, max: u8) -> u16
+        ensures { result ≡ next_place self.now number max (in_end self.now number).place }
+    {
+        let place = self.ins.get(number).place;
+        match self.spec.endpoints().row(DIRECTION_IN + number.get()) {
+            Some(row) => behind_data(&row.data, max, place),
+            None => advanced(place, max, self.source_of(number).len() as u16),
         }
     }
 
@@ -934,11 +1005,9 @@ impl FunctionState {
         ensures { (answer_with result room.new, self.new)
             ≡ in_end_row self.old ep (in_max self.old ep) }
     {
-        match self.served_in() {
-            Some((number, max)) if number == ep => {
-                self.give_source(EndpointNumber::new(number), max, room)
-            }
-            _ => None,
+        match self.served.table.get(ep, true) {
+            Some(end) => self.give_source(EndpointNumber::new(ep), end.max, room),
+            None => None,
         }
     }
 
@@ -949,32 +1018,32 @@ impl FunctionState {
         max: u8,
         room: &mut ArrayVec<u8, 64>,
     ) -> Option<AnswerPid>
-        requires { max ≤ 64 }
+        requires most { max ≤ 64 }
+        requires least { 1 ≤ max }
         ensures { (answer_with result room.new, self.new) ≡ source_row self.old number max }
     {
-        let state = self.ins.get(number).state;
-        if state.halted {
+        let end = self.ins.get(number);
+        if end.state.halted {
             return Some(AnswerPid::Stall);
         }
-        let rest = self.rest(number);
-        if rest.is_empty() {
+        if !self.put_next(number, max, room) {
             return Some(AnswerPid::Nak);
         }
-        fill(room, &rest[..rest.len().min(usize::from(max))]);
-        self.give_data(InEndpoint::Bulk(number.get()), state.toggle)
+        if end.pace.naks > 0 {
+            self.ins.hesitate(number);
+            return Some(AnswerPid::Nak);
+        }
+        self.give_data(InEndpoint::Bulk(number.get()), end.state.toggle)
     }
 
     /// The host's ACK of what an IN endpoint gave.
     fn acknowledge_end(&mut self, ep: u8)
         ensures { self.new ≡ in_ack_row self.old ep (in_max self.old ep) }
     {
-        match self.served_in() {
-            Some((number, max)) if number == ep => {
-                let number = EndpointNumber::new(number);
-                let given = given_on(max, self.spec.source().len(), self.ins.get(number));
-                self.ins.set(number, given);
-            }
-            _ => {}
+        if let Some(end) = self.served.table.get(ep, true) {
+            let number = EndpointNumber::new(ep);
+            let given = given_on(self.place_behind(number, end.max), self.ins.get(number));
+            self.ins.set(number, given);
         }
     }
 
@@ -991,11 +1060,9 @@ impl FunctionState {
         ensures grows { OnErr result
             (end_sinks self.old ep (out_max self.old ep) toggle bytes.now ≡ true) }
     {
-        match self.served_out() {
-            Some((number, max)) if number == ep => {
-                self.take_data(EndpointNumber::new(number), max, toggle, bytes)
-            }
-            _ => {
+        match self.served.table.get(ep, false) {
+            Some(end) => self.take_data(EndpointNumber::new(ep), end.max, toggle, bytes),
+            None => {
                 self.attempt_over();
                 Ok(None)
             }
@@ -1024,10 +1091,36 @@ impl FunctionState {
             self.attempt_over();
             return Ok(None);
         }
-        if toggle.is_same(state.toggle) {
-            self.outs.take(number, bytes)?;
-        }
+        let answer = if toggle.is_same(state.toggle) {
+            self.take_next(number, bytes)?
+        } else {
+            AnswerPid::Ack
+        };
         self.attempt_over();
-        Ok(Some(AnswerPid::Ack))
+        Ok(Some(answer))
+    }
+
+    /// The next packet for an OUT endpoint that is not halted.
+    fn take_next(&mut self, number: EndpointNumber, bytes: &[u8]) -> Result<AnswerPid, AllocError>
+        ensures answer { IfOk result (λ pid. (room : Room)
+            → (answer_with (Some pid) room, self.new) ≡ taken_row self.old number bytes.now) }
+        ensures refused { OnErr result (self.new ≡ self.old) }
+        ensures grows { OnErr result (nat_lt 0 (out_end self.old number).pace.naks ≡ false) }
+    {
+        if self.outs.pace(number).naks > 0 {
+            self.outs.hesitate(number);
+            return Ok(AnswerPid::Nak);
+        }
+        let halts = self.out_halts(number);
+        self.outs.take(number, halts, bytes)?;
+        Ok(AnswerPid::Ack)
+    }
+
+    /// Whether the plan says when an OUT endpoint halts.
+    fn out_halts(&self, number: EndpointNumber) -> bool
+        ensures { result ≡ out_halts self.now number }
+    {
+        self.spec.endpoints().row(number.get()).is_some()
+            || is_numbered(number.get(), self.served.bulk_out)
     }
 }

@@ -2,6 +2,7 @@
 ghost use Rattle.std.specs.Prelude.{◌≡◌, ◌≤◌, Some, true, length, option_copied, IfOk};
 ghost use Rattle.usb_device.specs.DeviceSpecs.{no_stalls, function, hub_fits, IsSpec};
 
+use crate::endpoint_spec::EndpointSpecs;
 use crate::hub_spec::HubSpec;
 use crate::lists::{Bytes, ConfigTexts, Name, StringTexts};
 use crate::own_request::OwnRequests;
@@ -70,6 +71,7 @@ pub struct DeviceSpec {
     hub: Option<HubSpec>,
     source: Bytes<65535>,
     halt_after: Option<u16>,
+    endpoints: EndpointSpecs,
     requests: OwnRequests,
 }
 
@@ -94,6 +96,7 @@ impl Model for DeviceSpec {
       hub = s.hub;
       source = s.source;
       halt_after = s.halt_after;
+      endpoints = s.endpoints;
       requests = s.requests;
     } };
 
@@ -103,15 +106,17 @@ impl Model for DeviceSpec {
 }
 
 impl DeviceSpec {
-    /// A full-speed function without strings that does nothing special. It refuses no request, gives no NAK, and has no
-    /// requests of its own. Its bulk IN has nothing to give, its bulk OUT never halts, and it has its power from the
-    /// bus. Its device descriptor (9.6.1) and the texts of its configurations (9.6.3) are any bytes.
+    /// A full-speed function without strings that does nothing special. It refuses no request, gives
+    /// no NAK, and has no requests of its own. Its endpoints have nothing to give and never halt, and
+    /// it has its power from the bus. Its device descriptor (9.6.1) and the texts of its
+    /// configurations (9.6.3) are any bytes.
     pub fn function(name: Name, descriptor: Bytes<255>, configs: ConfigTexts) -> Self
         ensures { result ≡ function name descriptor configs }
     {
         let strings = StringTexts::none_beside(&configs);
         let source = configs.no_bytes_beside();
         let requests = configs.no_requests_beside();
+        let endpoints = configs.no_endpoints_beside();
         DeviceSpec {
             name,
             low: false,
@@ -126,6 +131,7 @@ impl DeviceSpec {
             hub: None,
             source,
             halt_after: None,
+            endpoints,
             requests,
         }
     }
@@ -197,7 +203,8 @@ impl DeviceSpec {
         self
     }
 
-    /// The same device, whose bulk IN endpoint gives these bytes.
+    /// The same device, whose first bulk IN endpoint gives these bytes, if no row of its endpoints
+    /// names it.
     pub fn with_source(mut self, source: Bytes<65535>) -> Self
         ensures { result ≡ record self { source = source } }
     {
@@ -205,13 +212,21 @@ impl DeviceSpec {
         self
     }
 
-    /// The same device, whose bulk OUT endpoint halts once, when it has taken this number of packets since
-    /// the plug.
+    /// The same device, whose first bulk OUT endpoint halts once, when it has taken this number of
+    /// packets since the plug, if no row of its endpoints names it.
     pub fn with_halt_after(mut self, packets: u16) -> Self
         requires { 1 ≤ packets }
         ensures { result ≡ record self { halt_after = Some packets } }
     {
         self.halt_after = Some(packets);
+        self
+    }
+
+    /// The same device, of whose endpoints the plan says this.
+    pub fn with_endpoints(mut self, endpoints: EndpointSpecs) -> Self
+        ensures { result ≡ record self { endpoints = endpoints } }
+    {
+        self.endpoints = endpoints;
         self
     }
 
@@ -245,6 +260,7 @@ impl DeviceSpec {
             hub: copied_hub(alloc, &self.hub)?,
             source: self.source.try_clone(alloc)?,
             halt_after: self.halt_after,
+            endpoints: self.endpoints.try_clone(alloc)?,
             requests: self.requests.try_clone(alloc)?,
         })
     }
@@ -331,7 +347,7 @@ impl DeviceSpec {
         self.hub.as_ref()
     }
 
-    /// The bytes that its bulk IN endpoint gives.
+    /// The bytes that its first bulk IN endpoint gives, if no row of its endpoints names it.
     pub fn source(&self) -> &[u8]
         ensures value { result.now ≡ self.now.source }
         ensures bound { length self.now.source ≤ 65535 }
@@ -339,12 +355,22 @@ impl DeviceSpec {
         self.source.as_slice()
     }
 
-    /// After how many packets since the plug its bulk OUT endpoint halts once, if it ever does.
+    /// After how many packets since the plug its first bulk OUT endpoint halts once, if it ever does
+    /// and no row of its endpoints names it.
     pub fn halt_after(&self) -> Option<u16>
         ensures value { result ≡ self.now.halt_after }
         ensures least { IfSome result (λ k. 1 ≤ k) }
     {
         self.halt_after
+    }
+
+    /// What the plan says of its endpoints.
+    pub fn endpoints(&self) -> &EndpointSpecs
+        ensures value { result.now ≡ self.now.endpoints }
+        ensures bound { length self.now.endpoints ≤ 30 }
+    {
+        self.endpoints.as_slice();
+        &self.endpoints
     }
 
     /// The requests of its own.
@@ -363,6 +389,7 @@ impl DeviceSpec {
         self.configs.as_slice();
         self.strings.as_slice();
         self.requests.as_slice();
+        self.endpoints.as_slice();
         if let Some(hub) = &self.hub {
             hub.ports();
             hub.descriptor();

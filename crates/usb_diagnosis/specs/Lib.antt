@@ -19,7 +19,7 @@ pub use Report.{count_line, fault_name, line_if, place_of, place_words, plan_rep
 unfoldable pub use Report.{fault_text, first_line, plan_lines, remark_head, remark_line}
 unfoldable pub use Report.{remark_lines}
 pub use Checking.{BeginsAt, BeginsWith, IsLed, TellsFault, TellsPlan, TellsVerdict, WritesVerdict}
-pub use Trouble.{IsTroubleOf}
+pub use Trouble.{IsTroubleOf, IsTroubleWithin}
 pub use Slip.{slip_at}
 unfoldable pub use Slip.{counted_words, digit_slip, letter_words, slip_words}
 pub use PathSlip.{IsAt, IsPathSlip, IsPortOf, SpellsPath}

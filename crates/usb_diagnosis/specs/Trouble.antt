@@ -8,6 +8,7 @@ use Rattle.usb_diagnosis.specs.declared.trouble.Trouble.{Trouble}
 use Rattle.usb_diagnosis.specs.declared.trouble.Trouble.TheVariants.{Missing, Unknown, Wrong}
 use Rattle.usb_diagnosis.specs.declared.trouble.Trouble.TheVariants.{OneTooMany}
 use Rattle.usb_plan.specs.declared.fault.Place.{Place}
+use Rattle.usb_plan.specs.{endpoint_keys}
 use Rattle.usb_diagnosis.specs.Entry.{entry_keys}
 use Rattle.usb_diagnosis.specs.Key.{key_name}
 
@@ -19,3 +20,10 @@ IsTroubleOf place entry (Unknown name) = list_any (bytes_eq name.now) (entry_key
     ≡ false
 IsTroubleOf place entry (Wrong key value) = get_member (key_name key) entry ≡ Some (view value.now)
 IsTroubleOf place entry OneTooMany = ⊤
+
+-- the same of a table of `endpoint`
+abbrev pub IsTroubleWithin : Members → Trouble → Type 0
+IsTroubleWithin table (Missing key) = get_member (key_name key) table ≡ None
+IsTroubleWithin table (Unknown name) = list_any (bytes_eq name.now) endpoint_keys ≡ false
+IsTroubleWithin table (Wrong key value) = get_member (key_name key) table ≡ Some (view value.now)
+IsTroubleWithin table OneTooMany = ⊤

@@ -9,6 +9,7 @@ ghost use Rattle.usb_diagnosis.specs.Place.{spot_behind};
 ghost use Rattle.usb_diagnosis.specs.Report.{first_line};
 
 use crate::details::{spot_of, trouble_lines};
+use crate::endpoints::trouble_within;
 use crate::entry::Entry;
 use crate::marks::Layout;
 use crate::place::{Spot, spot_behind};
@@ -111,9 +112,10 @@ fn lines_on(
 {
     let layout = Layout::of(alloc, text)?;
     let trouble = trouble_of(entry, fault);
-    let spot = spot_of(&layout, entry.place(), trouble);
+    let within = trouble.and_then(|trouble| trouble_within(trouble, fault));
+    let spot = spot_of(&layout, entry.place(), trouble, within.as_ref());
     let first = first_line(alloc, file, spot, fault)?;
-    let rest = trouble_lines(alloc, &layout, entry, trouble, fault)?;
+    let rest = trouble_lines(alloc, &layout, entry, trouble, within.as_ref(), fault)?;
     joined(first, rest.as_str())
 }
 

@@ -4,17 +4,19 @@
 ghost use Rattle.std.specs.Prelude.{◌≡◌, IfSome};
 ghost use Rattle.usb_diagnosis.specs.Place.{IsLineIn, IsSpotIn, spot_on};
 
+use crate::endpoints::Within;
 use crate::entry::{Entry, array_of, text_at};
-use crate::key::PlanKey;
+use crate::flaw::{are_hex_digits, is_word};
+use crate::key::{ENDPOINT_KEYS, PlanKey};
 use crate::marks::Layout;
 use crate::nearest::nearest;
 use crate::path_slip::{path_slip, push_path_slip};
 use crate::place::Spot;
 use crate::shown::{letters_of, push_number, push_shown};
 use crate::slip::{digit_slip, push_slip};
-use crate::trouble::{Trouble, are_hex_digits, is_known, is_word};
+use crate::trouble::{Trouble, is_known};
 use std::alloc::{AllocError, Global};
-use toml::Value;
+use toml::{Table, Value};
 use usb_plan::{Place, PlanFault};
 
 /// The line where an entry begins.
@@ -38,6 +40,20 @@ fn line_of_key(layout: &Layout<'_>, place: Place, key: &str) -> Option<usize>
     }
 }
 
+/// The line of the key that makes a fault in a table within an entry, if the table has a head.
+fn line_within(layout: &Layout<'_>, place: Place, within: &Within<'_>) -> Option<usize>
+    ensures { IfSome result (IsLineIn layout.now.text.now) }
+{
+    let inner = match within.trouble {
+        Trouble::Unknown(key) => key,
+        Trouble::Wrong(key, _) => key.name(),
+        Trouble::Missing(_) | Trouble::OneTooMany => "",
+    };
+    let (array, number) = array_of(place)?;
+    let table = within.index.saturating_add(1);
+    layout.line_within(array, number, PlanKey::Endpoints.name(), table, inner)
+}
+
 /// The line of the key that makes a fault.
 fn line_of_trouble(layout: &Layout<'_>, place: Place, trouble: Option<Trouble<'_>>) -> Option<usize>
     ensures { IfSome result (IsLineIn layout.now.text.now) }
@@ -58,10 +74,25 @@ fn spot_on(line: Option<usize>) -> Spot
     }
 }
 
+/// Where the trouble of a table within an entry stands.
+fn spot_within(layout: &Layout<'_>, place: Place, within: Option<&Within<'_>>) -> Option<usize>
+    ensures { IfSome result (IsLineIn layout.now.text.now) }
+{
+    line_within(layout, place, within?)
+}
+
 /// Where the trouble of an entry stands: at its key, and else where the entry begins.
-pub(crate) fn spot_of(layout: &Layout<'_>, place: Place, trouble: Option<Trouble<'_>>) -> Spot
+pub(crate) fn spot_of(
+    layout: &Layout<'_>,
+    place: Place,
+    trouble: Option<Trouble<'_>>,
+    within: Option<&Within<'_>>,
+) -> Spot
     ensures { IsSpotIn layout.now.text.now result }
 {
+    if let Some(line) = spot_within(layout, place, within) {
+        return Spot::Line(line);
+    }
     match line_of_trouble(layout, place, trouble) {
         None => spot_on(head_line(layout, place)),
         line => spot_on(line),
@@ -233,20 +264,28 @@ fn room_for(place: Place) -> &'static str {
     }
 }
 
+/// A table, the keys that have a meaning in it, and what of it makes the fault.
+#[derive(Clone, Copy)]
+struct Told<'a> {
+    table: &'a Table,
+    keys: &'static [PlanKey],
+    trouble: Trouble<'a>,
+}
+
 /// Adds the line that says what is allowed.
 fn push_allowed(
     alloc: Global,
     out: &mut String,
-    entry: &Entry<'_>,
-    trouble: Trouble<'_>,
+    place: Place,
+    told: &Told<'_>,
     fault: PlanFault,
 ) -> Result<(), AllocError> {
     out.push_str("  allowed: ")?;
-    match trouble {
+    match told.trouble {
         Trouble::Missing(key) => out.push_str(key.allowed())?,
-        Trouble::Unknown(_) => push_keys(alloc, out, entry.keys())?,
+        Trouble::Unknown(_) => push_keys(alloc, out, told.keys)?,
         Trouble::Wrong(key, _) => out.push_str(allowed_for(key, fault))?,
-        Trouble::OneTooMany => out.push_str(room_for(entry.place()))?,
+        Trouble::OneTooMany => out.push_str(room_for(place))?,
     }
     out.push_str("\n")
 }
@@ -274,11 +313,11 @@ fn key_names(alloc: Global, keys: &[PlanKey]) -> Result<Vec<&'static str>, Alloc
     Ok(names)
 }
 
-/// The keys of the entry that have no meaning there.
-fn unknown_names<'a>(alloc: Global, entry: &Entry<'a>) -> Result<Vec<&'a str>, AllocError> {
+/// The keys of the table that have no meaning there.
+fn unknown_names<'a>(alloc: Global, told: &Told<'a>) -> Result<Vec<&'a str>, AllocError> {
     let mut names = Vec::new(alloc);
-    for name in entry.table().keys() {
-        if !is_known(entry.keys(), name.as_str()) {
+    for name in told.table.keys() {
+        if !is_known(told.keys, name.as_str()) {
             names.push(name.as_str())?;
         }
     }
@@ -330,7 +369,7 @@ fn push_meant(
 fn push_meant_value(
     alloc: Global,
     out: &mut String,
-    entry: &Entry<'_>,
+    devices: &[Value],
     key: PlanKey,
     value: &Value,
 ) -> Result<(), AllocError> {
@@ -338,7 +377,7 @@ fn push_meant_value(
         return Ok(());
     };
     if key == PlanKey::Device {
-        let names = device_names(alloc, entry.devices())?;
+        let names = device_names(alloc, devices)?;
         return push_meant(alloc, out, word, names.as_slice(), "\"");
     }
     push_meant(alloc, out, word, key.words(), "\"")
@@ -348,19 +387,19 @@ fn push_meant_value(
 fn push_suggestion(
     alloc: Global,
     out: &mut String,
-    entry: &Entry<'_>,
-    trouble: Trouble<'_>,
+    devices: &[Value],
+    told: &Told<'_>,
 ) -> Result<(), AllocError> {
-    match trouble {
+    match told.trouble {
         Trouble::Missing(key) => {
-            let names = unknown_names(alloc, entry)?;
+            let names = unknown_names(alloc, told)?;
             push_misspelled(alloc, out, key.name(), names.as_slice())
         }
         Trouble::Unknown(name) => {
-            let names = key_names(alloc, entry.keys())?;
+            let names = key_names(alloc, told.keys)?;
             push_meant(alloc, out, name, names.as_slice(), "`")
         }
-        Trouble::Wrong(key, value) => push_meant_value(alloc, out, entry, key, value),
+        Trouble::Wrong(key, value) => push_meant_value(alloc, out, devices, key, value),
         Trouble::OneTooMany => Ok(()),
     }
 }
@@ -385,12 +424,33 @@ fn push_misspelled(
     out.push_str("?\n")
 }
 
+/// Adds all that is told behind the head.
+fn push_told(
+    alloc: Global,
+    out: &mut String,
+    entry: &Entry<'_>,
+    told: &Told<'_>,
+    fault: PlanFault,
+) -> Result<(), AllocError> {
+    push_trouble(alloc, out, told.trouble)?;
+    push_slip_line(alloc, out, entry, told.trouble, fault)?;
+    push_allowed(alloc, out, entry.place(), told, fault)?;
+    push_example(out, told.trouble)?;
+    push_suggestion(alloc, out, entry.devices(), told)
+}
+
+/// Adds which of the tables within an entry it is: `endpoint[1], `.
+fn push_index(out: &mut String, index: usize) -> Result<(), AllocError> {
+    write!(out, "{}[{index}], ", PlanKey::Endpoints.name())
+}
+
 /// The lines behind the first one on an entry's trouble.
-pub(crate) fn trouble_lines(
+pub(crate) fn trouble_lines<'a>(
     alloc: Global,
     layout: &Layout<'_>,
-    entry: &Entry<'_>,
-    trouble: Option<Trouble<'_>>,
+    entry: &Entry<'a>,
+    trouble: Option<Trouble<'a>>,
+    within: Option<&Within<'a>>,
     fault: PlanFault,
 ) -> Result<String, AllocError> {
     let mut lines = String::new(alloc);
@@ -398,10 +458,21 @@ pub(crate) fn trouble_lines(
         return Ok(lines);
     };
     push_head(alloc, &mut lines, layout, entry)?;
-    push_trouble(alloc, &mut lines, trouble)?;
-    push_slip_line(alloc, &mut lines, entry, trouble, fault)?;
-    push_allowed(alloc, &mut lines, entry, trouble, fault)?;
-    push_example(&mut lines, trouble)?;
-    push_suggestion(alloc, &mut lines, entry, trouble)?;
+    let told = match within {
+        None => Told {
+            table: entry.table(),
+            keys: entry.keys(),
+            trouble,
+        },
+        Some(within) => {
+            push_index(&mut lines, within.index)?;
+            Told {
+                table: within.table,
+                keys: &ENDPOINT_KEYS,
+                trouble: within.trouble,
+            }
+        }
+    };
+    push_told(alloc, &mut lines, entry, &told, fault)?;
     Ok(lines)
 }

@@ -26,7 +26,12 @@ pub(crate) enum PlanKey {
     Stalls,
     Source,
     HaltAfter,
+    Endpoints,
     Requests,
+    Address,
+    EndpointSource,
+    PacketTexts,
+    EndpointNaks,
     Do,
     After,
     Path,
@@ -50,7 +55,7 @@ pub(crate) const TOP_KEYS: [PlanKey; 5] = [
 ];
 
 /// The keys of a device.
-pub(crate) const DEVICE_KEYS: [PlanKey; 15] = [
+pub(crate) const DEVICE_KEYS: [PlanKey; 16] = [
     PlanKey::Name,
     PlanKey::Speed,
     PlanKey::Descriptor,
@@ -65,7 +70,17 @@ pub(crate) const DEVICE_KEYS: [PlanKey; 15] = [
     PlanKey::Stalls,
     PlanKey::Source,
     PlanKey::HaltAfter,
+    PlanKey::Endpoints,
     PlanKey::Requests,
+];
+
+/// The keys of a table of `endpoint`.
+pub(crate) const ENDPOINT_KEYS: [PlanKey; 5] = [
+    PlanKey::Address,
+    PlanKey::EndpointSource,
+    PlanKey::PacketTexts,
+    PlanKey::HaltAfter,
+    PlanKey::EndpointNaks,
 ];
 
 /// The keys of a damage.
@@ -119,6 +134,34 @@ const VERBS: [&str; 9] = [
 /// The words of `how`.
 const WAYS: [&str; 3] = ["lose", "pre", "flip"];
 
+// What is allowed at keys that need many words.
+
+const CONFIG_TEXTS: &str =
+    "at most 8 texts, each of two hexadecimal digits for each of at most 65535 bytes";
+
+const STRING_TEXTS: &str =
+    "at most 256 texts, each of two hexadecimal digits for each of at most 255 bytes";
+
+const HUB_BYTES: &str =
+    "two hexadecimal digits for each of at most 255 bytes, of a hub with as many `ports`";
+
+const STALL_WORDS: &str =
+    "an array of \"device\", \"address\", \"config\", \"set_config\", \"status\", \"hub\", \"string\"";
+
+const ENDPOINT_TABLES: &str =
+    "at most 30 tables, each with an `address`, and what the endpoint gives or how it hesitates";
+
+const REQUEST_TABLES: &str =
+    "at most 64 tables, each with `type`, `request`, and what the device does about it";
+
+const ADDRESSES: &str =
+    "a number from 1 to 15 for OUT or from 129 to 143 for IN, not that of an earlier table";
+
+const IN_BYTES: &str = "two hexadecimal digits for each of at most 65535 bytes, at an IN endpoint";
+
+const IN_PACKETS: &str =
+    "at most 1000 texts, each of two hexadecimal digits for each of at most 64 bytes, at an IN endpoint without `source`";
+
 /// What stands at a key.
 #[derive(Clone, Copy, Debug, PartialEq, Eq)]
 pub(crate) enum Kind {
@@ -136,8 +179,12 @@ pub(crate) enum Kind {
     Hex(usize),
     /// The hexadecimal digits of eight bytes.
     Setup,
+    /// An array of at most 30 tables, each an endpoint of the device.
+    Endpoints,
     /// An array of at most 64 tables, each a request of the device's own.
     Requests,
+    /// The address of an endpoint: a direction and a number of 1 to 15.
+    Address,
     /// An array of at most so many texts, each with the digits of at most so many bytes.
     Hexes(usize, usize),
     /// An array of tables.
@@ -169,7 +216,12 @@ impl PlanKey {
             PlanKey::Stalls => "stalls",
             PlanKey::Source => "source",
             PlanKey::HaltAfter => "halt_after",
+            PlanKey::Endpoints => "endpoint",
             PlanKey::Requests => "request",
+            PlanKey::Address => "address",
+            PlanKey::EndpointSource => "source",
+            PlanKey::PacketTexts => "packets",
+            PlanKey::EndpointNaks => "naks",
             PlanKey::Do => "do",
             PlanKey::After => "after",
             PlanKey::Path => "path",
@@ -194,14 +246,18 @@ impl PlanKey {
             PlanKey::Speed | PlanKey::Do | PlanKey::How => Kind::Word,
             PlanKey::Stalls => Kind::Words,
             PlanKey::Descriptor | PlanKey::HubDescriptor => Kind::Hex(255),
-            PlanKey::Source => Kind::Hex(65535),
+            PlanKey::Source | PlanKey::EndpointSource => Kind::Hex(65535),
             PlanKey::Bytes => Kind::Hex(usize::MAX),
             PlanKey::Configs => Kind::Hexes(8, 65535),
             PlanKey::Strings => Kind::Hexes(256, 255),
             PlanKey::SelfPowered | PlanKey::Busy | PlanKey::Silent => Kind::Flag,
             PlanKey::Naks => Kind::Number(0, 200),
             PlanKey::HaltAfter => Kind::Number(1, 65535),
+            PlanKey::Endpoints => Kind::Endpoints,
             PlanKey::Requests => Kind::Requests,
+            PlanKey::Address => Kind::Address,
+            PlanKey::PacketTexts => Kind::Hexes(1000, 64),
+            PlanKey::EndpointNaks => Kind::Number(0, 300),
             PlanKey::After => Kind::Number(0, 1_000_000_000),
             PlanKey::Packets => Kind::Number(0, 1000),
             PlanKey::Setup => Kind::Setup,
@@ -233,22 +289,22 @@ impl PlanKey {
             PlanKey::Name => "a text that is not empty and names no earlier device",
             PlanKey::Speed => "\"full\" or \"low\"",
             PlanKey::Descriptor => "two hexadecimal digits for each of at most 255 bytes",
-            PlanKey::Configs =>
-                "at most 8 texts, each of two hexadecimal digits for each of at most 65535 bytes",
-            PlanKey::Strings =>
-                "at most 256 texts, each of two hexadecimal digits for each of at most 255 bytes",
+            PlanKey::Configs => CONFIG_TEXTS,
+            PlanKey::Strings => STRING_TEXTS,
             PlanKey::Ports =>
                 "a number from 1 to 7, at full speed, where the descriptor's fifth byte is 09",
-            PlanKey::HubDescriptor =>
-                "two hexadecimal digits for each of at most 255 bytes, of a hub with as many `ports`",
+            PlanKey::HubDescriptor => HUB_BYTES,
             PlanKey::SelfPowered | PlanKey::Busy | PlanKey::Silent => "true or false",
             PlanKey::Naks => "a number from 0 to 200",
-            PlanKey::Stalls =>
-                "an array of \"device\", \"address\", \"config\", \"set_config\", \"status\", \"hub\", \"string\"",
+            PlanKey::Stalls => STALL_WORDS,
             PlanKey::Source => "two hexadecimal digits for each of at most 65535 bytes",
             PlanKey::HaltAfter => "a number from 1 to 65535",
-            PlanKey::Requests =>
-                "at most 64 tables, each with `type`, `request`, and what the device does about it",
+            PlanKey::Endpoints => ENDPOINT_TABLES,
+            PlanKey::Requests => REQUEST_TABLES,
+            PlanKey::Address => ADDRESSES,
+            PlanKey::EndpointSource => IN_BYTES,
+            PlanKey::PacketTexts => IN_PACKETS,
+            PlanKey::EndpointNaks => "a number from 0 to 300",
             PlanKey::Do =>
                 "\"plug\", \"unplug\", \"show\", \"send\", \"receive\", \"clear\", \"control\", \"look\" or \"news\"",
             PlanKey::After => "a number from 0 to 1000000000",
@@ -273,6 +329,7 @@ impl PlanKey {
             PlanKey::Speed => Some("speed = \"low\""),
             PlanKey::Descriptor => Some("descriptor = \"120100020000000834127856000100000001\""),
             PlanKey::Configs => Some("configs = [\"0902120001010080320904000000FF000000\"]"),
+            PlanKey::Address => Some("address = 0x81"),
             PlanKey::Do => Some("do = \"plug\""),
             PlanKey::Path => Some("path = \"1\""),
             PlanKey::Device => Some("device = \"keyboard\""),

@@ -7,7 +7,8 @@
 //!   usb_remarks. Else the first line has the file, a line of the text, and `read_plan`'s own fault.
 //! - *What is written* (`check`): exactly these lines, or a prefix of them if the writer failed.
 //! - *The key of a fault* (`trouble_of`, `IsTroubleOf` of `specs/Trouble.antt`): a missing key is
-//!   absent, `read_plan` takes no unknown one there, and a wrong value is at its key.
+//!   absent, `read_plan` takes no unknown one there, and a wrong value is at its key. The same holds
+//!   of a table of `endpoint` (`trouble_within`, `IsTroubleWithin`).
 //!
 //! *Only tested*: that the line and the key are those at fault, and the words on what is allowed.
 //! `docs/PROVED.md` has the rest.
@@ -15,7 +16,9 @@
 
 mod checking;
 mod details;
+mod endpoints;
 mod entry;
+mod flaw;
 mod key;
 mod marks;
 mod nearest;

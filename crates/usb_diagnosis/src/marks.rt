@@ -18,14 +18,27 @@ struct Mark {
     at: usize,
     /// It begins an entry of the array at its path.
     begins: bool,
-    /// The first two keys of the path of what it defines, from the top.
+    /// The first three keys of the path of what it defines, from the top.
     path: Vec<String>,
 }
 
 impl Mark {
     /// Whether it begins an entry of the array.
     fn begins(&self, array: &str) -> bool {
-        self.begins && self.is_below(array)
+        self.begins && self.path.len() == 1 && self.is_below(array)
+    }
+
+    /// Whether it begins a table of the array at the key of an entry.
+    fn begins_within(&self, array: &str, key: &str) -> bool {
+        self.begins && self.path.len() == 2 && self.defines(array, key)
+    }
+
+    /// Whether it defines the inner key of such a table.
+    fn defines_within(&self, array: &str, key: &str, inner: &str) -> bool {
+        match self.path.get(2) {
+            None => false,
+            Some(third) => self.defines(array, key) && third.as_str() == inner,
+        }
     }
 
     /// Whether it defines what stands at the key at the top, or something below it.
@@ -91,6 +104,36 @@ impl<'a> Layout<'a> {
             }
         }
         None
+    }
+
+    /// The line of the inner key of a table that stands, with a head of its own, at the key of an entry of
+    /// the array, or that of the head. Both are counted from 1.
+    pub(crate) fn line_within(
+        &self,
+        array: &str,
+        number: usize,
+        key: &str,
+        table: usize,
+        inner: &str,
+    ) -> Option<usize>
+        ensures { IfSome result (IsLineIn self.now.text.now) }
+    {
+        let mut begun = 0usize;
+        let mut tables = 0usize;
+        let mut head = None;
+        for mark in &self.marks {
+            if mark.begins(array) {
+                begun = begun.saturating_add(1);
+            } else if begun == number && mark.begins_within(array, key) {
+                tables = tables.saturating_add(1);
+                if tables == table {
+                    head = Some(self.line(mark));
+                }
+            } else if begun == number && tables == table && mark.defines_within(array, key, inner) {
+                return Some(self.line(mark));
+            }
+        }
+        head
     }
 
     /// The line of a key of an entry of the array.
@@ -166,9 +209,9 @@ fn depth_after(depth: usize, byte: u8) -> usize {
     }
 }
 
-/// Adds a part to a path that has less than two.
+/// Adds a part to a path that has less than three.
 fn push_part(alloc: Global, path: &mut Vec<String>, part: &str) -> Result<(), AllocError> {
-    if path.len() < 2 {
+    if path.len() < 3 {
         path.push(String::from_str(alloc, part)?)?;
     }
     Ok(())
@@ -280,7 +323,7 @@ fn push_entries(
     Ok(())
 }
 
-/// The first two keys of a statement's path; that of a pair goes on behind the path of its table.
+/// The first three keys of a statement's path; that of a pair goes on behind the path of its table.
 fn path_of(
     alloc: Global,
     table: &[String],
@@ -312,7 +355,7 @@ fn push_statement<'a>(
     let at_top = path.len() == 1;
     marks.push(Mark {
         at: total.saturating_sub(start.len()),
-        begins: statement.opening == Opening::Entry && at_top,
+        begins: statement.opening == Opening::Entry,
         path,
     })?;
     if statement.opening == Opening::Pair && at_top {

@@ -9,7 +9,9 @@ ghost use Rattle.usb_diagnosis.specs.Entry.{entry_keys};
 ghost use Rattle.usb_diagnosis.specs.Key.{key_name};
 ghost use Rattle.usb_diagnosis.specs.Trouble.{IsTroubleOf};
 
+use crate::endpoints::endpoints_flaw;
 use crate::entry::{Entry, text_at};
+use crate::flaw::{Flaw, are_hex_digits, flaw_of};
 use crate::key::{Kind, PlanKey};
 use toml::{Table, Value};
 use usb_plan::{Place, PlanFault};
@@ -27,133 +29,12 @@ pub(crate) enum Trouble<'a> {
     OneTooMany,
 }
 
-/// How a value fails what its key allows.
-#[derive(Clone, Copy, PartialEq, Eq)]
-enum Flaw {
-    /// It is of another kind, out of range or too long.
-    Value,
-    /// It has texts that are no hexadecimal digits, two for each byte.
-    Digits,
-}
-
-fn is_number_in(value: &Value, low: u64, high: u64) -> bool {
-    match value.as_integer() {
-        Some(number) if number >= 0 => (low..=high).contains(&(number as u64)),
-        _ => false,
+/// How the value at a key of the entry fails what is allowed there.
+fn flaw_at(key: PlanKey, value: &Value) -> Option<Flaw> {
+    match key.kind() {
+        Kind::Endpoints => endpoints_flaw(value),
+        _ => flaw_of(key, value),
     }
-}
-
-fn is_one_of(word: &str, words: &[&str]) -> bool {
-    words.iter().any(|other| word == *other)
-}
-
-/// Whether it is a text that is one of the words.
-pub(crate) fn is_word(value: &Value, words: &[&str]) -> bool {
-    match value.as_str() {
-        None => false,
-        Some(word) => is_one_of(word, words),
-    }
-}
-
-fn are_words(value: &Value, words: &[&str]) -> bool {
-    match value.as_array() {
-        None => false,
-        Some(values) => values.iter().all(|value| is_word(value, words)),
-    }
-}
-
-fn are_tables(value: &Value) -> bool {
-    match value.as_array() {
-        None => false,
-        Some(values) => values.iter().all(|value| value.as_table().is_some()),
-    }
-}
-
-pub(crate) fn are_hex_digits(text: &str) -> bool {
-    text.len() % 2 == 0 && text.bytes().all(|byte| byte.is_ascii_hexdigit())
-}
-
-/// How a value fails to be the digits of so many bytes at most.
-fn hex_flaw(value: &Value, most: usize) -> Option<Flaw> {
-    match value.as_str() {
-        None => Some(Flaw::Value),
-        Some(text) if !are_hex_digits(text) => Some(Flaw::Digits),
-        Some(text) if text.len() / 2 > most => Some(Flaw::Value),
-        Some(_) => None,
-    }
-}
-
-/// How a value fails to be the digits of eight bytes.
-fn setup_flaw(value: &Value) -> Option<Flaw> {
-    match value.as_str() {
-        None => Some(Flaw::Value),
-        Some(digits) if !are_hex_digits(digits) => Some(Flaw::Digits),
-        Some(digits) => flaw_if(digits.len() != 16, Flaw::Value),
-    }
-}
-
-/// Whether the bytes that a request gives are no digits.
-fn gives_no_digits(request: &Value) -> bool {
-    match request.as_table() {
-        None => false,
-        Some(table) => match table.get("answer") {
-            None => false,
-            Some(value) => hex_flaw(value, 65535) == Some(Flaw::Digits),
-        },
-    }
-}
-
-/// How a value fails to be at most 64 tables, each with digits of the bytes that it gives.
-fn requests_flaw(value: &Value) -> Option<Flaw> {
-    let Some(requests) = value.as_array() else {
-        return Some(Flaw::Value);
-    };
-    if requests.len() > 64 || !are_tables(value) {
-        return Some(Flaw::Value);
-    }
-    flaw_if(requests.iter().any(|it| gives_no_digits(it)), Flaw::Digits)
-}
-
-/// How an array fails to be so many texts of digits at most. A flaw of value comes before one of
-/// digits.
-fn hexes_flaw(value: &Value, count: usize, most: usize) -> Option<Flaw> {
-    let Some(values) = value.as_array() else {
-        return Some(Flaw::Value);
-    };
-    if values.len() > count || has_flaw(values.as_slice(), most, Flaw::Value) {
-        return Some(Flaw::Value);
-    }
-    flaw_if(
-        has_flaw(values.as_slice(), most, Flaw::Digits),
-        Flaw::Digits,
-    )
-}
-
-fn has_flaw(values: &[Value], most: usize, flaw: Flaw) -> bool {
-    values
-        .iter()
-        .any(|value| hex_flaw(value, most) == Some(flaw))
-}
-
-fn flaw_if(failed: bool, flaw: Flaw) -> Option<Flaw> {
-    if failed { Some(flaw) } else { None }
-}
-
-/// How a value fails what stands at the key, whatever else the entry has.
-fn flaw_of(key: PlanKey, value: &Value) -> Option<Flaw> {
-    let fits = match key.kind() {
-        Kind::Number(low, high) => is_number_in(value, low, high),
-        Kind::Flag => value.as_bool().is_some(),
-        Kind::Text => value.as_str().is_some(),
-        Kind::Word => is_word(value, key.words()),
-        Kind::Words => are_words(value, key.words()),
-        Kind::Tables => are_tables(value),
-        Kind::Hex(most) => return hex_flaw(value, most),
-        Kind::Setup => return setup_flaw(value),
-        Kind::Requests => return requests_flaw(value),
-        Kind::Hexes(count, most) => return hexes_flaw(value, count, most),
-    };
-    flaw_if(!fits, Flaw::Value)
 }
 
 /// The first of the entry's keys whose value has the flaw.
@@ -162,7 +43,7 @@ fn flawed<'a>(entry: &Entry<'a>, flaw: Flaw) -> Option<Trouble<'a>>
 {
     for key in entry.keys() {
         if let Some(value) = entry.value(*key) {
-            if flaw_of(*key, value) == Some(flaw) {
+            if flaw_at(*key, value) == Some(flaw) {
                 return Some(Trouble::Wrong(*key, value));
             }
         }
@@ -333,6 +214,16 @@ fn inner_trouble<'a>(entry: &Entry<'a>) -> Option<Trouble<'a>>
     }
 }
 
+/// The key whose value has a table that lacks a key.
+fn missing_within<'a>(entry: &Entry<'a>) -> Option<Trouble<'a>>
+    ensures { IfSome result (IsTroubleOf entry.now.place (table_view entry.now.table.now)) }
+{
+    match flawed(entry, Flaw::Key) {
+        None => wrong_at(entry, PlanKey::Requests),
+        trouble => trouble,
+    }
+}
+
 /// Why an entry has a bad value.
 fn bad_value<'a>(entry: &Entry<'a>) -> Option<Trouble<'a>>
     ensures { IfSome result (IsTroubleOf entry.now.place (table_view entry.now.table.now)) }
@@ -358,7 +249,7 @@ pub(crate) fn trouble_of<'a>(entry: &Entry<'a>, fault: PlanFault) -> Option<Trou
 {
     match fault {
         PlanFault::MissingKey(_) => match missing_key(entry) {
-            None => wrong_at(entry, PlanKey::Requests),
+            None => missing_within(entry),
             Some(key) => Some(Trouble::Missing(key)),
         },
         PlanFault::BadValue(_) => bad_value(entry),

@@ -363,9 +363,12 @@ settings_kept s v h r =
     settings_frame s v s.outs s.ins s.changes s.held s.registers.configuration h r (record {
       taken = λ e. (
         ap (λ (y : State). (out_end y e).sink) h,
-        ap (λ (y : State). (out_end y e).until_halt) h,
+        ap (λ (y : State). (out_end y e).pace.until_halt) h,
       );
-      given = λ e. ap (λ (y : State). (in_end y e).place) h;
+      given = λ e. (
+        ap (λ (y : State). (in_end y e).place) h,
+        ap (λ (y : State). (in_end y e).pace.until_halt) h,
+      );
     })
 
 -- its endpoints have begun again
@@ -382,8 +385,8 @@ module _ (s v : State) (h : v ≡ with_settings s v v.registers (map rested_out 
   settings_rest value r = (
     settings_frame s v (map rested_out s.outs) (map rested_in s.ins) rested None value h r
         (record {
-          taken = λ e. (ap (λ x. x.sink) (out_rests e), ap (λ x. x.until_halt) (out_rests e));
-          given = λ e. ap (λ x. x.place) (in_rests e);
+          taken = λ e. (ap (λ x. x.sink) (out_rests e), ap (λ x. x.pace.until_halt) (out_rests e));
+          given = λ e. (ap (λ x. x.place) (in_rests e), ap (λ x. x.pace.until_halt) (in_rests e));
         }),
     record {
       registers = r;

@@ -1,19 +1,14 @@
 -- What a clear of a halt leaves of each device, why it fails, and the record of a call.
-use Rattle.usb_device.specs.{Location, ServedEndpoint, BulkOut, BulkIn, Registers, Spec, rested}
-use Rattle.usb_device.specs.{bulk_at, is_end, served, outcome, unhalts, on_endpoint, first_stage}
-use Rattle.usb_device.specs.{ending, EndpointState, Changes, State, bulk_of, with_endpoint_state}
-use Rattle.usb_device.specs.{accepted, IsSink, IsSource, level, StatusGiven, OnlyControl, OnlyStage}
-use Rattle.usb_device.specs.{endpoint_state, in_end, out_end, no_in, no_out, InEnd, OutEnd}
-use Rattle.usb_device.proofs.Interface.{at_same, max_of-some}
+use Rattle.usb_device.specs.{Location, ServedEndpoint, BulkOut, BulkIn, Changes, Registers, Spec}
+use Rattle.usb_device.specs.{served, outcome, unhalts, on_endpoint, first_stage, ending, rested}
+use Rattle.usb_device.specs.{State, begun_again, rested_in, rested_out, accepted, IsSink, IsSource}
+use Rattle.usb_device.specs.{level, StatusGiven, OnlyControl, OnlyStage, in_end, out_end, no_in}
+use Rattle.usb_device.specs.{no_out}
+use Rattle.usb_device.proofs.Interface.{at_other, at_same, served-in, served-out}
 use Rattle.std.proofs.Common.{◌≡◌, ◌≢◌, ◌⊎◌, inl, inr, ◌∙◌, refl, sym, ap, subst, arith, false}
-use Rattle.std.proofs.Common.{true, Bool, ℕ, ◌+◌, ◌*◌, ◌/◌, ◌%◌, ◌<◌, ◌==◌, List, [], ◌∷◌, Option}
-use Rattle.std.proofs.Common.{None, Some, Result, Ok, Err, OnOk, MatchResult}
-use Rattle.std.specs.Prelude.{⊤}
+use Rattle.std.proofs.Common.{true, Bool, ℕ, ◌+◌, ◌*◌, ◌/◌, ◌%◌, ◌==◌, List, None, Option, Result}
+use Rattle.std.proofs.Common.{Ok, Err, OnOk, MatchResult}
 use Rattle.std.proofs.lemmas.Bool.Decides.{nat_tests}
-use Rattle.usb_descriptor.specs.{DescriptorFault, counts_after, picked, first_from, first_counting}
-use Rattle.usb_descriptor.specs.{in_config, bulk_out_at, bulk_out_of}
-use Rattle.usb_descriptor.specs.{bulk_described as bulk_in_text}
-use Rattle.usb_descriptor.specs.declared.item.Item.{Item}
 use Rattle.usb_request.specs.{Setup, bytes_of, setup_of, clear_endpoint_halt}
 use Rattle.usb_port.specs.{PortState}
 use Rattle.usb_world.specs.{is_harmless, World, EachWas}
@@ -30,67 +25,6 @@ use Rattle.usb_pipe.proofs.Answerers.{who_writes}
 use Rattle.usb_pipe.proofs.BulkCalls.{clear_by}
 use Rattle.usb_pipe.proofs.ControlSteps.{only_stage}
 use Rattle.usb_pipe.proofs.ControlTransfers.{write_leaves, write_why}
-
--- The number of a bulk OUT endpoint, as it is read from the configuration (9.6.6): where there is
--- one, it is below 16
-
-abbrev IsSmallEndpoint : Option (ℕ × ℕ) → Type 0
-IsSmallEndpoint None = ⊤
-IsSmallEndpoint (Some end) = end.0 < 16
-
-small_out : (endpoint : List ℕ) → IsSmallEndpoint (bulk_out_at endpoint)
-unfolding bulk_out_at bulk_in_text
-small_out endpoint = grind arith
-
-small_picked : (counts : Bool) (item : Item) → IsSmallEndpoint (picked bulk_out_at counts item)
-small_picked counts item = grind (arith, small_out)
-
-small_first : (counts : Bool) (items : List Item)
-    → IsSmallEndpoint (first_from bulk_out_at counts items)
-small_first counts [] = tt
-small_first counts (item ∷ items) = grind (
-  arith,
-  small_picked counts item,
-  small_first (counts_after counts item) items,
-)
-
-small_config : (text : Result (List ℕ) DescriptorFault)
-    → IsSmallEndpoint (in_config bulk_out_at text)
-unfolding first_counting
-small_config text = grind (arith, small_first)
-
-small_out_end : (s : Spec) (g : Registers) → IsSmallEndpoint (bulk_at s g false)
-unfolding bulk_out_of
-small_out_end s g = grind (arith, small_config)
-
--- The endpoint that the request names
-
-far : (e : ℕ) (o : Option (ℕ × ℕ)) → IsSmallEndpoint o → is_end (128 + e) 0 o ≡ false
-far e None small = refl
-far e (Some end) small = let lt : end.0 < 16 = small in grind (arith, nat_tests)
-
-names_out : (e most : ℕ) (s : State) → IsSink e most s → served s.spec s.registers e
-    ≡ Some (BulkOut e)
-names_out e most s i =
-    let is : bulk_of s false ≡ Some (e, most) = max_of-some e most (bulk_of s false) i.endpoint in
-    let small : e < 16 = rw is at (small_out_end s.spec s.registers) in
-    let not_status : (e == 129) ≡ false = grind (arith, nat_tests) in
-    let is_out : (e + 0 == e) ≡ true = grind (arith, nat_tests) in
-    rw (not_status, is, is_out)
-
-names_in : (e most : ℕ) (s : State) → IsSource e most s → served s.spec s.registers (128 + e)
-    ≡ Some (BulkIn e)
-names_in e most s i =
-    let is : bulk_of s true ≡ Some (e, most) = max_of-some e most (bulk_of s true) i.endpoint in
-    let status : (128 + e == 129) ≡ (e == 1) = grind (arith, nat_tests) in
-    let is_in : (e + 128 == 128 + e) ≡ true = grind (arith, nat_tests) in
-    rw (
-      status,
-      i.alone,
-      far e (bulk_of s false) (small_out_end s.spec s.registers),
-      is,
-      is_in,
-    )
 
 -- The request
 
@@ -122,48 +56,137 @@ clear_of pipe = clear_endpoint_halt (halt_address pipe.ep pipe.is_in)
 pub asks_out : (pipe : Bulk) (s : State) → pipe.is_in ≡ false → IsSink pipe.ep pipe.max s
     → outcome s.spec s.registers (clear_of pipe) ≡ unhalts (BulkOut pipe.ep)
 asks_out pipe s out i = outcome-clear_halt s.spec s.registers (halt_address pipe.ep pipe.is_in)
-    ∙ rw (out, names_out pipe.ep pipe.max s i)
+    ∙ rw (out, served-out pipe.ep pipe.max s i)
 
 pub clear_of-in : (pipe : Bulk) (s : State) → pipe.is_in ≡ true → IsSource pipe.ep pipe.max s
     → outcome s.spec s.registers (clear_of pipe) ≡ unhalts (BulkIn pipe.ep)
 clear_of-in pipe s is i = outcome-clear_halt s.spec s.registers (halt_address pipe.ep pipe.is_in)
-    ∙ rw (is, names_in pipe.ep pipe.max s i)
+    ∙ rw (is, served-in pipe.ep pipe.max s i)
+
+-- An endpoint that begins again: each other one is as it was, and nothing moved
+
+out_rests : (e : ℕ) (s : State)
+    → out_end (begun_again s (BulkOut e)) e ≡ rested_out (out_end s e)
+out_rests e s = at_same no_out e (rested_out (out_end s e)) s.outs
+
+in_rests : (e : ℕ) (s : State) → in_end (begun_again s (BulkIn e)) e ≡ rested_in (in_end s e)
+in_rests e s = at_same no_in e (rested_in (in_end s e)) s.ins
+
+module _ (e a : ℕ) (s : State) where
+  -- this one is the one that begins again, or is as it was
+  out_begun : ((e ≡ a) × (out_end (begun_again s (BulkOut e)) a ≡ rested_out (out_end s a)))
+      ⊎ (out_end (begun_again s (BulkOut e)) a ≡ out_end s a)
+  out_begun = by_number (a == e) refl
+    where
+      by_number : (b : Bool) → (a == e) ≡ b
+          → ((e ≡ a) × (out_end (begun_again s (BulkOut e)) a ≡ rested_out (out_end s a)))
+          ⊎ (out_end (begun_again s (BulkOut e)) a ≡ out_end s a)
+      by_number true is = let same : e ≡ a = grind (arith, nat_tests, is) in
+          inl (same, rw same (out_rests a s))
+      by_number false is = inr (at_other no_out e a (rested_out (out_end s e)) s.outs is)
+
+  in_begun : ((e ≡ a) × (in_end (begun_again s (BulkIn e)) a ≡ rested_in (in_end s a)))
+      ⊎ (in_end (begun_again s (BulkIn e)) a ≡ in_end s a)
+  in_begun = by_number (a == e) refl
+    where
+      by_number : (b : Bool) → (a == e) ≡ b
+          → ((e ≡ a) × (in_end (begun_again s (BulkIn e)) a ≡ rested_in (in_end s a)))
+          ⊎ (in_end (begun_again s (BulkIn e)) a ≡ in_end s a)
+      by_number true is = let same : e ≡ a = grind (arith, nat_tests, is) in
+          inl (same, rw same (in_rests a s))
+      by_number false is = inr (at_other no_in e a (rested_in (in_end s e)) s.ins is)
+
+only_begun : (which : ServedEndpoint) (s : State) → OnlyEndpoint which s (begun_again s which)
+only_begun (BulkOut e) s = record {
+  rest = refl;
+  moved = record {
+    taken = λ a. elim (out_begun e a s) [
+      | inl h ↦ (ap (λ end. end.sink) h.1, ap (λ end. end.pace.until_halt) h.1)
+      | inr h ↦ (ap (λ end. end.sink) h, ap (λ end. end.pace.until_halt) h)
+    ];
+    given = λ a. (refl, refl);
+  };
+  outs = λ a n. elim (out_begun e a s) [
+    | inl h ↦ absurd (n (ap BulkOut h.0))
+    | inr h ↦ h
+  ];
+  ins = λ a n. refl;
+  changes = λ n. refl;
+}
+only_begun (BulkIn e) s = record {
+  rest = refl;
+  moved = record {
+    taken = λ a. (refl, refl);
+    given = λ a. elim (in_begun e a s) [
+      | inl h ↦ (ap (λ end. end.place) h.1, ap (λ end. end.pace.until_halt) h.1)
+      | inr h ↦ (ap (λ end. end.place) h, ap (λ end. end.pace.until_halt) h)
+    ];
+  };
+  outs = λ a n. refl;
+  ins = λ a n. elim (in_begun e a s) [
+    | inl h ↦ absurd (n (ap BulkIn h.0))
+    | inr h ↦ h
+  ];
+  changes = λ n. refl;
+}
+only_begun Changes s = record {
+  rest = refl;
+  moved = record { taken = λ a. (refl, refl); given = λ a. (refl, refl) };
+  outs = λ a n. refl;
+  ins = λ a n. refl;
+  changes = λ n. absurd (n refl);
+}
+
+only_none : (which : ServedEndpoint) (s : State) → OnlyEndpoint which s s
+only_none which s = record {
+  rest = refl;
+  moved = record { taken = λ a. (refl, refl); given = λ a. (refl, refl) };
+  outs = λ a n. refl;
+  ins = λ a n. refl;
+  changes = λ n. refl;
+}
+
+-- the stage of endpoint 0 is none of it
+only_staged : (which : ServedEndpoint) (s u v : State) → OnlyEndpoint which s u → OnlyStage u v
+    → OnlyEndpoint which s v
+only_staged which s u v x o = record {
+  rest = o
+      ∙ ap {A = State} (λ q. record q { memory = v.memory; naks = v.naks; stage = v.stage }) x.rest
+      ∙ ap {A = State} (λ q. record s {
+        memory = v.memory;
+        naks = v.naks;
+        stage = v.stage;
+        outs = q.outs;
+        ins = q.ins;
+        changes = q.changes;
+      }) (sym o);
+  moved = record {
+    taken = λ a. let same = ap {A = State} (λ q. out_end q a) o in (
+      ap (λ end. end.sink) same ∙ (x.moved.taken a).0,
+      ap (λ end. end.pace.until_halt) same ∙ (x.moved.taken a).1,
+    );
+    given = λ a. let same = ap {A = State} (λ q. in_end q a) o in (
+      ap (λ end. end.place) same ∙ (x.moved.given a).0,
+      ap (λ end. end.pace.until_halt) same ∙ (x.moved.given a).1,
+    );
+  };
+  outs = λ a n. ap {A = State} (λ q. out_end q a) o ∙ x.outs a n;
+  ins = λ a n. ap {A = State} (λ q. in_end q a) o ∙ x.ins a n;
+  changes = λ n. ap {A = State} (λ q. q.changes) o ∙ x.changes n;
+}
 
 -- What the request leaves of a device that has the endpoint: only the endpoint began again, or
 -- nothing but the stage is another
 
 abbrev OnlyRested : ServedEndpoint → State → State → Type 0
-OnlyRested which s v = OnlyStage (with_endpoint_state s which rested) v
-
--- an endpoint after its state is put
-out_with : (e : ℕ) (s : State) (x : EndpointState) → out_end (with_endpoint_state s (BulkOut e) x) e
-    ≡ record (out_end s e) { state = x }
-out_with e s x = at_same no_out e (record (out_end s e) { state = x }) s.outs
-
-in_with : (e : ℕ) (s : State) (x : EndpointState) → in_end (with_endpoint_state s (BulkIn e) x) e
-    ≡ record (in_end s e) { state = x }
-in_with e s x = at_same no_in e (record (in_end s e) { state = x }) s.ins
-
-state_with : (which : ServedEndpoint) (s : State) (x : EndpointState)
-    → endpoint_state (with_endpoint_state s which x) which ≡ x
-state_with (BulkOut e) s x = ap (λ (end : OutEnd). end.state) (out_with e s x)
-state_with (BulkIn e) s x = ap (λ (end : InEnd). end.state) (in_with e s x)
-state_with Changes s x = refl
-
--- the stage of endpoint 0 is none of it
-state_kept : (which : ServedEndpoint) (s v : State) → OnlyStage s v
-    → endpoint_state v which ≡ endpoint_state s which
-state_kept (BulkOut e) s v o = ap (λ (q : State). (out_end q e).state) o
-state_kept (BulkIn e) s v o = ap (λ (q : State). (in_end q e).state) o
-state_kept Changes s v o = ap (λ (q : State). q.changes) o
+OnlyRested which s v = OnlyStage (begun_again s which) v
 
 only_rested : (which : ServedEndpoint) (s v : State) → OnlyRested which s v → OnlyEndpoint which s v
-only_rested which s v o = inr (subst (λ x. OnlyStage (with_endpoint_state s which x) v)
-    (sym (state_kept which (with_endpoint_state s which rested) v o ∙ state_with which s rested)) o)
+only_rested which s v o = only_staged which s (begun_again s which) v (only_begun which s) o
 
 only_either : (which : ServedEndpoint) (s v : State) → OnlyStage s v ⊎ OnlyRested which s v
     → OnlyEndpoint which s v
-only_either which s v (inl o) = inl o
+only_either which s v (inl o) = only_staged which s s v (only_none which s) o
 only_either which s v (inr o) = only_rested which s v o
 
 -- a device that was asked, or any other
@@ -171,10 +194,10 @@ only_by : (which : ServedEndpoint) (s v : State) (at : Bool) → (at ≡ false �
     → (at ≡ true → OnlyEndpoint which s v) → OnlyEndpoint which s v
 only_by which s v true others asked = asked refl
 only_by which s v false others asked = subst (OnlyEndpoint which s) (sym (others refl))
-    (inl refl)
+    (only_none which s)
 
 registers_kept : (which : ServedEndpoint) (s : State)
-    → (with_endpoint_state s which rested).registers ≡ s.registers
+    → (begun_again s which).registers ≡ s.registers
 registers_kept which s = grind arith
 
 -- a status stage that gives no address leaves the registers
@@ -218,7 +241,7 @@ done_leaves pipe done unready j s v x = record {
       let d = x.done at done refl in
       let o = ended_rests (clear_of pipe) (BulkOut pipe.ep) s (asks_out pipe s out f.endpoint) d.row
       d.address v d.is d.given d.rest in
-      let there = out_with pipe.ep s rested in
+      let there = out_rests pipe.ep s in
       rw (unready, o) (
         record {
           endpoint = record { endpoint = f.endpoint.endpoint; not_zero = f.endpoint.not_zero };
@@ -232,7 +255,7 @@ done_leaves pipe done unready j s v x = record {
       let d = x.done at done refl in
       let o = ended_rests (clear_of pipe) (BulkIn pipe.ep) s (clear_of-in pipe s is f.endpoint)
       d.row d.address v d.is d.given d.rest in
-      let there = in_with pipe.ep s rested in
+      let there = in_rests pipe.ep s in
       rw (unready, o) (
         record {
           endpoint = record {
@@ -265,7 +288,7 @@ failed_sink : (pipe : Bulk) (s v : State) → OutPipeInSync pipe s → OnlyStage
     × (((out_end v pipe.ep).state ≡ (out_end s pipe.ep).state)
     ⊎ ((out_end v pipe.ep).state ≡ rested))
 failed_sink pipe s v f (inl o) = grind arith
-failed_sink pipe s v f (inr o) = let there = out_with pipe.ep s rested in grind (arith, there)
+failed_sink pipe s v f (inr o) = let there = out_rests pipe.ep s in grind (arith, there)
 
 failed_source : (pipe : Bulk) (got : ℕ) (s v : State) → InPipeInSync pipe got s → OnlyStage s v
     ⊎ OnlyRested (BulkIn pipe.ep) s v
@@ -274,7 +297,7 @@ failed_source : (pipe : Bulk) (got : ℕ) (s v : State) → InPipeInSync pipe go
     × (((in_end v pipe.ep).state ≡ (in_end s pipe.ep).state)
     ⊎ ((in_end v pipe.ep).state ≡ rested))
 failed_source pipe got s v f (inl o) = grind arith
-failed_source pipe got s v f (inr o) = let there = in_with pipe.ep s rested in grind (arith, there)
+failed_source pipe got s v f (inr o) = let there = in_rests pipe.ep s in grind (arith, there)
 
 failed_leaves : (pipe : Bulk) (why : PipeFault) (old new : World) → FaultAfter 1 old why new
     → (j : Location) (s v : State) → WriteLeaves pipe.target (clear_of pipe) (Err why) old new j s v
@@ -316,8 +339,8 @@ ready_leaves pipe ready j s = record {
   others = λ _. refl;
   sink = λ at out f. rw ready (f, refl, refl);
   source = λ at is got f. rw ready (f, refl, refl);
-  only_sink = λ out i. inl refl;
-  only_source = λ is i. inl refl;
+  only_sink = λ out i. only_none (BulkOut pipe.ep) s;
+  only_source = λ is i. only_none (BulkIn pipe.ep) s;
 }
 
 not_ready : (c : Condition) → c ≢ Ready → is_ready c ≡ false

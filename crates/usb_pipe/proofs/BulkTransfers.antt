@@ -1,15 +1,14 @@
 -- Bulk transfers: what sending and receiving leave of each device, in the end and at each moment,
 -- why they fail, and the record of a call.
-use Rattle.usb_device.specs.{Location, advanced, State, IsSink, SinkAt, level, ahead, Joined}
-use Rattle.usb_device.specs.{OnlySink, IsSource, SourceAt, OnlySource, in_end, out_end}
+use Rattle.usb_device.specs.{Location, State, IsSink, SinkAt, level, ahead, Joined, OnlySink}
+use Rattle.usb_device.specs.{IsSource, SourceAt, OnlySource, in_data, in_end, out_end, packet_in}
+use Rattle.usb_device.specs.{next_packet, GivesWithin, HasPackets, IsPrompt, NextBytes}
 use Rattle.std.proofs.Common.{◌≡◌, ◌≢◌, ◌∙◌, ◌⊎◌, inl, inr, refl, sym, ap, subst, arith, false}
-use Rattle.std.proofs.Common.{true, ℕ, ◌+◌, ◌-◌, ◌*◌, ◌<◌, ◌≤◌, List, [], ◌++◌, length, take, drop}
-use Rattle.std.proofs.Common.{Result, Ok, Err, OnOk, append_assoc, append-nil, drop-drop}
-use Rattle.std.proofs.Common.{length-append, length-drop, length-take, mul-le-mul_right, take-add}
+use Rattle.std.proofs.Common.{true, ℕ, ◌+◌, ◌<◌, ◌≤◌, List, [], ◌++◌, length, take, drop, Result}
+use Rattle.std.proofs.Common.{Ok, Err, OnOk, is_some, append_assoc, append-nil, length-take}
 use Rattle.std.proofs.Common.{take-append-drop}
 use Rattle.std.specs.Global.{Vec}
 use Rattle.std.specs.Int.{div_ceil}
-use Rattle.std.proofs.lemmas.List.{take_min}
 use Rattle.usb_packet.specs.{Toggle, other, flips}
 use Rattle.usb_tree.specs.{IsSettled}
 use Rattle.usb_world.specs.{World, EachWas}
@@ -28,15 +27,17 @@ use Rattle.usb_pipe.specs.{PipeFault, Bulk, after_fault, after_transfer, MovedOu
 use Rattle.usb_pipe.specs.{Receives, PacketsSent, PacketsReceived, FaultAfter, as_pipe_fault}
 use Rattle.usb_pipe.specs.{packet_target, SendFailure, ReceiveFailure, IsNoBusFault, pipe_known}
 use Rattle.usb_pipe.specs.{came_with, OutPipeInSync, FrontTaken, SendLeaves, SendingLeaves}
-use Rattle.usb_pipe.specs.{InPipeInSync, ReceiveLeaves, Gave, Came, NotGone, WhileSending, AllCame}
-use Rattle.usb_pipe.specs.{NotCame, NoRoomLeft, Unshared, BulkSend, BulkReceive}
+use Rattle.usb_pipe.specs.{InPipeInSync, GaveNext, ReceiveLeaves, Gave, Came, NotGone}
+use Rattle.usb_pipe.specs.{WhileSending, AllCame, NotCame, NoRoomLeft, Unshared, BulkSend, BulkReceive}
 use Rattle.usb_pipe.specs.declared.fault.PipeFault.TheVariants as pipe_fault
 use Rattle.usb_pipe.specs.Moves.{start, packet}
 use Rattle.usb_pipe.proofs.Answerers.{who_sends, who_receives}
 use Rattle.usb_pipe.proofs.BulkCalls.{ready_or, send_by, receive_by, gave_settled, received_settled}
 use Rattle.usb_pipe.proofs.ControlSteps.{ended_unshared, transacted_ended, ended_damages}
 use Rattle.usb_pipe.proofs.ControlSteps.{never_three}
-use Rattle.usb_pipe.proofs.MovedPackets.{flips_more, gave_packets, all_packets, came_full}
+use Rattle.usb_pipe.proofs.MovedPackets.{flips_more, gave_packets, all_packets}
+use Rattle.usb_pipe.proofs.NextPackets.{CameFrom, no_bytes, none_came_from, one_came_then}
+use Rattle.usb_pipe.proofs.NextPackets.{one_there}
 use Rattle.usb_pipe.proofs.TransactionFaults.{Fell, fell_same_fault}
 use Rattle.usb_pipe.proofs.TransferLosses.{send_losses, receive_losses}
 
@@ -61,6 +62,8 @@ record GaveLeaves (t : Target) (ep : ℕ) (first : Toggle) (n : ℕ) (sent : Lis
     (s v : State) : Type 0 where
   others : is_at s t ≡ false → v ≡ s
   frame : IsSink ep t.max s → OnlySink ep s v
+  paced : is_at s t ≡ true → IsSink ep t.max s → IsPrompt (out_end s ep).pace
+      → IsPrompt (out_end v ep).pace
   sink : is_at s t ≡ true → IsSink ep t.max s → (out_end s ep).state.toggle ≡ first
       → ((out_end v ep).sink ≡ (out_end s ep).sink ++ sent)
       × ((out_end v ep).state.toggle ≡ flips n first)
@@ -97,6 +100,7 @@ unfolding flips
 gave_no_packets t ep first j s = record {
   others = λ h. refl;
   frame = λ i. record { rest = refl; others = λ a h. refl };
+  paced = λ h i p. p;
   sink = λ h i e. (sym (append-nil (out_end s ep).sink), e);
   halted = λ h i c. (refl, refl);
 }
@@ -108,6 +112,7 @@ gave_packet_then : (t : Target) (ep : ℕ) (first : Toggle) (n : ℕ) (sent byte
 gave_packet_then t ep first n sent bytes fits j s u v x y = record {
   others = others_stay_then t s u v x.others y.others;
   frame = λ i. sink_frame x i v y.frame;
+  paced = λ h i p. y.paced (sink_at x i h) t.max (sink_then x i) (x.paced h i p);
   sink = λ h i e.
       let before = (out_end s ep).sink in
       let z : Joined ep (before ++ sent) bytes (flips n first) v =
@@ -261,7 +266,7 @@ lost_send : (pipe : Bulk) (n : ℕ) (sent rest : List ℕ) (why : PipeFault) (fa
 lost_send pipe n sent rest why fault told j s u v x y = record {
   answered = λ l i e. y.answered (hears l i) pipe.max (sink_then x i) (fits_packet pipe.max rest)
       (fell_same_fault (Unit {0}) why fault trans.NoAnswer told e);
-  waited = λ l i e. y.waited (hears l i) pipe.max (sink_then x i)
+  waited = λ l i p e. y.waited (hears l i) pipe.max (sink_then x i) (x.paced l.at i p)
       (fell_same_fault (Unit {0}) why fault trans.Busy told e);
 }
   where
@@ -277,7 +282,7 @@ module _ (bytes : List ℕ) (pipe left : Bulk) (old new : World) (single : new.s
       → EachWas (SendFailure pipe result) old new
   never_sent result x answered waited =
       each_wider (SendLeaves bytes pipe result left) _
-      (λ j s v y. record { answered = λ l i. answered; waited = λ l i. waited }) old new
+      (λ j s v y. record { answered = λ l i. answered; waited = λ l i p. waited }) old new
       (send_leaves bytes pipe result left old new x single)
 
   send_why : (result : Result (Unit {0}) PipeFault) → NoThreeDamaged old
@@ -325,28 +330,16 @@ sending_leaves bytes pipe old now settled g single =
     (sink_between (end_of pipe) pipe.ep (flips g.packets pipe.toggle) (take pipe.max g.rest)
     g.outcomes g.mid now (gave_settled g.before settled) g.trail g.onward single)
 
--- The next bytes of a list
-
-next_bytes : (got bytes xs : List ℕ) (place max : ℕ) → got ≡ take (length got) (drop place xs)
-    → bytes ≡ take max (drop (place + length got) xs)
-    → got ++ bytes ≡ take (length (got ++ bytes)) (drop place xs)
-next_bytes got bytes xs place max before now =
-    grind (arith, take-add, take_min, drop-drop, length-append, length-take)
-
-next_place : (got bytes xs : List ℕ) (place max : ℕ)
-    → bytes ≡ take max (drop (place + length got) xs)
-    → advanced (place + length got) max (length xs) ≡ place + length (got ++ bytes)
-next_place got bytes xs place max now = grind (arith, length-append, length-take, length-drop)
-
 -- What packets that came leave of one device
 
 record CameLeaves (t : Target) (ep : ℕ) (first : Toggle) (n : ℕ) (got : List ℕ) (j : Location)
     (s v : State) : Type 0 where
   others : is_at s t ≡ false → v ≡ s
   frame : IsSource ep t.max s → OnlySource ep s v
+  paced : is_at s t ≡ true → IsSource ep t.max s → IsPrompt (in_end s ep).pace
+      → IsPrompt (in_end v ep).pace
   source : is_at s t ≡ true → IsSource ep t.max s → (place : ℕ) → SourceAt ep t.max place first s
-      → (got ≡ take (length got) (drop place s.spec.source))
-      × SourceAt ep t.max (place + length got) (flips n first) v
+      → CameFrom ep t.max place (flips n first) n got s v
   still : is_at s t ≡ true → IsSource ep t.max s → (in_end s ep).state.halted ≡ true
       → (v ≡ s) × (n ≡ 0)
 
@@ -358,6 +351,9 @@ module _ {t : Target} {ep : ℕ} {first : Toggle} {n : ℕ} {got : List ℕ} {j 
 
   source_at : is_at s t ≡ true → is_at u t ≡ true
   source_at h = source_at_kept t s u (x.frame i) h
+
+  source_data : in_data u ep ≡ in_data s ep
+  source_data = ap (λ q. in_data q ep) (x.frame i).rest
 
   source_halted : is_at s t ≡ true → (in_end s ep).state.halted ≡ true
       → (in_end u ep).state.halted ≡ true
@@ -377,7 +373,8 @@ unfolding flips
 came_none t ep first j s = record {
   others = λ h. refl;
   frame = λ i. record { rest = refl; others = λ a h. refl };
-  source = λ h i place at. (refl, subst (λ k. SourceAt ep t.max k first s) (omega arith) at);
+  paced = λ h i p. p;
+  source = λ h i place at. none_came_from ep t.max place first s at;
   still = λ h i c. (refl, refl);
 }
 
@@ -388,17 +385,13 @@ came_then : (t : Target) (ep : ℕ) (first : Toggle) (n : ℕ) (got bytes : List
 came_then t ep first n got bytes least j s u v x y = record {
   others = others_stay_then t s u v x.others y.others;
   frame = λ i. source_frame x i v y.frame;
+  paced = λ h i p. y.paced (source_at x i h) t.max (source_then x i) (x.paced h i p);
   source = λ h i place at.
       let before = x.source h i place at in
-      let now = rw (ap (λ q. q.spec.source) (x.frame i).rest) at
-      (y.source (source_at x i h) t.max (place + length got) (source_then x i) least before.1)
-      in (
-        next_bytes got bytes s.spec.source place t.max before.0 now.0,
-        rw (
-          ← next_place got bytes s.spec.source place t.max now.0,
-          ← turned_on n first (other (flips n first)) refl,
-        ) now.2,
-      );
+      subst (λ toggle. CameFrom ep t.max place toggle (n + 1) (got ++ bytes) s v)
+      (turned_on n first (other (flips n first)) refl)
+      (one_came_then bytes before (source_data x i)
+      (y.source (source_at x i h) t.max before.behind (source_then x i) least before.at));
   still = λ h i c. absurd ((y.halted (source_at x i h) t.max (source_then x i)
       (source_halted x i h c)).1 bytes refl);
 }
@@ -440,22 +433,31 @@ all_came : (pipe left : Bulk) (bytes : Vec ℕ) (n : ℕ) → pipe.condition ≢
 all_came pipe left bytes n works e turned j s v x = record {
   others = x.others;
   frame = x.frame;
-  fits = λ h place f. subst (λ l. InPipeInSync l (place + length bytes.items) v) (sym e) (record {
-    endpoint = source_then x f.endpoint;
-    level = λ r. subst (λ k. SourceAt pipe.ep pipe.max (place + length bytes.items) k v)
-        (sym turned) (came h place f).1;
-    halted = λ r. cc r;
-  });
-  done = λ h place f given r. let same : given ≡ bytes = cc r in
-      subst (λ k. k.items ≡ take (length k.items) (drop place s.spec.source)) (sym same)
-      (came h place f).0;
+  gave = λ h place f. let c = came h place f in record {
+    behind = c.behind;
+    came = c.bytes;
+    level = subst (λ l. InPipeInSync l c.behind v) (sym e) (record {
+      endpoint = source_then x f.endpoint;
+      level = λ r. subst (λ k. SourceAt pipe.ep pipe.max c.behind k v) (sym turned) c.at;
+      halted = λ r. cc r;
+    });
+  };
 }
   where
     came : is_at s pipe.target ≡ true → (place : ℕ) → InPipeInSync pipe place s
-        → (bytes.items ≡ take (length bytes.items) (drop place s.spec.source))
-        × SourceAt pipe.ep pipe.max (place + length bytes.items) (flips (n + 1) pipe.toggle) v
+        → CameFrom pipe.ep pipe.max place (flips (n + 1) pipe.toggle) (n + 1) bytes.items s v
     came h place f = ready_or _ pipe.condition works (λ r. x.source h f.endpoint place (f.level r))
         (λ r. let none = (x.still h f.endpoint (f.halted r)).1 in absurd (omega (arith, none)))
+
+-- no bytes came, and the pipe that is left is at the place of the one before
+nothing_came : (pipe left : Bulk) (bytes : List ℕ) (place : ℕ) (s v : State) → bytes ≡ []
+    → InPipeInSync left place v → GaveNext pipe place bytes left s v
+nothing_came pipe left bytes place s v none f = record {
+  behind = place;
+  came = subst (λ b. NextBytes pipe.ep pipe.max place b place s) (sym none)
+      (no_bytes pipe.ep pipe.max place s);
+  level = f;
+}
 
 -- where a call fails, no more is known of the endpoint than that it is the one it was, and that it
 -- is halted where it answered STALL
@@ -465,19 +467,31 @@ lost_came : (old new : World) (pipe left : Bulk) (why : PipeFault) → FaultAfte
     → (IsSource pipe.ep pipe.max s → OnlySource pipe.ep s v)
     → (why ≡ pipe_fault.Stalled → is_at s pipe.target ≡ true → IsSource pipe.ep pipe.max s
     → (in_end v pipe.ep).state.halted ≡ true) → ReceiveLeaves pipe (Err why) left j s v
-lost_came old new pipe left why ends e j s v others frame halted =
-    grind (arith, source_kept, others, frame, halted)
+lost_came old new pipe left why ends e j s v others frame halted = record {
+  others = others;
+  frame = frame;
+  gave = λ h place f. nothing_came pipe (pipe_known {A = Vec ℕ} (Err why) left) [] place s v refl
+      (still h place f);
+}
+  where
+    still : is_at s pipe.target ≡ true → (place : ℕ) → InPipeInSync pipe place s
+        → InPipeInSync (pipe_known {A = Vec ℕ} (Err why) left) place v
+    still h place f = grind (arith, source_kept, frame, halted)
 
 -- a call that makes no attempt
 idle_came : (pipe : Bulk) (result : Result (Vec ℕ) PipeFault) → pipe_known result pipe ≡ pipe
-    → came_with result ≡ 0 → ((bytes : Vec ℕ) → result ≡ Ok bytes → bytes.items ≡ [])
-    → (j : Location) (s : State) → ReceiveLeaves pipe result pipe j s s
-idle_came pipe result same size none j s = grind (arith, none)
+    → came_with result ≡ [] → (j : Location) (s : State) → ReceiveLeaves pipe result pipe j s s
+idle_came pipe result same none j s = record {
+  others = λ h. refl;
+  frame = λ i. record { rest = refl; others = λ a h. refl };
+  gave = λ h place f. nothing_came pipe (pipe_known result pipe) (came_with result) place s s none
+      (rw same f);
+}
 
 -- a packet that did not come, behind others that did
 module _ (wanted : ℕ) (pipe : Bulk) (n : ℕ) (got : List ℕ) (why : PipeFault) (fault : TransFault)
     (works : pipe.condition ≢ Broken) (least : 1 ≤ pipe.max) (told : why ≡ as_pipe_fault fault)
-    (few : n < wanted) (full : length got ≡ n * pipe.max) (j : Location) (s u v : State)
+    (few : n < wanted) (j : Location) (s u v : State)
     (x : CameLeaves (end_of pipe) pipe.ep pipe.toggle n got j s u) where
   lost_then : (old new : World) (left : Bulk) → FaultAfter 0 old why new
       → left ≡ record pipe { toggle = left.toggle; condition = after_fault pipe.condition why }
@@ -486,23 +500,26 @@ module _ (wanted : ℕ) (pipe : Bulk) (n : ℕ) (got : List ℕ) (why : PipeFaul
   lost_then old new left ends e y =
       lost_came old new pipe left why ends e j s v
       (others_stay_then pipe.target s u v x.others y.others) (λ i. source_frame x i v y.frame)
-      (λ stalled h i.
-      let z = y.stalled (source_at x i h) pipe.max (source_then x i)
-      (fell_same_fault (Vec ℕ) why fault trans.Stalled told (ap Err stalled)) in
-      ap (λ q. (in_end q pipe.ep).state.halted) z.1 ∙ z.0)
+      (λ stalled h i. y.stalled (source_at x i h) pipe.max (source_then x i)
+      (fell_same_fault (Vec ℕ) why fault trans.Stalled told (ap Err stalled)))
 
   lost_why : SourceInFailure (end_of pipe) pipe.ep (flips n pipe.toggle) (Err fault) j u v
       → ReceiveFailure wanted pipe (Err why) j s v
   lost_why y = record {
-    answered = λ l place f e.
+    answered = λ l place f short e.
         let no : Fell fault trans.NoAnswer = fell_same_fault (Vec ℕ) why fault trans.NoAnswer told
         e in
-        ready_or ⊥ pipe.condition works (λ r. y.answered (hears l f) pipe.max (place + length got)
-        (source_then x f.endpoint) (at l f r) (omega arith) no) (λ r. (halted l f r).0 no);
-    waited = λ l place f more e.
+        ready_or ⊥ pipe.condition works
+        (λ r. let c = came l f r in
+        y.answered (hears l f) pipe.max c.behind (source_then x f.endpoint) c.at (within f short)
+        no)
+        (λ r. (halted l f r).0 no);
+    waited = λ l place f short has prompt e.
         let no : Fell fault trans.Busy = fell_same_fault (Vec ℕ) why fault trans.Busy told e in
-        ready_or ⊥ pipe.condition works (λ r. y.waited (hears l f) pipe.max (place + length got)
-        (source_then x f.endpoint) least (at l f r) (omega arith) (rest f more) no)
+        ready_or ⊥ pipe.condition works
+        (λ r. let c = came l f r in
+        y.waited (hears l f) pipe.max c.behind (source_then x f.endpoint) least c.at
+        (within f short) (there f c has) (x.paced l.at f.endpoint prompt) no)
         (λ r. (halted l f r).1 no);
   }
     where
@@ -512,23 +529,29 @@ module _ (wanted : ℕ) (pipe : Bulk) (n : ℕ) (got : List ℕ) (why : PipeFaul
           listens_packet pipe.target pipe.max j s u (ap (λ q. q.spec) only)
           (ap (λ q. q.registers) only) l
 
-      at : {place : ℕ} → Listens pipe.target j s → InPipeInSync pipe place s
+      came : {place : ℕ} → Listens pipe.target j s → InPipeInSync pipe place s
           → pipe.condition ≡ Ready
-          → SourceAt pipe.ep pipe.max (place + length got) (flips n pipe.toggle) u
-      at {place} l f r = (x.source l.at f.endpoint place (f.level r)).1
+          → CameFrom pipe.ep pipe.max place (flips n pipe.toggle) n got s u
+      came {place} l f r = x.source l.at f.endpoint place (f.level r)
 
       halted : {place : ℕ} → Listens pipe.target j s → InPipeInSync pipe place s
           → pipe.condition ≡ Halted → (Fell fault trans.NoAnswer → ⊥) × (Fell fault trans.Busy → ⊥)
       halted l f r = y.halted (hears l f) pipe.max (source_then x f.endpoint)
           (source_halted x f.endpoint l.at (f.halted r))
 
-      rest : {place : ℕ} → InPipeInSync pipe place s
-          → place + (wanted - 1) * pipe.max < length s.spec.source
-          → place + length got < length u.spec.source
-      rest {place} f more =
-          let most : n * pipe.max ≤ (wanted - 1) * pipe.max =
-          mul-le-mul_right pipe.max (omega (arith, few)) in
-          rw (ap (λ q. q.spec.source) (x.frame f.endpoint).rest) (omega (arith, full, most, more))
+      within : {place : ℕ} → InPipeInSync pipe place s → GivesWithin pipe.max pipe.ep pipe.max s
+          → GivesWithin pipe.max pipe.ep pipe.max u
+      within f short place bytes e = short place bytes
+          (sym (ap (λ c. packet_in c pipe.max place) (source_data x f.endpoint)) ∙ e)
+
+      there : {place : ℕ} → InPipeInSync pipe place s
+          → (c : CameFrom pipe.ep pipe.max place (flips n pipe.toggle) n got s u)
+          → HasPackets pipe.ep pipe.max place wanted s
+          → is_some (next_packet u pipe.ep pipe.max c.behind) ≡ true
+      there {place} f c has =
+          ap (λ content. is_some (packet_in content pipe.max c.behind)) (source_data x f.endpoint)
+          ∙ one_there pipe.ep pipe.max place c.behind wanted c.bytes.packets s c.bytes.come
+          (rw c.count few) has
 
 -- A call that receives
 
@@ -552,7 +575,7 @@ module _ (wanted : ℕ) (pipe left : Bulk) (old new : World) (least : 1 ≤ pipe
       by_end (inl g) =
           let began : IsSettled g.mid.roots = received_settled g.before x.settled in
           each_joined _ _ _ (λ j s u v y. lost_then wanted pipe g.packets g.got why g.fault works
-          least g.told g.few (came_full g.before) j s u v y old new left x.ends x.pipe_left)
+          least g.told g.few j s u v y old new left x.ends x.pipe_left)
           old g.mid new
           (came_leaves (end_of pipe) pipe.ep pipe.toggle least x.settled g.before
           (transacted_unshared _ _ _ _ (Err g.fault) g.lost began single))
@@ -570,10 +593,9 @@ pub receive_leaves : (wanted : ℕ) (pipe : Bulk) (result : Result (Vec ℕ) Pip
 receive_leaves wanted pipe result left old new least x single =
     receive_by (EachWas (ReceiveLeaves pipe result left) old new)
     (λ broken kept same. rw (broken, kept, same)
-    (each_none _ (idle_came pipe (Err pipe_fault.Broken) refl refl (λ given e. cc e)) old))
+    (each_none _ (idle_came pipe (Err pipe_fault.Broken) refl refl) old))
     (λ bytes is none kept same. rw (is, kept, same)
-    (each_none _ (idle_came pipe (Ok bytes) refl (ap length none)
-    (λ given e. let k : given ≡ bytes = cc e in ap (λ q. q.items) k ∙ none)) old))
+    (each_none _ (idle_came pipe (Ok bytes) refl none) old))
     (λ works some y. received_leaves wanted pipe left old new least single result works y) x
 
 -- why it fails
@@ -585,8 +607,8 @@ module _ (wanted : ℕ) (pipe left : Bulk) (old new : World) (least : 1 ≤ pipe
   never_received result x answered waited =
       each_wider (ReceiveLeaves pipe result left) _
       (λ j s v y. record {
-        answered = λ l place f. answered;
-        waited = λ l place f more. waited;
+        answered = λ l place f short. answered;
+        waited = λ l place f short has prompt. waited;
       }) old new
       (receive_leaves wanted pipe result left old new least x single)
 
@@ -609,7 +631,7 @@ module _ (wanted : ℕ) (pipe left : Bulk) (old new : World) (least : 1 ≤ pipe
           (in_attempt (end_of pipe) pipe.ep) g.mid (Err g.fault) new =
           transacted_ended (Vec ℕ) why g.fault g.told sound g.lost in
           each_joined _ _ _ (lost_why wanted pipe g.packets g.got why g.fault works least g.told
-          g.few (came_full g.before)) old g.mid new
+          g.few) old g.mid new
           (came_leaves (end_of pipe) pipe.ep pipe.toggle least settled g.before
           (ended_unshared over single))
           (source_why (end_of pipe) pipe.ep (flips g.packets pipe.toggle) (Err g.fault) g.mid new

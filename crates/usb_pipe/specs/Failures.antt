@@ -1,7 +1,8 @@
 -- Why a whole transfer fails, where no three attempts running are damaged and the device stays
 -- reachable.
-use Rattle.usb_device.specs.{Location, tells_changes, State, IsSink, PollAt, NeverTold}
-use Rattle.std.specs.Prelude.{◌≡◌, ◌≢◌, ℕ, ◌+◌, ◌-◌, ◌*◌, ◌<◌, ◌≤◌, length, true, false, Option}
+use Rattle.usb_device.specs.{Location, tells_changes, State, IsSink, PollAt, NeverTold, in_end}
+use Rattle.usb_device.specs.{out_end, GivesWithin, HasPackets, IsPrompt}
+use Rattle.std.specs.Prelude.{◌≡◌, ◌≢◌, ℕ, ◌≤◌, true, false, Option}
 use Rattle.std.specs.Prelude.{Result, Err}
 use Rattle.arrayvec.specs.ArrayVec.{ArrayVec}
 use Rattle.std.specs.Global.{Vec}
@@ -34,20 +35,22 @@ pub record DataWriteFailure (t : Target) (request : Setup) (result : Result (Uni
   pub waited : Listens t x s → IsMaximum t request.length s → s.spec.busy ≡ false
       → s.spec.naks ≤ 200 → result ≢ Err Busy
 
--- an endpoint that takes bytes answers, and never keeps the host waiting
+-- an endpoint that takes bytes answers, and a prompt one does not keep the host waiting
 pub record SendFailure (pipe : Bulk) (result : Result (Unit {0}) PipeFault) (x : Location)
     (s v : State) : Type 0 where
   pub answered : Listens pipe.target x s → IsSink pipe.ep pipe.max s → result ≢ Err NoAnswer
-  pub waited : Listens pipe.target x s → IsSink pipe.ep pipe.max s → result ≢ Err Busy
+  pub waited : Listens pipe.target x s → IsSink pipe.ep pipe.max s
+      → IsPrompt (out_end s pipe.ep).pace → result ≢ Err Busy
 
--- one that gives bytes answers, and where it has some for each packet, it does not keep the host
--- waiting
+-- one that gives packets that are as short as the pipe's answers, and where it has as many as are
+-- wanted and is prompt, it does not keep the host waiting
 pub record ReceiveFailure (wanted : ℕ) (pipe : Bulk) (result : Result (Vec ℕ) PipeFault)
     (x : Location) (s v : State) : Type 0 where
   pub answered : Listens pipe.target x s → (got : ℕ) → InPipeInSync pipe got s
-      → result ≢ Err NoAnswer
+      → GivesWithin pipe.max pipe.ep pipe.max s → result ≢ Err NoAnswer
   pub waited : Listens pipe.target x s → (got : ℕ) → InPipeInSync pipe got s
-      → got + (wanted - 1) * pipe.max < length s.spec.source → result ≢ Err Busy
+      → GivesWithin pipe.max pipe.ep pipe.max s → HasPackets pipe.ep pipe.max got wanted s
+      → IsPrompt (in_end s pipe.ep).pace → result ≢ Err Busy
 
 -- a hub's status endpoint that is not halted tells its bits, or that there are none
 pub record PollingFailure (pipe : Interrupt) (result : Result (Option (ArrayVec ℕ)) PipeFault)

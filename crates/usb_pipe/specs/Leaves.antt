@@ -1,15 +1,15 @@
 -- One device over a whole control transfer (8.5.3): what it was before, seen from where it is
 -- reachable after it.
-use Rattle.std.specs.Prelude.{◌≡◌, ◌≢◌, ◌⊎◌, ◌≤◌, ℕ, ◌+◌, List, [], ◌∷◌, ◌++◌, length, take, drop}
+use Rattle.std.specs.Prelude.{◌≡◌, ◌≢◌, ◌⊎◌, ◌≤◌, ℕ, List, [], ◌∷◌, ◌++◌, take}
 use Rattle.std.specs.Prelude.{true, false, Option, None, Some, Result, Ok, Err, ⊤, if◌then◌else◌}
 use Rattle.arrayvec.specs.ArrayVec.{ArrayVec}
 use Rattle.std.specs.Global.{Vec}
 use Rattle.usb_packet.specs.{Toggle, One}
 use Rattle.usb_request.specs.{Setup, bytes_of}
 use Rattle.usb_port.specs.{PortState}
-use Rattle.usb_device.specs.{Spec, EndpointState, ServedEndpoint, BulkOut, BulkIn, outcome}
+use Rattle.usb_device.specs.{Spec, EndpointState, ServedEndpoint, BulkOut, BulkIn, Changes, outcome}
 use Rattle.usb_device.specs.{takes_address, first_stage, reading, ending, refused as stage_refused}
-use Rattle.usb_device.specs.{max_packet, State, accepted, endpoint_state, with_endpoint_state}
+use Rattle.usb_device.specs.{max_packet, State, accepted, NextBytes, NothingMoved}
 use Rattle.usb_device.specs.{tells_changes, rested, row_of, Location, IsRead, StatusGiven, IsSink}
 use Rattle.usb_device.specs.{SinkAt, IsSource, SourceAt, PollAt, NeverTold, OnlyControl, OnlyStage}
 use Rattle.usb_device.specs.{OnlySink, OnlySource, OnlyChanges, in_end, out_end}
@@ -228,29 +228,34 @@ pub record SendLeaves (bytes : List ℕ) (pipe : Bulk) (result : Result (Unit {0
       → result ≡ Err fault
       → FrontTaken bytes (out_end s pipe.ep).sink (out_end v pipe.ep).sink
 
--- a bulk IN pipe that has got so many bytes of the source, and the endpoint at its other end
+-- a bulk IN pipe that has got what stands before a place, and the endpoint at its other end
 pub record InPipeInSync (pipe : Bulk) (got : ℕ) (s : State) : Type 0 where
   pub endpoint : IsSource pipe.ep pipe.max s
   pub level : pipe.condition ≡ Ready → SourceAt pipe.ep pipe.max got pipe.toggle s
   pub halted : pipe.condition ≡ Halted → (in_end s pipe.ep).state.halted ≡ true
 
--- how many bytes came with an answer
-abbrev pub came_with : Result (Vec ℕ) PipeFault → ℕ
-came_with (Ok bytes) = length bytes.items
-came_with (Err fault) = 0
+-- the bytes that came with an answer
+abbrev pub came_with : Result (Vec ℕ) PipeFault → List ℕ
+came_with (Ok bytes) = bytes.items
+came_with (Err fault) = []
+
+-- through a pipe that had got what stands before a place these bytes came, which are the next
+-- packets; the pipe that is left has got what stands before the place behind them
+pub record GaveNext (pipe : Bulk) (got : ℕ) (bytes : List ℕ) (left : Bulk) (s v : State) : Type 0
+  where
+    pub behind : ℕ
+    pub came : NextBytes pipe.ep pipe.max got bytes behind s
+    pub level : InPipeInSync left behind v
 
 pub record ReceiveLeaves (pipe : Bulk) (result : Result (Vec ℕ) PipeFault) (left : Bulk)
     (x : Location) (s v : State) : Type 0 where
   pub others : is_at s pipe.target ≡ false → v ≡ s
   pub frame : IsSource pipe.ep pipe.max s → OnlySource pipe.ep s v
-  pub fits : is_at s pipe.target ≡ true → (got : ℕ) → InPipeInSync pipe got s
-      → InPipeInSync (pipe_known result left) (got + came_with result) v
-  -- the bytes are the next ones of the source
-  pub done : is_at s pipe.target ≡ true → (got : ℕ) → InPipeInSync pipe got s → (bytes : Vec ℕ)
-      → result ≡ Ok bytes → bytes.items ≡ take (length bytes.items) (drop got s.spec.source)
+  pub gave : is_at s pipe.target ≡ true → (got : ℕ) → InPipeInSync pipe got s
+      → GaveNext pipe got (came_with result) (pipe_known result left) s v
 
--- how many bytes of the source a pipe has got after a clear: where one was sent and is done, those
--- that the device counts
+-- before which place stands what a pipe has got after a clear: where one was sent and is done, it
+-- is the device's own
 abbrev pub got_after : Bulk → ℕ → Result (Unit {0}) PipeFault → State → ℕ
 got_after pipe got (Ok done) s = if is_ready pipe.condition then got
     else (in_end s pipe.ep).place
@@ -263,10 +268,21 @@ BegunAgain pipe (Ok done) before after =
     after ≡ (if is_ready pipe.condition then before else rested)
 BegunAgain pipe (Err fault) before after = (after ≡ before) ⊎ (after ≡ rested)
 
--- nothing but where the control transfer stands changed, or the state of this endpoint too
-abbrev pub OnlyEndpoint : ServedEndpoint → State → State → Type 0
-OnlyEndpoint which s v = OnlyStage s v
-    ⊎ OnlyStage (with_endpoint_state s which (endpoint_state v which)) v
+-- nothing but where the control transfer stands changed, and one endpoint, which may have begun
+-- again: nothing moved there either
+pub record OnlyEndpoint (which : ServedEndpoint) (s v : State) : Type 0 where
+  pub rest : v ≡ record s {
+    memory = v.memory;
+    naks = v.naks;
+    stage = v.stage;
+    outs = v.outs;
+    ins = v.ins;
+    changes = v.changes;
+  }
+  pub moved : NothingMoved s v
+  pub outs : (e : ℕ) → which ≢ BulkOut e → out_end v e ≡ out_end s e
+  pub ins : (e : ℕ) → which ≢ BulkIn e → in_end v e ≡ in_end s e
+  pub changes : which ≢ Changes → v.changes ≡ s.changes
 
 -- a clear of a halt (9.4.5) moves no bytes, and both ends begin again together; each other endpoint
 -- stays as it was

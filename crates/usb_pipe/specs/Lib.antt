@@ -27,7 +27,7 @@ pub use Moves.{ReceiveEnds, SendEnds, SendsAt, WhileSending, packets_came, packe
 pub use Packets.{PacketsReceived, PacketsSent}
 pub use Leaves.{AcceptedIn, AnswerRead, BegunAgain, ByteTold, CanEnd, ClearLeaves, EffectDone}
 pub use Leaves.{EffectOrNone, FrontTaken, InPipeInSync, IsBehind, IsBehindData, IsMaximum}
-pub use Leaves.{IsNoBusFault, IsTransferAnswer, LossesKept, LossesOf, Moment, OnlyEndpoint}
+pub use Leaves.{GaveNext, IsNoBusFault, IsTransferAnswer, LossesKept, LossesOf, Moment, OnlyEndpoint}
 pub use Leaves.{OutPipeInSync, PollLeaves, PollTells, ReadLeaves, ReceiveLeaves, SendLeaves}
 pub use Leaves.{SendingLeaves, ToldOf}
 pub use Leaves.{TookItOrLost, WasRefused, WriteLeaves, came_with, got_after, lost, none, pipe_known}

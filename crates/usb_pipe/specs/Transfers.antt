@@ -105,7 +105,7 @@ pub record BulkSend (bytes : List ℕ) (pipe : Bulk) (old : World)
   pub who : OnOk result (bytes ≢ [] → Unshared new (Answerer pipe.target old new))
   pub losses : IsNoBusFault result → new.losses ≡ old.losses
 
--- bytes that were received are the next ones of the device's source, in order, none twice and none
+-- bytes that were received are the next packets of the endpoint, end to end, none twice and none
 -- left out
 pub record BulkReceive (wanted : ℕ) (pipe : Bulk) (old : World) (result : Result (Vec ℕ) PipeFault)
     (left : Bulk) (new : World) : Type 0 where
@@ -116,8 +116,7 @@ pub record BulkReceive (wanted : ℕ) (pipe : Bulk) (old : World) (result : Resu
   pub losses : pipe.ep ≢ 0 → IsNoBusFault result → new.losses ≡ old.losses
 
 -- a clear of a halt moves no bytes (9.4.5); one that is done lets both ends begin again at DATA0,
--- and a device that gives bytes goes on
--- with the first that it has not seen acknowledged
+-- and an endpoint that gives packets goes on with the first whose ACK it has not seen
 pub record BulkClear (pipe : Bulk) (old : World) (result : Result (Unit {0}) PipeFault)
     (left : Bulk) (new : World) : Type 0 where
   pub clears : Clears pipe old result left new

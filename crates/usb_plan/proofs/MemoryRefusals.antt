@@ -7,12 +7,13 @@ use Rattle.usb_plan.specs.{Memory, PlanFault, Identity, DeviceTexts, fault_in_pa
 use Rattle.usb_plan.specs.{least_fault, least, at, entry_at, ◌>>=◌, EqualUnless, send, control}
 use Rattle.usb_plan.specs.{event_with}
 use Rattle.usb_plan.specs.{bulk_with, class_at, hub_with, with_item, identity_with}
-use Rattle.usb_plan.specs.{device_texts_with, device_with}
+use Rattle.usb_plan.specs.{device_tables_with, device_texts_with, device_with, DeviceTables}
+use Rattle.usb_plan.specs.{endpoint_with, endpoints_with}
 use Rattle.usb_plan.specs.declared.fault.Place.{Place}
 use Rattle.usb_plan.specs.declared.fault.PlanFault.TheVariants as fault
 use Rattle.usb_plan.specs.declared.quirks.Quirks.{Quirks}
 use Rattle.usb_plan.specs.declared.bulk.Bulk.{Bulk}
-use Rattle.usb_device.specs.{OwnAnswer, OwnRequest}
+use Rattle.usb_device.specs.{EndpointData, EndpointSpec, OwnAnswer, OwnRequest}
 use Rattle.usb_plan.specs.{row_with}
 use Rattle.usb_plan.specs.declared.action.Request.{Request}
 use Rattle.usb_plan.specs.declared.own_requests.Codes.{Codes}
@@ -126,6 +127,36 @@ row_unless numbers fields answer a keys h =
     unless_through Memory Memory (λ x. row_with numbers fields x keys) answer a
     (bind_err _ _ Memory (least_fault-memory (_ ∷ _ ∷ []) _)) h
 
+pub endpoint_unless : (address : Result ℕ EntryFault) (given g : Result EndpointData EntryFault)
+    (halt_after : Result (Option ℕ) EntryFault) (naks : Result ℕ EntryFault)
+    (keys : Result (Unit {0}) EntryFault) → EqualUnless Memory given g
+    → EqualUnless Memory (endpoint_with address given halt_after naks keys)
+    (endpoint_with address g halt_after naks keys)
+unfolding endpoint_with fault_in_part
+endpoint_unless address given g halt_after naks keys h =
+    unless_through Memory Memory (λ x. endpoint_with address x halt_after naks keys) given g
+    (bind_err _ _ Memory (least_fault-memory (_ ∷ []) _)) h
+
+pub endpoints_unless : (endpoints e : Result (List EndpointSpec) EntryFault)
+    (distinct : Result (Unit {0}) EntryFault) → EqualUnless Memory endpoints e
+    → EqualUnless Memory (endpoints_with endpoints distinct) (endpoints_with e distinct)
+unfolding endpoints_with fault_in_part
+endpoints_unless endpoints e distinct h = unless_through Memory Memory
+    (λ x. endpoints_with x distinct) endpoints e
+    (bind_err _ _ Memory (least_fault-memory [] _)) h
+
+pub device_tables_unless : (endpoints e : Result (List EndpointSpec) EntryFault)
+    (requests r : Result (List OwnRequest) EntryFault) → EqualUnless Memory endpoints e
+    → EqualUnless Memory requests r
+    → EqualUnless Memory (device_tables_with endpoints requests) (device_tables_with e r)
+unfolding device_tables_with fault_in_part
+device_tables_unless endpoints e requests r h g =
+    unless_then Memory _ (device_tables_with e requests) _
+    (unless_through Memory Memory (λ x. device_tables_with x requests) endpoints e
+    (bind_err _ _ Memory (least_fault-memory [] _)) h)
+    (unless_through Memory Memory (device_tables_with e) requests r
+    (bind_err _ _ Memory (least_fault-memory (_ ∷ []) _)) g)
+
 pub bulk_unless : (source s : Result (List ℕ) EntryFault)
     (halt_after : Result (Option ℕ) EntryFault) → EqualUnless Memory source s
     → EqualUnless Memory (bulk_with source halt_after) (bulk_with s halt_after)
@@ -165,26 +196,26 @@ identity_unless name n low descriptor d ports hub h name_is descriptor_is hub_is
 
 pub device_unless : (identity i : Result Identity EntryFault)
     (texts c : Result DeviceTexts EntryFault) (quirks : Result Quirks EntryFault)
-    (bulk b : Result Bulk EntryFault) (requests r : Result (List OwnRequest) EntryFault)
+    (bulk b : Result Bulk EntryFault) (tables t : Result DeviceTables EntryFault)
     (keys room : Result (Unit {0}) EntryFault)
     → EqualUnless Memory identity i → EqualUnless Memory texts c → EqualUnless Memory bulk b
-    → EqualUnless Memory requests r
-    → EqualUnless Memory (device_with identity texts quirks bulk requests keys room)
-    (device_with i c quirks b r keys room)
+    → EqualUnless Memory tables t
+    → EqualUnless Memory (device_with identity texts quirks bulk tables keys room)
+    (device_with i c quirks b t keys room)
 unfolding device_with fault_in_part
-device_unless identity i texts c quirks bulk b requests r keys room identity_is texts_is bulk_is
-    requests_is =
-    unless_then Memory _ (device_with i texts quirks bulk requests keys room) _
-    (unless_through Memory Memory (λ x. device_with x texts quirks bulk requests keys room)
+device_unless identity i texts c quirks bulk b tables t keys room identity_is texts_is bulk_is
+    tables_is =
+    unless_then Memory _ (device_with i texts quirks bulk tables keys room) _
+    (unless_through Memory Memory (λ x. device_with x texts quirks bulk tables keys room)
     identity i (bind_err _ _ Memory (least_fault-memory [] _)) identity_is)
-    (unless_then Memory _ (device_with i c quirks bulk requests keys room) _
-    (unless_through Memory Memory (λ x. device_with i x quirks bulk requests keys room) texts c
+    (unless_then Memory _ (device_with i c quirks bulk tables keys room) _
+    (unless_through Memory Memory (λ x. device_with i x quirks bulk tables keys room) texts c
     (bind_err _ _ Memory (least_fault-memory (_ ∷ []) _)) texts_is)
-    (unless_then Memory _ (device_with i c quirks b requests keys room) _
-    (unless_through Memory Memory (λ x. device_with i c quirks x requests keys room) bulk b
+    (unless_then Memory _ (device_with i c quirks b tables keys room) _
+    (unless_through Memory Memory (λ x. device_with i c quirks x tables keys room) bulk b
     (bind_err _ _ Memory (least_fault-memory (_ ∷ _ ∷ _ ∷ []) _)) bulk_is)
-    (unless_through Memory Memory (λ x. device_with i c quirks b x keys room) requests r
-    (bind_err _ _ Memory (least_fault-memory (_ ∷ _ ∷ _ ∷ _ ∷ []) _)) requests_is)))
+    (unless_through Memory Memory (λ x. device_with i c quirks b x keys room) tables t
+    (bind_err _ _ Memory (least_fault-memory (_ ∷ _ ∷ _ ∷ _ ∷ []) _)) tables_is)))
 
 items-memory : {A : Type 0} (item : Result A EntryFault)
     → with_item {A = A} (Err Memory) item ≡ Err Memory

@@ -10,11 +10,11 @@ use Rattle.toml.specs.Data.{Data, Members, get_member, as_integer}
 use Rattle.usb_port.specs.{path_of}
 use Rattle.usb_plan.specs.declared.entry_fault.EntryFault.{EntryFault}
 use Rattle.usb_plan.specs.{MissingKey, BadValue, UnknownDevice, BadPath, PortTaken, PortEmpty}
-use Rattle.usb_plan.specs.{Identity, DeviceTexts, SceneData, Way, fault_in_part, sooner}
-use Rattle.usb_plan.specs.{least_fault, entry_at, ◌>>=◌, read_text, number_in, number_at, number_or}
-use Rattle.usb_plan.specs.{class_at, hub_at, no_hub, is_low_speed, is_other, quirks_with, quirks_of}
-use Rattle.usb_plan.specs.{flag_at, stalls_at, source_at, naks_at, bulk_with, read_bulk, halt_at}
-use Rattle.usb_plan.specs.{halt_in, name_in, name_at, speed_at, descriptor_at, with_quirks}
+use Rattle.usb_plan.specs.{Identity, DeviceTables, DeviceTexts, SceneData, Way, fault_in_part}
+use Rattle.usb_plan.specs.{sooner, least_fault, entry_at, ◌>>=◌, read_text, number_in, number_at}
+use Rattle.usb_plan.specs.{number_or, class_at, hub_at, no_hub, is_low_speed, is_other, quirks_with}
+use Rattle.usb_plan.specs.{quirks_of, flag_at, stalls_at, source_at, naks_at, bulk_with, read_bulk}
+use Rattle.usb_plan.specs.{halt_at, halt_in, name_in, name_at, speed_at, descriptor_at, with_quirks}
 use Rattle.usb_plan.specs.{with_halt, with_hub, named_device, HubFits, FewNaks, HaltsLater}
 use Rattle.usb_plan.specs.{identity_with, identity_of, device_of_parts, device_with, read_device}
 use Rattle.usb_plan.specs.{device_in, read_path, free_path, taken_path, verb_at, action_of}
@@ -37,7 +37,7 @@ use Rattle.usb_world.specs.declared.event.Action.TheVariants.{Change, Ask}
 use Rattle.usb_plan.specs.declared.verb.Verb.{Verb}
 use Rattle.usb_plan.specs.declared.verb.Verb.TheVariants as verb
 use Rattle.usb_plan.specs.declared.damage.Way.TheVariants as way
-use Rattle.usb_device.specs.{Spec, Hub, OwnRequest, hub_fits, has_hub_class, function, is_named}
+use Rattle.usb_device.specs.{Spec, Hub, hub_fits, has_hub_class, function, is_named}
 use Rattle.usb_plan.specs.Device as device
 use Rattle.usb_plan.specs.Action as action
 use Rattle.usb_plan.specs.Damage as damage
@@ -149,9 +149,9 @@ halt_name None s = refl
 halt_name (Some packets) s = refl
 
 device_of_parts_name : (i : Identity) (c : DeviceTexts) (q : Quirks) (b : Bulk)
-    (rows : List OwnRequest) → (device_of_parts i c q b rows).name ≡ i.name
+    (t : DeviceTables) → (device_of_parts i c q b t).name ≡ i.name
 unfolding device_of_parts with_quirks
-device_of_parts_name i c q b rows = halt_name b.halt_after _ ∙ hub_name i.hub (named_device i c)
+device_of_parts_name i c q b t = halt_name b.halt_after _ ∙ hub_name i.hub (named_device i c)
 
 -- the device may stand after the earlier ones
 pub record Joins (earlier : List Spec) (s : Spec) : Type 0 where
@@ -266,18 +266,18 @@ identity_of_ok earlier ms i h =
 
 device_with_ok : (earlier : List Spec) (ms : Members) (i : Result Identity EntryFault)
     (c : Result DeviceTexts EntryFault) (q : Result Quirks EntryFault) (b : Result Bulk EntryFault)
-    (rows : Result (List OwnRequest) EntryFault) (keys left : Result (Unit {0}) EntryFault)
+    (tables : Result DeviceTables EntryFault) (keys left : Result (Unit {0}) EntryFault)
     (s : Spec) → i ≡ identity_of earlier ms
-    → left ≡ device.device_room earlier → device_with i c q b rows keys left ≡ Ok s
+    → left ≡ device.device_room earlier → device_with i c q b tables keys left ≡ Ok s
     → Joins earlier s
 unfolding device_with
-device_with_ok earlier ms i c q b rows keys left s i_is room_is h =
+device_with_ok earlier ms i c q b tables keys left s i_is room_is h =
     let e0 = bind_good (least_fault _) _ s h in
     let e1 = bind_good i _ s e0.rest in
     let e2 = bind_good c _ s e1.rest in
     let e3 = bind_good q _ s e2.rest in
     let e4 = bind_good b _ s e3.rest in
-    let e5 = bind_good rows _ s e4.rest in
+    let e5 = bind_good tables _ s e4.rest in
     let left_good = good_part _ e0.value 6 left e0.good refl in
     let is = identity_is earlier ms e1.value (sym i_is ∙ e1.good) in
     let same : device_of_parts e1.value e2.value e3.value e4.value e5.value ≡ s = cc e5.rest in

@@ -1,13 +1,13 @@
 -- Loops over values.
 use Rattle.std.proofs.Common.{◌≡◌, ℕ, ◌+◌, ◌<◌, ◌≤◌, List, [], ◌∷◌, length, get_or, drop, map}
-use Rattle.std.proofs.Common.{Result, Ok, Err, IfOk, refl, sym, ap, ◌∙◌, arith, ◌||◌}
+use Rattle.std.proofs.Common.{Result, Ok, Err, IfOk, refl, sym, ap, ◌∙◌, arith, ◌||◌, true, false}
 use Rattle.std.proofs.lemmas.List.{drop_more, drop_all, length_push, length-map}
 use Rattle.std.proofs.lemmas.Bool.{le-leb, lt-leb}
 use Rattle.std.proofs.lemmas.List.Folds.{list_all-map}
 use Rattle.std.specs.List.{list_all, list_any}
 use Rattle.usb_plan.specs.{is_table, BadValue, Memory, fault_in_part, sooner, least_fault}
 use Rattle.usb_plan.specs.{EqualUnless, read_items, hex_in, data_list, items_from, with_item}
-use Rattle.usb_plan.specs.{texts_in, names, is_stall}
+use Rattle.usb_plan.specs.{texts_in, names, is_stall, share_address, tables_in}
 use Rattle.toml.specs.Data.{Data}
 use Rattle.usb_plan.specs.declared.entry_fault.EntryFault.{EntryFault}
 use Rattle.toml.specs.declared.value.Value.{Value}
@@ -44,6 +44,29 @@ pub are_tables_view : (vs : List Value) → list_all is_table (map view vs)
     ≡ list_all (λ v. is_table (view v)) vs
 are_tables_view vs = list_all-map is_table view vs
 
+-- how an array is read as tables, by its length and its values
+pub tables_all : (most : ℕ) (d : Data) (vs : List Value) → Ok (map view vs) ≡ read_items d
+    → length vs ≤ most → list_all (λ v. is_table (view v)) vs ≡ true
+    → tables_in most d ≡ Ok (map view vs)
+unfolding tables_in
+tables_all most d vs e le all = rw (← e) (let few : length (map view vs) ≤ most =
+    rw length-map le in
+    rw (le-leb (length (map view vs)) most few, are_tables_view vs, all) refl)
+
+pub tables_others : (most : ℕ) (d : Data) (vs : List Value) → Ok (map view vs) ≡ read_items d
+    → length vs ≤ most → list_all (λ v. is_table (view v)) vs ≡ false
+    → tables_in most d ≡ Err BadValue
+unfolding tables_in
+tables_others most d vs e le some = rw (← e) (let few : length (map view vs) ≤ most =
+    rw length-map le in
+    rw (le-leb (length (map view vs)) most few, are_tables_view vs, some) refl)
+
+pub tables_many : (most : ℕ) (d : Data) (vs : List Value) → Ok (map view vs) ≡ read_items d
+    → most < length vs → tables_in most d ≡ Err BadValue
+unfolding tables_in
+tables_many most d vs e gt = rw (← e) (let many : most < length (map view vs) =
+    rw length-map gt in rw (lt-leb (length (map view vs)) most many) refl)
+
 pub items_from-step : {A : Type 0} (read : Data → Result A EntryFault)
     (items : Result (List A) EntryFault) (vs : List Value) (i : ℕ) (v : Value)
     (item : Result A EntryFault) (total : Result (List A) EntryFault) → i < length vs
@@ -76,6 +99,11 @@ pub some_names_view : (word : List ℕ) (vs : List Value) → list_any (names wo
     ≡ list_any (λ v. names word (view v)) vs
 some_names_view word [] = refl
 some_names_view word (v ∷ vs) = ap (λ b. names word (view v) || b) (some_names_view word vs)
+
+pub some_share_view : (d : Data) (vs : List Value) → list_any (share_address d) (map view vs)
+    ≡ list_any (λ v. share_address d (view v)) vs
+some_share_view d [] = refl
+some_share_view d (v ∷ vs) = ap (λ b. share_address d (view v) || b) (some_share_view d vs)
 
 pub are_stalls_view : (vs : List Value) → list_all is_stall (map view vs)
     ≡ list_all (λ v. is_stall (view v)) vs

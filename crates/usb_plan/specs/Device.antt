@@ -10,6 +10,7 @@ use Rattle.usb_plan.specs.declared.fault.Place.TheVariants as place
 use Rattle.usb_plan.specs.declared.fault.PlanFault.{PlanFault}
 use Rattle.usb_plan.specs.declared.device.Identity.{Identity}
 use Rattle.usb_plan.specs.declared.device.DeviceTexts.{DeviceTexts}
+use Rattle.usb_plan.specs.declared.device.DeviceTables.{DeviceTables}
 use Rattle.usb_plan.specs.declared.quirks.Quirks.{Quirks}
 use Rattle.usb_plan.specs.declared.bulk.Bulk.{Bulk}
 use Rattle.usb_plan.specs.EntryFault.{fault_in_part, least_fault, entry_at, ◌>>=◌}
@@ -19,8 +20,9 @@ use Rattle.usb_plan.specs.Texts.{texts_in}
 use Rattle.usb_plan.specs.Hub.{class_at, hub_at}
 use Rattle.usb_plan.specs.Quirks.{quirks_of}
 use Rattle.usb_plan.specs.Bulk.{read_bulk}
+use Rattle.usb_plan.specs.Endpoints.{endpoints_of}
 use Rattle.usb_plan.specs.OwnRequests.{requests_of}
-use Rattle.usb_device.specs.{Spec, Hub, OwnRequest, hub_fits, function, is_named}
+use Rattle.usb_device.specs.{Spec, Hub, EndpointSpec, OwnRequest, hub_fits, function, is_named}
 
 unfoldable pub name_in : List Spec → List ℕ → Result (List ℕ) EntryFault
 name_in earlier text = if length text == 0 || is_named earlier text then Err BadValue else Ok text
@@ -55,7 +57,7 @@ device_keys =
     codes "name" ∷ codes "speed" ∷ codes "descriptor" ∷ codes "configs" ∷ codes "strings" ∷
     codes "ports" ∷ codes "hub_descriptor"
     ∷ codes "self_powered" ∷ codes "busy" ∷ codes "silent" ∷ codes "naks" ∷ codes "stalls" ∷
-    codes "source" ∷ codes "halt_after" ∷ codes "request" ∷ []
+    codes "source" ∷ codes "halt_after" ∷ codes "endpoint" ∷ codes "request" ∷ []
 
 -- at most 127 devices
 unfoldable pub device_room : List Spec → Result (Unit {0}) EntryFault
@@ -128,38 +130,55 @@ device_texts_of ms =
     device_texts_with (configs_at (get_member (codes "configs") ms))
     (strings_at (get_member (codes "strings") ms))
 
+unfoldable pub device_tables_with : Result (List EndpointSpec) EntryFault
+    → Result (List OwnRequest) EntryFault → Result DeviceTables EntryFault
+device_tables_with endpoints requests = do
+  u ← least_fault (fault_in_part endpoints ∷ fault_in_part requests ∷ [])
+  e ← endpoints
+  r ← requests
+  Ok (record { endpoints = e; requests = r })
+
+-- the keys of the tables in a device
+unfoldable pub device_tables_of : Members → Result DeviceTables EntryFault
+device_tables_of ms = device_tables_with (endpoints_of ms) (requests_of ms)
+
 abbrev pub named_device : Identity → DeviceTexts → Spec
 named_device i c = record (function i.name i.descriptor c.configs) { low = i.low }
 
-abbrev pub outer_of : Texts → List ℕ → List OwnRequest → Spec → Spec
-outer_of strings source requests s =
-    record s { strings = strings; source = source; requests = requests }
+abbrev pub outer_of : Texts → List ℕ → DeviceTables → Spec → Spec
+outer_of strings source tables s =
+    record s {
+      strings = strings;
+      source = source;
+      endpoints = tables.endpoints;
+      requests = tables.requests;
+    }
 
-unfoldable pub device_of_parts : Identity → DeviceTexts → Quirks → Bulk → List OwnRequest → Spec
-device_of_parts identity texts quirks bulk requests =
-    with_halt bulk.halt_after (with_quirks quirks (outer_of texts.strings bulk.source requests
+unfoldable pub device_of_parts : Identity → DeviceTexts → Quirks → Bulk → DeviceTables → Spec
+device_of_parts identity texts quirks bulk tables =
+    with_halt bulk.halt_after (with_quirks quirks (outer_of texts.strings bulk.source tables
     (with_hub identity.hub (named_device identity texts))))
 
 unfoldable pub device_with :
     Result Identity EntryFault → Result DeviceTexts EntryFault → Result Quirks EntryFault
-    → Result Bulk EntryFault → Result (List OwnRequest) EntryFault
+    → Result Bulk EntryFault → Result DeviceTables EntryFault
     → Result (Unit {0}) EntryFault → Result (Unit {0}) EntryFault → Result Spec EntryFault
-device_with identity texts quirks bulk requests keys room = do
+device_with identity texts quirks bulk tables keys room = do
   u ← least_fault (fault_in_part identity ∷ fault_in_part texts ∷ fault_in_part quirks ∷
-      fault_in_part bulk ∷ fault_in_part requests
+      fault_in_part bulk ∷ fault_in_part tables
       ∷ fault_in_part keys ∷ fault_in_part room ∷ [])
   i ← identity
   c ← texts
   q ← quirks
   b ← bulk
-  rows ← requests
-  Ok (device_of_parts i c q b rows)
+  t ← tables
+  Ok (device_of_parts i c q b t)
 
 -- the device that a table describes, beside the earlier ones
 unfoldable pub read_device : List Spec → Members → Result Spec EntryFault
 read_device earlier ms =
     device_with (identity_of earlier ms) (device_texts_of ms) (quirks_of ms) (read_bulk ms)
-    (requests_of ms) (keys_at device_keys ms) (device_room earlier)
+    (device_tables_of ms) (keys_at device_keys ms) (device_room earlier)
 
 unfoldable pub device_in : List Spec → Option Members → Result Spec EntryFault
 device_in earlier table = ok_or table BadValue >>= read_device earlier

@@ -6,6 +6,7 @@ pub mod Texts
 pub mod Hub
 pub mod Quirks
 pub mod Bulk
+pub mod Endpoints
 pub mod OwnRequests
 pub mod Device
 pub mod Scene
@@ -22,23 +23,29 @@ pub mod Attempts
 pub use Place.{place_text}
 pub use EntryFault.{EqualUnless, hex_fault, rank, ◌>>=◌}
 unfoldable pub use EntryFault.{at, entry_at, fault_in_part, least, least_fault, sooner}
-pub use Value.{data_list, hex_read}
-unfoldable pub use Value.{hex_bytes, hex_in, number_at, number_in, number_or, read_items, read_text}
-unfoldable pub use Value.{text_in}
+pub use Value.{data_list, hex_read, is_table}
+unfoldable pub use Value.{byte_at, hex_bytes, hex_in, number_at, number_in, number_or, read_items}
+unfoldable pub use Value.{read_text, tables_in, text_in}
 unfoldable pub use Keys.{keys_at, only_named}
 unfoldable pub use Texts.{items_from, texts_in, with_item}
 unfoldable pub use Hub.{class_at, hub_at, hub_in, hub_of, hub_with, is_low_speed, is_other, no_hub}
 unfoldable pub use Quirks.{flag_at, is_stall, is_word, naks_at, names, quirks_of, quirks_with}
 unfoldable pub use Quirks.{stalls_at, stalls_in, stalls_named}
 unfoldable pub use Bulk.{bulk_with, halt_at, halt_in, read_bulk, source_at}
+pub use Endpoints.{endpoint_keys}
+unfoldable pub use Endpoints.{address_at, address_in, are_distinct, are_same, data_in, data_of}
+unfoldable pub use Endpoints.{data_with, distinct_at, endpoint_in, endpoint_naks, endpoint_of}
+unfoldable pub use Endpoints.{endpoint_with, endpoints_at, endpoints_in, endpoints_of}
+unfoldable pub use Endpoints.{endpoints_with, share_address}
 pub use OwnRequests.{request_keys}
-unfoldable pub use OwnRequests.{answer_of, answer_with, byte_at, codes_of, codes_with, fields_of}
+unfoldable pub use OwnRequests.{answer_of, answer_with, codes_of, codes_with, fields_of}
 unfoldable pub use OwnRequests.{fields_with, given_by, is_own, own_at, read_answer, refusal_at}
 unfoldable pub use OwnRequests.{refusal_named, requests_at, requests_in, requests_of, row_in}
 unfoldable pub use OwnRequests.{row_of, row_with, word_at, word_in, write_answer}
 pub use Device.{FewNaks, HaltsLater, HubFits, device_keys, named_device, outer_of}
 unfoldable pub use Device.{configs_at, descriptor_at, device_in, device_of_parts, device_room}
-unfoldable pub use Device.{device_texts_of, device_texts_with, device_with, devices_from}
+unfoldable pub use Device.{device_tables_of, device_tables_with, device_texts_of}
+unfoldable pub use Device.{device_texts_with, device_with, devices_from}
 unfoldable pub use Device.{identity_of, identity_with, name_at, name_in, read_device, speed_at}
 unfoldable pub use Device.{strings_at, with_halt, with_hub, with_quirks}
 pub use Scene.{SceneData, scene_after}
@@ -58,7 +65,7 @@ pub use Damage.{damage_keys}
 unfoldable pub use Damage.{attempt_at, damage_entry, damage_room, damage_with, damages_from}
 unfoldable pub use Damage.{flip_at, harm_by, harm_of, last_from, no_bit, packet_number, read_damage}
 unfoldable pub use Damage.{way_at, way_named}
-pub use Plan.{TopFits, is_table, top_keys, values_in}
+pub use Plan.{TopFits, top_keys, values_in}
 unfoldable pub use Plan.{entries_at, entries_in, limit_at, plan_of, plan_with, read, roots_at}
 unfoldable pub use Plan.{spelled_plan, top_of, top_with, values_at}
 pub use Attempts.{enough_for, is_look, is_look_at, looks_in, moved_in, total_after, total_at}
@@ -67,6 +74,7 @@ pub use declared.action.OtherKeys.{OtherKeys}
 pub use declared.action.OtherKeys.TheVariants.{Alone, PathBytes, PathDevice, PathPackets}
 pub use declared.action.OtherKeys.TheVariants.{PathSetup}
 pub use declared.damage.Way.{Way}
+pub use declared.device.DeviceTables.{DeviceTables}
 pub use declared.device.DeviceTexts.{DeviceTexts}
 pub use declared.device.Identity.{Identity}
 pub use declared.digits.TheConstants.{DIGITS}

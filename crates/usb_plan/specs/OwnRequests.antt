@@ -18,11 +18,7 @@ use Rattle.usb_plan.specs.EntryFault.{fault_in_part, least_fault, ◌>>=◌}
 use Rattle.usb_plan.specs.Keys.{keys_at}
 use Rattle.usb_plan.specs.Quirks.{flag_at}
 use Rattle.usb_plan.specs.Texts.{items_from}
-use Rattle.usb_plan.specs.Value.{number_at, number_in, read_items, text_in, hex_in}
-
--- a byte that has to be there
-unfoldable pub byte_at : Option Data → Result ℕ EntryFault
-byte_at d = number_at 0 255 d
+use Rattle.usb_plan.specs.Value.{byte_at, number_in, tables_in, text_in, hex_in}
 
 -- two bytes, which may be absent
 unfoldable pub word_in : Option ℤ → Result (Option ℕ) EntryFault
@@ -154,9 +150,7 @@ row_in d = ok_or (as_table d) BadValue >>= row_of
 
 -- at most 64 rows
 unfoldable pub requests_in : Data → Result (List OwnRequest) EntryFault
-requests_in d =
-    read_items d >>= λ ds. if nat_le (length ds) 64 then items_from row_in (Ok []) ds
-    else Err BadValue
+requests_in d = tables_in 64 d >>= items_from row_in (Ok [])
 
 -- the key `request`; absent there are none
 unfoldable pub requests_at : Option Data → Result (List OwnRequest) EntryFault

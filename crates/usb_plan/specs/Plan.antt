@@ -1,8 +1,8 @@
 -- The plan that a text spells, or its first fault.
-use Rattle.std.specs.Prelude.{◌≤◌, ℕ, ◌^◌, codes, List, [], ◌∷◌, Bool, Option, Some, None, Result}
-use Rattle.std.specs.Prelude.{Ok, Err, if◌then◌else◌, is_some}
+use Rattle.std.specs.Prelude.{◌≤◌, ℕ, ◌^◌, codes, List, [], ◌∷◌, Option, Some, None, Result, Ok}
+use Rattle.std.specs.Prelude.{Err, if◌then◌else◌}
 use Rattle.std.specs.List.{list_all}
-use Rattle.toml.specs.Data.{Data, Items, Members, get_member, as_array, as_table}
+use Rattle.toml.specs.Data.{Data, Items, Members, get_member, as_array}
 use Rattle.toml.specs.Parse.{parse_document}
 use Rattle.usb_plan.specs.declared.entry_fault.EntryFault.{EntryFault}
 use Rattle.usb_plan.specs.declared.entry_fault.EntryFault.TheVariants.{BadValue}
@@ -12,7 +12,7 @@ use Rattle.usb_plan.specs.declared.fault.PlanFault.TheVariants as fault
 use Rattle.usb_plan.specs.declared.plan.Top.{Top}
 use Rattle.usb_plan.specs.EntryFault.{fault_in_part, least_fault, entry_at, ◌>>=◌}
 use Rattle.usb_plan.specs.Keys.{keys_at}
-use Rattle.usb_plan.specs.Value.{read_items, number_at, data_list}
+use Rattle.usb_plan.specs.Value.{read_items, number_at, data_list, is_table}
 use Rattle.usb_plan.specs.Device.{devices_from}
 use Rattle.usb_plan.specs.Event.{events_from}
 use Rattle.usb_plan.specs.Damage.{damages_from}
@@ -25,9 +25,6 @@ limit_at d = number_at 0 (10 ^ 14) d
 -- the key `roots`
 unfoldable pub roots_at : Option Data → Result ℕ EntryFault
 roots_at d = number_at 1 7 d
-
-abbrev pub is_table : Data → Bool
-is_table d = is_some (as_table d)
 
 unfoldable pub entries_in : Data → Result (Unit {0}) EntryFault
 entries_in d = read_items d >>= λ ds. if list_all is_table ds then Ok tt else Err BadValue

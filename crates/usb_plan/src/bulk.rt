@@ -33,7 +33,7 @@ fn halt_in(number: Option<i64>) -> Result<Option<u16>, EntryFault>
 
 /// The key `halt_after`, which may be absent.
 #[tactic(auto, unfolding(crate::specs::Bulk::halt_at))]
-fn halt_at(value: Option<&Value>) -> Result<Option<u16>, EntryFault>
+pub(crate) fn halt_at(value: Option<&Value>) -> Result<Option<u16>, EntryFault>
     ensures { result ≡ halt_at (option_map (λ v. view v.now) value.entry) }
 {
     match value {

@@ -8,9 +8,10 @@ ghost use Rattle.usb_device.specs.DeviceSpecs.{hub_fits};
 ghost use Rattle.usb_plan.specs.EntryFault.{EqualUnless};
 ghost use Rattle.usb_plan.specs.declared.entry_fault.EntryFault.TheVariants.{Memory};
 ghost use Rattle.usb_plan.specs.declared.fault.PlanFault.TheVariants.{Memory as NoMemory};
-ghost use Rattle.usb_plan.specs.Device.{name_in, name_at, speed_at, descriptor_at, configs_at, strings_at, device_room, with_quirks, with_halt, with_hub, HubFits, FewNaks, HaltsLater, identity_with, identity_of, device_texts_with, device_texts_of, device_of_parts, device_with, read_device, device_in, devices_from};
+ghost use Rattle.usb_plan.specs.Device.{name_in, name_at, speed_at, descriptor_at, configs_at, strings_at, device_room, with_quirks, with_halt, with_hub, HubFits, FewNaks, HaltsLater, identity_with, identity_of, device_texts_with, device_texts_of, device_tables_with, device_tables_of, device_of_parts, device_with, read_device, device_in, devices_from};
 
 use crate::bulk::{Bulk, read_bulk};
+use crate::endpoints::endpoints_of;
 use crate::entry_fault::{EntryFault, entry_at, fault_in_part, least_fault};
 use crate::fault::{Place, PlanFault};
 use crate::hub::{class_at, hub_at};
@@ -22,7 +23,7 @@ use crate::value::{hex_in, read_text, value_at};
 use std::alloc::Global;
 use toml::{Table, Value};
 use usb_device::{
-    Bytes, ConfigTexts, DeviceSpec, Devices, HubSpec, Name, OwnRequests, StringTexts,
+    Bytes, ConfigTexts, DeviceSpec, Devices, EndpointSpecs, HubSpec, Name, OwnRequests, StringTexts,
 };
 
 /// The most devices of a plan.
@@ -215,18 +216,49 @@ fn device_texts_of(alloc: Global, table: &Table) -> Result<DeviceTexts, EntryFau
     device_texts_with(configs, strings)
 }
 
+/// What the tables in a device describe.
+#[derive(Drop)]
+struct DeviceTables {
+    endpoints: EndpointSpecs,
+    requests: OwnRequests,
+}
+
+#[tactic(auto, unfolding(crate::specs::Device::device_tables_with))]
+fn device_tables_with(
+    endpoints: Result<EndpointSpecs, EntryFault>,
+    requests: Result<OwnRequests, EntryFault>,
+) -> Result<DeviceTables, EntryFault>
+    ensures { result ≡ device_tables_with endpoints requests }
+{
+    least_fault(&[fault_in_part(&endpoints), fault_in_part(&requests)])?;
+    Ok(DeviceTables {
+        endpoints: endpoints?,
+        requests: requests?,
+    })
+}
+
+/// The keys of the tables in a device.
+#[tactic(auto, using(crate::proofs::MemoryRefusals::device_tables_unless), unfolding(crate::specs::Device::device_tables_of))]
+fn device_tables_of(alloc: Global, table: &Table) -> Result<DeviceTables, EntryFault>
+    ensures { EqualUnless Memory result (device_tables_of (table_view table.now)) }
+{
+    let endpoints = endpoints_of(alloc, table);
+    let requests = requests_of(alloc, table);
+    device_tables_with(endpoints, requests)
+}
+
 #[tactic(auto, unfolding(crate::specs::Device::device_of_parts))]
 fn device_of_parts(
     identity: Identity,
     texts: DeviceTexts,
     quirks: Quirks,
     bulk: Bulk,
-    requests: OwnRequests,
+    tables: DeviceTables,
 ) -> DeviceSpec
     requires hub { HubFits identity }
     requires naks { FewNaks quirks }
     requires halt { HaltsLater bulk }
-    ensures { result ≡ device_of_parts identity texts quirks bulk requests }
+    ensures { result ≡ device_of_parts identity texts quirks bulk tables }
 {
     let device = DeviceSpec::function(
         identity.name,
@@ -236,7 +268,8 @@ fn device_of_parts(
     let device = with_hub(device, identity.hub)
         .with_strings(texts.strings)
         .with_source(bulk.source)
-        .with_requests(requests);
+        .with_endpoints(tables.endpoints)
+        .with_requests(tables.requests);
     with_halt(with_quirks(device, quirks), bulk.halt_after)
 }
 
@@ -246,28 +279,28 @@ fn device_with(
     texts: Result<DeviceTexts, EntryFault>,
     quirks: Result<Quirks, EntryFault>,
     bulk: Result<Bulk, EntryFault>,
-    requests: Result<OwnRequests, EntryFault>,
+    tables: Result<DeviceTables, EntryFault>,
     keys: Result<(), EntryFault>,
     room: Result<(), EntryFault>,
 ) -> Result<DeviceSpec, EntryFault>
     requires hub { ForOk identity HubFits }
     requires naks { ForOk quirks FewNaks }
     requires halt { ForOk bulk HaltsLater }
-    ensures { result ≡ device_with identity texts quirks bulk requests keys room }
+    ensures { result ≡ device_with identity texts quirks bulk tables keys room }
 {
     least_fault(&[
         fault_in_part(&identity),
         fault_in_part(&texts),
         fault_in_part(&quirks),
         fault_in_part(&bulk),
-        fault_in_part(&requests),
+        fault_in_part(&tables),
         fault_in_part(&keys),
         fault_in_part(&room),
     ])?;
-    Ok(device_of_parts(identity?, texts?, quirks?, bulk?, requests?))
+    Ok(device_of_parts(identity?, texts?, quirks?, bulk?, tables?))
 }
 
-const KEYS: [&str; 15] = [
+const KEYS: [&str; 16] = [
     "name",
     "speed",
     "descriptor",
@@ -282,6 +315,7 @@ const KEYS: [&str; 15] = [
     "stalls",
     "source",
     "halt_after",
+    "endpoint",
     "request",
 ];
 
@@ -294,10 +328,10 @@ fn read_device(alloc: Global, earlier: &Devices, table: &Table) -> Result<Device
     let texts = device_texts_of(alloc, table);
     let quirks = quirks_of(table);
     let bulk = read_bulk(alloc, table);
-    let requests = requests_of(alloc, table);
+    let tables = device_tables_of(alloc, table);
     let keys = keys_at(table, &KEYS);
     let room = device_room(earlier);
-    device_with(identity, texts, quirks, bulk, requests, keys, room)
+    device_with(identity, texts, quirks, bulk, tables, keys, room)
 }
 
 #[tactic(auto, unfolding(crate::specs::Device::device_in))]

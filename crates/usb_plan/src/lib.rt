@@ -16,6 +16,7 @@ mod bulk;
 mod damage;
 mod device;
 mod digits;
+mod endpoints;
 mod entry_fault;
 mod event;
 mod fault;

@@ -4,14 +4,14 @@ ghost use Rattle.std.specs.Prelude.{◌≡◌, ◌<◌, ◌≤◌, IfOk, Ok, [],
 ghost use Rattle.std.specs.Result.{ForOk};
 ghost use Rattle.toml.specs.View.{view, table_view};
 ghost use Rattle.usb_plan.specs.EntryFault.{EqualUnless};
-ghost use Rattle.usb_plan.specs.OwnRequests.{answer_of, answer_with, byte_at, codes_of, codes_with, fields_of, fields_with, given_by, is_own, own_at, read_answer, refusal_at, refusal_named, requests_at, requests_in, requests_of, row_in, row_of, row_with, word_at, word_in, write_answer};
+ghost use Rattle.usb_plan.specs.OwnRequests.{answer_of, answer_with, codes_of, codes_with, fields_of, fields_with, given_by, is_own, own_at, read_answer, refusal_at, refusal_named, requests_at, requests_in, requests_of, row_in, row_of, row_with, word_at, word_in, write_answer};
 ghost use Rattle.usb_plan.specs.Texts.{items_from, with_item};
 ghost use Rattle.usb_plan.specs.declared.entry_fault.EntryFault.TheVariants.{Memory};
 
 use crate::entry_fault::{EntryFault, fault_in_part, least_fault};
 use crate::keys::keys_at;
 use crate::quirks::flag_at;
-use crate::value::{hex_in, number_in, read_items, text_in, value_at};
+use crate::value::{byte_at, hex_in, number_in, tables_in, text_in, value_at};
 use std::alloc::Global;
 use toml::{Table, Value};
 use usb_device::{OwnAnswer, OwnRequest, OwnRequests};
@@ -19,16 +19,6 @@ use usb_request::endpoint_address::DIRECTION_IN;
 
 /// The most requests of a device's own.
 const MOST_ROWS: usize = 64;
-
-/// The keys `type` and `request`: a byte that has to be there.
-#[tactic(auto, unfolding(crate::specs::OwnRequests::byte_at, crate::specs::Value::number_at))]
-fn byte_at(value: Option<&Value>) -> Result<u8, EntryFault>
-    ensures { result ≡ byte_at (option_map (λ v. view v.now) value.entry) }
-{
-    let value = value.ok_or(EntryFault::MissingKey)?;
-    let number = number_in(0, 255, value.as_integer())?;
-    Ok(number as u8)
-}
 
 #[tactic(auto, unfolding(crate::specs::OwnRequests::word_in))]
 fn word_in(number: Option<i64>) -> Result<Option<u16>, EntryFault>
@@ -345,12 +335,7 @@ fn rows_of(alloc: Global, values: &[Value]) -> Result<OwnRequests, EntryFault>
 fn requests_in(alloc: Global, value: &Value) -> Result<OwnRequests, EntryFault>
     ensures { EqualUnless Memory result (requests_in (view value.now)) }
 {
-    let values = read_items(value)?;
-    if values.len() <= MOST_ROWS {
-        rows_of(alloc, values)
-    } else {
-        Err(EntryFault::BadValue)
-    }
+    rows_of(alloc, tables_in(MOST_ROWS, value)?)
 }
 
 /// The key of them, which may be absent.

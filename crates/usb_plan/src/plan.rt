@@ -1,12 +1,11 @@
 //! The reader of a whole plan.
 
 ghost use Rattle.std.specs.Prelude.{◌≡◌, ◌≢◌, ◌≤◌, codes, Ok, Err, IfOk, IfErr, option_map, map, length};
-ghost use Rattle.std.specs.List.{list_all};
 ghost use Rattle.toml.specs.Data.{get_member};
 ghost use Rattle.toml.specs.View.{view, table_view};
 ghost use Rattle.usb_plan.specs.declared.fault.PlanFault.TheVariants.{Memory};
 ghost use Rattle.usb_plan.specs.EntryFault.{EqualUnless};
-ghost use Rattle.usb_plan.specs.Plan.{limit_at, roots_at, is_table, entries_in, entries_at, values_at, top_with, top_of, plan_with, plan_of, spelled_plan, TopFits};
+ghost use Rattle.usb_plan.specs.Plan.{limit_at, roots_at, entries_in, entries_at, values_at, top_with, top_of, plan_with, plan_of, spelled_plan, TopFits};
 
 use crate::damage::damages_of;
 use crate::device::devices_of;
@@ -14,7 +13,7 @@ use crate::entry_fault::{EntryFault, entry_at, fault_in_part, least_fault};
 use crate::event::events_of;
 use crate::fault::{Place, PlanFault};
 use crate::keys::keys_at;
-use crate::value::{number_at, read_items, value_at};
+use crate::value::{are_tables, number_at, read_items, value_at};
 use std::alloc::Global;
 use toml::{Table, Value};
 use usb_world::Plan;
@@ -37,18 +36,6 @@ fn roots_at(value: Option<&Value>) -> Result<u8, EntryFault>
 {
     let roots = number_at(1, 7, value)?;
     Ok(roots as u8)
-}
-
-fn is_table(value: &Value) -> bool
-    ensures { result ≡ is_table (view value.now) }
-{
-    value.as_table().is_some()
-}
-
-fn are_tables(values: &[Value]) -> bool
-    ensures { result ≡ list_all (λ v. is_table (view v)) values.now }
-{
-    values.iter().all(|value| is_table(value))
 }
 
 #[tactic(auto, using(crate::proofs::Steps::are_tables_view), unfolding(crate::specs::Plan::entries_in))]

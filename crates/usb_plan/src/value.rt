@@ -1,11 +1,12 @@
 //! Single values of the document.
 
-ghost use Rattle.std.specs.Prelude.{◌≡◌, ◌≤◌, IfOk, option_map, map};
+ghost use Rattle.std.specs.Prelude.{◌≡◌, ◌≤◌, IfOk, option_map, map, length};
+ghost use Rattle.std.specs.List.{list_all};
 ghost use Rattle.toml.specs.Data.{get_member};
 ghost use Rattle.toml.specs.View.{view, table_view};
 ghost use Rattle.usb_plan.specs.EntryFault.{EqualUnless};
 ghost use Rattle.std.specs.Result.{result_map_both};
-ghost use Rattle.usb_plan.specs.Value.{text_in, read_text, read_items, number_in, number_at, number_or, hex_in, hex_bytes};
+ghost use Rattle.usb_plan.specs.Value.{text_in, read_text, read_items, is_table, tables_in, number_in, number_at, byte_at, number_or, hex_in, hex_bytes};
 ghost use Rattle.usb_plan.specs.declared.entry_fault.EntryFault.TheVariants.{Memory};
 
 use crate::digits::decoded;
@@ -49,6 +50,33 @@ pub(crate) fn read_items(value: &Value) -> Result<&[Value], EntryFault>
     Ok(values.as_slice())
 }
 
+fn is_table(value: &Value) -> bool
+    ensures { result ≡ is_table (view value.now) }
+{
+    value.as_table().is_some()
+}
+
+pub(crate) fn are_tables(values: &[Value]) -> bool
+    ensures { result ≡ list_all (λ v. is_table (view v)) values.now }
+{
+    values.iter().all(|value| is_table(value))
+}
+
+/// The values of an array of at most this number of tables.
+#[tactic(auto, using(crate::proofs::Steps::are_tables_view), unfolding(crate::specs::Value::tables_in))]
+pub(crate) fn tables_in(most: usize, value: &Value) -> Result<&[Value], EntryFault>
+    ensures value { result_map_both (λ vs. map view vs.now) (λ k. k) result
+        ≡ tables_in most (view value.now) }
+    ensures few { IfOk result (λ vs. length vs.now ≤ most) }
+{
+    let values = read_items(value)?;
+    if values.len() <= most && are_tables(values) {
+        Ok(values)
+    } else {
+        Err(EntryFault::BadValue)
+    }
+}
+
 /// A number from `low` to `high`.
 #[tactic(auto, unfolding(crate::specs::Value::number_in))]
 pub(crate) fn number_in(low: u64, high: u64, number: Option<i64>) -> Result<u64, EntryFault>
@@ -76,6 +104,16 @@ pub(crate) fn number_at(low: u64, high: u64, value: Option<&Value>) -> Result<u6
 {
     let value = value.ok_or(EntryFault::MissingKey)?;
     number_in(low, high, value.as_integer())
+}
+
+/// A byte that has to be there.
+#[tactic(auto, unfolding(crate::specs::Value::byte_at, crate::specs::Value::number_at))]
+pub(crate) fn byte_at(value: Option<&Value>) -> Result<u8, EntryFault>
+    ensures { result ≡ byte_at (option_map (λ v. view v.now) value.entry) }
+{
+    let value = value.ok_or(EntryFault::MissingKey)?;
+    let number = number_in(0, 255, value.as_integer())?;
+    Ok(number as u8)
 }
 
 /// A number that may be absent, and then is `absent`.

@@ -1,4 +1,5 @@
 pub mod Codes
+pub mod EndpointAddresses
 pub mod Features
 pub mod HubRequests
 pub mod Layout
@@ -11,6 +12,7 @@ pub use Codes.{ENDPOINT_OUT, GET_CONFIGURATION, GET_DESCRIPTOR, GET_STATUS, HUB,
 pub use Codes.{HUB_LENGTH, INTERFACE, INTERFACE_LENGTH, INTERFACE_OUT, PORT_IN, PORT_OUT}
 pub use Codes.{SET_ADDRESS, SET_CONFIGURATION, SET_FEATURE, SET_INTERFACE, STATUS_ENDPOINT}
 pub use Codes.{STRING}
+pub use EndpointAddresses.{is_endpoint_address}
 pub use Features.{C_PORT_CONNECTION, C_PORT_ENABLE, C_PORT_RESET, ENDPOINT_HALT, PORT_ENABLE}
 pub use Features.{PORT_POWER, PORT_RESET}
 pub use HubRequests.{HUB_OUT}

@@ -23,5 +23,6 @@ pub mod request_type;
 mod reserved;
 mod setup;
 
+pub use endpoint_address::EndpointAddress;
 pub use read_request::ReadRequest;
 pub use setup::Setup;

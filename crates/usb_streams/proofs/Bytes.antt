@@ -1,10 +1,10 @@
 -- Bytes join end to end.
 use Rattle.std.proofs.Common.{◌≡◌, ◌⊎◌, inl, inr, ◌∙◌, refl, sym, ap, subst, Bool, true, false, ℕ}
-use Rattle.std.proofs.Common.{◌+◌, List, [], ◌∷◌, ◌++◌, length, take, drop, Option, None, Some}
-use Rattle.std.proofs.Common.{append-nil, append_assoc, length-append, if◌then◌else◌}
-use Rattle.std.proofs.Math.Seq.{take-add}
-use Rattle.std.proofs.lemmas.List.{drop-drop}
-use Rattle.usb_device.specs.{State}
+use Rattle.std.proofs.Common.{List, [], ◌∷◌, ◌++◌, Option, None, Some, append-nil, append_assoc}
+use Rattle.std.proofs.Common.{if◌then◌else◌}
+use Rattle.std.specs.List.{concat}
+use Rattle.usb_device.specs.{GivesOn, NextBytes, State, in_data}
+use Rattle.usb_device.proofs.Interface.{gives-append}
 use Rattle.usb_pipe.specs.{Condition, Bulk}
 use Rattle.usb_table.specs.{sink_of}
 use Rattle.usb_pipe.specs.declared.condition.Condition.TheVariants.{Ready, Halted, Broken}
@@ -12,15 +12,22 @@ use Rattle.usb_streams.specs.{ToldItem, IsAtWork, IsFailedFront, Joins, TookSent
 use Rattle.usb_streams.specs.{is_done, sent_to}
 use Rattle.usb_streams.proofs.PipeEnds.{end_of, sink_of-joined}
 
--- the next bytes, and the next ones behind them
-pub next_joined : (a b source : List ℕ) (got : ℕ) → a ≡ take (length a) (drop got source)
-    → b ≡ take (length b) (drop (got + length a) source)
-    → a ++ b ≡ take (length (a ++ b)) (drop got source)
-next_joined a b source got x y =
-    let rest : List ℕ = drop got source in
-    ap (λ l. l ++ b) x ∙ ap (λ l. take (length a) rest ++ l) (y
-    ∙ ap (take (length b)) (sym (drop-drop (length a) got source)))
-    ∙ sym (take-add (length a) (length b) rest) ∙ ap (λ n. take n rest) (sym (length-append a b))
+concat-append : (a b : List (List ℕ)) → concat (a ++ b) ≡ concat a ++ concat b
+concat-append [] b = refl
+concat-append (bytes ∷ a) b = ap (λ l. bytes ++ l) (concat-append a b)
+    ∙ sym (append_assoc bytes (concat a) (concat b))
+
+-- the next packets, and the next ones behind them
+pub next_joined : (e most got mid behind : ℕ) (a b : List ℕ) (s u : State)
+    → in_data u e ≡ in_data s e → NextBytes e most got a mid s → NextBytes e most mid b behind u
+    → NextBytes e most got (a ++ b) behind s
+next_joined e most got mid behind a b s u same x y = record {
+  packets = x.packets ++ y.packets;
+  come = gives-append (in_data s e) most got mid behind x.packets y.packets x.come
+      (subst (λ content. GivesOn content most mid y.packets behind) same y.come);
+  joined = ap (λ l. l ++ b) x.joined ∙ ap (λ l. concat x.packets ++ l) y.joined
+      ∙ sym (concat-append x.packets y.packets);
+}
 
 -- what joins a sink joins what was taken before
 pub joins_behind : (done : Bool) (bytes first taken old new : List ℕ) → old ≡ first ++ taken

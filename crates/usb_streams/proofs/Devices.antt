@@ -1,12 +1,11 @@
 -- One device over the parts of a stretch, one after the other.
-use Rattle.std.proofs.Common.{◌≡◌, ◌∙◌, refl, sym, ap, subst, ℕ, ◌+◌, List, [], ◌∷◌, ◌++◌, length}
-use Rattle.std.proofs.Common.{drop, take, false, Option, None, Some, append-nil, length-append}
-use Rattle.std.proofs.Common.{arith}
-use Rattle.usb_device.specs.{State, Spec, Location, in_end, out_end}
+use Rattle.std.proofs.Common.{◌≡◌, ◌∙◌, refl, sym, ap, subst, ℕ, List, [], ◌∷◌, ◌++◌, false, Option}
+use Rattle.std.proofs.Common.{None, Some, append-nil}
+use Rattle.usb_device.specs.{NextBytes, State, Location, in_end, out_end}
 use Rattle.usb_world.specs.{Was}
 use Rattle.usb_pipe.specs.{Bulk, InPipeInSync}
 use Rattle.usb_table.specs.{sink_of, Pipes, pipe_in, pipe_out, FitsIn, SparesBulk, SameSettings}
-use Rattle.usb_table.proofs.Interface.{still_source}
+use Rattle.usb_table.proofs.Interface.{root, same_in_data, still_source}
 use Rattle.usb_host.specs.{SameBulk, HostState}
 use Rattle.usb_streams.specs.{ToldItem, AreTaken, ClearsNoIn, ClearsNoOut, GaveNextBy, Joins}
 use Rattle.usb_streams.specs.{StreamsAt, bytes_for, bytes_from, is_done, is_end_of, received_from}
@@ -18,36 +17,53 @@ use Rattle.usb_streams.proofs.PipeEnds.{sink_of-stays}
 
 -- Sources
 
--- an IN pipe that stays, with its endpoint, gives nothing
+-- an IN pipe that stays as far as it was gives nothing
+pub gave_nothing : (pipe left : Option Bulk) (s v : State) → left ≡ pipe
+    → ((p : Bulk) (got : ℕ) → InPipeInSync p got s → InPipeInSync p got v)
+    → GaveNextBy [] pipe left s v
+gave_nothing None left s v kept level = (refl, kept)
+gave_nothing (Some pipe) left s v kept level =
+    subst (λ l. GaveNextBy [] (Some pipe) l s v) (sym kept) (record {
+      ep = refl;
+      max = refl;
+      next = λ got f. record {
+        behind = got;
+        came = record { packets = []; come = refl; joined = refl };
+        level = level pipe got f;
+      };
+    })
+
+-- so it is where its endpoint stays
 pub gave_no_bytes : (pipe left : Option Bulk) (x : Location) (s v : State) → left ≡ pipe
     → SameSettings x s v → ((e : ℕ) → (in_end v e).place ≡ (in_end s e).place)
     → ((e : ℕ) → (in_end v e).state ≡ (in_end s e).state) → GaveNextBy [] pipe left s v
-gave_no_bytes None left x s v kept same place state = (refl, kept)
-gave_no_bytes (Some pipe) left x s v kept same place state =
-    subst (λ l. GaveNextBy [] (Some pipe) l s v) (sym kept)
-    (record { next = λ got f. refl; has = has })
-  where
-    has : (got : ℕ) → InPipeInSync pipe got s → InPipeInSync pipe (got + 0) v
-    has got f = let same_got : got ≡ got + 0 = omega arith in
-        subst (λ n. InPipeInSync pipe n v) same_got
-        (still_source pipe got s v same (place pipe.ep) (state pipe.ep) f)
+gave_no_bytes pipe left x s v kept same place state =
+    gave_nothing pipe left s v kept
+    (λ p got f. still_source p got s v same (place p.ep) (state p.ep) f)
 
 -- what comes next, and what comes next behind it
-pub gave_bytes_then : (a b : List ℕ) (p q r : Option Bulk) (s u v : State) → u.spec ≡ s.spec
-    → GaveNextBy a p q s u → GaveNextBy b q r u v → GaveNextBy (a ++ b) p r s v
-gave_bytes_then a b None None r s u v same x y = (ap (λ l. l ++ b) x.0 ∙ y.0, y.1)
-gave_bytes_then a b None (Some q) r s u v same x y = absurd (cc x.1)
-gave_bytes_then a b (Some p) None r s u v same x y = absurd x
-gave_bytes_then a b (Some p) (Some q) None s u v same x y = absurd y
-gave_bytes_then a b (Some p) (Some q) (Some r) s u v same x y = record {
+pub gave_bytes_then : (a b : List ℕ) (p q r : Option Bulk) (x : Location) (s u v : State)
+    → SameSettings x s u → GaveNextBy a p q s u → GaveNextBy b q r u v
+    → GaveNextBy (a ++ b) p r s v
+gave_bytes_then a b None None r at s u v same x y = (ap (λ l. l ++ b) x.0 ∙ y.0, y.1)
+gave_bytes_then a b None (Some q) r at s u v same x y = absurd (cc x.1)
+gave_bytes_then a b (Some p) None r at s u v same x y = absurd x
+gave_bytes_then a b (Some p) (Some q) None at s u v same x y = absurd y
+gave_bytes_then a b (Some p) (Some q) (Some r) at s u v same x y = record {
+  ep = y.ep ∙ x.ep;
+  max = y.max ∙ x.max;
   next = λ got f.
-      next_joined a b s.spec.source got (x.next got f)
-      (subst (λ (k : Spec). b ≡ take (length b) (drop (got + length a) k.source)) same
-      (y.next (got + length a) (x.has got f)));
-  has = λ got f.
-      let same_got : (got + length a) + length b ≡ got + length (a ++ b) =
-      omega (arith, length-append a b) in
-      subst (λ n. InPipeInSync r n v) same_got (y.has (got + length a) (x.has got f));
+      let first = x.next got f in
+      let second = y.next first.behind first.level in
+      let came : NextBytes p.ep p.max first.behind b second.behind u =
+      subst (λ e. NextBytes e p.max first.behind b second.behind u) x.ep
+      (subst (λ n. NextBytes q.ep n first.behind b second.behind u) x.max second.came) in
+      record {
+        behind = second.behind;
+        came = next_joined p.ep p.max got first.behind second.behind a b s u
+            (same_in_data p.ep s u same) first.came came;
+        level = second.level;
+      };
 }
 
 -- Parts
@@ -57,7 +73,7 @@ pub record DeviceStays (pipes left : Pipes) (s v : State) : Type 0 where
   pub sinks : SinksStay s v
   pub out : pipe_out left ≡ pipe_out pipes
   pub gave : GaveNextBy [] (pipe_in pipes) (pipe_in left) s v
-  pub spec : v.spec ≡ s.spec
+  pub settings : SameSettings root s v
 
 -- an item moves the bytes that it tells
 pub record DeviceMoves (path : List ℕ) (t : ToldItem) (pipes left : Pipes) (s v : State) : Type 0
@@ -70,22 +86,21 @@ pub record DeviceMoves (path : List ℕ) (t : ToldItem) (pipes left : Pipes) (s 
     pub took : ClearsNoOut path t → SinkStep (is_done t.item) (bytes_for path t.due)
         (pipe_out pipes) (pipe_out left) (sink_of (pipe_out pipes) s) (sink_of (pipe_out pipes) v)
     pub gave : ClearsNoIn path t → GaveNextBy (bytes_from path t.item) (pipe_in pipes)
-        (pipe_in left)
-        s v
-    pub spec : v.spec ≡ s.spec
+        (pipe_in left) s v
+    pub settings : SameSettings root s v
 
 pub spares_stays : (pipes left : Pipes) (x : Location) (s v : State) → SameBulk pipes left
     → SparesBulk x s v → DeviceStays pipes left s v
 spares_stays pipes left x s v same spares =
-    let spec : v.spec ≡ s.spec = ap (λ (d : State). d.spec) spares in
+    let settings : SameSettings x s v =
+    (ap (λ (d : State). d.spec) spares, ap (λ (d : State). d.registers) spares) in
     record {
       sinks = λ e. ap (λ (d : State). (out_end d e).sink) spares;
       out = same.out;
-      gave = gave_no_bytes (pipe_in pipes) (pipe_in left) x s v same.into
-          (spec, ap (λ (d : State). d.registers) spares)
+      gave = gave_no_bytes (pipe_in pipes) (pipe_in left) x s v same.into settings
           (λ e. ap (λ (d : State). (in_end d e).place) spares)
           (λ e. ap (λ (d : State). (in_end d e).state) spares);
-      spec = spec;
+      settings = settings;
     }
 
 -- Joins
@@ -101,6 +116,7 @@ streams_none path pipes x s had = record {
   gave = λ all. gave_no_bytes (pipe_in pipes) (pipe_in pipes) x s s refl (refl, refl) (λ e. refl)
       (λ e. refl);
   spec = refl;
+  registers = refl;
 }
 
 pub streams_stay : (path : List ℕ) (told : List ToldItem) (p q r : Pipes) (s u v : State)
@@ -119,9 +135,10 @@ streams_stay path told p q r s u v x y = record {
   had = x.had;
   gave = λ all.
       subst (λ l. GaveNextBy l (pipe_in p) (pipe_in r) s v) (append-nil (received_from path told))
-      (gave_bytes_then (received_from path told) [] (pipe_in p) (pipe_in q) (pipe_in r) s u v x.spec
-      (x.gave all) y.gave);
-  spec = y.spec ∙ x.spec;
+      (gave_bytes_then (received_from path told) [] (pipe_in p) (pipe_in q) (pipe_in r) root s u v
+      (x.spec, x.registers) (x.gave all) y.gave);
+  spec = y.settings.0 ∙ x.spec;
+  registers = y.settings.1 ∙ x.registers;
 }
 
 pub streams_move : (path : List ℕ) (t : ToldItem) (told : List ToldItem) (p q r : Pipes)
@@ -142,8 +159,9 @@ streams_move path t told p q r s u v x y =
           y.others e before ∙ x.others e before;
       had = x.had;
       gave = λ all. gave_bytes_then (received_from path told) (bytes_from path t.item) (pipe_in p)
-          (pipe_in q) (pipe_in r) s u v x.spec (x.gave all.1) (y.gave all.0);
-      spec = y.spec ∙ x.spec;
+          (pipe_in q) (pipe_in r) root s u v (x.spec, x.registers) (x.gave all.1) (y.gave all.0);
+      spec = y.settings.0 ∙ x.spec;
+      registers = y.settings.1 ∙ x.registers;
     }
 
 -- At a path

@@ -2,7 +2,7 @@
 use Rattle.std.proofs.Common.{arith, ◌≡◌, inl, inr, ◌∙◌, refl, sym, ap, subst, ℕ, zero, suc}
 use Rattle.std.proofs.Common.{◌==◌, Bool, true, false, if◌then◌else◌, List, [], ◌∷◌, Option, None}
 use Rattle.std.proofs.Common.{Some, option_map}
-use Rattle.std.proofs.Common.{get_or, length, replicate, eqb-true}
+use Rattle.std.proofs.Common.{get_or, length, map}
 use Rattle.std.specs.Prelude.{⊤, ◌+◌, IfSome}
 use Rattle.usb_packet.specs.{Packet, Token, Payload, Ack, TokenKind, SetupTok, OutTok, InTok}
 use Rattle.usb_packet.specs.{Toggle, Zero, One}
@@ -16,16 +16,17 @@ use Rattle.usb_device.specs.{reset_state, replaced, changed, changed_at, called,
 use Rattle.usb_device.specs.{new_ports, first_ports, Location, hears, row_of, in_row, ack_row}
 use Rattle.usb_device.specs.{out_row, unless_busy, begun, setup_row, token_row, payload_row}
 use Rattle.usb_device.specs.{data_row, after_memory, answered, Outcome, Write, WriteData, judged}
-use Rattle.usb_device.specs.{max_packet, write_row, writing, BulkIn, BulkOut, halts, in_end, no_in}
-use Rattle.usb_device.specs.{no_out, out_end, rested_in, rested_out, takes_configuration, unhalts}
-use Rattle.usb_device.specs.{with_at, with_endpoint_state, with_endpoints, EndpointState}
-use Rattle.usb_device.specs.{ServedEndpoint, InEnd, OutEnd, accepted, outcome, endpoint_state}
-use Rattle.usb_device.specs.{halted, rested}
+use Rattle.usb_device.specs.{max_packet, write_row, writing, BulkIn, BulkOut, Changes, halts}
+use Rattle.usb_device.specs.{in_end, no_in, no_out, out_end, rested_in, rested_out}
+use Rattle.usb_device.specs.{takes_configuration, unhalts, with_endpoint_state, with_endpoints}
+use Rattle.usb_device.specs.{EndpointState, ServedEndpoint, InEnd, OutEnd, accepted, begun_again}
+use Rattle.usb_device.specs.{end_numbers, endpoint_state, halted, outcome, plugged_in_end}
+use Rattle.usb_device.specs.{plugged_out, with_in, with_out}
 use Rattle.usb_device.specs.declared.transfer.RememberedPacket.TheVariants.{Nothing, SetupSeen}
 use Rattle.usb_device.specs.declared.transfer.RememberedPacket.TheVariants.{OutSeen, AckAwaited}
 use Rattle.usb_device.specs.declared.transfer.InEndpoint.TheVariants as by
 use Rattle.usb_device.specs.declared.answer.Answer.TheVariants as answer
-use Rattle.usb_device.proofs.Interface.{at_mapped, at_other, at_same}
+use Rattle.usb_device.proofs.Interface.{at_each, at_mapped}
 use Rattle.usb_tree.specs.{IsSettled, IfOut, after_sent, call_resets, reset_if}
 use Rattle.usb_world.specs.{Attempt, Damage, Mark, Step, World, here, step, after, after_event}
 use Rattle.usb_world.specs.{at_attempt, attempt, damage_in, event, payload_of, payload_out}
@@ -64,19 +65,6 @@ record StaysOut (s v : State) : Type 0 where
 rest : (d : State) → AwaitsControl d.memory → StaysOut d d
 rest d m = record { sink = λ e. refl; place = λ e. refl; memory = m }
 
--- what is seen of each end stays where it stays of the one that is put in a row
-put_seen : {A X : Type 0} (none : A) (seen : A → X) (n : ℕ) (x : A) (row : List A)
-    → seen x ≡ seen (get_or row n none) → (m : ℕ)
-    → seen (get_or (with_at none n x row) m none) ≡ seen (get_or row m none)
-put_seen {A} {X} none seen n x row same m = by_number (m == n) refl
-  where
-    by_number : (b : Bool) → (m == n) ≡ b
-        → seen (get_or (with_at none n x row) m none) ≡ seen (get_or row m none)
-    by_number true at = subst (λ k. seen (get_or (with_at none n x row) k none)
-        ≡ seen (get_or row k none)) (sym (eqb-true m n at))
-        (ap seen (at_same none n x row) ∙ same)
-    by_number false apart = ap seen (at_other none n m x row apart)
-
 module _ (d : State) (m : AwaitsControl d.memory) where
   in_stage : (stage : Stage) → StaysOut d (in_row d stage).1
   in_stage stage = grind (arith, rest)
@@ -94,21 +82,31 @@ module _ (d : State) (m : AwaitsControl d.memory) where
   unless_busy_out : (r : Reply) → StaysOut d r.1 → StaysOut d (unless_busy d r).1
   unless_busy_out r h = grind (arith, rest)
 
-  halts_out : (which : ServedEndpoint) (state : EndpointState)
-      → StaysOut d (with_endpoint_state d which state)
-  halts_out (BulkOut n) state = record {
-    sink = put_seen no_out (λ (x : OutEnd). x.sink) n (record (out_end d n) { state = state })
-        d.outs refl;
+  -- another end was put in a row
+  out_put : (n : ℕ) (end : OutEnd) → end.sink ≡ (out_end d n).sink → StaysOut d (with_out d n end)
+  out_put n end same = record {
+    sink = at_each no_out (λ x y. y.sink ≡ x.sink) (λ x. refl) n end d.outs same;
     place = λ e. refl;
     memory = m;
   }
-  halts_out (BulkIn n) state = record {
+
+  in_put : (n : ℕ) (end : InEnd) → end.place ≡ (in_end d n).place → StaysOut d (with_in d n end)
+  in_put n end same = record {
     sink = λ e. refl;
-    place = put_seen no_in (λ (x : InEnd). x.place) n (record (in_end d n) { state = state }) d.ins
-        refl;
+    place = at_each no_in (λ x y. y.place ≡ x.place) (λ x. refl) n end d.ins same;
     memory = m;
   }
-  halts_out _ state = record { sink = λ e. refl; place = λ e. refl; memory = m }
+
+  halts_out : (which : ServedEndpoint) (state : EndpointState)
+      → StaysOut d (with_endpoint_state d which state)
+  halts_out (BulkOut n) state = out_put n (record (out_end d n) { state = state }) refl
+  halts_out (BulkIn n) state = in_put n (record (in_end d n) { state = state }) refl
+  halts_out Changes state = record { sink = λ e. refl; place = λ e. refl; memory = m }
+
+  begins_out : (which : ServedEndpoint) → StaysOut d (begun_again d which)
+  begins_out (BulkOut n) = out_put n (rested_out (out_end d n)) refl
+  begins_out (BulkIn n) = in_put n (rested_in (in_end d n)) refl
+  begins_out Changes = record { sink = λ e. refl; place = λ e. refl; memory = m }
 
   ends_out : (o : Outcome) → StaysOut d (with_endpoints d o)
   ends_out (takes_configuration c) = record {
@@ -117,7 +115,7 @@ module _ (d : State) (m : AwaitsControl d.memory) where
     memory = m;
   }
   ends_out (halts which) = halts_out which (halted (endpoint_state d which))
-  ends_out (unhalts which) = halts_out which rested
+  ends_out (unhalts which) = begins_out which
   ends_out _ = rest d m
 
   begun_out : (row : List PortState) (wanted : ℕ) (o : Outcome) → StaysOut d (begun d row wanted o)
@@ -397,18 +395,18 @@ unfolding state_at
 none_first spec j p = grind (arith, none_new)
 
 -- a device that is put somewhere is untouched
-row_new : {A X : Type 0} (none : A) (seen : A → X) (n : ℕ) (x : A) → seen x ≡ seen none → (e : ℕ)
-    → seen (get_or (replicate n x) e none) ≡ seen none
-row_new none seen zero x same e = refl
-row_new none seen (suc n) x same zero = same
-row_new none seen (suc n) x same (suc e) = row_new none seen n x same e
+row_new : {A B X : Type 0} (none : A) (seen : A → X) (new : B → A)
+    → ((b : B) → seen (new b) ≡ seen none) → (row : List B) (e : ℕ)
+    → seen (get_or (map new row) e none) ≡ seen none
+row_new none seen new same [] e = refl
+row_new none seen new same (b ∷ row) zero = same b
+row_new none seen new same (b ∷ row) (suc e) = row_new none seen new same row e
 
 new_untouched : (spec : Spec) → IsUntouched (fresh spec)
 unfolding fresh
 new_untouched spec = record {
-  sink = row_new no_out (λ (x : OutEnd). x.sink) 16
-      (record no_out { until_halt = spec.halt_after }) refl;
-  place = row_new no_in (λ (x : InEnd). x.place) 16 no_in refl;
+  sink = row_new no_out (λ (x : OutEnd). x.sink) (plugged_out spec) (λ n. refl) end_numbers;
+  place = row_new no_in (λ (x : InEnd). x.place) (plugged_in_end spec) (λ n. refl) end_numbers;
 }
 
 put_kept : (o : Option Spec) (place : Place) (k : Ports) (p : List ℕ)

@@ -1,9 +1,9 @@
 -- What an item moves at a path.
-use Rattle.std.proofs.Common.{◌≡◌, ◌≢◌, ◌∙◌, refl, sym, ap, subst, Bool, true, false, ◌||◌, ◌+◌, ℕ}
-use Rattle.std.proofs.Common.{arith, List}
-use Rattle.std.proofs.Common.{[], length, Option, None, Some, Result, Ok, Err, eq-eqb}
+use Rattle.std.proofs.Common.{◌≡◌, ◌≢◌, ◌∙◌, refl, sym, ap, subst, Bool, true, false, ◌||◌, ℕ}
+use Rattle.std.proofs.Common.{List, [], length, Option, None, Some, Result, Ok, Err, eq-eqb}
 use Rattle.std.proofs.Common.{◌==◌, eqb-true, get_or}
 use Rattle.std.proofs.Common.{◌⊎◌, inl, inr, is_ok, is_some, if◌then◌else◌}
+use Rattle.std.proofs.lemmas.Option.{some_pair_parts}
 use Rattle.std.specs.BTreeMap.{is_at as ties}
 use Rattle.std.specs.Global.{Vec}
 use Rattle.usb_port.specs.{path_cmp}
@@ -25,11 +25,11 @@ use Rattle.usb_table.specs.{ChangesAt, GaveBy, HaltClearedBy, HaltsCleared, Join
 use Rattle.usb_table.specs.{bytes_in, pipe_in, pipe_out, Entries, accepted_device_at, out_endpoint}
 use Rattle.usb_table.specs.{is_below_hub, PipesInSync, FitsOut, ArePipesIf, ArePipesTo, IsPipe}
 use Rattle.usb_table.specs.{GoesThrough, pipes_at, ClearedAfter, ClearedBy, ClearedIf, PipesCleared}
-use Rattle.usb_table.specs.{PipesReceived, PipesSent, ReceivedBy, SameSettings, SentBy}
+use Rattle.usb_table.specs.{PipesReceived, PipesSent, SameSettings, SentBy}
 use Rattle.usb_table.specs.{control_target, ReadLeft, ReadMade, SparesBulk, table_answer}
 use Rattle.usb_table.specs.{sink_of, TransferIf, WriteLeft, WriteMade, write_target}
 use Rattle.usb_table.proofs.Interface.{held_address, path_itself, path_tied, done_through}
-use Rattle.usb_table.proofs.Interface.{cases_path, read_spares, spares-same, StillEnds}
+use Rattle.usb_table.proofs.Interface.{cases_path, read_spares, root, spares-same, StillEnds}
 use Rattle.usb_table.proofs.Interface.{write_still}
 use Rattle.usb_host.specs.{HostState, claims, host_told, table_in, ClearTells, ReceiveTells}
 use Rattle.usb_host.specs.{SendTells, ReadTells, RenewedAt, SameBulk, StayedAt, WriteTells}
@@ -44,9 +44,9 @@ use Rattle.usb_run.proofs.Interface.{no_bus_fault}
 use Rattle.usb_streams.specs.{ToldItem, ClearsNoIn, ClearsNoOut, GaveNextBy, IsAtWork, Joins}
 use Rattle.usb_streams.specs.{StreamsAt, bytes_for, bytes_from, is_done, is_end_of}
 use Rattle.usb_streams.proofs.Bytes.{SinkStep, joins_none, sink_step_none}
-use Rattle.usb_streams.proofs.Devices.{DeviceMoves, gave_no_bytes, spares_stays}
+use Rattle.usb_streams.proofs.Devices.{DeviceMoves, gave_no_bytes, gave_nothing, spares_stays}
 use Rattle.usb_streams.proofs.PipeEnds.{SinksStay, cleared_end, end_of, only_others, only_rest}
-use Rattle.usb_streams.proofs.PipeEnds.{sent_end, sink_of-stays}
+use Rattle.usb_streams.proofs.PipeEnds.{received_source, sent_end, sink_of-stays, source_of}
 use Rattle.usb_streams.proofs.HaltedSends.{NoneSent, empty_stuck, failed_stuck, none_sent}
 
 -- The pipes over a call
@@ -68,20 +68,6 @@ received_out (Function pipes) left packets old new result x = ap pipe_out x.1
 received_out Absent left packets old new result x = ap pipe_out x.1
 
 -- where there was no pipe there is none
-
-none_received : (into left : Option Bulk) (packets : ℕ) (old new : World)
-    (result : Result (Vec ℕ) TableFault) → into ≡ None
-    → ReceivedBy into packets old result left new → left ≡ None
-none_received None left packets old new result none x = x.1
-none_received (Some pipe) left packets old new result none x = absurd (cc none)
-
-received_in : (pipes left : Pipes) (packets : ℕ) (old new : World)
-    (result : Result (Vec ℕ) TableFault) → PipesReceived pipes packets old result left new
-    → pipe_in pipes ≡ None → pipe_in left ≡ None
-received_in (Hub pipe) left packets old new result x none = ap pipe_in x.1
-received_in (Function pipes) left packets old new result x none = ap pipe_in x.1
-    ∙ none_received pipes.into x.0 packets old new result none x.2
-received_in Absent left packets old new result x none = ap pipe_in x.1
 
 none_cleared : (pipe left : Option Bulk) (old new : World) (answer : Result (Unit {0}) PipeFault)
     → pipe ≡ None → ClearedBy pipe old answer left new → left ≡ None
@@ -151,19 +137,24 @@ joins_sink true bytes old new x = x
 joins_sink false bytes old new x = (x.front, x.rest, x.split, x.sink)
 
 gave_by : (bytes : List ℕ) (pipe left : Option Bulk) (s v : State) → GaveBy bytes pipe left s v
-    → (pipe ≡ None → left ≡ None) → GaveNextBy bytes pipe left s v
-gave_by bytes None left s v x none = (x.0, none refl)
-gave_by bytes (Some pipe) None s v x none = absurd x
-gave_by bytes (Some pipe) (Some left) s v x none = record { next = x.next; has = x.has }
+    → source_of left ≡ source_of pipe → GaveNextBy bytes pipe left s v
+gave_by bytes None None s v x same = (x.0, refl)
+gave_by bytes None (Some left) s v x same = absurd (cc same)
+gave_by bytes (Some pipe) None s v x same = absurd x
+gave_by bytes (Some pipe) (Some left) s v x same =
+    let is = some_pair_parts left.ep pipe.ep left.max pipe.max same in
+    record { ep = is.0; max = is.1; next = x.next }
 
 gave_sinks : (bytes : List ℕ) (pipe left : Option Bulk) (s v : State) → GaveBy bytes pipe left s v
-    → SinksStay s v × (v.spec ≡ s.spec)
-gave_sinks bytes None left s v x =
-    (λ e. ap (λ (d : State). (out_end d e).sink) x.1, ap (λ (d : State). d.spec) x.1)
+    → SinksStay s v × SameSettings root s v
+gave_sinks bytes None left s v x = (
+  λ e. ap (λ (d : State). (out_end d e).sink) x.1,
+  (ap (λ (d : State). d.spec) x.1, ap (λ (d : State). d.registers) x.1),
+)
 gave_sinks bytes (Some pipe) None s v x = absurd x
 gave_sinks bytes (Some pipe) (Some left) s v x = (
   λ e. ap (λ (d : State). (out_end d e).sink) x.rest.rest,
-  ap (λ (d : State). d.spec) x.rest.rest,
+  (ap (λ (d : State). d.spec) x.rest.rest, ap (λ (d : State). d.registers) x.rest.rest),
 )
 
 -- A send through the OUT pipe
@@ -262,20 +253,9 @@ module _ (bytes : List ℕ) (old new : World) (x : Location) (s v : State) (on :
 ends_same : (s v : State) → v ≡ s → StillEnds s v
 ends_same s v same = record {
   sink = λ e. ap (λ (d : State). (out_end d e).sink) same;
-  spec = ap (λ (d : State). d.spec) same;
+  settings = (ap (λ (d : State). d.spec) same, ap (λ (d : State). d.registers) same);
   into = λ pipe got fits. subst (InPipeInSync pipe got) (sym same) fits;
 }
-
--- through endpoints that move nothing no byte comes
-gave_still : (pipe left : Option Bulk) (s v : State) → left ≡ pipe → StillEnds s v
-    → GaveNextBy [] pipe left s v
-gave_still None left s v kept ends = (refl, kept)
-gave_still (Some pipe) left s v kept ends =
-    subst (λ l. GaveNextBy [] (Some pipe) l s v) (sym kept) (record {
-      next = λ got fits. refl;
-      has = λ got fits. let same : got ≡ got + 0 = omega arith in
-          subst (λ n. InPipeInSync pipe n v) same (ends.into pipe got fits);
-    })
 
 -- what an item moves, by the bytes that it has for the path
 module _ (path : List ℕ) (t : ToldItem) (pipes left : Pipes) (s v : State) where
@@ -290,42 +270,44 @@ module _ (path : List ℕ) (t : ToldItem) (pipes left : Pipes) (s v : State) whe
       → ((e : ℕ) → is_end_of e (pipe_out pipes) ≡ false → (out_end v e).sink ≡ (out_end s e).sink)
       → (ClearsNoOut path t
       → SinkStep (is_done t.item) to (pipe_out pipes) (pipe_out left) first last)
-      → (ClearsNoIn path t → GaveNextBy from (pipe_in pipes) (pipe_in left) s v) → v.spec ≡ s.spec
-      → DeviceMoves path t pipes left s v
-  moved to from e f end sink others took gave spec = record {
+      → (ClearsNoIn path t → GaveNextBy from (pipe_in pipes) (pipe_in left) s v)
+      → SameSettings root s v → DeviceMoves path t pipes left s v
+  moved to from e f end sink others took gave settings = record {
     end = end;
     sink = subst (λ l. Joins (is_done t.item) l first last) (sym e) sink;
     others = others;
     took = λ none. subst (λ l. SinkStep (is_done t.item) l (pipe_out pipes) (pipe_out left) first
         last) (sym e) (took none);
     gave = λ none. subst (λ l. GaveNextBy l (pipe_in pipes) (pipe_in left) s v) (sym f) (gave none);
-    spec = spec;
+    settings = settings;
   }
 
   -- no endpoint took anything
   unsent : (from : List ℕ) → bytes_for path t.due ≡ [] → bytes_from path t.item ≡ from
       → end_of (pipe_out left) ≡ end_of (pipe_out pipes)
       → (ClearsNoOut path t → pipe_out left ≡ pipe_out pipes) → SinksStay s v
-      → (ClearsNoIn path t → GaveNextBy from (pipe_in pipes) (pipe_in left) s v) → v.spec ≡ s.spec
-      → DeviceMoves path t pipes left s v
-  unsent from e f end kept stay gave spec =
+      → (ClearsNoIn path t → GaveNextBy from (pipe_in pipes) (pipe_in left) s v)
+      → SameSettings root s v → DeviceMoves path t pipes left s v
+  unsent from e f end kept stay gave settings =
       let same : last ≡ first = sink_of-stays (pipe_out pipes) s v stay in
       moved [] from e f end (joins_none (is_done t.item) [] first last refl same)
       (λ a apart. stay a)
       (λ none. sink_step_none (is_done t.item) (pipe_out pipes) (pipe_out left) first last
-      (kept none) same) gave spec
+      (kept none) same) gave settings
+
+  -- a device through whose endpoints nothing moves, with its pipes
+  ends_move : bytes_for path t.due ≡ [] → bytes_from path t.item ≡ [] → left ≡ pipes
+      → StillEnds s v → DeviceMoves path t pipes left s v
+  ends_move e f kept ends =
+      unsent [] e f (ap (λ p. end_of (pipe_out p)) kept) (λ none. ap pipe_out kept) ends.sink
+      (λ none. gave_nothing (pipe_in pipes) (pipe_in left) s v (ap pipe_in kept) ends.into)
+      ends.settings
 
   -- nothing there
   unmoved : bytes_for path t.due ≡ [] → bytes_from path t.item ≡ [] → left ≡ pipes → v ≡ s
       → DeviceMoves path t pipes left s v
   unmoved e f kept same =
-      unsent [] e f (ap (λ p. end_of (pipe_out p)) kept) (λ none. ap pipe_out kept)
-      (λ a. ap (λ (d : State). (out_end d a).sink) same)
-      (λ none. gave_no_bytes (pipe_in pipes) (pipe_in left) (record { row = 0; rest = [] }) s v
-      (ap pipe_in kept) (ap (λ (d : State). d.spec) same, ap (λ (d : State). d.registers) same)
-      (λ a. ap (λ (d : State). (in_end d a).place) same)
-      (λ a. ap (λ (d : State). (in_end d a).state) same))
-      (ap (λ (d : State). d.spec) same)
+      ends_move e f kept (ends_same s v same)
 
   -- a device whose endpoints stay, with its pipes
   spared_moves : bytes_for path t.due ≡ [] → bytes_from path t.item ≡ [] → SameBulk pipes left
@@ -333,14 +315,7 @@ module _ (path : List ℕ) (t : ToldItem) (pipes left : Pipes) (s v : State) whe
   spared_moves e f same x spares =
       let stays = spares_stays pipes left x s v same spares in
       unsent [] e f (ap end_of stays.out) (λ none. stays.out) stays.sinks (λ none. stays.gave)
-      stays.spec
-
-  -- a device through whose endpoints nothing moves, with its pipes
-  ends_move : bytes_for path t.due ≡ [] → bytes_from path t.item ≡ [] → left ≡ pipes
-      → StillEnds s v → DeviceMoves path t pipes left s v
-  ends_move e f kept ends =
-      unsent [] e f (ap (λ p. end_of (pipe_out p)) kept) (λ none. ap pipe_out kept) ends.sink
-      (λ none. gave_still (pipe_in pipes) (pipe_in left) s v (ap pipe_in kept) ends) ends.spec
+      stays.settings
 
 -- Hosts
 
@@ -550,7 +525,7 @@ module _ (path : List ℕ) (device : Accepted) (old new : HostState)
           (sent_in before left bytes old.world new.world hands.answer hands.moves)
           (rest.spec, rest.registers) (λ e. ap (λ row. (get_or row e no_in).place) rest.ins)
           (λ e. ap (λ row. (get_or row e no_in).state) rest.ins))
-          rest.spec)
+          (rest.spec, rest.registers))
 
       received_here : (packets : ℕ) (told : Result (Vec ℕ) TransferFault)
           → Transfers (ReceiveTells path packets) old told new
@@ -574,7 +549,7 @@ module _ (path : List ℕ) (device : Accepted) (old new : HostState)
           (ap (λ (b : Bool). if b then bytes_in told else []) (path_itself path)) (ap end_of out)
           (λ none. out) kept.0
           (λ none. gave_by (bytes_in told) (pipe_in before) (pipe_in left) s v gave
-          (received_in before left packets old.world new.world hands.answer hands.moves))
+          (received_source before left packets old.world new.world hands.answer hands.moves))
           kept.1)
 
       cleared_here : (told : Result (Unit {0}) TransferFault)
@@ -608,9 +583,9 @@ module _ (path : List ℕ) (device : Accepted) (old new : HostState)
           let alone = clears_alone (is_ok told) (pipe_in before) (pipe_in left)
           (λ e. (in_end s e).state) (λ e. (in_end v e).state) cleared.into (works refl)
           (cleared_in before left old.world new.world hands.answer hands.moves) in
-          gave_no_bytes (pipe_in before) (pipe_in left) x s v alone.0 same cleared.moved.given
-          alone.1)
-          same.0)
+          gave_no_bytes (pipe_in before) (pipe_in left) x s v alone.0 same
+          (λ e. (cleared.moved.given e).0) alone.1)
+          same)
 
       -- a read, of which device it may be
       read_stays : (from : List ℕ) (request : Setup) → IsToHost request

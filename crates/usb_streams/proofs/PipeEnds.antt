@@ -2,19 +2,25 @@
 use Rattle.std.proofs.Common.{◌≡◌, ◌≢◌, ◌∙◌, inl, inr, refl, sym, ap, true, false, ℕ, ◌==◌, List}
 use Rattle.std.proofs.Common.{◌++◌, Option, None, Some, Result, Ok, Err, option_map, Bool}
 use Rattle.std.proofs.Common.{is_some, ◌||◌}
+use Rattle.std.proofs.lemmas.Bool.{cases_eq}
+use Rattle.std.specs.Global.{Vec}
 use Rattle.usb_device.specs.{State, out_end}
 use Rattle.usb_world.specs.{World}
 use Rattle.usb_pipe.specs.declared.condition.Condition.TheVariants.{Ready, Halted, Broken}
-use Rattle.usb_pipe.specs.{Bulk, Clears, Condition, PipeFault, Sends, cleared}
+use Rattle.usb_pipe.specs.{Bulk, Clears, Condition, PipeFault, Receives, Sends, cleared}
 use Rattle.usb_table.specs.{BulkPipes, ClearedBy, ClearedIf, OnlySinkOf, Pipes}
-use Rattle.usb_table.specs.{Hub, Function, Absent, PipesCleared, PipesSent, SentBy, TableFault}
-use Rattle.usb_table.specs.{pipe_out, sink_of}
+use Rattle.usb_table.specs.{Hub, Function, Absent, PipesCleared, PipesReceived, PipesSent}
+use Rattle.usb_table.specs.{ReceivedBy, SentBy, TableFault, pipe_in, pipe_out, sink_of}
 use Rattle.usb_table.proofs.Interface.{empty_or_not}
 use Rattle.usb_streams.specs.{is_end_of}
 
 -- the number of the endpoint of a pipe, if there is one
 abbrev pub end_of : Option Bulk → Option ℕ
 end_of pipe = option_map (λ (p : Bulk). p.ep) pipe
+
+-- that of an IN pipe, and the most bytes of a packet
+abbrev pub source_of : Option Bulk → Option (ℕ × ℕ)
+source_of pipe = option_map (λ (p : Bulk). (p.ep, p.max)) pipe
 
 pub sink_of-same : (pipe left : Option Bulk) (s : State) → end_of left ≡ end_of pipe
     → sink_of left s ≡ sink_of pipe s
@@ -153,3 +159,38 @@ cleared_end (Hub pipe) left old new result x = ap (λ p. end_of (pipe_out p)) x.
 cleared_end (Function pipes) left old new result x = ap (λ p. end_of (pipe_out p)) x.1
     ∙ both_cleared_end (is_some pipes.out || is_some pipes.into) pipes x.0 old new result x.2
 cleared_end Absent left old new result x = ap (λ p. end_of (pipe_out p)) x.1
+
+receives_source : (wanted : ℕ) (pipe : Bulk) (answer : Result (Vec ℕ) PipeFault) (left : Bulk)
+    (old new : World) → Receives wanted pipe old answer left new
+    → source_of (Some left) ≡ source_of (Some pipe)
+receives_source wanted pipe answer left old new x =
+    condition_cases Goal pipe.condition (λ e. sound (λ broken. cc (broken, e)))
+    (λ e. sound (λ broken. cc (broken, e))) (λ e. same (x.broken e).1)
+  where
+    Goal : Type 0
+    Goal = source_of (Some left) ≡ source_of (Some pipe)
+
+    same : left ≡ pipe → source_of (Some left) ≡ source_of (Some pipe)
+    same e = ap (λ (p : Bulk). source_of (Some p)) e
+
+    sound : pipe.condition ≢ Broken → source_of (Some left) ≡ source_of (Some pipe)
+    sound whole = elim (cases_eq wanted 0) [
+      | inl none ↦ same (x.nothing whole none).1
+      | inr some ↦ ap (λ (p : Bulk). source_of (Some p)) (x.moved whole some).pipe_left
+    ]
+
+by_source : (wanted : ℕ) (pipe left : Option Bulk) (old new : World)
+    (result : Result (Vec ℕ) TableFault) → ReceivedBy pipe wanted old result left new
+    → source_of left ≡ source_of pipe
+by_source wanted None left old new result x = ap source_of x.1
+by_source wanted (Some pipe) None old new result x = absurd x
+by_source wanted (Some pipe) (Some left) old new result x =
+    receives_source wanted pipe x.answer left old new x.receives
+
+pub received_source : (pipes left : Pipes) (wanted : ℕ) (old new : World)
+    (result : Result (Vec ℕ) TableFault) → PipesReceived pipes wanted old result left new
+    → source_of (pipe_in left) ≡ source_of (pipe_in pipes)
+received_source (Hub pipe) left wanted old new result x = ap (λ p. source_of (pipe_in p)) x.1
+received_source (Function pipes) left wanted old new result x =
+    ap (λ p. source_of (pipe_in p)) x.1 ∙ by_source wanted pipes.into x.0 old new result x.2
+received_source Absent left wanted old new result x = ap (λ p. source_of (pipe_in p)) x.1

@@ -1,4 +1,4 @@
--- With which byte of its source a device begins that was found anew.
+-- At which place of what it gives a device begins that was found anew.
 use Rattle.std.proofs.Common.{◌≡◌, ◌∙◌, refl, sym, ap, subst, Bool, true, false, ℕ, Option, None}
 use Rattle.std.proofs.Common.{Some, option_map, is_some, if◌then◌else◌}
 use Rattle.usb_packet.specs.{Zero, other}
@@ -55,8 +55,8 @@ new_in device below pipe e = by_hub (is_some device.hub) refl
         })) is in
         new_end device (in_endpoint device) pipe (sym (ap pipe_in there) ∙ e)
 
--- through such a pipe to an endpoint that has begun again, the host has got as many bytes as the
--- device counts
+-- through such a pipe to an endpoint that has begun again, the host has got what stands before the
+-- device's own place
 pub begun_place : (pipe : Bulk) (got : ℕ) (s : State) → pipe.condition ≡ Ready → pipe.toggle ≡ Zero
     → (in_end s pipe.ep).state ≡ rested → InPipeInSync pipe got s
     → InPipeInSync pipe (in_end s pipe.ep).place s

@@ -1,6 +1,6 @@
 -- What the device at a path takes and gives over a stretch of a run: transfers join end to end
 -- (5.8).
-use Rattle.std.specs.Prelude.{◌≡◌, ◌⊎◌, ⊤, ℕ, ◌+◌, ◌==◌, List, [], ◌∷◌, ◌++◌, length, take, drop}
+use Rattle.std.specs.Prelude.{◌≡◌, ◌⊎◌, ⊤, ℕ, ◌==◌, List, [], ◌∷◌, ◌++◌}
 use Rattle.std.specs.Prelude.{Bool, true, false, if◌then◌else◌, Option, None, Some, Ok, is_ok}
 use Rattle.std.specs.BTreeMap.{is_at}
 use Rattle.std.specs.List.{AllByRecursion}
@@ -9,7 +9,7 @@ use Rattle.usb_device.specs.{State, Location, path_to, reach_on, state_on, in_en
 use Rattle.usb_world.specs.declared.event.Ask.{Ask}
 use Rattle.usb_world.specs.{Send, Clear, Look, Was}
 use Rattle.usb_pipe.specs.declared.condition.Condition.TheVariants.{Ready}
-use Rattle.usb_pipe.specs.{Bulk, InPipeInSync}
+use Rattle.usb_pipe.specs.{Bulk, GaveNext, InPipeInSync}
 use Rattle.usb_enum.specs.{Accepted}
 use Rattle.usb_table.specs.{Pipes, bytes_in, pipe_in, pipe_out, accepted_device_at, FitsIn}
 use Rattle.usb_table.specs.{pipes_at, sink_of}
@@ -111,25 +111,25 @@ abbrev pub ClearsNoIn : List ℕ → ToldItem → Type 0
 ClearsNoIn path t = t.due ≡ Some (Clear path)
     → IsAtWork (pipe_in (pipes_at path (table_in t.asked)))
 
--- through a pipe that had got some number of bytes of the device's source these came, which are the
--- next ones; the pipe has got so many more
-pub record GaveNext (bytes : List ℕ) (pipe left : Bulk) (s v : State) : Type 0 where
-  pub next : (got : ℕ) → InPipeInSync pipe got s
-      → bytes ≡ take (length bytes) (drop got s.spec.source)
-  pub has : (got : ℕ) → InPipeInSync pipe got s → InPipeInSync left (got + length bytes) v
+-- through a pipe that had got what stands before a place the next packets came, end to end; the
+-- pipe that is left is to the same endpoint
+pub record GaveThrough (bytes : List ℕ) (pipe left : Bulk) (s v : State) : Type 0 where
+  pub ep : left.ep ≡ pipe.ep
+  pub max : left.max ≡ pipe.max
+  pub next : (got : ℕ) → InPipeInSync pipe got s → GaveNext pipe got bytes left s v
 
 -- without a pipe none came
 abbrev pub GaveNextBy : List ℕ → Option Bulk → Option Bulk → State → State → Type 0
 GaveNextBy bytes None left s v = (bytes ≡ []) × (left ≡ None)
 GaveNextBy bytes (Some pipe) None s v = ⊥
-GaveNextBy bytes (Some pipe) (Some left) s v = GaveNext bytes pipe left s v
+GaveNextBy bytes (Some pipe) (Some left) s v = GaveThrough bytes pipe left s v
 
 -- A device over a stretch
 
--- the device at a path took what was sent and gave the next bytes of its source, as long as no halt
--- of the endpoint is cleared; over clears too each send
--- that is told done was taken whole, and of each that failed a front; no other endpoint took any;
--- its IN pipe had got some number of bytes, and its description stays
+-- The device at a path took what was sent and gave its next packets, as long as no halt of the
+-- endpoint is cleared. Over clears too each send that is told done was taken whole, and of each
+-- that failed a front. No other endpoint took any. Its IN pipe had got what stands before some
+-- place. Its description and its registers stay.
 pub record Streams (path : List ℕ) (told : List ToldItem) (pipes left : Pipes) (s v : State) :
     Type 0 where
   pub took : AllByRecursion (ClearsNoOut path) told → TookSent path told (pipe_out left) s v
@@ -141,6 +141,7 @@ pub record Streams (path : List ℕ) (told : List ToldItem) (pipes left : Pipes)
   pub gave : AllByRecursion (ClearsNoIn path) told
       → GaveNextBy (received_from path told) (pipe_in pipes) (pipe_in left) s v
   pub spec : v.spec ≡ s.spec
+  pub registers : v.registers ≡ s.registers
 
 -- so it is of the device that is reached at a path in the new world, which was reached there in the
 -- old one
@@ -156,8 +157,8 @@ pub record StoodAt (path : List ℕ) (device : Accepted) (told : List ToldItem)
   pub streams : StreamsAt path (Streams path told (pipes_at path (table_in old))
       (pipes_at path (table_in new))) old new
 
--- the IN pipe to the device that is reached at a path has got as many bytes of its source as the
--- device counts
+-- the IN pipe to the device that is reached at a path has got what stands before the device's own
+-- place
 abbrev pub StartsAt : List ℕ → HostState → Type 0
 StartsAt path h = (x : Location) (s : State) (pipe : Bulk) → path ≡ path_to x
     → reach_on h.world.roots x ≡ true → state_on h.world.roots x ≡ Some s

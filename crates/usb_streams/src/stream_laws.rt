@@ -20,8 +20,8 @@ ghost use Rattle.usb_streams.specs.Stretches.{IsStretch, Stretch, ToldItem};
 /// from the beginning. Or it was there since a round or a look that found it anew and moved none of its bytes. From
 /// then on the endpoint of its OUT pipe took the bytes of the sends to it that are reported done, end to end. At most a
 /// prefix of a failed send comes after them, and no other endpoint took any. The receives from it that are reported
-/// done returned the next bytes of its source, end to end, none twice and none left out. Each is so as long as no halt
-/// of the endpoint is cleared.
+/// done returned the next packets that its endpoint has, end to end, none twice and none left out. Each is so as long
+/// as no halt of the endpoint is cleared.
 pub fn transfers_join()
     ensures { (old new : HostState) (told : List ToldItem) → Stretch old told new → Knows old
         → new.world.fault ≡ None

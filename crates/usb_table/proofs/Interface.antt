@@ -5,7 +5,7 @@ pub use Rattle.usb_table.proofs.entries.NewEntries.{has_its}
 pub use Rattle.usb_table.proofs.entries.EnteredFindings.{level_beside, level_entered}
 pub use Rattle.usb_table.proofs.entries.EnteredFindings.{pipes_at-entered}
 pub use Rattle.usb_table.proofs.entries.EnteredFindings.{pipes_at-entered_elsewhere}
-pub use Rattle.usb_table.proofs.levels.FittingPipes.{still_source}
+pub use Rattle.usb_table.proofs.levels.FittingPipes.{root, same_in_data, still_source}
 pub use Rattle.usb_table.proofs.levels.Levels.{address_found, all_kept, held_address}
 pub use Rattle.usb_table.proofs.levels.Levels.{level_elsewhere, level_stays, entry_address-one_path}
 pub use Rattle.usb_table.proofs.entries.Paths.{cases_path, path_itself, path_tied}

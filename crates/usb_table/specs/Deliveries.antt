@@ -1,5 +1,5 @@
 -- What transfers to the device at a path leave of the devices (5.8).
-use Rattle.std.specs.Prelude.{◌≡◌, ◌≢◌, ◌⊎◌, ℕ, ◌+◌, ◌==◌, List, [], ◌++◌, length, take, drop}
+use Rattle.std.specs.Prelude.{◌≡◌, ◌≢◌, ◌⊎◌, ℕ, ◌==◌, List, [], ◌++◌}
 use Rattle.std.specs.Prelude.{Bool, true}
 use Rattle.std.specs.Prelude.{false, Option, Some, None, Result, Ok, Err, IsSome}
 use Rattle.std.specs.Global.{Vec}
@@ -7,7 +7,7 @@ use Rattle.usb_device.specs.{EndpointState, rested, OnlySink, OnlySource, State,
 use Rattle.usb_device.specs.{path_to, in_end, out_end, NothingMoved}
 use Rattle.usb_world.specs.{EachWas, World}
 use Rattle.usb_pipe.specs.declared.condition.Condition.TheVariants.{Ready}
-use Rattle.usb_pipe.specs.{Bulk, cleared, InPipeInSync, FrontTaken}
+use Rattle.usb_pipe.specs.{Bulk, cleared, InPipeInSync, FrontTaken, GaveNext}
 use Rattle.usb_table.specs.declared.pipes.Pipes.{Pipes}
 use Rattle.usb_table.specs.declared.pipes.Pipes.TheVariants.{Hub, Function, Absent}
 use Rattle.usb_table.specs.Findings.{accepted_device_at}
@@ -49,14 +49,11 @@ pub record TookBytes (pipe : Option Bulk) (done : Bool) (bytes : List ℕ) (s v 
     pub joins : JoinsSink done bytes (sink_of pipe s) (sink_of pipe v)
     pub rest : OnlySinkOf pipe s v
 
--- through a pipe that had got some number of bytes of its source it gave these, which are the next
--- ones; the pipe that is left has got so many more, and
--- nothing else of the device changed
+-- through a pipe that had got what stands before some place these bytes came, which are the next
+-- packets; the pipe that is left has got them too, and nothing else of the device changed
 pub record GaveBytes (bytes : List ℕ) (pipe left : Bulk) (s v : State) : Type 0 where
   pub had : FitsIn (Some pipe) s
-  pub next : (got : ℕ) → InPipeInSync pipe got s
-      → bytes ≡ take (length bytes) (drop got s.spec.source)
-  pub has : (got : ℕ) → InPipeInSync pipe got s → InPipeInSync left (got + length bytes) v
+  pub next : (got : ℕ) → InPipeInSync pipe got s → GaveNext pipe got bytes left s v
   pub rest : OnlySource pipe.ep s v
 
 -- the bytes that came with an answer

@@ -40,7 +40,7 @@ abbrev pub FitsOut : Option Bulk → State → Type 0
 FitsOut None s = ⊤
 FitsOut (Some pipe) s = OutPipeInSync pipe s
 
--- a bulk IN pipe, if there is one, that has got some number of bytes
+-- a bulk IN pipe, if there is one, that has got what stands before some place
 abbrev pub FitsIn : Option Bulk → State → Type 0
 FitsIn None s = ⊤
 FitsIn (Some pipe) s = (got : ℕ) × InPipeInSync pipe got s

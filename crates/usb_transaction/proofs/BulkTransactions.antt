@@ -1,16 +1,18 @@
 -- Bulk endpoints over a transaction: what IN and OUT leave of them, and why one fails.
-use Rattle.usb_device.specs.{Location, advanced, State, Reply, forgotten, rest_of, sunk, in_end}
-use Rattle.usb_device.specs.{out_end, with_in, given_on, taken_on, no_in, no_out}
+use Rattle.usb_device.specs.{Location, State, Reply, forgotten, sunk, in_end, InEnd, OutEnd}
+use Rattle.usb_device.specs.{out_end, with_in, given_on, taken_on, no_in, no_out, next_packet}
+use Rattle.usb_device.specs.{next_place, hesitated, in_hesitates, out_hesitates, out_halts}
+use Rattle.usb_device.specs.{taken_row, given_law, GivesWithin, IsPrompt}
 use Rattle.usb_device.specs.{sink_row, data_row, Way, is_whole, heard, gave, in_law, out_law}
 use Rattle.usb_device.specs.{taken_of, IsSource, SourceAt, SourceOn, OnlySource, IsSink, SinkAt}
 use Rattle.usb_device.specs.{level, ahead, Joined, OnlySink}
-use Rattle.std.proofs.Common.{◌≡◌, inl, inr, ℕ, ◌+◌, ◌<◌, ◌≤◌, ◌==◌, nat_le, nat_lt, if◌then◌else◌}
-use Rattle.std.proofs.Common.{Bool, true, false, List, ◌∷◌, ◌++◌, length, take, drop, Option, None}
-use Rattle.std.proofs.Common.{Some, Result, Ok, Err, refl, sym, subst, ap, ◌∙◌, arith, length-drop}
-use Rattle.std.proofs.lemmas.List.{length-take}
+use Rattle.std.proofs.Common.{◌≡◌, ◌≢◌, ◌⊎◌, inl, inr, ℕ, ◌+◌, ◌<◌, ◌≤◌, nat_le, nat_lt}
+use Rattle.std.proofs.Common.{if◌then◌else◌, is_some}
+use Rattle.std.proofs.Common.{Bool, true, false, List, ◌∷◌, ◌++◌, length, Option, None}
+use Rattle.std.proofs.Common.{Some, Result, Ok, Err, refl, sym, subst, ap, ◌∙◌, arith}
 use Rattle.std.proofs.lemmas.Bool.Decides.{nat_tests}
 use Rattle.arrayvec.specs.ArrayVec.{ArrayVec}
-use Rattle.usb_packet.specs.{Toggle, other, is_same}
+use Rattle.usb_packet.specs.{Toggle, Zero, One, other, is_same}
 use Rattle.usb_port.specs.{PortState}
 use Rattle.usb_device.specs.declared.answer.Answer.TheVariants as answer
 use Rattle.usb_device.specs.declared.transfer.InEndpoint.TheVariants as by
@@ -39,14 +41,23 @@ use Rattle.usb_transaction.proofs.Trails.{run_short}
 
 -- IN
 
--- the endpoint after a packet, where it saw that it came
-abbrev stepped : ℕ → ℕ → State → Bool → State
-stepped e most s came = if came
-    then forgotten (with_in s e (given_on most (length s.spec.source) (in_end s e))) else s
+-- the endpoint behind its next packet
+abbrev end_behind : ℕ → ℕ → State → InEnd
+end_behind e most s = given_on (next_place s e most (in_end s e).place) (in_end s e)
 
-stepped_end : (e most : ℕ) (s : State)
-    → in_end (stepped e most s true) e ≡ given_on most (length s.spec.source) (in_end s e)
-stepped_end e most s = at_same no_in e (given_on most (length s.spec.source) (in_end s e)) s.ins
+-- the device after a packet, where it saw that it came
+abbrev stepped : ℕ → ℕ → State → Bool → State
+stepped e most s came = if came then forgotten (with_in s e (end_behind e most s)) else s
+
+stepped_end : (e most : ℕ) (s : State) → in_end (stepped e most s true) e ≡ end_behind e most s
+stepped_end e most s = at_same no_in e (end_behind e most s) s.ins
+
+-- the endpoint after a NAK
+abbrev end_hesitated : ℕ → State → InEnd
+end_hesitated e s = record (in_end s e) { pace = hesitated (in_end s e).pace }
+
+hesitates_end : (e : ℕ) (s : State) → in_end (in_hesitates s e) e ≡ end_hesitated e s
+hesitates_end e s = at_same no_in e (end_hesitated e s) s.ins
 
 only_same : (e : ℕ) (s : State) → OnlySource e s s
 only_same e s = record { rest = refl; others = λ a h. refl }
@@ -54,8 +65,36 @@ only_same e s = record { rest = refl; others = λ a h. refl }
 only_stepped : (e most : ℕ) (s : State) → OnlySource e s (stepped e most s true)
 only_stepped e most s = record {
   rest = refl;
-  others = λ a h. at_other no_in e a (given_on most (length s.spec.source) (in_end s e)) s.ins h;
+  others = λ a h. at_other no_in e a (end_behind e most s) s.ins h;
 }
+
+only_hesitates : (e : ℕ) (s : State) → OnlySource e s (in_hesitates s e)
+only_hesitates e s = record {
+  rest = refl;
+  others = λ a h. at_other no_in e a (end_hesitated e s) s.ins h;
+}
+
+-- a NAK moves nothing
+hesitates_at : {e most got : ℕ} {t : Toggle} (s : State) → SourceAt e most got t s
+    → SourceAt e most got t (in_hesitates s e)
+hesitates_at {e} {most} {got} s (level g q) = level
+    (ap (λ (x : InEnd). x.place) (hesitates_end e s) ∙ g)
+    (ap (λ (x : InEnd). x.state.toggle) (hesitates_end e s) ∙ q)
+hesitates_at {e} {most} {got} s (ahead g p q) = ahead
+    (g ∙ ap (λ (x : InEnd). next_place s e most x.place) (sym (hesitates_end e s)))
+    (ap (λ (x : InEnd). is_some (next_packet s e most x.place)) (hesitates_end e s) ∙ p)
+    (ap (λ (x : InEnd). x.state.toggle) (hesitates_end e s) ∙ q)
+
+-- it stays prompt
+stepped_prompt : (e most : ℕ) (s : State) → IsPrompt (in_end s e).pace
+    → IsPrompt (in_end (stepped e most s true) e).pace
+stepped_prompt e most s x =
+    subst (λ (y : InEnd). IsPrompt y.pace) (sym (stepped_end e most s)) (x.1, x.1)
+
+hesitates_prompt : (e : ℕ) (s : State) → IsPrompt (in_end s e).pace
+    → IsPrompt (in_end (in_hesitates s e) e).pace
+hesitates_prompt e s x = subst (λ (y : InEnd). IsPrompt y.pace) (sym (hesitates_end e s))
+    (omega (arith, x.0), x.1)
 
 only_then : (e : ℕ) (s u v : State) → OnlySource e s u → OnlySource e u v → OnlySource e s v
 only_then e s u v x y = record {
@@ -71,56 +110,73 @@ SourceStep e most awaited s came v = (got : ℕ) → 1 ≤ most → SourceAt e m
 -- comes whole
 data SourceGave (e most max : ℕ) (awaited : Toggle) (Clear : Type 0) (s : State) : HeardOutcome
     → State → Type 0 where
-  unheard : (Clear → ((in_end s e).state.halted ≡ false) × (most ≤ max → ⊥))
+  unheard : (Clear → ((in_end s e).state.halted ≡ false) × (GivesWithin max e most s → ⊥))
       → SourceGave e most max awaited Clear s Lost s
   refused : (in_end s e).state.halted ≡ true → SourceGave e most max awaited Clear s Refused s
-  empty : (in_end s e).state.halted ≡ false → length s.spec.source ≤ (in_end s e).place
+  empty : (in_end s e).state.halted ≡ false → next_packet s e most (in_end s e).place ≡ None
       → SourceGave e most max awaited Clear s NotReady s
+  hesitates : (in_end s e).state.halted ≡ false → 1 ≤ (in_end s e).pace.naks
+      → SourceGave e most max awaited Clear s NotReady (in_hesitates s e)
+  lost_nak : (Clear → ⊥) → (in_end s e).state.halted ≡ false → 1 ≤ (in_end s e).pace.naks
+      → SourceGave e most max awaited Clear s Lost (in_hesitates s e)
   moved : (b : ArrayVec ℕ) (came : Bool) → (in_end s e).state.halted ≡ false
       → SourceStep e most awaited s (Some b.items) (stepped e most s came)
       → SourceGave e most max awaited Clear s (Moved b) (stepped e most s came)
-  again : (came : Bool) → (in_end s e).state.halted ≡ false
+  again : (came : Bool) → (in_end s e).state.halted ≡ false → (in_end s e).pace.naks ≡ 0
       → is_same awaited (in_end s e).state.toggle ≡ false
       → (Clear → came ≡ true) → SourceStep e most awaited s None (stepped e most s came)
       → SourceGave e most max awaited Clear s Repeat (stepped e most s came)
-
-short : (most max : ℕ) (xs : List ℕ) → most ≤ max → nat_le (length (take most xs)) max ≡ true
-short most max xs m = grind (arith, nat_tests, length-take)
-
-drop-empty : (place : ℕ) (xs : List ℕ) → (length (drop place xs) == 0) ≡ true → length xs ≤ place
-drop-empty place xs h = grind (arith, nat_tests, length-drop)
 
 module _ (e most max : ℕ) (awaited : Toggle) (s : State) (Clear : Type 0) where
   abbrev Fits : Reply → Type 0
   Fits r = SourceStep e most awaited s (taken_of awaited max r.0) r.1
       → SourceGave e most max awaited Clear s (heard_as awaited (got max r.0)) r.1
 
-  by_law : IsSource e most s → (halted none fits same : Bool) (t2 t3 : Way)
-      → (in_end s e).state.halted ≡ halted → (length (rest_of s e) == 0) ≡ none
-      → nat_le (length (take most (rest_of s e))) max ≡ fits
+  gives : IsSource e most s → (bytes : List ℕ) → next_packet s e most (in_end s e).place ≡ Some bytes
+      → (waits fits same : Bool) (t2 t3 : Way) → (in_end s e).state.halted ≡ false
+      → nat_lt 0 (in_end s e).pace.naks ≡ waits → nat_le (length bytes) max ≡ fits
       → is_same awaited (in_end s e).state.toggle ≡ same → (Clear → (t2 ≡ whole) × (t3 ≡ whole))
-      → Fits (if halted then (heard t2 (Some answer.Stall), s) else if none
-      then (heard t2 (Some answer.Nak), s) else gave s (by.Bulk e) max (in_end s e).state.toggle
-      (take most (rest_of s e)) t2 t3)
-  by_law i true none fits same whole t3 h k l q c = λ on. refused h
-  by_law i false true fits same whole t3 h k l q c =
-      λ on. empty h (drop-empty (in_end s e).place s.spec.source k)
-  by_law i false false true true whole t3 h k l q c =
-      rw (l, q, i.endpoint) (λ on. moved (packed (take most (rest_of s e))) (is_whole t3) h on)
-  by_law i false false true false whole t3 h k l q c =
-      rw (l, q, i.endpoint) (λ on. again (is_whole t3) h q (λ d. ap is_whole (c d).1) on)
-  by_law i false false false same whole t3 h k l q c =
-      rw l (λ on. unheard (λ d. (h, λ m. false_true (sym l ∙ short most max (rest_of s e) m))))
-  by_law i halted none fits same t2 t3 h k l q c = λ on. unheard (λ d. cc (c d).0)
+      → Fits (if waits then (heard t2 (Some answer.Nak), in_hesitates s e)
+      else gave s (by.Bulk e) max (in_end s e).state.toggle bytes t2 t3)
+  gives i bytes is true fits same whole t3 h n l q c =
+      λ on. hesitates h (grind (arith, nat_tests, n))
+  gives i bytes is true fits same t2 t3 h n l q c =
+      λ on. lost_nak (λ d. cc (c d).0) h (grind (arith, nat_tests, n))
+  gives i bytes is false true true whole t3 h n l q c =
+      rw (l, q, i.endpoint) (λ on. moved (packed bytes) (is_whole t3) h on)
+  gives i bytes is false true false whole t3 h n l q c =
+      rw (l, q, i.endpoint) (λ on. again (is_whole t3) h (grind (arith, nat_tests, n)) q
+      (λ d. ap is_whole (c d).1) on)
+  gives i bytes is false false same whole t3 h n l q c = rw l (λ on. unheard (λ d. (
+    h,
+    λ m. absurd (grind (arith, nat_tests, l, m (in_end s e).place bytes is)),
+  )))
+  gives i bytes is false fits same t2 t3 h n l q c = λ on. unheard (λ d. cc (c d).0)
+
+  by_packet : IsSource e most s → (next : Option (List ℕ))
+      → next_packet s e most (in_end s e).place ≡ next → (t2 t3 : Way)
+      → (in_end s e).state.halted ≡ false → (Clear → (t2 ≡ whole) × (t3 ≡ whole))
+      → Fits (given_law s e next max t2 t3)
+  by_packet i None is whole t3 h c = λ on. empty h is
+  by_packet i None is t2 t3 h c = λ on. unheard (λ d. cc (c d).0)
+  by_packet i (Some bytes) is t2 t3 h c = gives i bytes is (nat_lt 0 (in_end s e).pace.naks)
+      (nat_le (length bytes) max) (is_same awaited (in_end s e).state.toggle) t2 t3 h refl refl
+      refl c
+
+  by_law : IsSource e most s → (halted : Bool) (t2 t3 : Way) → (in_end s e).state.halted ≡ halted
+      → (Clear → (t2 ≡ whole) × (t3 ≡ whole))
+      → Fits (if halted then (heard t2 (Some answer.Stall), s) else given_law s e
+      (next_packet s e most (in_end s e).place) max t2 t3)
+  by_law i true whole t3 h c = λ on. refused h
+  by_law i true t2 t3 h c = λ on. unheard (λ d. cc (c d).0)
+  by_law i false t2 t3 h c =
+      by_packet i (next_packet s e most (in_end s e).place) refl t2 t3 h c
 
   gave_in : IsSource e most s → (row : List PortState) (t1 t2 t3 : Way)
       → (Clear → (t1 ≡ whole) × (t2 ≡ whole) × (t3 ≡ whole)) → Fits (in_law s row e max t1 t2 t3)
   gave_in i row whole t2 t3 c =
       rw (bulk_law_is e most s i row max t2 t3)
-      (by_law i (in_end s e).state.halted (length (rest_of s e) == 0)
-      (nat_le (length (take most (rest_of s e))) max) (is_same awaited (in_end s e).state.toggle)
-      t2 t3
-      refl refl refl refl (λ d. ((c d).1, (c d).2)))
+      (by_law i (in_end s e).state.halted t2 t3 refl (λ d. ((c d).1, (c d).2)))
   gave_in i row t1 t2 t3 c = λ on. unheard (λ d. cc (c d).0)
 
 pub source_kept : (ep most : ℕ) (s u : State) → OnlySource ep s u → IsSource ep most s
@@ -137,8 +193,9 @@ abbrev SourceLeft : ℕ → ℕ → Toggle → Result (List ℕ) TransFault → 
 SourceLeft e most awaited result s v =
     OnlySource e s v × ((n : ℕ) → 1 ≤ most → SourceAt e most n awaited s
     → SourceEnds e most n awaited s result v)
-    × (result ≡ Err Stalled → ((in_end s e).state.halted ≡ true) × (v ≡ s))
+    × (result ≡ Err Stalled → (in_end v e).state.halted ≡ true)
     × ((in_end s e).state.halted ≡ true → (v ≡ s) × ((bytes : List ℕ) → result ≡ Ok bytes → ⊥))
+    × (IsPrompt (in_end s e).pace → IsPrompt (in_end v e).pace)
 
 source_ends_stepped : (e most n : ℕ) (awaited : Toggle) (s : State)
     (result : Result (List ℕ) TransFault) (v : State)
@@ -148,42 +205,78 @@ source_ends_stepped e most n awaited s (Err (Bus fault)) v (none_came x) = none_
 source_ends_stepped e most n awaited s (Err (Bus fault)) v (one_came x) = one_came x
 source_ends_stepped e most n awaited s _ v x = x
 
+source_ends_hesitates : (e most n : ℕ) (awaited : Toggle) (s : State)
+    (result : Result (List ℕ) TransFault) (v : State)
+    → SourceEnds e most n awaited (in_hesitates s e) result v
+    → SourceEnds e most n awaited s result v
+source_ends_hesitates e most n awaited s (Err (Bus fault)) v (none_came x) = none_came x
+source_ends_hesitates e most n awaited s (Err (Bus fault)) v (one_came x) = one_came x
+source_ends_hesitates e most n awaited s _ v x = x
+
+after_nak : (e most : ℕ) (awaited : Toggle) (s : State) (result : Result (List ℕ) TransFault)
+    → (in_end s e).state.halted ≡ false → (v : State)
+    → SourceLeft e most awaited result (in_hesitates s e) v → SourceLeft e most awaited result s v
+after_nak e most awaited s result f v l = (
+  only_then e s (in_hesitates s e) v (only_hesitates e s) l.0,
+  λ m one at. source_ends_hesitates e most m awaited s result v (l.1 m one (hesitates_at s at)),
+  l.2,
+  λ c. false_true (sym f ∙ c),
+  λ x. l.4 (hesitates_prompt e s x),
+)
+
 module _ {e most max : ℕ} {awaited : Toggle} {Clear : Type 0} {s : State} where
   kept : {h : HeardOutcome} {v : State} → SourceGave e most max awaited Clear s h v
-      → OnlySource e s v
-      × ((in_end s e).state.halted ≡ true → v ≡ s)
-  kept (moved b true f on) = (only_stepped e most s, λ c. false_true (sym f ∙ c))
-  kept (again true f q c on) = (only_stepped e most s, λ c. false_true (sym f ∙ c))
-  kept g = (only_same e s, λ c. refl)
+      → OnlySource e s v × ((in_end s e).state.halted ≡ true → v ≡ s)
+      × (IsPrompt (in_end s e).pace → IsPrompt (in_end v e).pace)
+  kept (moved b true f on) =
+      (only_stepped e most s, λ c. false_true (sym f ∙ c), stepped_prompt e most s)
+  kept (again true f n q c on) =
+      (only_stepped e most s, λ c. false_true (sym f ∙ c), stepped_prompt e most s)
+  kept (hesitates f n) = (only_hesitates e s, λ c. false_true (sym f ∙ c), hesitates_prompt e s)
+  kept (lost_nak d f n) = (only_hesitates e s, λ c. false_true (sym f ∙ c), hesitates_prompt e s)
+  kept g = (only_same e s, λ c. refl, λ x. x)
 
   -- an attempt that does not end the transaction, and the rest of it
   before : {h : HeardOutcome} {u : State} (result : Result (List ℕ) TransFault)
       → SourceGave e most max awaited Clear s h u → IsNoEnd h → (v : State)
       → SourceLeft e most awaited result u v → SourceLeft e most awaited result s v
   before result (moved b came f on) n v l = elim n [ ]
-  before result (again true f q c on) n v l = (
+  before result (again true f w q c on) n v l = (
     only_then e s (stepped e most s true) v (only_stepped e most s) l.0,
     λ m one at. source_ends_stepped e most m awaited s result v (l.1 m one (on m one at)),
-    λ r. false_true (sym f ∙ ap (λ x. x.state.halted) (sym (stepped_end e most s)) ∙ (l.2 r).0),
+    l.2,
     λ c. false_true (sym f ∙ c),
+    λ x. l.4 (stepped_prompt e most s x),
   )
+  before result (hesitates f w) n v l = after_nak e most awaited s result f v l
+  before result (lost_nak d f w) n v l = after_nak e most awaited s result f v l
   before result g n v l = l
 
   cut : {h : HeardOutcome} {v : State} → SourceGave e most max awaited Clear s h v → (n : ℕ)
       → 1 ≤ most → SourceAt e most n awaited s → SourceCut e most n awaited s v
-  cut (moved b came f on) n m at = one_came (on n m at).2
-  cut (again came f q c on) n m at = none_came (on n m at)
+  cut (moved b came f on) n m at = one_came (on n m at).1
+  cut (again came f w q c on) n m at = none_came (on n m at)
+  cut (hesitates f w) n m at = none_came (hesitates_at s at)
+  cut (lost_nak d f w) n m at = none_came (hesitates_at s at)
   cut g n m at = none_came at
 
   came_in : {bytes : List ℕ} {v : State}
       → SourceGave e most max awaited Clear s (Moved (packed bytes)) v
       → SourceLeft e most awaited (Ok bytes) s v
-  came_in (moved b true f on) = (only_stepped e most s, on, λ e. cc e, λ c. false_true (sym f ∙ c))
-  came_in (moved b false f on) = (only_same e s, on, λ e. cc e, λ c. false_true (sym f ∙ c))
+  came_in (moved b true f on) = (
+    only_stepped e most s,
+    on,
+    λ e. cc e,
+    λ c. false_true (sym f ∙ c),
+    stepped_prompt e most s,
+  )
+  came_in (moved b false f on) =
+      (only_same e s, on, λ e. cc e, λ c. false_true (sym f ∙ c), λ x. x)
 
   stalls_in : {v : State} → SourceGave e most max awaited Clear s Refused v
       → SourceLeft e most awaited (Err Stalled) s v
-  stalls_in (refused f) = (only_same e s, λ n m at. at, λ r. (f, refl), λ c. (refl, λ b r. cc r))
+  stalls_in (refused f) =
+      (only_same e s, λ n m at. at, λ r. f, λ c. (refl, λ b r. cc r), λ x. x)
 
   ended_in : (result : Result (List ℕ) TransFault) (o : Outcome) (outcomes : List Outcome)
       {v : State} → SourceGave e most max awaited Clear s (heard_as awaited o) v
@@ -193,22 +286,26 @@ module _ {e most max : ℕ} {awaited : Toggle} {Clear : Type 0} {s : State} wher
   ended_in (Err Stalled) o outcomes {v} g is =
       stalls_in (subst (λ x. SourceGave e most max awaited Clear s (heard_as awaited x) v) is g)
   ended_in (Err (Bus fault)) o outcomes g is =
-      ((kept g).0, cut g, λ e. cc e, λ c. ((kept g).1 c, λ b e. cc e))
+      let k = kept g in
+      (k.0, cut g, λ e. cc e, λ c. (k.1 c, λ b e. cc e), k.2)
   ended_in result o outcomes {v} g is = before result g is.0 v (
     only_same e v,
     λ n m at. at,
     λ e. cc e,
     λ c. (refl, λ b e. cc e),
+    λ x. x,
   )
 
   unheard_in : {v : State} → SourceGave e most max awaited Clear s Lost v → Clear
-      → ((in_end s e).state.halted ≡ false) × (most ≤ max → ⊥)
+      → ((in_end s e).state.halted ≡ false) × (GivesWithin max e most s → ⊥)
   unheard_in (unheard c) = c
+  unheard_in (lost_nak d f n) = λ c. absurd (d c)
 
   no_waits_in : {h : HeardOutcome} {v : State} → SourceGave e most max awaited Clear s h v
       → (in_end s e).state.halted ≡ true → (n : ℕ) → waits_with h n + 0 ≤ n + 0
   no_waits_in (empty f e) c n = false_true (sym f ∙ c)
-  no_waits_in (again came f q d on) c n = false_true (sym f ∙ c)
+  no_waits_in (hesitates f w) c n = false_true (sym f ∙ c)
+  no_waits_in (again came f w q d on) c n = false_true (sym f ∙ c)
   no_waits_in g c n = omega arith
 
   -- it goes on listening
@@ -259,6 +356,7 @@ module _ (t : Target) (ep : ℕ) (awaited : Toggle) where
     source = λ h most n i. (left h most i).1 n;
     stalled = λ h most i. (left h most i).2;
     halted = λ h most i. (left h most i).3;
+    paced = λ h most i. (left h most i).4;
   }
     where
       away : is_at s t ≡ false → v ≡ s
@@ -290,8 +388,13 @@ source_leaves t ep awaited result old new settled x single =
     each_device _ (SourceIn t ep awaited result) old new
     (source_in t ep awaited result (IsOfBus result)
     (λ most v gave. of_bus (λ r. SourceLeft ep most awaited r v v)
-    (λ fault. (only_same ep v, λ n m at. none_came at, λ e. cc e, λ c. (refl, λ b e. cc e))) result
-    gave) old new)
+    (λ fault. (
+      only_same ep v,
+      λ n m at. none_came at,
+      λ e. cc e,
+      λ c. (refl, λ b e. cc e),
+      λ x. x,
+    )) result gave) old new)
     (over_in t ep old new settled single (heard_as awaited) result x)
 
 pub source_over : (t : Target) (ep : ℕ) (awaited : Toggle) (result : Result (List ℕ) TransFault)
@@ -311,8 +414,13 @@ source_between t ep awaited outcomes old now settled trail onward single =
     (λ j s v run.
     let x : SourceIn t ep awaited (Err NoAnswer) j s v =
     source_in t ep awaited (Err NoAnswer) (Unit {0})
-    (λ most y gave. (only_same ep y, λ n m at. at, λ e. cc e, λ c. (refl, λ b e. cc e)))
-    old now j s v
+    (λ most y gave. (
+      only_same ep y,
+      λ n m at. at,
+      λ e. cc e,
+      λ c. (refl, λ b e. cc e),
+      λ x. x,
+    )) old now j s v
     (stopped tt run onward) in
     record { others = x.others; frame = x.frame; source = x.source })
     (over_in_trail t ep old now settled single trail)
@@ -320,66 +428,113 @@ source_between t ep awaited outcomes old now settled trail onward single =
 -- Why it fails
 
 module _ (t : Target) (ep : ℕ) (awaited : Toggle) (old : World) (three : NoThreeDamaged old) where
-  -- it is level, or it is behind, and then all attempts were damaged
+  -- level with the host it has some NAKs to give; behind it, it gives them first, and then its
+  -- packet again, of which each time the ACK is damaged
   data Stands (most had n : ℕ) (w : World) (u : State) : Type 0 where
-    even : (in_end u ep).place ≡ had → (in_end u ep).state.toggle ≡ awaited → n ≤ 3
+    even : (in_end u ep).place ≡ had → (in_end u ep).state.toggle ≡ awaited
+        → n + (in_end u ep).pace.naks ≤ 203 → Stands most had n w u
+    behind : had ≡ next_place u ep most (in_end u ep).place
+        → is_some (next_packet u ep most (in_end u ep).place) ≡ true
+        → (in_end u ep).state.toggle ≡ other awaited → (k : ℕ)
+        → LostRun old.damages k w.attempts → ((in_end u ep).pace.naks ≡ 0) ⊎ (k ≡ 0)
+        → n + (in_end u ep).pace.naks ≤ k + 100 → (in_end u ep).pace.each ≤ 100
         → Stands most had n w u
-    behind : had ≡ advanced (in_end u ep).place most (length u.spec.source)
-        → (in_end u ep).place < length u.spec.source
-        → (in_end u ep).state.toggle ≡ other awaited
-        → (k : ℕ) → LostRun old.damages k w.attempts → n ≤ k → Stands most had n w u
 
   first_stands : (most had : ℕ) (s : State) → SourceAt ep most had awaited s
-      → Stands most had 0 old s
-  first_stands most had s (level g q) = even g q (omega arith)
-  first_stands most had s (ahead g p q) = behind g p q 0 (lost_run_none old.damages old.attempts)
-      (omega arith)
+      → IsPrompt (in_end s ep).pace → Stands most had 0 old s
+  first_stands most had s (level g q) x = even g q (omega (arith, x.0))
+  first_stands most had s (ahead g p q) x =
+      behind g p q 0 (lost_run_none old.damages old.attempts) (inr refl) (omega (arith, x.0)) x.1
 
   never : (most had n : ℕ) (w : World) (u : State) → Stands most had n w u → n ≡ 256 → ⊥
   never most had n w u (even g q few) e = omega (arith, few, e)
-  never most had n w u (behind g p q k ran few) e =
+  never most had n w u (behind g p q k ran or few each) e =
       omega (arith, few, e, run_short old k w.attempts three ran)
+
+  none_there : {o : Option (List ℕ)} {P : Type 0} → o ≡ None → is_some o ≡ true → P
+  none_there {o} n s = absurd (cc (ap is_some (sym n) ∙ s))
+
+  -- after a NAK
+  waited_stands : {most had n : ℕ} {w v : World} {u : State} (m : ℕ)
+      → m ≤ n + 1 → 1 ≤ (in_end u ep).pace.naks → Stands most had n w u
+      → Stands most had m v (in_hesitates u ep)
+  waited_stands {most} {had} {n} {w} {v} {u} m less one (even g q few) = even
+      (ap (λ (x : InEnd). x.place) (hesitates_end ep u) ∙ g)
+      (ap (λ (x : InEnd). x.state.toggle) (hesitates_end ep u) ∙ q)
+      (subst (λ (x : InEnd). m + x.pace.naks ≤ 203) (sym (hesitates_end ep u))
+      (omega (arith, few, one, less)))
+  waited_stands {most} {had} {n} {w} {v} {u} m less one (behind g p q k ran or few each) = behind
+      (g ∙ ap (λ (x : InEnd). next_place u ep most x.place) (sym (hesitates_end ep u)))
+      (ap (λ (x : InEnd). is_some (next_packet u ep most x.place)) (hesitates_end ep u) ∙ p)
+      (ap (λ (x : InEnd). x.state.toggle) (hesitates_end ep u) ∙ q)
+      0 (lost_run_none old.damages v.attempts) (inr refl)
+      (subst (λ (x : InEnd). m + x.pace.naks ≤ 100) (sym (hesitates_end ep u)) (no_run or))
+      (subst (λ (x : InEnd). x.pace.each ≤ 100) (sym (hesitates_end ep u)) each)
+    where
+      no_run : ((in_end u ep).pace.naks ≡ 0) ⊎ (k ≡ 0)
+          → m + (hesitated (in_end u ep).pace).naks ≤ 100
+      no_run (inl none) = absurd (omega (arith, none, one))
+      no_run (inr zero) = omega (arith, few, zero, one, less)
+
+  -- a damaged attempt that left the device as it was
+  damaged_stands : {most had n : ℕ} {w : World} {u : State} {outcomes : List Outcome}
+      → AttemptLog (a_in t ep awaited) old outcomes w
+      → Made w (after (attempt (a_in t ep awaited)) w) → (damage_in w ≢ None)
+      → Stands most had n w u → Stands most had n (after (attempt (a_in t ep awaited)) w) u
+  damaged_stands trail made d (even g q few) = even g q few
+  damaged_stands trail made d (behind g p q k ran (inl none) few each) =
+      behind g p q (k + 1) (damaged_more trail made k d ran) (inl none) (omega (arith, few)) each
+  damaged_stands {w = w} trail made d (behind g p q k ran (inr zero) few each) =
+      behind g p q 0 (lost_run_none old.damages (after (attempt (a_in t ep awaited)) w).attempts)
+      (inr refl) (omega (arith, few, zero)) each
 
   next_stands : {most : ℕ} {Clear : Type 0} {u v : State} {h : HeardOutcome} (had n : ℕ) (w : World)
       {outcomes : List Outcome} → AttemptLog (a_in t ep awaited) old outcomes w
       → Made w (after (attempt (a_in t ep awaited)) w)
-      → (damage_in w ≡ None → Clear) → most ≤ t.max → had < length u.spec.source
+      → (damage_in w ≡ None → Clear) → GivesWithin t.max ep most u
+      → is_some (next_packet u ep most had) ≡ true
       → SourceGave ep most t.max awaited Clear u h v → IsNoEnd h → Stands most had n w u
       → Stands most had (waits_with h n) (after (attempt (a_in t ep awaited)) w) v
-  next_stands had n w trail made c m left (unheard d) z (even g q few) = even g q few
-  next_stands had n w trail made c m left (unheard d) z (behind g p q k ran few) =
-      behind g p q (k + 1) (damaged_more trail made k (λ x. (d (c x)).1 m) ran) (omega (arith, few))
-  next_stands had n w trail made c m left (empty f d) z (even g q few) =
-      absurd (omega (arith, g, d, left))
-  next_stands had n w trail made c m left (empty f d) z (behind g p q k ran few) =
-      absurd (omega (arith, p, d))
-  next_stands had n w trail made c m left (again came f r d on) z (even g q few) =
+  next_stands had n w trail made c m left (unheard d) z y =
+      damaged_stands trail made (λ x. (d (c x)).1 m) y
+  next_stands had n w trail made c m left (lost_nak d f one) z y = waited_stands n (omega arith) one y
+  next_stands had n w trail made c m left (hesitates f one) z y =
+      waited_stands (n + 1) (omega arith) one y
+  next_stands {most} {u = u} had n w trail made c m left (empty f d) z (even g q few) =
+      none_there (ap (next_packet u ep most) (sym g) ∙ d) left
+  next_stands had n w trail made c m left (empty f d) z (behind g p q k ran or few each) =
+      none_there d p
+  next_stands had n w trail made c m left (again came f none r d on) z (even g q few) =
       false_true (sym r ∙ ap (is_same awaited) q ∙ is_same-refl awaited)
-  next_stands {most} {u = u} had n w trail made c m left (again true f r d on) z
-      (behind g p q k ran few) =
+  next_stands {most} {u = u} had n w trail made c m left (again true f none r d on) z
+      (behind g p q k ran or few each) =
       even (ap (λ x. x.place) (stepped_end ep most u) ∙ sym g)
       (ap (λ x. x.state.toggle) (stepped_end ep most u) ∙ ap other q ∙ other-other awaited)
-      (omega (arith, few, run_short old k w.attempts three ran))
-  next_stands had n w trail made c m left (again false f r d on) z (behind g p q k ran few) =
-      behind g p q (k + 1) (damaged_more trail made k (λ x. false_true (d (c x))) ran)
-      (omega (arith, few))
+      (subst (λ (x : InEnd). n + 1 + x.pace.naks ≤ 203) (sym (stepped_end ep most u))
+      (omega (arith, few, each, run_short old k w.attempts three ran)))
+  next_stands had n w trail made c m left (again false f none r d on) z
+      (behind g p q k ran or few each) =
+      behind g p q (k + 1) (damaged_more trail made k (λ x. false_true (d (c x))) ran) (inl none)
+      (omega (arith, few)) each
   next_stands had n w trail made c m left _ z y = elim z [ ]
 
   waits_few : (new : World) (j : Location) (s v : State) (most had : ℕ) → Listens t j s
-      × IsSource ep most s → SourceAt ep most had awaited s → most ≤ t.max
-      → had < length s.spec.source
+      × IsSource ep most s → SourceAt ep most had awaited s → GivesWithin t.max ep most s
+      → is_some (next_packet s ep most had) ≡ true → IsPrompt (in_end s ep).pace
       → Ran t ep awaited (IsOfBus {A = List ℕ} (Err Busy)) (Err Busy) old new j s v → ⊥
   unfolding waits_in
-  waits_few new j s v most had is at m left x =
+  waits_few new j s v most had is at m left prompt x =
       at_end (heard_as awaited) (λ outcomes w u. (Listens t j u × IsSource ep most u)
-      × (had < length u.spec.source) × Stands most had (waits_in (heard_as awaited) outcomes)
-      w u) (is, left, first_stands most had s at)
+      × (GivesWithin t.max ep most u × (is_some (next_packet u ep most had) ≡ true))
+      × Stands most had (waits_in (heard_as awaited) outcomes) w u)
+      (is, (m, left), first_stands most had s at prompt)
       (λ outcomes w u y trail made so d n.
       let g = did_in t ep awaited most w j u y d so.0.0.at so.0.1 in (
         stays_in t g so.0,
-        subst (λ z. had < length z.source) (sym (ap (λ z. z.spec) (kept g).0.rest)) so.1,
+        subst (λ (z : State). GivesWithin t.max ep most z
+            × (is_some (next_packet z ep most had) ≡ true)) (sym (kept g).0.rest) so.1,
         next_stands had (waits_in (heard_as awaited) outcomes) w trail made
-            (λ e. (e, so.0.0)) m so.1 g n so.2,
+            (λ e. (e, so.0.0)) so.1.0 so.1.1 g n so.2,
       ))
       (λ y. ⊥) v
       (λ outcomes w u trail so d is told.
@@ -387,7 +542,7 @@ module _ (t : Target) (ep : ℕ) (awaited : Toggle) (old : World) (three : NoThr
       never most had (waits_in (heard_as awaited) (outcome_in (in_attempt t ep) w ∷ outcomes))
       (after (attempt (in_attempt t ep)) w) v
       (next_stands had (waits_in (heard_as awaited) outcomes) w trail (told (λ e. e tt)).0
-      (λ e. (e, so.0.0)) m so.1 g is.0 so.2) is.1)
+      (λ e. (e, so.0.0)) so.1.0 so.1.1 g is.0 so.2) is.1)
       (λ gave outcomes w so. gave tt) x
 
   abbrev IsHalted : ℕ → Location → State → Type 0
@@ -398,15 +553,19 @@ module _ (t : Target) (ep : ℕ) (awaited : Toggle) (old : World) (three : NoThr
       → SourceInFailure t ep awaited result j s v
   why_in result new j s v x = record {
     answered = λ l most n i at m e.
-        heeded (λ u. Listens t j u × IsSource ep most u)
-        (λ w u y d z is. stays_in t (did_in t ep awaited most w j u y d is.0.at is.1) is)
-        (l, i) three
+        heeded (λ u. (Listens t j u × IsSource ep most u) × GivesWithin t.max ep most u)
+        (λ w u y d z is.
+        let g = did_in t ep awaited most w j u y d is.0.0.at is.0.1 in (
+          stays_in t g is.0,
+          subst (λ (z : State). GivesWithin t.max ep most z) (sym (kept g).0.rest) is.1,
+        ))
+        ((l, i), m) three
         (λ w u y d is none f. (unheard_in
         (subst (λ h. SourceGave ep most t.max awaited ((damage_in w ≡ None) × Listens t j u) u
-        h y) f (did_in t ep awaited most w j u y d is.0.at is.1)) (none, is.0)).1 m)
+        h y) f (did_in t ep awaited most w j u y d is.0.0.at is.0.1)) (none, is.0.0)).1 is.1)
         (as_result e);
-    waited = λ l most n i one at m left e. waits_few new j s v most n (l, i) at m left
-        (as_result e);
+    waited = λ l most n i one at m left prompt e.
+        waits_few new j s v most n (l, i) at m left prompt (as_result e);
     halted = λ l most i c. (
       λ e. heeded (IsHalted most j) (halted_stays most) (l, i, c) three
           (λ w u y d is none f. false_true
@@ -443,9 +602,70 @@ source_why t ep awaited result old new settled three e single =
 not_long : (most : ℕ) (xs : List ℕ) → length xs ≤ most → nat_lt most (length xs) ≡ false
 not_long most xs m = grind (arith, nat_tests)
 
+-- the endpoint after a packet that joined
+abbrev end_taken : ℕ → List ℕ → State → OutEnd
+end_taken e bytes s = taken_on (out_halts s e) bytes (out_end s e)
+
 sunk_end : (e : ℕ) (bytes : List ℕ) (s : State)
-    → out_end (sunk s e bytes) e ≡ taken_on bytes (out_end s e)
-sunk_end e bytes s = at_same no_out e (taken_on bytes (out_end s e)) s.outs
+    → out_end (sunk s e bytes) e ≡ end_taken e bytes s
+sunk_end e bytes s = at_same no_out e (end_taken e bytes s) s.outs
+
+-- after a NAK
+abbrev out_hesitated : ℕ → State → OutEnd
+out_hesitated e s = record (out_end s e) { pace = hesitated (out_end s e).pace }
+
+out_hesitates_end : (e : ℕ) (s : State) → out_end (out_hesitates s e) e ≡ out_hesitated e s
+out_hesitates_end e s = at_same no_out e (out_hesitated e s) s.outs
+
+out_hesitates_prompt : (e : ℕ) (s : State) → IsPrompt (out_end s e).pace
+    → IsPrompt (out_end (forgotten (out_hesitates s e)) e).pace
+out_hesitates_prompt e s x = subst (λ (y : OutEnd). IsPrompt y.pace) (sym (out_hesitates_end e s))
+    (omega (arith, x.0), x.1)
+
+sunk_prompt : (e : ℕ) (bytes : List ℕ) (s : State) → IsPrompt (out_end s e).pace
+    → IsPrompt (out_end (forgotten (sunk s e bytes)) e).pace
+sunk_prompt e bytes s x =
+    subst (λ (y : OutEnd). IsPrompt y.pace) (sym (sunk_end e bytes s)) (x.1, x.1)
+
+only_out_hesitates : (e : ℕ) (s : State) → OnlySink e s (forgotten (out_hesitates s e))
+only_out_hesitates e s = record {
+  rest = refl;
+  others = λ a h. at_other no_out e a (out_hesitated e s) s.outs h;
+}
+
+out_hesitates_at : {e : ℕ} {before bytes : List ℕ} {t : Toggle} (s : State)
+    → SinkAt e before bytes t s → SinkAt e before bytes t (forgotten (out_hesitates s e))
+out_hesitates_at {e} s (level g q) = level
+    (ap (λ (x : OutEnd). x.sink) (out_hesitates_end e s) ∙ g)
+    (ap (λ (x : OutEnd). x.state.toggle) (out_hesitates_end e s) ∙ q)
+out_hesitates_at {e} s (ahead g q) = ahead
+    (ap (λ (x : OutEnd). x.sink) (out_hesitates_end e s) ∙ g)
+    (ap (λ (x : OutEnd). x.state.toggle) (out_hesitates_end e s) ∙ q)
+
+-- the NAKs that are left for a packet with this toggle: none for one that has joined
+abbrev naks_left : ℕ → Toggle → State → ℕ
+naks_left e t s = if is_same t (out_end s e).state.toggle then (out_end s e).pace.naks else 0
+
+sunk_none_left : (e : ℕ) (bytes : List ℕ) (t : Toggle) (s : State)
+    → is_same t (out_end s e).state.toggle ≡ true
+    → naks_left e t (forgotten (sunk s e bytes)) ≡ 0
+sunk_none_left e bytes t s h =
+    subst (λ (y : OutEnd). (if is_same t y.state.toggle then y.pace.naks else 0) ≡ 0)
+    (sym (sunk_end e bytes s)) (by_toggle t (out_end s e).state.toggle h)
+  where
+    by_toggle : (a b : Toggle) → is_same a b ≡ true
+        → (if is_same a (other b) then (out_end s e).pace.each else 0) ≡ 0
+    by_toggle Zero Zero h = refl
+    by_toggle One One h = refl
+    by_toggle Zero One h = cc h
+    by_toggle One Zero h = cc h
+
+hesitates_fewer_left : (e : ℕ) (t : Toggle) (s : State) → 1 ≤ (out_end s e).pace.naks
+    → is_same t (out_end s e).state.toggle ≡ true
+    → 1 + naks_left e t (forgotten (out_hesitates s e)) ≤ naks_left e t s
+hesitates_fewer_left e t s one h =
+    subst (λ (y : OutEnd). 1 + (if is_same t y.state.toggle then y.pace.naks else 0)
+    ≤ naks_left e t s) (sym (out_hesitates_end e s)) (rw h (omega (arith, one)))
 
 only_forgotten : (e : ℕ) (s : State) → OnlySink e s (forgotten s)
 only_forgotten e s = record { rest = refl; others = λ a h. refl }
@@ -456,7 +676,7 @@ sink_same e s = record { rest = refl; others = λ a h. refl }
 only_sunk : (e : ℕ) (bytes : List ℕ) (s : State) → OnlySink e s (forgotten (sunk s e bytes))
 only_sunk e bytes s = record {
   rest = refl;
-  others = λ a h. at_other no_out e a (taken_on bytes (out_end s e)) s.outs h;
+  others = λ a h. at_other no_out e a (end_taken e bytes s) s.outs h;
 }
 
 sink_then : (e : ℕ) (s u v : State) → OnlySink e s u → OnlySink e u v → OnlySink e s v
@@ -493,6 +713,8 @@ behind_it x = ahead x.sink x.toggle
 abbrev SinkStays : ℕ → Toggle → List ℕ → State → State → Type 0
 SinkStays e t bytes s v = OnlySink e s v × ((before : List ℕ) → SinkAt e before bytes t s
     → SinkAt e before bytes t v) × ((out_end s e).state.halted ≡ true → forgotten s ≡ s → v ≡ s)
+    × (IsPrompt (out_end s e).pace → IsPrompt (out_end v e).pace)
+    × (naks_left e t v ≤ naks_left e t s)
 
 -- what the host hears of an attempt, and what is left of the endpoint
 data Took (e most : ℕ) (t : Toggle) (bytes : List ℕ) (Clear : Type 0) (s : State) : HeardOutcome
@@ -500,9 +722,12 @@ data Took (e most : ℕ) (t : Toggle) (bytes : List ℕ) (Clear : Type 0) (s : S
   unheard : (v : State) → (Clear → length bytes ≤ most → ⊥) → SinkStays e t bytes s v
       → Took e most t bytes Clear s Lost v
   refused : (out_end s e).state.halted ≡ true → Took e most t bytes Clear s Refused (forgotten s)
+  hesitates : (v : State) → SinkStays e t bytes s v → 1 + naks_left e t v ≤ naks_left e t s
+      → Took e most t bytes Clear s NotReady v
   acked : {b : ArrayVec ℕ} (v : State) → (out_end s e).state.halted ≡ false → OnlySink e s v
       → ((before : List ℕ) → SinkAt e before bytes t s → Joined e before bytes t v)
-      → Took e most t bytes Clear s (Moved b) v
+      → (IsPrompt (out_end s e).pace → IsPrompt (out_end v e).pace)
+      → naks_left e t v ≤ naks_left e t s → Took e most t bytes Clear s (Moved b) v
 
 module _ (e most max : ℕ) (s : State) (i : IsSink e most s) (t : Toggle) (bytes : List ℕ)
     (Clear : Type 0) where
@@ -510,24 +735,66 @@ module _ (e most max : ℕ) (s : State) (i : IsSink e most s) (t : Toggle) (byte
   Answers t3 q = Took e most t bytes Clear s (heard_when_sent (got max (heard t3 q.0)))
       (forgotten q.1)
 
+  nothing_left : naks_left e t (forgotten s) ≤ naks_left e t s
+  nothing_left = omega arith
+
+  hesitates_stays : (out_end s e).state.halted ≡ false → 1 ≤ (out_end s e).pace.naks
+      → is_same t (out_end s e).state.toggle ≡ true
+      → SinkStays e t bytes s (forgotten (out_hesitates s e))
+  hesitates_stays h one k = (
+    only_out_hesitates e s,
+    λ before at. out_hesitates_at s at,
+    λ g f. false_true (sym h ∙ g),
+    out_hesitates_prompt e s,
+    omega (arith, hesitates_fewer_left e t s one k),
+  )
+
+  sunk_stays : (out_end s e).state.halted ≡ false
+      → is_same t (out_end s e).state.toggle ≡ true
+      → SinkStays e t bytes s (forgotten (sunk s e bytes))
+  sunk_stays h k = (
+    only_sunk e bytes s,
+    λ before at. behind_it (joins k at),
+    λ g f. false_true (sym h ∙ g),
+    sunk_prompt e bytes s,
+    omega (arith, sunk_none_left e bytes t s k),
+  )
+
+  by_naks : (waits : Bool) (t3 : Way) → nat_lt 0 (out_end s e).pace.naks ≡ waits
+      → (out_end s e).state.halted ≡ false → is_same t (out_end s e).state.toggle ≡ true
+      → (Clear → t3 ≡ whole)
+      → Answers t3 (if waits then (Some answer.Nak, out_hesitates s e)
+      else (Some answer.Ack, sunk s e bytes))
+  by_naks true whole n h k c = let one : 1 ≤ (out_end s e).pace.naks =
+      grind (arith, nat_tests, n) in
+      hesitates _ (hesitates_stays h one k) (hesitates_fewer_left e t s one k)
+  by_naks true t3 n h k c =
+      unheard _ (λ d. cc (c d)) (hesitates_stays h (grind (arith, nat_tests, n)) k)
+  by_naks false whole n h k c = acked _ h (only_sunk e bytes s) (λ before at. joins k at)
+      (sunk_prompt e bytes s) (omega (arith, sunk_none_left e bytes t s k))
+  by_naks false t3 n h k c = unheard _ (λ d. cc (c d)) (sunk_stays h k)
+
+  forgotten_stays : SinkStays e t bytes s (forgotten s)
+  forgotten_stays = (
+    only_forgotten e s,
+    λ before at. sink_at_forgotten at,
+    λ g f. f,
+    λ x. x,
+    nothing_left,
+  )
+
   by_row : (halted long same : Bool) (t3 : Way) → (out_end s e).state.halted ≡ halted
       → (length bytes ≤ most → long ≡ false) → is_same t (out_end s e).state.toggle ≡ same
       → (Clear → t3 ≡ whole)
       → Answers t3 (if halted then (Some answer.Stall, s) else if long then (None, s) else if same
-      then (Some answer.Ack, sunk s e bytes) else (Some answer.Ack, s))
+      then taken_row s e bytes else (Some answer.Ack, s))
   by_row true long same whole h l k c = refused h
-  by_row false true same whole h l k c = unheard _ (λ d m. false_true (sym (l m)))
-      (only_forgotten e s, λ before at. sink_at_forgotten at, λ g f. f)
-  by_row false false true whole h l k c = acked _ h (only_sunk e bytes s) (λ before at. joins k at)
+  by_row false true same whole h l k c =
+      unheard _ (λ d m. false_true (sym (l m))) forgotten_stays
+  by_row false false true t3 h l k c = by_naks (nat_lt 0 (out_end s e).pace.naks) t3 refl h k c
   by_row false false false whole h l k c = acked _ h (only_forgotten e s) (λ before at. had k at)
-  by_row false false true t3 h l k c =
-      unheard _ (λ d. cc (c d)) (
-        only_sunk e bytes s,
-        λ before at. behind_it (joins k at),
-        λ g f. false_true (sym h ∙ g),
-      )
-  by_row halted long same t3 h l k c =
-      unheard _ (λ d. cc (c d)) (only_forgotten e s, λ before at. sink_at_forgotten at, λ g f. f)
+      (λ x. x) nothing_left
+  by_row halted long same t3 h l k c = unheard _ (λ d. cc (c d)) forgotten_stays
 
   row_is : data_row s e t bytes ≡ sink_row s e most t bytes
   row_is = rw (i.not_zero, i.endpoint)
@@ -541,7 +808,7 @@ module _ (e most max : ℕ) (s : State) (i : IsSink e most s) (t : Toggle) (byte
       (is_same t (out_end s e).state.toggle) t3 refl (λ m. not_long most bytes m)
       refl (λ d. (c d).2))
   took_out t1 t2 t3 c = unheard _ (λ d. (let x = c d in cc))
-      (sink_same e s, λ before at. at, λ g f. refl)
+      (sink_same e s, λ before at. at, λ g f. refl, λ x. x, omega arith)
 
 pub sink_kept : (ep most : ℕ) (s u : State) → OnlySink ep s u → IsSink ep most s → IsSink ep most u
 sink_kept ep most s u e i = subst (λ x. IsSink ep most x) (sym e.rest)
@@ -558,21 +825,31 @@ SinkLeft e t bytes result s v =
     → SinkEnds e before bytes t result v)
     × ((out_end s e).state.halted ≡ true → forgotten s ≡ s → (v ≡ s)
     × ((done : List ℕ) → result ≡ Ok done → ⊥))
+    × (IsPrompt (out_end s e).pace → IsPrompt (out_end v e).pace)
 
 module _ {e most : ℕ} {t : Toggle} {bytes : List ℕ} {Clear : Type 0} {s : State} where
   stays_out : {h : HeardOutcome} {v : State} → Took e most t bytes Clear s h v
       → SinkStays e t bytes s v
   stays_out (unheard v c x) = x
-  stays_out (refused f) = (only_forgotten e s, λ before at. sink_at_forgotten at, λ g h. h)
-  stays_out (acked v f x on) = (
+  stays_out (hesitates v x less) = x
+  stays_out (refused f) = (
+    only_forgotten e s,
+    λ before at. sink_at_forgotten at,
+    λ g h. h,
+    λ x. x,
+    omega arith,
+  )
+  stays_out (acked v f x on prompt less) = (
     x,
     λ before at. behind_it (on before at),
     λ g. false_true (sym f ∙ g),
+    prompt,
+    less,
   )
 
   done_out : {done : List ℕ} {v : State} → Took e most t bytes Clear s (Moved (packed done)) v
       → SinkLeft e t bytes (Ok done) s v
-  done_out (acked v f x on) = (x, on, λ g. false_true (sym f ∙ g))
+  done_out (acked v f x on prompt less) = (x, on, λ g. false_true (sym f ∙ g), prompt)
 
   stalls_out : {v : State} → Took e most t bytes Clear s Refused v
       → SinkLeft e t bytes (Err Stalled) s v
@@ -580,6 +857,7 @@ module _ {e most : ℕ} {t : Toggle} {bytes : List ℕ} {Clear : Type 0} {s : St
     only_forgotten e s,
     λ before at. (sink_at_forgotten at, f),
     λ g h. (h, λ done r. cc r),
+    λ x. x,
   )
 
   ended_out : (result : Result (List ℕ) TransFault) (o : Outcome) (outcomes : List Outcome)
@@ -590,15 +868,17 @@ module _ {e most : ℕ} {t : Toggle} {bytes : List ℕ} {Clear : Type 0} {s : St
   ended_out (Err Stalled) o outcomes {v} g is =
       stalls_out (subst (λ x. Took e most t bytes Clear s (heard_when_sent x) v) is g)
   ended_out result o outcomes g is = let x = stays_out g in
-      (x.0, x.1, λ c h. (x.2 c h, λ done r. cc r))
+      (x.0, x.1, λ c h. (x.2 c h, λ done r. cc r), x.3)
 
   unheard_out : {v : State} → Took e most t bytes Clear s Lost v → Clear → length bytes ≤ most → ⊥
   unheard_out (unheard v c x) = c
 
-  no_waits_out : {h : HeardOutcome} {v : State} → Took e most t bytes Clear s h v → (n : ℕ)
-      → waits_with h n + 0 ≤ n + 0
-  no_waits_out (refused f) n = omega arith
-  no_waits_out g n = omega arith
+  few_waits_out : {h : HeardOutcome} {v : State} → Took e most t bytes Clear s h v → (n : ℕ)
+      → waits_with h n + naks_left e t v ≤ n + naks_left e t s
+  few_waits_out (unheard v c x) n = omega (arith, x.4)
+  few_waits_out (hesitates v x less) n = omega (arith, less)
+  few_waits_out (refused f) n = omega arith
+  few_waits_out (acked v f x on prompt less) n = omega (arith, less)
 
 after_stay : (e : ℕ) (t : Toggle) (bytes : List ℕ) (result : Result (List ℕ) TransFault)
     (s u v : State)
@@ -607,6 +887,7 @@ after_stay e t bytes result s u v x l = (
   sink_then e s u v x.0 l.0,
   λ before at. l.1 before (x.1 before at),
   λ c h. (rw (x.2 c h) at l).2 c h,
+  λ y. l.3 (x.3 y),
 )
 
 module _ (t : Target) (ep : ℕ) (toggle : Toggle) (bytes : List ℕ) where
@@ -639,6 +920,7 @@ module _ (t : Target) (ep : ℕ) (toggle : Toggle) (bytes : List ℕ) where
     ];
     sink = λ h most before i fits. (left h most i).1 before;
     halted = λ h most i c. (left h most i).2 c rests;
+    paced = λ h most i. (left h most i).3;
   }
     where
       away : is_at s t ≡ false → v ≡ s
@@ -678,7 +960,7 @@ sink_leaves t ep toggle bytes result old new settled x single =
     each_rests _ (SinkOut t ep toggle bytes result) old new settled
     (sink_out t ep toggle bytes result (IsOfBus result)
     (λ v gave. of_bus (λ r. SinkLeft ep toggle bytes r v v)
-    (λ fault. (sink_same ep v, λ before at. at, λ c h. (refl, λ done e. cc e))) result
+    (λ fault. (sink_same ep v, λ before at. at, λ c h. (refl, λ done e. cc e), λ x. x)) result
     gave) old new)
     (over_out t ep toggle bytes old new settled single heard_when_sent result x)
 
@@ -700,7 +982,8 @@ sink_between t ep toggle bytes outcomes old now settled trail onward single =
     (λ j s v rests run.
     let x : SinkOut t ep toggle bytes (Err NoAnswer) j s v =
     sink_out t ep toggle bytes (Err NoAnswer) (Unit {0})
-    (λ y gave. (sink_same ep y, λ before at. at, λ c h. (refl, λ done e. cc e))) old now j s v rests
+    (λ y gave. (sink_same ep y, λ before at. at, λ c h. (refl, λ done e. cc e), λ x. x))
+    old now j s v rests
     (stopped tt run onward) in
     record { others = x.others; frame = x.frame; sink = x.sink })
     (over_out_trail t ep toggle bytes old now settled single trail)
@@ -736,8 +1019,14 @@ sink_why t ep toggle bytes result old new settled three e single =
           unheard_out (subst (λ h. Took ep most toggle bytes ((damage_in w ≡ None) × Listens t j u)
           u h y) f (did_out t ep toggle bytes most w j u y d is.0.at is.1)) (none, is.0) fits)
           (subst (λ r. RanOut t ep toggle bytes (IsOfBus r) r old new j s v) e x);
-      waited = λ l most i e. spared (λ u. Listens t j u × IsSink ep most u)
-          (λ w u y d n. stays most w j u y d) (l, i) (λ u. 0)
-          (λ w u y d is n. no_waits_out (did_out t ep toggle bytes most w j u y d is.0.at is.1) n)
-          (omega arith) (subst (λ r. RanOut t ep toggle bytes (IsOfBus r) r old new j s v) e x);
+      waited = λ l most i prompt e. spared (λ u. Listens t j u × IsSink ep most u)
+          (λ w u y d n. stays most w j u y d) (l, i) (naks_left ep toggle)
+          (λ w u y d is n. few_waits_out (did_out t ep toggle bytes most w j u y d is.0.at is.1) n)
+          (few_left (is_same toggle (out_end s ep).state.toggle) prompt.0)
+          (subst (λ r. RanOut t ep toggle bytes (IsOfBus r) r old new j s v) e x);
     }
+      where
+        few_left : (same : Bool) → (out_end s ep).pace.naks ≤ 100
+            → (if same then (out_end s ep).pace.naks else 0) < 256
+        few_left true few = omega (arith, few)
+        few_left false few = omega arith

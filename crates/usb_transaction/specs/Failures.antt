@@ -1,8 +1,8 @@
 -- Why a transaction fails, where no three attempts running are damaged.
 use Rattle.usb_device.specs.{Location, tells_changes, State, ending, refused, max_packet, packet_at}
 use Rattle.usb_device.specs.{toggle_at, ReadingAt, IsSource, SourceAt, IsSink, PollAt, NeverTold}
-use Rattle.usb_device.specs.{Write, writing, in_end}
-use Rattle.std.specs.Prelude.{◌≡◌, ◌≢◌, ℕ, ◌≤◌, ◌<◌, List, length, true, false, Option, Some}
+use Rattle.usb_device.specs.{Write, writing, in_end, out_end, next_packet, GivesWithin, IsPrompt}
+use Rattle.std.specs.Prelude.{◌≡◌, ◌≢◌, ℕ, ◌≤◌, List, length, true, false, Option, Some}
 use Rattle.std.specs.Prelude.{is_some, Result, Err}
 use Rattle.usb_packet.specs.{Toggle, One}
 use Rattle.usb_world.specs.{AtMostTwoRunning, hears_attempt, World}
@@ -74,24 +74,27 @@ pub record WriteStatusFailure (t : Target) (result : Result (List ℕ) TransFaul
   pub waited : Listens t x s → (w : Write) → s.stage ≡ writing w → s.spec.busy ≡ false
       → s.naks ≤ 200 → result ≢ Err Busy
 
--- bulk IN: an endpoint answers; where it has bytes left, or is halted, it does not keep the host
--- waiting
+-- IN of an endpoint besides endpoint 0: it answers, where its packets are as short as the host
+-- wants them; where it has one and is prompt, or is halted, it does not keep the host waiting
 pub record SourceInFailure (t : Target) (ep : ℕ) (awaited : Toggle)
     (result : Result (List ℕ) TransFault) (x : Location) (s v : State) : Type 0 where
   pub answered : Listens t x s → (most got : ℕ) → IsSource ep most s
-      → SourceAt ep most got awaited s → most ≤ t.max → result ≢ Err NoAnswer
+      → SourceAt ep most got awaited s → GivesWithin t.max ep most s → result ≢ Err NoAnswer
   pub waited : Listens t x s → (most got : ℕ) → IsSource ep most s → 1 ≤ most
-      → SourceAt ep most got awaited s → most ≤ t.max → got < length s.spec.source
+      → SourceAt ep most got awaited s → GivesWithin t.max ep most s
+      → is_some (next_packet s ep most got) ≡ true → IsPrompt (in_end s ep).pace
       → result ≢ Err Busy
   pub halted : Listens t x s → (most : ℕ) → IsSource ep most s
       → (in_end s ep).state.halted ≡ true → (result ≢ Err NoAnswer) × (result ≢ Err Busy)
 
--- bulk OUT: an endpoint answers and never waits
+-- OUT of an endpoint besides endpoint 0: it answers, and a prompt one does not keep the host
+-- waiting
 pub record SinkOutFailure (t : Target) (ep : ℕ) (toggle : Toggle) (bytes : List ℕ)
     (result : Result (List ℕ) TransFault) (x : Location) (s v : State) : Type 0 where
   pub answered : Listens t x s → (most : ℕ) → IsSink ep most s → length bytes ≤ most
       → result ≢ Err NoAnswer
-  pub waited : Listens t x s → (most : ℕ) → IsSink ep most s → result ≢ Err Busy
+  pub waited : Listens t x s → (most : ℕ) → IsSink ep most s → IsPrompt (out_end s ep).pace
+      → result ≢ Err Busy
 
 -- a hub's status endpoint that is not halted gives a byte, or says that there is none
 pub record PollFailure (t : Target) (toggle : Toggle) (result : Result (Option (List ℕ)) TransFault)

@@ -4,13 +4,13 @@ use Rattle.std.specs.Prelude.{Option, None, Some, Result, Ok, Err, ⊤, not}
 use Rattle.usb_packet.specs.{Toggle, One, other}
 use Rattle.usb_port.specs.{PortState}
 use Rattle.usb_request.specs.{setup_of}
-use Rattle.usb_device.specs.{Spec, advanced, tells_changes, change_bits, asked_by_setup, State}
+use Rattle.usb_device.specs.{Spec, next_place, tells_changes, change_bits, asked_by_setup, State}
 use Rattle.usb_device.specs.{accepted, ending, reading, refused as stage_refused, toggle_at, Ports}
 use Rattle.usb_device.specs.{full, acted, row_of, Location, place_on, ReadingAt, ReadOn, StatusOn}
 use Rattle.usb_device.specs.{StatusGiven, IsRead, IsSource, SourceAt, SourceOn, IsSink, SinkAt}
 use Rattle.usb_device.specs.{Joined, PollAt, NeverTold, ToldByte, OnlyControl, OnlyStage}
 use Rattle.usb_device.specs.{OnlySource, OnlySink, OnlyChanges, Stage, writing, is_done, in_end}
-use Rattle.usb_device.specs.{out_end}
+use Rattle.usb_device.specs.{out_end, IsPrompt}
 use Rattle.usb_world.specs.{Attempt, Outcome, World, HolderIn, at_attempt, attempt, after}
 use Rattle.usb_tree.specs.{address_of}
 use Rattle.usb_transaction.specs.declared.target.Target.{Target}
@@ -114,7 +114,7 @@ pub record ReadStatus (t : Target) (result : Result (List ℕ) TransFault) (x : 
 -- it; or none came
 pub data SourceCut (ep most got : ℕ) (awaited : Toggle) (s v : State) : Type 0 where
   none_came : SourceAt ep most got awaited v → SourceCut ep most got awaited s v
-  one_came : SourceAt ep most (advanced got most (length s.spec.source)) (other awaited) v
+  one_came : SourceAt ep most (next_place s ep most got) (other awaited) v
       → SourceCut ep most got awaited s v
 
 abbrev pub SourceEnds : ℕ → ℕ → ℕ → Toggle → State → Result (List ℕ) TransFault → State
@@ -125,7 +125,7 @@ SourceEnds ep most got awaited s (Err Busy) v = SourceOn ep most got awaited s N
 SourceEnds ep most got awaited s (Err NoAnswer) v = SourceOn ep most got awaited s None v
 SourceEnds ep most got awaited s (Err (Bus fault)) v = SourceCut ep most got awaited s v
 
--- IN of a bulk endpoint (5.8)
+-- IN of an endpoint besides endpoint 0 (5.7, 5.8)
 pub record SourceIn (t : Target) (ep : ℕ) (awaited : Toggle) (result : Result (List ℕ) TransFault)
     (x : Location) (s v : State) : Type 0 where
   pub others : is_at s t ≡ false → v ≡ s
@@ -133,9 +133,11 @@ pub record SourceIn (t : Target) (ep : ℕ) (awaited : Toggle) (result : Result 
   pub source : is_at s t ≡ true → (most got : ℕ) → IsSource ep most s → 1 ≤ most
       → SourceAt ep most got awaited s → SourceEnds ep most got awaited s result v
   pub stalled : is_at s t ≡ true → (most : ℕ) → IsSource ep most s → result ≡ Err Stalled
-      → ((in_end s ep).state.halted ≡ true) × (v ≡ s)
+      → (in_end v ep).state.halted ≡ true
   pub halted : is_at s t ≡ true → (most : ℕ) → IsSource ep most s
       → (in_end s ep).state.halted ≡ true → (v ≡ s) × ((bytes : List ℕ) → result ≡ Ok bytes → ⊥)
+  pub paced : is_at s t ≡ true → (most : ℕ) → IsSource ep most s → IsPrompt (in_end s ep).pace
+      → IsPrompt (in_end v ep).pace
 
 -- between two of its attempts both ends are as far as they were
 pub record SourceBetween (t : Target) (ep : ℕ) (awaited : Toggle) (x : Location) (s v : State) :
@@ -154,7 +156,7 @@ SinkEnds ep before bytes toggle (Err Busy) v = SinkAt ep before bytes toggle v
 SinkEnds ep before bytes toggle (Err NoAnswer) v = SinkAt ep before bytes toggle v
 SinkEnds ep before bytes toggle (Err (Bus fault)) v = SinkAt ep before bytes toggle v
 
--- OUT of a bulk endpoint (5.8)
+-- OUT of an endpoint besides endpoint 0 (5.7, 5.8)
 pub record SinkOut (t : Target) (ep : ℕ) (toggle : Toggle) (bytes : List ℕ)
     (result : Result (List ℕ) TransFault) (x : Location) (s v : State) : Type 0 where
   pub others : is_at s t ≡ false → v ≡ s
@@ -164,6 +166,8 @@ pub record SinkOut (t : Target) (ep : ℕ) (toggle : Toggle) (bytes : List ℕ)
       → SinkEnds ep before bytes toggle result v
   pub halted : is_at s t ≡ true → (most : ℕ) → IsSink ep most s
       → (out_end s ep).state.halted ≡ true → (v ≡ s) × ((done : List ℕ) → result ≡ Ok done → ⊥)
+  pub paced : is_at s t ≡ true → (most : ℕ) → IsSink ep most s → IsPrompt (out_end s ep).pace
+      → IsPrompt (out_end v ep).pace
 
 -- between two of its attempts the packet joined what the device took, or did not yet
 pub record SinkBetween (t : Target) (ep : ℕ) (toggle : Toggle) (bytes : List ℕ) (x : Location)

@@ -74,6 +74,7 @@ IsSpec-prop s x y =
       texts = all_prop (λ text. most (length text) 65535) s.configs x.texts y.texts i;
       strings = most _ _ x.strings y.strings i;
       halt = each_prop (λ packets. most 1 packets) s.halt_after x.halt y.halt i;
+      endpoints = most _ _ x.endpoints y.endpoints i;
       requests = most _ _ x.requests y.requests i;
     }
 

@@ -7,13 +7,13 @@ use Rattle.usb_packet.specs.{Payload}
 use Rattle.usb_packet.specs.declared.Packet.TheVariants as packet
 use Rattle.arrayvec.specs.ArrayVec.{ArrayVec}
 use Rattle.usb_device.specs.{RememberedPacket, BulkIn, BulkOut, Outcome, halts, unhalts, Stage}
-use Rattle.usb_device.specs.{idle, takes_configuration, halted, rested, InEnd, no_in, rested_in}
-use Rattle.usb_device.specs.{with_at, reading, max_packet, packet_at, toggle_at, State, Reply}
+use Rattle.usb_device.specs.{idle, takes_configuration, halted, InEnd, no_in, rested_in, hesitated}
+use Rattle.usb_device.specs.{given_row, in_hesitates, taken_row, with_at, reading, max_packet, packet_at, toggle_at, State, Reply}
 use Rattle.usb_device.specs.{received, answered, forgotten, begun, gives, in_row, status_row}
 use Rattle.usb_device.specs.{out_row, ack_row, token_row, payload_row, source_row, held_row}
 use Rattle.usb_device.specs.{in_other_row, in_end_row, sink_row, out_end_row, in_ack_row, in_end}
 use Rattle.usb_device.specs.{after_memory, in_max, Keeps, Write, WriteData, Next, judged, writing}
-use Rattle.usb_device.specs.{write_row, EndpointState}
+use Rattle.usb_device.specs.{write_row}
 use Rattle.usb_device.specs.declared.transfer.InEndpoint.TheVariants as by
 use Rattle.usb_port.specs.{PortState}
 use Rattle.usb_device.specs.declared.transfer.RememberedPacket.TheVariants.{SetupSeen, OutSeen}
@@ -54,30 +54,27 @@ keeps-out u c d idle t b = search rules
 keeps-out u c d (writing w) t b = keeps-write u c d w b (judged (max_packet d.spec) w t b)
 keeps-out u c d s t b = search (rules, keeps-status)
 
--- a row of IN endpoints where one has another state
-abbrev with_state : ℕ → EndpointState → List InEnd → InEnd
-with_state a x row = record (get_or row a no_in) { state = x }
-
-place-set : (a e : ℕ) (x : EndpointState) (row : List InEnd)
-    → (get_or (with_at no_in a (with_state a x row) row) e no_in).place ≡ (get_or row e no_in).place
-place-set a e x row = by_number (e == a) refl
+-- a row of IN endpoints where one is another, which is as far
+place-set : (a e : ℕ) (x : InEnd) (row : List InEnd) → x.place ≡ (get_or row a no_in).place
+    → (get_or (with_at no_in a x row) e no_in).place ≡ (get_or row e no_in).place
+place-set a e x row as_far = by_number (e == a) refl
   where
     by_number : (b : Bool) → (e == a) ≡ b
-        → (get_or (with_at no_in a (with_state a x row) row) e no_in).place
-        ≡ (get_or row e no_in).place
+        → (get_or (with_at no_in a x row) e no_in).place ≡ (get_or row e no_in).place
     by_number true is =
-        ap (λ m. (get_or (with_at no_in a (with_state a x row) row) m no_in).place)
-        (eqb-true e a is)
-        ∙ ap (λ i. i.place) (at_same no_in a (with_state a x row) row)
+        ap (λ m. (get_or (with_at no_in a x row) m no_in).place) (eqb-true e a is)
+        ∙ ap (λ i. i.place) (at_same no_in a x row)
+        ∙ as_far
         ∙ ap (λ m. (get_or row m no_in).place) (sym (eqb-true e a is))
-    by_number false is = ap (λ i. i.place) (at_other no_in a e (with_state a x row) row is)
+    by_number false is = ap (λ i. i.place) (at_other no_in a e x row is)
 
 begun-place : (d : State) (row : List PortState) (n : ℕ) (o : Outcome) (e : ℕ)
     → (in_end (begun d row n o) e).place ≡ (in_end d e).place
 begun-place d row n (takes_configuration c) e =
     ap (λ i. i.place) (at_mapped no_in rested_in refl e d.ins)
-begun-place d row n (halts (BulkIn a)) e = place-set a e (halted (in_end d a).state) d.ins
-begun-place d row n (unhalts (BulkIn a)) e = place-set a e rested d.ins
+begun-place d row n (halts (BulkIn a)) e =
+    place-set a e (record (in_end d a) { state = halted (in_end d a).state }) d.ins refl
+begun-place d row n (unhalts (BulkIn a)) e = place-set a e (rested_in (in_end d a)) d.ins refl
 begun-place d row n o e = refl
 
 begun-spec : (d : State) (row : List PortState) (n : ℕ) (o : Outcome) → (begun d row n o).spec
@@ -102,17 +99,37 @@ keeps-begun t b d row n o = record {
   taken = λ h. cc;
 }
 
+keeps-taken : (t : Toggle) (b : ArrayVec ℕ) (d : State) (e : ℕ) (bytes : List ℕ)
+    → Keeps (Payload t b) d (taken_row d e bytes).1
+keeps-taken t b d e bytes = search (rules, keeps-if)
+
 keeps-sink : (t : Toggle) (b : ArrayVec ℕ) (d : State) (e max : ℕ) (bytes : List ℕ)
     → Keeps (Payload t b) d (sink_row d e max t bytes).1
-keeps-sink t b d e max bytes = search (rules, keeps-if)
+keeps-sink t b d e max bytes = search (rules, keeps-if, keeps-taken)
 
 keeps-out-end : (t : Toggle) (b : ArrayVec ℕ) (d : State) (e : ℕ) (most : Option ℕ)
     (bytes : List ℕ) → Keeps (Payload t b) d (out_end_row d e most t bytes).1
 keeps-out-end t b d e None bytes = search rules
 keeps-out-end t b d e (Some max) bytes = keeps-sink t b d e max bytes
 
+keeps-hesitates : (p : Packet) (d : State) (e : ℕ) → Keeps p d (in_hesitates d e)
+keeps-hesitates p d e = record {
+  spec = refl;
+  address = λ h. refl;
+  configuration = λ h. refl;
+  outs = λ h. refl;
+  place = λ h a. place-set e a (record (in_end d e) { pace = hesitated (in_end d e).pace }) d.ins
+      refl;
+  taken = λ h. refl;
+}
+
+keeps-given : (p : Packet) (d : State) (e : ℕ) (next : Option (List ℕ))
+    → Keeps p d (given_row d e next).1
+keeps-given p d e None = search rules
+keeps-given p d e (Some bytes) = search (rules, keeps-if, keeps-hesitates)
+
 keeps-source : (p : Packet) (d : State) (e max : ℕ) → Keeps p d (source_row d e max).1
-keeps-source p d e max = search (rules, keeps-if)
+keeps-source p d e max = search (rules, keeps-if, keeps-given)
 
 keeps-in-end : (p : Packet) (d : State) (e : ℕ) (most : Option ℕ)
     → Keeps p d (in_end_row d e most).1

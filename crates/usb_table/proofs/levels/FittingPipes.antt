@@ -1,19 +1,20 @@
 -- What each call through pipes leaves of the device at their other ends: it is as far as the pipes.
-use Rattle.usb_device.specs.{Location, EndpointState, Registers, advanced, bulk_at, tells_changes}
+use Rattle.usb_device.specs.{Location, EndpointData, EndpointState, Registers, bulk_at, data_by}
 use Rattle.usb_device.specs.{SourceAt, PollAt, NeverTold, OnlyStage, OnlySink, OnlySource}
-use Rattle.usb_device.specs.{OnlyWrite, State, in_end, in_max, max_of, no_in, no_out, out_end}
-use Rattle.usb_device.specs.{out_max}
-use Rattle.usb_device.specs.{Spec}
-use Rattle.std.proofs.Common.{◌≡◌, ◌∙◌, refl, sym, ap, subst, Bool, true, false, ℕ, ◌+◌, ◌==◌, ◌<◌}
-use Rattle.std.proofs.Common.{◌&&◌, List, [], length, Option, None, Some, Result, Ok, Err, IsOk}
-use Rattle.std.proofs.Common.{get_or}
+use Rattle.usb_device.specs.{OnlyWrite, Spec, State, OutEnd, InEnd, endpoint_row, in_data, in_end}
+use Rattle.usb_device.specs.{in_max, is_numbered, out_end, out_max, packet_in, place_behind}
+use Rattle.usb_device.specs.{served_at, tells_changes}
+use Rattle.usb_descriptor.specs.{max_of_usable}
+use Rattle.usb_request.specs.{DIRECTION_IN}
+use Rattle.std.proofs.Common.{◌≡◌, ◌∙◌, refl, sym, ap, subst, true, false, ℕ, ◌+◌, ◌==◌}
+use Rattle.std.proofs.Common.{◌&&◌, List, [], Option, None, Some, Result, Ok, Err, IsOk, is_some}
 use Rattle.std.specs.Global.{Vec}
 use Rattle.arrayvec.specs.ArrayVec.{ArrayVec}
 use Rattle.usb_packet.specs.{Toggle}
 use Rattle.usb_tree.specs.{address_of}
 use Rattle.usb_world.specs.{World}
 use Rattle.usb_pipe.specs.{PipeFault, Bulk, Interrupt, OutPipeInSync, InPipeInSync, pipe_known}
-use Rattle.usb_pipe.specs.{came_with, got_after, SendLeaves, ReceiveLeaves, ClearLeaves, PollLeaves}
+use Rattle.usb_pipe.specs.{got_after, SendLeaves, ReceiveLeaves, ClearLeaves, PollLeaves}
 use Rattle.usb_table.specs.{Pipes, Hub, Function, Absent, StatusPipeInSync, FitsOut, FitsIn}
 use Rattle.usb_table.specs.{PipesInSync, SameSettings}
 use Rattle.usb_table.proofs.transfers.HaltClears.{in_cleared, out_cleared}
@@ -25,21 +26,24 @@ use Rattle.usb_table.proofs.transfers.DevicesKept.{RanAs}
 abbrev pub root : Location
 root = record { row = 0; rest = [] }
 
-pub same_end : (way : Bool) (s v : State) → SameSettings root s v → bulk_at v.spec v.registers way
-    ≡ bulk_at s.spec s.registers way
-same_end way s v k = ap (λ (x : Spec). bulk_at x v.registers way) k.0
-    ∙ ap (λ (g : Registers). bulk_at s.spec g way) k.1
+-- what depends on them alone
+same_seen : {X : Type 0} (seen : Spec → Registers → X) (s v : State) → SameSettings root s v
+    → seen v.spec v.registers ≡ seen s.spec s.registers
+same_seen seen s v k = ap (λ (x : Spec). seen x v.registers) k.0 ∙ ap (seen s.spec) k.1
 
 pub same_out_max : (e : ℕ) (s v : State) → SameSettings root s v → out_max v e ≡ out_max s e
-same_out_max e s v k = ap (max_of e) (same_end false s v k)
+same_out_max e = same_seen (λ x g. max_of_usable (served_at x g false e))
 
 pub same_in_max : (e : ℕ) (s v : State) → SameSettings root s v → in_max v e ≡ in_max s e
-same_in_max e s v k = ap (max_of e) (same_end true s v k)
+same_in_max e = same_seen (λ x g. max_of_usable (served_at x g true e))
 
 pub same_tells : (s v : State) → SameSettings root s v → tells_changes v.spec v.registers
     ≡ tells_changes s.spec s.registers
-same_tells s v k = ap (λ (x : Spec). tells_changes x v.registers) k.0
-    ∙ ap (λ (g : Registers). tells_changes s.spec g) k.1
+same_tells = same_seen (λ x g. tells_changes x g)
+
+pub same_in_data : (e : ℕ) (s v : State) → SameSettings root s v → in_data v e ≡ in_data s e
+same_in_data e = same_seen (λ x g. data_by (endpoint_row x.endpoints (DIRECTION_IN + e)) x.source
+    (is_numbered e (bulk_at x g true)))
 
 still_sink : (pipe : Bulk) (s v : State) → SameSettings root s v
     → (out_end v pipe.ep).state ≡ (out_end s pipe.ep).state → OutPipeInSync pipe s
@@ -53,17 +57,24 @@ still_sink pipe s v k e f = record {
   halted = λ halts. ap (λ (x : EndpointState). x.halted) e ∙ f.halted halts;
 }
 
-still_source_at : (ep most got : ℕ) (t : Toggle) (s v : State) → SameSettings root s v
-    → (in_end v ep).place ≡ (in_end s ep).place → (in_end v ep).state ≡ (in_end s ep).state
+-- what comes next of an endpoint that is where it was
+same_next : {X : Type 0} (seen : EndpointData → ℕ → X) (ep : ℕ) (s v : State)
+    → SameSettings root s v → (in_end v ep).place ≡ (in_end s ep).place
+    → seen (in_data v ep) (in_end v ep).place ≡ seen (in_data s ep) (in_end s ep).place
+same_next seen ep s v k place =
+    ap (λ content. seen content (in_end v ep).place) (same_in_data ep s v k)
+    ∙ ap (seen (in_data s ep)) place
+
+pub still_source_at : (ep most got : ℕ) (t : Toggle) (s v : State) → SameSettings root s v
+    → (in_end v ep).place ≡ (in_end s ep).place
+    → (in_end v ep).state.toggle ≡ (in_end s ep).state.toggle
     → SourceAt ep most got t s → SourceAt ep most got t v
 still_source_at ep most got t s v k place e (SourceAt.level a b) =
-    SourceAt.level (place ∙ a) (ap (λ (x : EndpointState). x.toggle) e ∙ b)
+    SourceAt.level (place ∙ a) (e ∙ b)
 still_source_at ep most got t s v k place e (SourceAt.ahead a b c) =
-    SourceAt.ahead (a ∙ ap (λ n. advanced n most (length s.spec.source)) (sym place)
-    ∙ ap (λ (x : Spec). advanced (in_end v ep).place most (length x.source)) (sym k.0))
-    (subst (λ (x : Spec). (in_end v ep).place < length x.source) (sym k.0)
-    (subst (λ n. n < length s.spec.source) (sym place) b))
-    (ap (λ (x : EndpointState). x.toggle) e ∙ c)
+    SourceAt.ahead
+    (a ∙ sym (same_next (λ content n. place_behind content most n) ep s v k place))
+    (same_next (λ content n. is_some (packet_in content most n)) ep s v k place ∙ b) (e ∙ c)
 
 -- the endpoint of a bulk IN pipe is as far as it was
 pub still_source : (pipe : Bulk) (got : ℕ) (s v : State) → SameSettings root s v
@@ -76,23 +87,23 @@ still_source pipe got s v k place e f = record {
     not_zero = f.endpoint.not_zero;
     alone = ap (λ b. pipe.ep == 1 && b) (same_tells s v k) ∙ f.endpoint.alone;
   };
-  level = λ ready. still_source_at pipe.ep pipe.max got pipe.toggle s v k place e (f.level ready);
+  level = λ ready. still_source_at pipe.ep pipe.max got pipe.toggle s v k place
+      (ap (λ (x : EndpointState). x.toggle) e) (f.level ready);
   halted = λ halts. ap (λ (x : EndpointState). x.halted) e ∙ f.halted halts;
 }
 
-still_out : (out : Option Bulk) (s v : State) → SameSettings root s v → v.outs ≡ s.outs
-    → FitsOut out s → FitsOut out v
+still_out : (out : Option Bulk) (s v : State) → SameSettings root s v
+    → ((e : ℕ) → out_end v e ≡ out_end s e) → FitsOut out s → FitsOut out v
 still_out None s v k e f = tt
-still_out (Some pipe) s v k e f =
-    still_sink pipe s v k (ap (λ row. (get_or row pipe.ep no_out).state) e) f
+still_out (Some pipe) s v k e f = still_sink pipe s v k (ap (λ (x : OutEnd). x.state) (e pipe.ep)) f
 
-fits_in-same : (into : Option Bulk) (s v : State) → SameSettings root s v → v.ins ≡ s.ins
-    → FitsIn into s → FitsIn into v
+fits_in-same : (into : Option Bulk) (s v : State) → SameSettings root s v
+    → ((e : ℕ) → in_end v e ≡ in_end s e) → FitsIn into s → FitsIn into v
 fits_in-same None s v k e f = tt
 fits_in-same (Some pipe) s v k e f = (
   f.0,
-  still_source pipe f.0 s v k (ap (λ row. (get_or row pipe.ep no_in).place) e)
-      (ap (λ row. (get_or row pipe.ep no_in).state) e) f.1,
+  still_source pipe f.0 s v k (ap (λ (x : InEnd). x.place) (e pipe.ep))
+      (ap (λ (x : InEnd). x.state) (e pipe.ep)) f.1,
 )
 
 still_poll : (t : Toggle) (s v : State) → v.changes ≡ s.changes → v.held ≡ s.held
@@ -116,8 +127,8 @@ record StillEnds (s v : State) : Type 0 where
   settings : SameSettings root s v
   changes : v.changes ≡ s.changes
   held : v.held ≡ s.held
-  outs : v.outs ≡ s.outs
-  ins : v.ins ≡ s.ins
+  outs : (e : ℕ) → out_end v e ≡ out_end s e
+  ins : (e : ℕ) → in_end v e ≡ in_end s e
 
 still_ends : (pipes : Pipes) (s v : State) → StillEnds s v → PipesInSync pipes s
     → PipesInSync pipes v
@@ -135,8 +146,8 @@ still_level pipes s v frame = still_ends pipes s v (record {
   settings = (ap (λ (d : State). d.spec) frame, ap (λ (d : State). d.registers) frame);
   changes = ap (λ (d : State). d.changes) frame;
   held = ap (λ (d : State). d.held) frame;
-  outs = ap (λ (d : State). d.outs) frame;
-  ins = ap (λ (d : State). d.ins) frame;
+  outs = λ e. ap (λ (d : State). out_end d e) frame;
+  ins = λ e. ap (λ (d : State). in_end d e) frame;
 })
 
 -- and the data that control transfers brought
@@ -146,8 +157,8 @@ written_level pipes s v frame = still_ends pipes s v (record {
   settings = (ap (λ (d : State). d.spec) frame, ap (λ (d : State). d.registers) frame);
   changes = ap (λ (d : State). d.changes) frame;
   held = ap (λ (d : State). d.held) frame;
-  outs = ap (λ (d : State). d.outs) frame;
-  ins = ap (λ (d : State). d.ins) frame;
+  outs = λ e. ap (λ (d : State). out_end d e) frame;
+  ins = λ e. ap (λ (d : State). in_end d e) frame;
 })
 
 -- A call through the pipes to the device of an address
@@ -198,7 +209,7 @@ send_moves ends bytes pipe left into answer j s v is x k = record {
   itself = λ e at f.
       let frame : OnlySink pipe.ep s v = x.frame f.0.endpoint in (
         known_itself ends answer left v OutPipeInSync is e (x.fits at f.0),
-        fits_in-same into s v k (ap (λ (d : State). d.ins) frame.rest) f.1,
+        fits_in-same into s v k (λ e. ap (λ (d : State). in_end d e) frame.rest) f.1,
       );
 }
 
@@ -213,11 +224,11 @@ receive_moves ends pipe left out answer j s v is x k = record {
   same = ap (λ (g : Registers). g.address) k.1;
   itself = λ e at f.
       let frame : OnlySource pipe.ep s v = x.frame f.1.1.endpoint in
-      let got : ℕ = f.1.0 + came_with answer in (
-        still_out out s v k (ap (λ (d : State). d.outs) frame.rest) f.0,
+      let gave = x.gave at f.1.0 f.1.1 in (
+        still_out out s v k (λ e. ap (λ (d : State). out_end d e) frame.rest) f.0,
         (
-          got,
-          known_itself ends answer left v (λ b. InPipeInSync b got) is e (x.fits at f.1.0 f.1.1),
+          gave.behind,
+          known_itself ends answer left v (λ b. InPipeInSync b gave.behind) is e gave.level,
         ),
       );
 }

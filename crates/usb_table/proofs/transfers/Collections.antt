@@ -1,12 +1,12 @@
 -- Bytes that are received through the pipes at a path are given by the device there.
-use Rattle.std.proofs.Common.{◌≡◌, ◌≢◌, refl, sym, ap, subst, Bool, true, false, ℕ, ◌+◌, ◌==◌, ◌≤◌}
+use Rattle.std.proofs.Common.{◌≡◌, ◌≢◌, refl, sym, ap, subst, Bool, true, false, ℕ, ◌==◌, ◌≤◌}
 use Rattle.std.proofs.Common.{List, [], Option, None, Some, Result, Ok, Err, is_ok, is_some}
 use Rattle.std.specs.Global.{Vec}
 use Rattle.usb_device.specs.{State, reach, Location}
 use Rattle.usb_world.specs.{BusFault, World}
 use Rattle.usb_tree.specs.{address_of}
 use Rattle.usb_transaction.specs.{Target}
-use Rattle.usb_pipe.specs.{PipeFault, Bulk, Receives, InPipeInSync, ReceiveLeaves, pipe_known}
+use Rattle.usb_pipe.specs.{PipeFault, Bulk, GaveNext, Receives, ReceiveLeaves, pipe_known}
 use Rattle.usb_pipe.proofs.Interface.{receive_leaves, who_receives}
 use Rattle.usb_enum.specs.{Accepted}
 use Rattle.usb_table.specs.declared.fault.TableFault.TheVariants as table_fault
@@ -54,16 +54,10 @@ module _ (path : List ℕ) (packets : ℕ) (old new : Table) (before after : Wor
           → ReceiveLeaves pipe answer left j s v → (address_of s == pipe.target.addr) ≡ true
           → GaveBytes (bytes_in answer) pipe left s v
       given (Ok bytes) left known s fit j v x at =
-          record {
-            had = fit;
-            next = λ got f. x.done at got f bytes refl;
-            has = λ got f. x.fits at got f;
-            rest = x.frame fit.1.endpoint;
-          }
+          record { had = fit; next = x.gave at; rest = x.frame fit.1.endpoint }
       given (Err why) left known s fit j v x at = record {
         had = fit;
-        next = λ got f. refl;
-        has = λ got f. subst (λ (l : Bulk). InPipeInSync l (got + 0) v) known (x.fits at got f);
+        next = λ got f. subst (λ (l : Bulk). GaveNext pipe got [] l s v) known (x.gave at got f);
         rest = x.frame fit.1.endpoint;
       }
 

@@ -8,9 +8,9 @@ use Rattle.arrayvec.specs.ArrayVec.{ArrayVec}
 use Rattle.usb_packet.specs.{Toggle, One}
 use Rattle.usb_port.specs.{PortState}
 use Rattle.usb_request.specs.{PORT_OUT, SET_FEATURE, bytes_of, clear_endpoint_halt, Setup}
-use Rattle.usb_device.specs.{ServedEndpoint, BulkOut, BulkIn, Changes, EndpointState, rested}
+use Rattle.usb_device.specs.{ServedEndpoint, BulkOut, BulkIn, Changes}
 use Rattle.usb_device.specs.{OnlyControl, Is, Outcome, stalled, halts, unhalts, on_endpoint}
-use Rattle.usb_device.specs.{outcome, State, with_endpoint_state, begun, accepted, Spec, Registers}
+use Rattle.usb_device.specs.{outcome, State, begun_again, begun, accepted, Spec, Registers}
 use Rattle.usb_device.specs.{first_stage, ending, Location, reach_on, state_on}
 use Rattle.usb_world.specs.{Attempt, BusFault, is_setup, EachWas, DidIn, DidOut, IsMade, IsIn}
 use Rattle.usb_world.specs.{IsOut, asks_no_port, LeavesPortAlone, Step, attempt, after}
@@ -328,16 +328,15 @@ clear_outcome : (endpoint : ℕ) (spec : Spec) (g : Registers)
 unfolding clear_endpoint_halt outcome
 clear_outcome endpoint spec g = of_endpoint _
 
-pipe_spec : (s : State) (which : ServedEndpoint) (pipe : EndpointState)
-    → (with_endpoint_state s which pipe).spec ≡ s.spec
-pipe_spec s (BulkOut e) pipe = refl
-pipe_spec s (BulkIn e) pipe = refl
-pipe_spec s Changes pipe = refl
+begun_spec : (s : State) (which : ServedEndpoint) → (begun_again s which).spec ≡ s.spec
+begun_spec s (BulkOut e) = refl
+begun_spec s (BulkIn e) = refl
+begun_spec s Changes = refl
 
 begun_same : (s : State) (row : List PortState) (n : ℕ) (o : Outcome) → IsOfEndpoint o
     → ((begun s row n o).spec ≡ s.spec) × ((begun s row n o).registers ≡ s.registers)
 begun_same s row n o (inl e) = rw e (refl, refl)
-begun_same s row n o (inr (which, e)) = rw e (pipe_spec s which rested, refl)
+begun_same s row n o (inr (which, e)) = rw e (begun_spec s which, refl)
 
 endpoint_takes_no_address : (row : List PortState) (taken : List ℕ) (n : ℕ) (address : Option ℕ)
     (o : Outcome) → IsOfEndpoint o → first_stage row taken n o ≡ ending address → address ≡ None

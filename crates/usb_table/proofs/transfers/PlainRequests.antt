@@ -1,19 +1,19 @@
 -- Control transfers of a driver's own are plain: reads, and what has no data.
-use Rattle.std.proofs.Common.{◌≡◌, ◌∙◌, refl, sym, ap, subst, ℕ, ◌==◌, true, false, Bool, List}
+use Rattle.std.proofs.Common.{◌≡◌, ◌∙◌, refl, ap, subst, ℕ, ◌==◌, true, false, Bool, List}
 use Rattle.std.proofs.Common.{None}
-use Rattle.std.proofs.Common.{Option, Some, Result, Ok, Err, is_ok, is_some, OnOk, ◌≢◌, ◌<◌, ◌&&◌}
-use Rattle.std.proofs.Common.{get_or, length, ◌+◌, ◌*◌}
+use Rattle.std.proofs.Common.{Option, Some, Result, Ok, Err, is_ok, is_some, OnOk, ◌≢◌, ◌&&◌}
+use Rattle.std.proofs.Common.{get_or, length, ◌+◌}
 use Rattle.std.specs.Int.{div_ceil}
 use Rattle.std.specs.Global.{Vec}
 use Rattle.usb_request.specs.{IsToHost, Setup}
-use Rattle.usb_packet.specs.{Toggle}
 use Rattle.usb_port.specs.{PortState}
-use Rattle.usb_device.specs.{accepted, advanced, begun, BulkIn, BulkOut, Changes, EndpointState}
+use Rattle.usb_device.specs.{accepted, begun, BulkIn, BulkOut, Changes, EndpointState}
 use Rattle.usb_device.specs.{ending, first_stage, OnlyControl, OnlyStage, Outcome}
-use Rattle.usb_device.specs.{outcome, Spec, State, Stage, answers_taken, takes}
+use Rattle.usb_device.specs.{outcome, State, Stage, answers_taken, takes}
 use Rattle.usb_device.specs.{halted, halts, in_end, Location, no_in, no_out, NothingMoved, out_end}
-use Rattle.usb_device.specs.{SourceAt, stalled, tells_port}
+use Rattle.usb_device.specs.{stalled, tells_port}
 use Rattle.usb_device.specs.Request.{answers}
+use Rattle.usb_device.proofs.Interface.{at_each}
 use Rattle.usb_world.specs.{BusFault, HasFault, is_harmless, World}
 use Rattle.usb_transaction.specs.{Answerer, Target}
 use Rattle.usb_transaction.proofs.Interface.{spared_all}
@@ -34,10 +34,11 @@ use Rattle.usb_enum.proofs.Interface.{ends_without_fault}
 use Rattle.usb_table.specs.{Absent, ArePipesTo, FitsIn, FitsOut, Function, Hub, is_below_hub}
 use Rattle.usb_table.specs.{Pipes, pipes_at, PipesInSync, SameSettings, Table, without_bytes}
 use Rattle.usb_table.proofs.levels.FittingPipes.{root, same_in_max, same_out_max, same_tells}
-use Rattle.usb_table.proofs.levels.FittingPipes.{still_level, still_status, written_level}
+use Rattle.usb_table.proofs.levels.FittingPipes.{still_level, still_source_at, still_status}
+use Rattle.usb_table.proofs.levels.FittingPipes.{written_level}
 use Rattle.usb_table.proofs.transfers.FreeRequests.{IsAllowed, IsFree, free_asks_no_port}
 use Rattle.usb_table.proofs.transfers.FreeRequests.{free_is_harmless, outcome_fine}
-use Rattle.usb_table.proofs.transfers.HaltClears.{at_each, in_moved, moved_then, out_moved}
+use Rattle.usb_table.proofs.transfers.HaltClears.{in_moved, moved_then, out_moved}
 use Rattle.usb_table.proofs.transfers.HaltClears.{same_rows-moved}
 use Rattle.usb_table.proofs.transfers.PlainTransfers.{IsPlain}
 
@@ -124,7 +125,7 @@ module _ (s : State) (row : List PortState) (n : ℕ) where
   }
   began_ends to_hub (halts (BulkIn a)) fine = record {
     settings = (refl, refl);
-    moved = in_moved s _ a _ refl refl refl;
+    moved = in_moved s _ a _ refl refl refl refl;
     out = λ e. (refl, λ h. h);
     into = at_each no_in (λ x y. MayHalt x.state y.state) (λ x. (refl, λ h. h)) a
         (record (in_end s a) { state = halted (in_end s a).state }) s.ins (refl, λ h. refl);
@@ -186,18 +187,6 @@ out_kept (Some pipe) s v x f = record {
   halted = λ halts. (x.out pipe.ep).1 (f.halted halts);
 }
 
-source_kept : (ep most got : ℕ) (t : Toggle) (s v : State) → KeepsEnds s v
-    → SourceAt ep most got t s → SourceAt ep most got t v
-source_kept ep most got t s v x (SourceAt.level a b) =
-    SourceAt.level (x.moved.given ep ∙ a) ((x.into ep).0 ∙ b)
-source_kept ep most got t s v x (SourceAt.ahead a b c) =
-    SourceAt.ahead
-    (a ∙ ap (λ n. advanced n most (length s.spec.source)) (sym (x.moved.given ep))
-    ∙ ap (λ (d : Spec). advanced (in_end v ep).place most (length d.source)) (sym x.settings.0))
-    (subst (λ (d : Spec). (in_end v ep).place < length d.source) (sym x.settings.0)
-    (subst (λ n. n < length s.spec.source) (sym (x.moved.given ep)) b))
-    ((x.into ep).0 ∙ c)
-
 pub into_kept : (pipe : Bulk) (got : ℕ) (s v : State) → KeepsEnds s v → InPipeInSync pipe got s
     → InPipeInSync pipe got v
 into_kept pipe got s v x f = record {
@@ -206,7 +195,8 @@ into_kept pipe got s v x f = record {
     not_zero = f.endpoint.not_zero;
     alone = ap (λ b. pipe.ep == 1 && b) (same_tells s v x.settings) ∙ f.endpoint.alone;
   };
-  level = λ ready. source_kept pipe.ep pipe.max got pipe.toggle s v x (f.level ready);
+  level = λ ready. still_source_at pipe.ep pipe.max got pipe.toggle s v x.settings
+      (x.moved.given pipe.ep).0 (x.into pipe.ep).0 (f.level ready);
   halted = λ halts. (x.into pipe.ep).1 (f.halted halts);
 }
 

@@ -1,8 +1,8 @@
 -- The halts that are cleared through the pipes at a path are those of the device there.
 use Rattle.std.proofs.Common.{◌≡◌, ◌≢◌, inl, inr, ◌∙◌, refl, sym, ap, subst, Bool, true, false, ℕ}
 use Rattle.std.proofs.Common.{◌==◌, List, Option, None, Some, Result, Ok, Err, is_ok, is_some}
-use Rattle.std.proofs.Common.{get_or, if◌then◌else◌}
-use Rattle.usb_device.specs.{EndpointState as End, in_end, InEnd, Location, no_in, no_out}
+use Rattle.std.proofs.Common.{if◌then◌else◌}
+use Rattle.usb_device.specs.{EndpointState as End, in_end, InEnd, Location}
 use Rattle.usb_device.specs.{NothingMoved, out_end, OutEnd, rested, State}
 use Rattle.usb_world.specs.{BusFault, EachWas, World}
 use Rattle.usb_tree.specs.{address_of}
@@ -74,29 +74,30 @@ cleared_single (Some pipe) (Some left) old answer new x single =
 
 -- One device at the address, over the clear of one pipe or of both
 
-abbrev RowRelation : Type 0 → Type 1
-RowRelation E = List E → List E → Type 0
+-- of the ends of a direction, each by its number
+abbrev EndsRelation : Type 0 → Type 1
+EndsRelation E = (ℕ → E) → (ℕ → E) → Type 0
 
-abbrev RowStays : {E : Type 0} → RowRelation E
-RowStays before after = after ≡ before
+abbrev EndsStay : {E : Type 0} → EndsRelation E
+EndsStay before after = after ≡ before
 
-abbrev OutHalts : Bool → Option Bulk → Option Bulk → RowRelation OutEnd
-OutHalts done pipe left before after = HaltClearedBy done pipe left
-    (λ e. (get_or before e no_out).state) (λ e. (get_or after e no_out).state)
+abbrev OutHalts : Bool → Option Bulk → Option Bulk → EndsRelation OutEnd
+OutHalts done pipe left before after =
+    HaltClearedBy done pipe left (λ e. (before e).state) (λ e. (after e).state)
 
-abbrev InHalts : Bool → Option Bulk → Option Bulk → RowRelation InEnd
-InHalts done pipe left before after = HaltClearedBy done pipe left
-    (λ e. (get_or before e no_in).state) (λ e. (get_or after e no_in).state)
+abbrev InHalts : Bool → Option Bulk → Option Bulk → EndsRelation InEnd
+InHalts done pipe left before after =
+    HaltClearedBy done pipe left (λ e. (before e).state) (λ e. (after e).state)
 
-record ClearsIt (Out : RowRelation OutEnd) (Into : RowRelation InEnd) (left : BulkPipes)
+record ClearsIt (Out : EndsRelation OutEnd) (Into : EndsRelation InEnd) (left : BulkPipes)
     (s v : State) : Type 0 where
   moved : NothingMoved s v
-  out : Out s.outs v.outs
-  into : Into s.ins v.ins
+  out : Out (λ e. out_end s e) (λ e. out_end v e)
+  into : Into (λ e. in_end s e) (λ e. in_end v e)
   level : PipesInSync (Function left) v
 
 -- where the call ends so
-record ClearStep (ends : Type 0) (a : ℕ) (Out : RowRelation OutEnd) (Into : RowRelation InEnd)
+record ClearStep (ends : Type 0) (a : ℕ) (Out : EndsRelation OutEnd) (Into : EndsRelation InEnd)
     (pipes left : BulkPipes) (j : Location) (s v : State) : Type 0 where
   others : (address_of s == a) ≡ false → v ≡ s
   same : address_of v ≡ address_of s
@@ -110,13 +111,13 @@ record FitsAnswer (ends : Type 0) (done : Bool) (answer : Result (Unit {0}) Pipe
   less : done ≡ true → is_ok answer ≡ true
 
 module _ (ends : Type 0) where
-  abbrev ClearSteps : ℕ → RowRelation OutEnd → RowRelation InEnd → BulkPipes → BulkPipes → World
+  abbrev ClearSteps : ℕ → EndsRelation OutEnd → EndsRelation InEnd → BulkPipes → BulkPipes → World
       → World → Type 0
   ClearSteps a Out Into pipes left = EachWas (ClearStep ends a Out Into pipes left)
 
-  clear_step_none : (a : ℕ) (Out : RowRelation OutEnd) (Into : RowRelation InEnd)
-      (pipes : BulkPipes) → ((row : List OutEnd) → Out row row)
-      → ((row : List InEnd) → Into row row) → (w : World) → ClearSteps a Out Into pipes pipes w w
+  clear_step_none : (a : ℕ) (Out : EndsRelation OutEnd) (Into : EndsRelation InEnd)
+      (pipes : BulkPipes) → ((outs : ℕ → OutEnd) → Out outs outs)
+      → ((ins : ℕ → InEnd) → Into ins ins) → (w : World) → ClearSteps a Out Into pipes pipes w w
   clear_step_none a Out Into pipes out into w =
       each_none (ClearStep ends a Out Into pipes pipes)
       (λ j s. record {
@@ -124,19 +125,19 @@ module _ (ends : Type 0) where
         same = refl;
         itself = λ e at level. record {
           moved = same_rows-moved s s refl refl;
-          out = out s.outs;
-          into = into s.ins;
+          out = out (λ n. out_end s n);
+          into = into (λ n. in_end s n);
           level = level;
         };
       }) w
 
-  steps_then : (a : ℕ) (Out : RowRelation OutEnd) (Into : RowRelation InEnd)
+  steps_then : (a : ℕ) (Out : EndsRelation OutEnd) (Into : EndsRelation InEnd)
       (pipes mid left : BulkPipes) (u w v : World)
-      → ClearSteps a Out RowStays pipes mid u w → ClearSteps a RowStays Into mid left w v
+      → ClearSteps a Out EndsStay pipes mid u w → ClearSteps a EndsStay Into mid left w v
       → ClearSteps a Out Into pipes left u v
   steps_then a Out Into pipes mid left =
-      each_joined (ClearStep ends a Out RowStays pipes mid)
-      (ClearStep ends a RowStays Into mid left)
+      each_joined (ClearStep ends a Out EndsStay pipes mid)
+      (ClearStep ends a EndsStay Into mid left)
       (ClearStep ends a Out Into pipes left)
       (λ j s t v x y. record {
         others = λ h. y.others (ap (λ n. n == a) x.same ∙ h) ∙ x.others h;
@@ -146,8 +147,8 @@ module _ (ends : Type 0) where
             let q = y.itself e (ap (λ n. n == a) x.same ∙ at) p.level in
             record {
               moved = moved_then s t v p.moved q.moved;
-              out = subst (Out s.outs) (sym q.out) p.out;
-              into = subst (λ row. Into row v.ins) p.into q.into;
+              out = subst (Out (λ n. out_end s n)) (sym q.out) p.out;
+              into = subst (λ ins. Into ins (λ n. in_end v n)) p.into q.into;
               level = q.level;
             };
       })
@@ -155,14 +156,14 @@ module _ (ends : Type 0) where
   module _ (done : Bool) (device : Accepted) (other : Option Bulk) (old : World)
       (answer : Result (Unit {0}) PipeFault) (new : World) (so : FitsAnswer ends done answer)
       (single : new.shared ≡ false) where
-    abbrev OutSteps : ℕ → RowRelation OutEnd → Option Bulk → Option Bulk → Type 0
+    abbrev OutSteps : ℕ → EndsRelation OutEnd → Option Bulk → Option Bulk → Type 0
     OutSteps a Out pipe left =
-        ClearSteps a Out RowStays (both_sides false pipe other) (both_sides false left other) old
+        ClearSteps a Out EndsStay (both_sides false pipe other) (both_sides false left other) old
         new
 
-    abbrev InSteps : ℕ → RowRelation InEnd → Option Bulk → Option Bulk → Type 0
+    abbrev InSteps : ℕ → EndsRelation InEnd → Option Bulk → Option Bulk → Type 0
     InSteps a Into pipe left =
-        ClearSteps a RowStays Into (both_sides true pipe other) (both_sides true left other) old new
+        ClearSteps a EndsStay Into (both_sides true pipe other) (both_sides true left other) old new
 
     -- Through one pipe of a device that was found
 
@@ -173,7 +174,7 @@ module _ (ends : Type 0) where
       out_step : IsBulkPipe device false endpoint pipe
           → OutSteps device.address (OutHalts done (Some pipe) (Some left)) (Some pipe) (Some left)
       out_step is =
-          let Out : RowRelation OutEnd = OutHalts done (Some pipe) (Some left) in
+          let Out : EndsRelation OutEnd = OutHalts done (Some pipe) (Some left) in
           subst (λ (t : Target). OutSteps t.addr Out (Some pipe) (Some left)) is.target
           (clear_whole pipe old answer left new x _
           (λ j s v a k.
@@ -190,7 +191,7 @@ module _ (ends : Type 0) where
                     begun_ends done pipe old answer left new so.less x _ _ leaves.2,
                     λ e apart. ap (λ (o : OutEnd). o.state) (c.others e apart),
                   );
-                  into = c.ins;
+                  into = λ i e. c.ins e i;
                   level = m.itself e at level;
                 };
           }) single)
@@ -198,7 +199,7 @@ module _ (ends : Type 0) where
       in_step : IsBulkPipe device true endpoint pipe
           → InSteps device.address (InHalts done (Some pipe) (Some left)) (Some pipe) (Some left)
       in_step is =
-          let Into : RowRelation InEnd = InHalts done (Some pipe) (Some left) in
+          let Into : EndsRelation InEnd = InHalts done (Some pipe) (Some left) in
           subst (λ (t : Target). InSteps t.addr Into (Some pipe) (Some left)) is.target
           (clear_whole pipe old answer left new x _
           (λ j s v a k.
@@ -211,7 +212,7 @@ module _ (ends : Type 0) where
                 let c = in_cleared pipe.ep s v (a.only_source is.way level.1.1.endpoint) in
                 record {
                   moved = c.moved;
-                  out = c.outs;
+                  out = λ i e. c.outs e i;
                   into = (
                     begun_ends done pipe old answer left new so.less x _ _ leaves.2,
                     λ e apart. ap (λ (o : InEnd). o.state) (c.others e apart),
@@ -226,8 +227,8 @@ module _ (ends : Type 0) where
         → ClearedBy out old answer left new
         → OutSteps device.address (OutHalts done out left) out left
     out_by endpoint None left is x =
-        rw (x.1, x.2) (clear_step_none device.address (OutHalts done None None) RowStays
-        (both_sides false None other) (λ row e. refl) (λ row. refl) old)
+        rw (x.1, x.2) (clear_step_none device.address (OutHalts done None None) EndsStay
+        (both_sides false None other) (λ outs e. refl) (λ ins. refl) old)
     out_by endpoint (Some pipe) None is x = absurd x
     out_by None (Some pipe) (Some left) is x = absurd is
     out_by (Some endpoint) (Some pipe) (Some left) is x = out_step endpoint pipe left x.clears is
@@ -236,8 +237,8 @@ module _ (ends : Type 0) where
         → ClearedBy into old answer left new
         → InSteps device.address (InHalts done into left) into left
     in_by endpoint None left is x =
-        rw (x.1, x.2) (clear_step_none device.address RowStays (InHalts done None None)
-        (both_sides true None other) (λ row. refl) (λ row e. refl) old)
+        rw (x.1, x.2) (clear_step_none device.address EndsStay (InHalts done None None)
+        (both_sides true None other) (λ outs. refl) (λ ins e. refl) old)
     in_by endpoint (Some pipe) None is x = absurd x
     in_by None (Some pipe) (Some left) is x = absurd is
     in_by (Some endpoint) (Some pipe) (Some left) is x = in_step endpoint pipe left x.clears is
@@ -282,9 +283,9 @@ module _ (ends : Type 0) where
         (record pipes { out = left.out }) old new new
         (out_by done device pipes.into old (Err fault) new (pipe_answers (Err fault) y.0) single
         (out_endpoint device) pipes.out left.out out (rw y.2 x))
-        (clear_step_none device.address RowStays (InHalts done pipes.into pipes.into)
-        (record pipes { out = left.out }) (λ row. refl)
-        (λ row. none_ends done pipes.into not (λ e. (get_or row e no_in).state)) new))
+        (clear_step_none device.address EndsStay (InHalts done pipes.into pipes.into)
+        (record pipes { out = left.out }) (λ outs. refl)
+        (λ ins. none_ends done pipes.into not (λ e. (ins e).state)) new))
 
     pub in_turn_moves : (first : Result (Unit {0}) PipeFault)
         → ClearedBy pipes.out old first left.out mid

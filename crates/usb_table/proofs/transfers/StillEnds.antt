@@ -11,22 +11,24 @@ use Rattle.usb_pipe.proofs.Interface.{given_registers}
 use Rattle.usb_hub.proofs.Interface.{write_so}
 use Rattle.usb_table.specs.{accepted_device_at, is_below_hub, SameSettings, Table, WriteLeft}
 use Rattle.usb_table.specs.{WriteLeftIf, write_target}
+use Rattle.usb_table.proofs.levels.FittingPipes.{root}
 use Rattle.usb_table.proofs.transfers.ControlWrites.{IsWritten, written_of}
 use Rattle.usb_table.proofs.transfers.FreeRequests.{IsAllowed, IsFree, outcome_fine}
 use Rattle.usb_table.proofs.transfers.FreeRequests.{unreserved_is_free}
 use Rattle.usb_table.proofs.transfers.PlainRequests.{began_ends, ends_on, into_kept, KeepsEnds}
 use Rattle.usb_table.proofs.transfers.PlainRequests.{allowed_address, same_rows-kept}
 
--- it has taken and given what it had, and a pipe that had got some number of bytes has got as many
+-- it has taken and given what it had, and a pipe that had got what stands before some place has
+-- got the same
 pub record StillEnds (s v : State) : Type 0 where
   pub sink : (e : ℕ) → (out_end v e).sink ≡ (out_end s e).sink
-  pub spec : v.spec ≡ s.spec
+  pub settings : SameSettings root s v
   pub into : (pipe : Bulk) (got : ℕ) → InPipeInSync pipe got s → InPipeInSync pipe got v
 
 still_ends : (s v : State) → KeepsEnds s v → StillEnds s v
 still_ends s v kept = record {
   sink = λ e. (kept.moved.taken e).0;
-  spec = kept.settings.0;
+  settings = kept.settings;
   into = λ pipe got fits. into_kept pipe got s v kept fits;
 }
 

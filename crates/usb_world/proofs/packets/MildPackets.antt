@@ -6,7 +6,7 @@ use Rattle.usb_packet.specs.{SetupTok}
 use Rattle.usb_port.specs.{PortState}
 use Rattle.usb_device.specs.{Content, Whole, Broken, Sent, Leaves, RememberedPacket, asks}
 use Rattle.usb_device.specs.{asked_by_data, State, Reply, received, unread, payload_row, status_row}
-use Rattle.usb_device.specs.{sink_grows, Ports, reply_to, asked_by, answer_of, effect_of}
+use Rattle.usb_device.specs.{sink_grows, sink_row, Ports, reply_to, asked_by, answer_of, effect_of}
 use Rattle.usb_device.specs.declared.answer.Answer.TheVariants as answer
 use Rattle.usb_device.specs.declared.transfer.RememberedPacket.TheVariants.{Nothing, SetupSeen}
 use Rattle.usb_device.specs.declared.transfer.RememberedPacket.TheVariants.{OutSeen}
@@ -76,9 +76,13 @@ mild_setup n e = grind arith
 own_status : (s : State) (t : Toggle) (b : List ℕ) → self_of (status_row s t b).1 ≡ self_of s
 own_status s t b = grind arith
 
+own_sink : (s : State) (e max : ℕ) (t : Toggle) (b : List ℕ)
+    → self_of (sink_row s e max t b).1 ≡ self_of s
+own_sink s e max t b = grind arith
+
 own_payload : (s : State) (row : List PortState) (m : RememberedPacket) (t : Toggle) (b : List ℕ)
     → remembers_no_setup m ≡ true → self_of (payload_row s row m t b).1 ≡ self_of s
-own_payload s row m t b h = grind arith
+own_payload s row m t b h = grind (arith, own_sink)
 
 calm_data : (s : State) (m : RememberedPacket) (t : Toggle) (b : List ℕ)
     → remembers_no_setup m ≡ true → asked_by_data s m t b ≡ Leaves

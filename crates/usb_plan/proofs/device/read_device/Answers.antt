@@ -24,6 +24,7 @@ returns c = rw (
   c.keys_at-keys.ensures,
   c.device_room-room.ensures,
 ) (device_unless c.identity_of-identity.result _
-    c.device_texts_of-texts.result _ _ c.read_bulk-bulk.result _ c.requests_of-requests.result _ _ _
+    c.device_texts_of-texts.result _ _ c.read_bulk-bulk.result _
+    c.device_tables_of-tables.result _ _ _
     c.identity_of-identity.ensures c.device_texts_of-texts.ensures c.read_bulk-bulk.ensures
-    c.requests_of-requests.ensures)
+    c.device_tables_of-tables.ensures)

@@ -9,6 +9,6 @@ returns-clause-taken c =
     let within : c.args.number < length row =
     omega (arith, c.place.ensures.value, c.place.ensures.bound, c.self.invariant) in
     rw (← c.self.view_is) (if_ok-so c.take.result (λ h. ap (slice_set row c.place.result) h
-    ∙ slice_set-changed no_out (taken_on c.args.bytes.now) c.args.number c.place.result
+    ∙ slice_set-changed no_out (taken_on c.args.halts c.args.bytes.now) c.args.number c.place.result
     c.index_mut.result.now c.index_mut.result.now row c.place.ensures.value within refl
     c.index_mut.ensures.value) c.take.ensures.taken)

@@ -1,0 +1,180 @@
+//! The endpoints of a configuration that a pipe can use, each by its number and its direction
+//! (sections 5.7.3, 5.8.3, 9.6.6).
+ghost use Rattle.std.specs.Prelude.{◌≡◌, ◌≤◌};
+ghost use Rattle.std.specs.Option.{IfSome};
+ghost use Rattle.usb_descriptor.specs.Item.{items_of};
+ghost use Rattle.usb_descriptor.specs.Choice.{IsUsable};
+ghost use Rattle.usb_descriptor.specs.Usable.{IsPipeMost, IsTableOf, TakesItem, as_usable, counting_of, interrupt_described, usable_at, usable_item, usable_of};
+
+use crate::choice::bulk_at;
+use crate::config::ConfigView;
+use crate::item::{EndpointView, Item, TransferType};
+use std::marker::Model;
+
+/// How an endpoint moves data.
+#[derive(Clone, Copy, Debug, PartialEq, Eq)]
+pub enum EndpointKind {
+    /// In bulk (section 5.8).
+    Bulk,
+    /// By interrupts (section 5.7).
+    Interrupt,
+}
+
+/// An endpoint that a pipe can use.
+#[derive(Clone, Copy, Debug, PartialEq, Eq)]
+pub struct UsableEndpoint {
+    /// How it moves data.
+    pub kind: EndpointKind,
+    /// The most data bytes of its packets, 1 to 64.
+    pub max: u8,
+}
+
+/// How many endpoints a direction has room for, endpoint 0 included (section 9.6.6).
+const ENDPOINTS: usize = 16;
+
+/// The endpoints that a pipe can use, by their directions and numbers.
+#[derive(Clone, Copy, Debug)]
+pub struct UsableEndpoints {
+    outs: [Option<UsableEndpoint>; 16],
+    ins: [Option<UsableEndpoint>; 16],
+}
+
+impl Model for UsableEndpoints {
+    ghost use Rattle.std.specs.Prelude.{◌≡◌, length, All};
+    ghost use Rattle.std.specs.Option.{IfSome};
+    ghost use Rattle.usb_descriptor.specs.Usable.{EndpointTable, IsPipeMost};
+
+    ghost Value = { EndpointTable };
+
+    ghost view = { λ t. record { outs = t.outs; ins = t.ins } };
+
+    ghost invariant = { λ t. (length t.outs ≡ 16) × (length t.ins ≡ 16)
+        × All (λ end. IfSome end IsPipeMost) t.outs × All (λ end. IfSome end IsPipeMost) t.ins };
+
+    ghost inverse = { λ t. record { outs = t.outs; ins = t.ins } };
+}
+
+/// The number and the maximum of an interrupt endpoint with a number of 1 to 15.
+#[tactic(auto, unfolding(crate::specs::Usable::interrupt_described))]
+fn interrupt_at(low: bool, endpoint: &EndpointView<'_>) -> Option<(u8, u8)>
+    ensures value { result ≡ interrupt_described low endpoint.now }
+    ensures usable { IfSome result IsUsable }
+{
+    let number = endpoint.number();
+    let size = endpoint.max_packet() & 0x7ff;
+    let most = if low { 8 } else { 64 };
+    let is_interrupt = endpoint.transfer_type() == TransferType::Interrupt;
+    if is_interrupt && number >= 1 && (1..=most).contains(&size) {
+        Some((number, size as u8))
+    } else {
+        None
+    }
+}
+
+/// An endpoint with its number and its maximum, as a pipe can use it.
+fn as_usable(kind: EndpointKind, end: Option<(u8, u8)>) -> Option<UsableEndpoint>
+    requires { IfSome end IsUsable }
+    ensures value { result ≡ as_usable kind end }
+    ensures most { IfSome result IsPipeMost }
+{
+    let (_, max) = end?;
+    Some(UsableEndpoint { kind, max })
+}
+
+/// What an endpoint is to a pipe, whatever its address.
+fn usable_item(low: bool, endpoint: &EndpointView<'_>) -> Option<UsableEndpoint>
+    ensures value { result ≡ usable_item low endpoint.now }
+    ensures most { IfSome result IsPipeMost }
+{
+    let interrupt = as_usable(EndpointKind::Interrupt, interrupt_at(low, endpoint));
+    if low {
+        return interrupt;
+    }
+    match as_usable(EndpointKind::Bulk, bulk_at(endpoint)) {
+        Some(bulk) => Some(bulk),
+        None => interrupt,
+    }
+}
+
+/// Of two endpoints with one address the one that counts.
+fn counting_of(had: Option<UsableEndpoint>, found: Option<UsableEndpoint>) -> Option<UsableEndpoint>
+    requires had { IfSome had IsPipeMost }
+    requires found { IfSome found IsPipeMost }
+    ensures value { result ≡ counting_of had found }
+    ensures most { IfSome result IsPipeMost }
+{
+    match (had, found) {
+        (None, found) => found,
+        (Some(had), None) => Some(had),
+        (Some(had), Some(found)) => match (had.kind, found.kind) {
+            (EndpointKind::Interrupt, EndpointKind::Bulk) => Some(found),
+            _ => Some(had),
+        },
+    }
+}
+
+impl UsableEndpoints {
+    ghost use Rattle.std.specs.Prelude.{◌≡◌, ◌<◌, None};
+    ghost use Rattle.std.specs.Option.{IfSome};
+    ghost use Rattle.usb_descriptor.specs.Usable.{IsPipeMost, end_at};
+
+    /// No endpoints.
+    pub fn none() -> Self
+        ensures { IsTableOf (λ to_host e. None) result }
+    {
+        UsableEndpoints {
+            outs: [None; ENDPOINTS],
+            ins: [None; ENDPOINTS],
+        }
+    }
+
+    /// The endpoint with a direction and a number, if there is one.
+    pub fn get(&self, number: u8, is_in: bool) -> Option<UsableEndpoint>
+        ensures value { result ≡ end_at self.now is_in number }
+        ensures number { IfSome result (λ end. number < 16) }
+        ensures most { IfSome result IsPipeMost }
+    {
+        let number = usize::from(number);
+        if number >= ENDPOINTS {
+            None
+        } else if is_in {
+            self.ins[number]
+        } else {
+            self.outs[number]
+        }
+    }
+
+    /// Takes another endpoint of the text into the table.
+    fn take(&mut self, low: bool, endpoint: &EndpointView<'_>)
+        ensures { TakesItem low endpoint.now self.old self.new }
+    {
+        let number = usize::from(endpoint.number());
+        let found = usable_item(low, endpoint);
+        if endpoint.is_in() {
+            self.ins[number] = counting_of(self.ins[number], found);
+        } else {
+            self.outs[number] = counting_of(self.outs[number], found);
+        }
+    }
+}
+
+impl ConfigView<'_> {
+    /// The endpoints that a pipe can use, of a device of low or of full speed, while each interface
+    /// has alternate setting 0. Of the items with one address the first bulk item counts, else the
+    /// first interrupt item.
+    pub fn usable_endpoints(&self, low: bool) -> UsableEndpoints
+        ensures items { IsTableOf (λ to_host e. usable_at low to_host e (items_of self.now)) result }
+        ensures text { IsTableOf (λ to_host e. usable_of low to_host e self.now) result }
+    {
+        let mut table = UsableEndpoints::none();
+        let mut counts = false;
+        for item in self.items() {
+            match item {
+                Item::Interface(interface) => counts = interface.alternate_setting() == 0,
+                Item::Endpoint(endpoint) if counts => table.take(low, &endpoint),
+                _ => {}
+            }
+        }
+        table
+    }
+}

@@ -1,0 +1,136 @@
+//! How a value fails what its key allows.
+
+use crate::key::{Kind, PlanKey};
+use toml::Value;
+
+/// How a value fails what its key allows.
+#[derive(Clone, Copy, PartialEq, Eq)]
+pub(crate) enum Flaw {
+    /// A table in it lacks a key.
+    Key,
+    /// It is of another kind, out of range or too long.
+    Value,
+    /// It has texts that are no hexadecimal digits, two for each byte.
+    Digits,
+}
+
+fn is_number_in(value: &Value, low: u64, high: u64) -> bool {
+    match value.as_integer() {
+        Some(number) if number >= 0 => (low..=high).contains(&(number as u64)),
+        _ => false,
+    }
+}
+
+fn is_one_of(word: &str, words: &[&str]) -> bool {
+    words.iter().any(|other| word == *other)
+}
+
+/// Whether it is a text that is one of the words.
+pub(crate) fn is_word(value: &Value, words: &[&str]) -> bool {
+    match value.as_str() {
+        None => false,
+        Some(word) => is_one_of(word, words),
+    }
+}
+
+fn are_words(value: &Value, words: &[&str]) -> bool {
+    match value.as_array() {
+        None => false,
+        Some(values) => values.iter().all(|value| is_word(value, words)),
+    }
+}
+
+pub(crate) fn are_tables(value: &Value) -> bool {
+    match value.as_array() {
+        None => false,
+        Some(values) => values.iter().all(|value| value.as_table().is_some()),
+    }
+}
+
+pub(crate) fn are_hex_digits(text: &str) -> bool {
+    text.len() % 2 == 0 && text.bytes().all(|byte| byte.is_ascii_hexdigit())
+}
+
+/// How a value fails to be the digits of so many bytes at most.
+fn hex_flaw(value: &Value, most: usize) -> Option<Flaw> {
+    match value.as_str() {
+        None => Some(Flaw::Value),
+        Some(text) if !are_hex_digits(text) => Some(Flaw::Digits),
+        Some(text) if text.len() / 2 > most => Some(Flaw::Value),
+        Some(_) => None,
+    }
+}
+
+/// How a value fails to be the digits of eight bytes.
+fn setup_flaw(value: &Value) -> Option<Flaw> {
+    match value.as_str() {
+        None => Some(Flaw::Value),
+        Some(digits) if !are_hex_digits(digits) => Some(Flaw::Digits),
+        Some(digits) => flaw_if(digits.len() != 16, Flaw::Value),
+    }
+}
+
+/// Whether the bytes that a request gives are no digits.
+fn gives_no_digits(request: &Value) -> bool {
+    match request.as_table() {
+        None => false,
+        Some(table) => match table.get("answer") {
+            None => false,
+            Some(value) => hex_flaw(value, 65535) == Some(Flaw::Digits),
+        },
+    }
+}
+
+/// How a value fails to be at most 64 tables, each with digits of the bytes that it gives.
+fn requests_flaw(value: &Value) -> Option<Flaw> {
+    let Some(requests) = value.as_array() else {
+        return Some(Flaw::Value);
+    };
+    if requests.len() > 64 || !are_tables(value) {
+        return Some(Flaw::Value);
+    }
+    flaw_if(requests.iter().any(|it| gives_no_digits(it)), Flaw::Digits)
+}
+
+/// How an array fails to be so many texts of digits at most. A flaw of value comes before one of
+/// digits.
+fn hexes_flaw(value: &Value, count: usize, most: usize) -> Option<Flaw> {
+    let Some(values) = value.as_array() else {
+        return Some(Flaw::Value);
+    };
+    if values.len() > count || has_flaw(values.as_slice(), most, Flaw::Value) {
+        return Some(Flaw::Value);
+    }
+    flaw_if(
+        has_flaw(values.as_slice(), most, Flaw::Digits),
+        Flaw::Digits,
+    )
+}
+
+fn has_flaw(values: &[Value], most: usize, flaw: Flaw) -> bool {
+    values
+        .iter()
+        .any(|value| hex_flaw(value, most) == Some(flaw))
+}
+
+pub(crate) fn flaw_if(failed: bool, flaw: Flaw) -> Option<Flaw> {
+    if failed { Some(flaw) } else { None }
+}
+
+/// How a value fails what stands at the key, whatever else the entry has; of `endpoint` the tables alone.
+pub(crate) fn flaw_of(key: PlanKey, value: &Value) -> Option<Flaw> {
+    let fits = match key.kind() {
+        Kind::Number(low, high) => is_number_in(value, low, high),
+        Kind::Flag => value.as_bool().is_some(),
+        Kind::Text => value.as_str().is_some(),
+        Kind::Word => is_word(value, key.words()),
+        Kind::Words => are_words(value, key.words()),
+        Kind::Tables | Kind::Endpoints => are_tables(value),
+        Kind::Address => is_number_in(value, 1, 15) || is_number_in(value, 129, 143),
+        Kind::Hex(most) => return hex_flaw(value, most),
+        Kind::Setup => return setup_flaw(value),
+        Kind::Requests => return requests_flaw(value),
+        Kind::Hexes(count, most) => return hexes_flaw(value, count, most),
+    };
+    flaw_if(!fits, Flaw::Value)
+}
