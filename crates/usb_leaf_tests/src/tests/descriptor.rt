@@ -1,12 +1,13 @@
-//! Descriptors read: what each reader reports of bytes, the first fault among it, and the items of
-//! a configuration.
+//! Descriptors read: what each reader reports of bytes, the first fault among it, and the items and
+//! the usable endpoints of a configuration.
 use arrayvec::ArrayVec;
 use usb_descriptor::DescriptorFault::{
     Length, MaxPacket, NoConfiguration, Short, Total, WrongType,
 };
+use usb_descriptor::EndpointKind::{Bulk, Interrupt};
 use usb_descriptor::{
-    DescriptorFault, EndpointView, InterfaceView, Item, TransferType, config_head, device_head,
-    read_config, read_device, read_hub, read_string,
+    DescriptorFault, EndpointKind, EndpointView, InterfaceView, Item, TransferType, config_head,
+    device_head, read_config, read_device, read_hub, read_string,
 };
 
 const DEVICE: &[u8] = &[
@@ -468,5 +469,187 @@ fn items_of_a_configuration(rt: HostRuntime) {
         };
         let want = (row.bytes, row.bytes, row.numbers, row.transfer_type);
         assert_eq!(rt; told, want, "item {} of {:?}", row.place, row.config);
+    }
+}
+
+/// A configuration, and the number, the kind and the maximum packet of each endpoint of it that a
+/// pipe can use.
+struct UsableRow {
+    low: bool,
+    config: &'static [u8],
+    outs: &'static [(u8, EndpointKind, u8)],
+    ins: &'static [(u8, EndpointKind, u8)],
+}
+
+const USABLE: &[UsableRow] = &[
+    // of the items with one address the first bulk item counts
+    UsableRow {
+        low: false,
+        config: &[
+            9, 2, 0x20, 0, 1, 1, 0, 0x80, 0x32, 9, 4, 0, 0, 1, 0xff, 0, 0, 0, 7, 5, 0x81, 3, 8, 0,
+            1, 7, 5, 0x81, 2, 0x40, 0, 1,
+        ],
+        outs: &[],
+        ins: &[(1, Bulk, 64)],
+    },
+    // there is no bulk at low speed
+    UsableRow {
+        low: true,
+        config: &[
+            9, 2, 0x20, 0, 1, 1, 0, 0x80, 0x32, 9, 4, 0, 0, 1, 0xff, 0, 0, 0, 7, 5, 0x81, 3, 8, 0,
+            1, 7, 5, 0x81, 2, 0x40, 0, 1,
+        ],
+        outs: &[],
+        ins: &[(1, Interrupt, 8)],
+    },
+    // else the first interrupt item
+    UsableRow {
+        low: false,
+        config: &[
+            9, 2, 0x20, 0, 1, 1, 0, 0x80, 0x32, 9, 4, 0, 0, 1, 0xff, 0, 0, 0, 7, 5, 2, 3, 0x10, 0,
+            1, 7, 5, 2, 3, 0x20, 0, 1,
+        ],
+        outs: &[(2, Interrupt, 16)],
+        ins: &[],
+    },
+    // an interrupt item after it, and another bulk item, change nothing
+    UsableRow {
+        low: false,
+        config: &[
+            9, 2, 0x27, 0, 1, 1, 0, 0x80, 0x32, 9, 4, 0, 0, 1, 0xff, 0, 0, 0, 7, 5, 3, 2, 8, 0, 1,
+            7, 5, 3, 3, 0x40, 0, 1, 7, 5, 3, 2, 0x40, 0, 1,
+        ],
+        outs: &[(3, Bulk, 8)],
+        ins: &[],
+    },
+    // an address is a number and a direction
+    UsableRow {
+        low: false,
+        config: &[
+            9, 2, 0x20, 0, 1, 1, 0, 0x80, 0x32, 9, 4, 0, 0, 1, 0xff, 0, 0, 0, 7, 5, 1, 2, 0x10, 0,
+            1, 7, 5, 0x81, 3, 5, 0, 1,
+        ],
+        outs: &[(1, Bulk, 16)],
+        ins: &[(1, Interrupt, 5)],
+    },
+    // an interrupt packet has 8 bytes at low speed, 64 at full speed (5.7.3)
+    UsableRow {
+        low: true,
+        config: &[
+            9, 2, 0x20, 0, 1, 1, 0, 0x80, 0x32, 9, 4, 0, 0, 1, 0xff, 0, 0, 0, 7, 5, 0x81, 3, 9, 0,
+            1, 7, 5, 0x82, 3, 8, 0, 1,
+        ],
+        outs: &[],
+        ins: &[(2, Interrupt, 8)],
+    },
+    UsableRow {
+        low: false,
+        config: &[
+            9, 2, 0x20, 0, 1, 1, 0, 0x80, 0x32, 9, 4, 0, 0, 1, 0xff, 0, 0, 0, 7, 5, 0x81, 3, 9, 0,
+            1, 7, 5, 0x82, 3, 8, 0, 1,
+        ],
+        outs: &[],
+        ins: &[(1, Interrupt, 9), (2, Interrupt, 8)],
+    },
+    UsableRow {
+        low: false,
+        config: &[
+            9, 2, 0x27, 0, 1, 1, 0, 0x80, 0x32, 9, 4, 0, 0, 1, 0xff, 0, 0, 0, 7, 5, 0x81, 3, 0x41,
+            0, 1, 7, 5, 0x82, 3, 0x40, 0, 1, 7, 5, 0x83, 3, 0, 0, 1,
+        ],
+        outs: &[],
+        ins: &[(2, Interrupt, 64)],
+    },
+    // a bulk packet has 8, 16, 32 or 64 bytes (5.8.3)
+    UsableRow {
+        low: false,
+        config: &[
+            9, 2, 0x2e, 0, 1, 1, 0, 0x80, 0x32, 9, 4, 0, 0, 1, 0xff, 0, 0, 0, 7, 5, 1, 2, 8, 0, 1,
+            7, 5, 2, 2, 9, 0, 1, 7, 5, 3, 2, 0x20, 0, 1, 7, 5, 4, 2, 0, 0, 1,
+        ],
+        outs: &[(1, Bulk, 8), (3, Bulk, 32)],
+        ins: &[],
+    },
+    // endpoints of another alternate setting do not count, nor do those before any interface
+    UsableRow {
+        low: false,
+        config: &[
+            9, 2, 0x30, 0, 1, 1, 0, 0x80, 0x32, 7, 5, 5, 2, 0x40, 0, 1, 9, 4, 0, 1, 1, 0xff, 0, 0,
+            0, 7, 5, 1, 2, 0x40, 0, 1, 9, 4, 1, 0, 1, 0xff, 0, 0, 0, 7, 5, 0x82, 2, 0x40, 0, 1,
+        ],
+        outs: &[],
+        ins: &[(2, Bulk, 64)],
+    },
+    // bits 4 to 6 of bEndpointAddress are reserved (9.6.6)
+    UsableRow {
+        low: false,
+        config: &[
+            9, 2, 0x20, 0, 1, 1, 0, 0x80, 0x32, 9, 4, 0, 0, 1, 0xff, 0, 0, 0, 7, 5, 0x71, 2, 0x40,
+            0, 1, 7, 5, 0xff, 3, 1, 0, 1,
+        ],
+        outs: &[(1, Bulk, 64)],
+        ins: &[(15, Interrupt, 1)],
+    },
+    // endpoint 0 is no pipe's
+    UsableRow {
+        low: false,
+        config: &[
+            9, 2, 0x20, 0, 1, 1, 0, 0x80, 0x32, 9, 4, 0, 0, 1, 0xff, 0, 0, 0, 7, 5, 0, 2, 0x40, 0,
+            1, 7, 5, 0x80, 3, 8, 0, 1,
+        ],
+        outs: &[],
+        ins: &[],
+    },
+    // the low eleven bits of wMaxPacketSize are the size; a bulk endpoint has no others
+    UsableRow {
+        low: false,
+        config: &[
+            9, 2, 0x2e, 0, 1, 1, 0, 0x80, 0x32, 9, 4, 0, 0, 1, 0xff, 0, 0, 0, 7, 5, 1, 2, 0x40, 8,
+            1, 7, 5, 0x82, 3, 0x40, 8, 1, 7, 5, 0x83, 3, 0, 8, 1, 7, 5, 0x84, 3, 1, 0xf8, 1,
+        ],
+        outs: &[],
+        ins: &[(2, Interrupt, 64), (4, Interrupt, 1)],
+    },
+    // the low two bits of bmAttributes are the type; control and isochronous endpoints are none
+    UsableRow {
+        low: false,
+        config: &[
+            9, 2, 0x2e, 0, 1, 1, 0, 0x80, 0x32, 9, 4, 0, 0, 1, 0xff, 0, 0, 0, 7, 5, 1, 0, 0x40, 0,
+            1, 7, 5, 2, 1, 0x40, 0, 1, 7, 5, 3, 0xfe, 0x40, 0, 1, 7, 5, 4, 0x3f, 0x40, 0, 1,
+        ],
+        outs: &[(3, Bulk, 64), (4, Interrupt, 64)],
+        ins: &[],
+    },
+];
+
+/// The kind and the maximum packet of the endpoint with this number.
+fn end_of(ends: &[(u8, EndpointKind, u8)], number: u8) -> Option<(EndpointKind, u8)> {
+    for (found, kind, max) in ends {
+        if *found == number {
+            return Some((*kind, *max));
+        }
+    }
+    None
+}
+
+/// The same in a configuration.
+fn usable_end(row: &UsableRow, number: u8, is_in: bool) -> Option<(EndpointKind, u8)> {
+    let config = read_config(row.config).ok()?;
+    let end = config.usable_endpoints(row.low).get(number, is_in)?;
+    Some((end.kind, end.max))
+}
+
+#[test]
+fn usable_endpoints(rt: HostRuntime) {
+    for row in USABLE {
+        assert!(rt; read_config(row.config).is_ok(), "{:?}", row.config);
+        for number in 0..=16 {
+            let told = (
+                usable_end(row, number, false),
+                usable_end(row, number, true),
+            );
+            let want = (end_of(row.outs, number), end_of(row.ins, number));
+            assert_eq!(rt; told, want, "endpoint {number} of {:?}", row.config);
+        }
     }
 }

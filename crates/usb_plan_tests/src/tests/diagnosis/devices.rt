@@ -42,11 +42,11 @@ const NAMES: [Row; 5] = [
     },
     Row {
         text: "[[device]]\nname = \"k\"\nspeed = \"full\"\ndescriptor = \"\"\nconfigs = [\n  # none: ]\n]\nstrngs = [\"\"\"\n\"\"\"]\n",
-        told: "p.toml:15: plan: device 2: bad value\n  device 2 \"k\", line 8: unknown key `strngs`\n  allowed: `name`, `speed`, `descriptor`, `configs`, `strings`, `ports`, `hub_descriptor`, `self_powered`, `busy`, `silent`, `naks`, `stalls`, `source`, `halt_after`, `request`\n  did you mean `strings`?\n",
+        told: "p.toml:15: plan: device 2: bad value\n  device 2 \"k\", line 8: unknown key `strngs`\n  allowed: `name`, `speed`, `descriptor`, `configs`, `strings`, `ports`, `hub_descriptor`, `self_powered`, `busy`, `silent`, `naks`, `stalls`, `source`, `halt_after`, `endpoint`, `request`\n  did you mean `strings`?\n",
     },
     Row {
         text: "[[device]]\nname = \"k\"\nspeed = \"full\"\ndescriptor = \"\"\nconfigs = []\n[device.extra]\nb = 1\n",
-        told: "p.toml:13: plan: device 2: bad value\n  device 2 \"k\", line 8: unknown key `extra`\n  allowed: `name`, `speed`, `descriptor`, `configs`, `strings`, `ports`, `hub_descriptor`, `self_powered`, `busy`, `silent`, `naks`, `stalls`, `source`, `halt_after`, `request`\n",
+        told: "p.toml:13: plan: device 2: bad value\n  device 2 \"k\", line 8: unknown key `extra`\n  allowed: `name`, `speed`, `descriptor`, `configs`, `strings`, `ports`, `hub_descriptor`, `self_powered`, `busy`, `silent`, `naks`, `stalls`, `source`, `halt_after`, `endpoint`, `request`\n",
     },
 ];
 
@@ -152,6 +152,109 @@ fn a_device_of_a_bad_value(rt: HostRuntime) -> Result<(), AllocError> {
     let mut before = String::from_str(rt.alloc(), FUNCTION)?;
     before.push_str(HUB)?;
     check_rows(&rt, rt.alloc(), before.as_str(), &VALUES)
+}
+
+/// Tables of its endpoints, the first line of which is line 13.
+const ENDPOINTS: [Row; 23] = [
+    Row {
+        text: "endpoint = 1\n",
+        told: "p.toml:13: plan: device 2: bad value\n  device 2 \"hub\", line 8: `endpoint` is 1\n  allowed: at most 30 tables, each with an `address`, and what the endpoint gives or how it hesitates\n",
+    },
+    Row {
+        text: "endpoint = [1]\n",
+        told: "p.toml:13: plan: device 2: bad value\n  device 2 \"hub\", line 8: `endpoint` is [1]\n  allowed: at most 30 tables, each with an `address`, and what the endpoint gives or how it hesitates\n",
+    },
+    Row {
+        text: "endpoint = [{}, 1]\n",
+        told: "p.toml:13: plan: device 2: bad value\n  device 2 \"hub\", line 8: `endpoint` is [{}, 1]\n  allowed: at most 30 tables, each with an `address`, and what the endpoint gives or how it hesitates\n",
+    },
+    Row {
+        text: "endpoint = [{ address = 0x81 }, { adress = 0x82 }]\n",
+        told: "p.toml:13: plan: device 2: missing key\n  device 2 \"hub\", line 8: endpoint[1], no key `address`\n  allowed: a number from 1 to 15 for OUT or from 129 to 143 for IN, not that of an earlier table\n  such as: address = 0x81\n  unknown key `adress`: did you mean `address`?\n",
+    },
+    Row {
+        text: "endpoint = [{ naks = 1 }]\nrequest = [{ type = 0x21 }]\n",
+        told: "p.toml:13: plan: device 2: missing key\n  device 2 \"hub\", line 8: endpoint[0], no key `address`\n  allowed: a number from 1 to 15 for OUT or from 129 to 143 for IN, not that of an earlier table\n  such as: address = 0x81\n",
+    },
+    Row {
+        text: "endpoint = [{ address = 1 }]\nrequest = [{ type = 0x21 }]\n",
+        told: "p.toml:14: plan: device 2: missing key\n  device 2 \"hub\", line 8: `request` is [{ type = 33 }]\n  allowed: at most 64 tables, each with `type`, `request`, and what the device does about it\n",
+    },
+    Row {
+        text: "endpoint = [{ address = 0x81 }, { address = 0x82, nak = 3 }]\n",
+        told: "p.toml:13: plan: device 2: bad value\n  device 2 \"hub\", line 8: endpoint[1], unknown key `nak`\n  allowed: `address`, `source`, `packets`, `halt_after`, `naks`\n  did you mean `naks`?\n",
+    },
+    Row {
+        text: "endpoint = [{ address = 16 }]\n",
+        told: "p.toml:13: plan: device 2: bad value\n  device 2 \"hub\", line 8: endpoint[0], `address` is 16\n  allowed: a number from 1 to 15 for OUT or from 129 to 143 for IN, not that of an earlier table\n",
+    },
+    Row {
+        text: "endpoint = [{ address = 1 }, { address = 2 }, { address = 1 }]\n",
+        told: "p.toml:13: plan: device 2: bad value\n  device 2 \"hub\", line 8: endpoint[2], `address` is 1\n  allowed: a number from 1 to 15 for OUT or from 129 to 143 for IN, not that of an earlier table\n",
+    },
+    Row {
+        text: "endpoint = [{ address = 1, source = \"00\" }]\n",
+        told: "p.toml:13: plan: device 2: bad value\n  device 2 \"hub\", line 8: endpoint[0], `source` is \"00\"\n  allowed: two hexadecimal digits for each of at most 65535 bytes, at an IN endpoint\n",
+    },
+    Row {
+        text: "endpoint = [{ address = 1, packets = [\"00\"] }]\n",
+        told: "p.toml:13: plan: device 2: bad value\n  device 2 \"hub\", line 8: endpoint[0], `packets` is [\"00\"]\n  allowed: at most 1000 texts, each of two hexadecimal digits for each of at most 64 bytes, at an IN endpoint without `source`\n",
+    },
+    Row {
+        text: "endpoint = [{ address = 0x81, source = \"00\", packets = [\"00\"] }]\n",
+        told: "p.toml:13: plan: device 2: bad value\n  device 2 \"hub\", line 8: endpoint[0], `packets` is [\"00\"]\n  allowed: at most 1000 texts, each of two hexadecimal digits for each of at most 64 bytes, at an IN endpoint without `source`\n",
+    },
+    Row {
+        text: "endpoint = [{ address = 0x81, source = \"0g\" }]\n",
+        told: "p.toml:13: plan: device 2: bad hex\n  device 2 \"hub\", line 8: endpoint[0], `source` is \"0g\"\n  character 2 is `g`, no hexadecimal digit\n  allowed: two hexadecimal digits for each of at most 65535 bytes, at an IN endpoint\n",
+    },
+    Row {
+        text: "endpoint = [{ address = 0x81, source = \"0g\" }, { address = 0x82, naks = 301 }]\n",
+        told: "p.toml:13: plan: device 2: bad value\n  device 2 \"hub\", line 8: endpoint[1], `naks` is 301\n  allowed: a number from 0 to 300\n",
+    },
+    Row {
+        text: "endpoint = [{ address = 0x81, packets = [\"00\", \"0\"] }]\n",
+        told: "p.toml:13: plan: device 2: bad hex\n  device 2 \"hub\", line 8: endpoint[0], `packets` is [\"00\", \"0\"]\n  packets[1], an odd number of digits: 1\n  allowed: at most 1000 texts, each of two hexadecimal digits for each of at most 64 bytes, at an IN endpoint without `source`\n",
+    },
+    Row {
+        text: "endpoint = [{ address = 0x81, packets = \"00\" }]\n",
+        told: "p.toml:13: plan: device 2: bad value\n  device 2 \"hub\", line 8: endpoint[0], `packets` is \"00\"\n  allowed: at most 1000 texts, each of two hexadecimal digits for each of at most 64 bytes, at an IN endpoint without `source`\n",
+    },
+    Row {
+        text: "endpoint = [{ address = 0x81, halt_after = 0 }]\n",
+        told: "p.toml:13: plan: device 2: bad value\n  device 2 \"hub\", line 8: endpoint[0], `halt_after` is 0\n  allowed: a number from 1 to 65535\n",
+    },
+    Row {
+        text: "endpoint = [\n  { address = 0x81 },\n  { address = 0x82, naks = -1 },\n]\n",
+        told: "p.toml:13: plan: device 2: bad value\n  device 2 \"hub\", line 8: endpoint[1], `naks` is -1\n  allowed: a number from 0 to 300\n",
+    },
+    Row {
+        text: "[[device.endpoint]]\naddress = 1\n\n[[device.endpoint]]\naddress = 2\nnaks = 301\n",
+        told: "p.toml:18: plan: device 2: bad value\n  device 2 \"hub\", line 8: endpoint[1], `naks` is 301\n  allowed: a number from 0 to 300\n",
+    },
+    Row {
+        text: "[[device.endpoint]]\naddress = 1\n\n[[device.endpoint]]\nnaks = 3\n",
+        told: "p.toml:16: plan: device 2: missing key\n  device 2 \"hub\", line 8: endpoint[1], no key `address`\n  allowed: a number from 1 to 15 for OUT or from 129 to 143 for IN, not that of an earlier table\n  such as: address = 0x81\n",
+    },
+    Row {
+        text: "[[device.endpoint]]\naddress = 1\n\n[[device.request]]\ntype = 0x21\nrequest = 1\n\n[[device.endpoint]]\n\"address\" = 1\n",
+        told: "p.toml:21: plan: device 2: bad value\n  device 2 \"hub\", line 8: endpoint[1], `address` is 1\n  allowed: a number from 1 to 15 for OUT or from 129 to 143 for IN, not that of an earlier table\n",
+    },
+    Row {
+        text: "[[device.endpoint]]\naddress = 1\n[[device]]\nname = \"d\"\nspeed = \"low\"\ndescriptor = \"\"\nconfigs = []\n[[device.endpoint]]\naddress = 1\nnak = 1\n",
+        told: "p.toml:22: plan: device 3: bad value\n  device 3 \"d\", line 15: endpoint[0], unknown key `nak`\n  allowed: `address`, `source`, `packets`, `halt_after`, `naks`\n  did you mean `naks`?\n",
+    },
+    Row {
+        text: "endpont = []\n",
+        told: "p.toml:13: plan: device 2: bad value\n  device 2 \"hub\", line 8: unknown key `endpont`\n  allowed: `name`, `speed`, `descriptor`, `configs`, `strings`, `ports`, `hub_descriptor`, `self_powered`, `busy`, `silent`, `naks`, `stalls`, `source`, `halt_after`, `endpoint`, `request`\n  did you mean `endpoint`?\n",
+    },
+];
+
+#[test]
+fn a_device_of_bad_endpoints(rt: HostRuntime) -> Result<(), AllocError> {
+    let mut before = String::from_str(rt.alloc(), FUNCTION)?;
+    before.push_str(HUB)?;
+    check_rows(&rt, rt.alloc(), before.as_str(), &ENDPOINTS)
 }
 
 const PARTS: [Row; 9] = [

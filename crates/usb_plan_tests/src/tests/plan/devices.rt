@@ -167,6 +167,7 @@ const REQUESTS: [Cases; 4] = [
             "request = 1",
             "request = { type = 0x21, request = 1 }",
             "request = [1]",
+            "request = [{}, 1]",
             "request = [{ type = 256, request = 1 }]",
             "request = [{ type = -1, request = 1 }]",
             "request = [{ type = \"21\", request = 1 }]",
@@ -203,6 +204,84 @@ const REQUESTS: [Cases; 4] = [
     },
 ];
 
+/// What a second device's endpoints give, and how they hesitate.
+const ENDPOINTS: [Cases; 4] = [
+    Cases {
+        told: "plan",
+        texts: &[
+            "endpoint = []",
+            "endpoint = [{ address = 1 }]",
+            "endpoint = [{ address = 0x0F, halt_after = 1, naks = 0 }]",
+            "endpoint = [{ address = 0x81 }, { address = 0x8F, halt_after = 65535, naks = 300 }]",
+            "endpoint = [{ address = 0x81, source = \"\" }, { address = 1 }]",
+            "endpoint = [{ address = 0x82, source = \"0aFF\" }]",
+            "endpoint = [{ address = 0x83, packets = [] }]",
+            "endpoint = [{ address = 0x83, packets = [\"\", \"01\", \"\"], naks = 1, halt_after = 2 }]",
+            "source = \"00\"\nhalt_after = 1\nendpoint = [{ address = 0x81, source = \"01\" }]",
+            "[[device.endpoint]]\naddress = 129\n[[device.endpoint]]\naddress = 130",
+        ],
+    },
+    Cases {
+        told: "plan: device 2: missing key",
+        texts: &[
+            "endpoint = [{}]",
+            "endpoint = [{ address = 0 }, {}]",
+            "endpoint = [{ naks = -1, nak = 1 }]",
+            "endpoint = [{ source = \"0\" }]",
+            "endpoint = [{ source = \"\", packets = [] }]",
+            "endpoint = [{ address = 1 }, { address = 1, source = \"0\" }, { halt_after = 1 }]",
+            "endpoint = [{ address = 0x81, source = \"0\" }]\nrequest = [{ type = 0x21 }]",
+        ],
+    },
+    Cases {
+        told: "plan: device 2: bad value",
+        texts: &[
+            "endpoint = 1",
+            "endpoint = { address = 1 }",
+            "endpoint = [1]",
+            "endpoint = [{}, 1]",
+            "endpoint = [{ address = 0 }]",
+            "endpoint = [{ address = 16 }]",
+            "endpoint = [{ address = 127 }]",
+            "endpoint = [{ address = 128 }]",
+            "endpoint = [{ address = 144 }]",
+            "endpoint = [{ address = 257 }]",
+            "endpoint = [{ address = -1 }]",
+            "endpoint = [{ address = \"1\" }]",
+            "endpoint = [{ address = true }]",
+            "endpoint = [{ address = 1 }, { address = 1 }]",
+            "endpoint = [{ address = 1 }, { address = 0x81 }, { address = 2 }, { address = 0x81 }]",
+            "endpoint = [{ address = 1, naks = 301 }, { address = 1 }]",
+            "endpoint = [{ address = 0x81, source = \"0\" }, { address = 0x81 }]",
+            "endpoint = [{ address = 1, source = \"\" }]",
+            "endpoint = [{ address = 1, source = \"0\" }]",
+            "endpoint = [{ address = 15, packets = [] }]",
+            "endpoint = [{ address = 0x81, source = \"\", packets = [] }]",
+            "endpoint = [{ address = 0x81, source = \"0\", packets = [\"0\"] }]",
+            "endpoint = [{ address = 0x81, source = 0 }]",
+            "endpoint = [{ address = 0x81, packets = \"00\" }]",
+            "endpoint = [{ address = 0x81, packets = [\"0\", 1] }]",
+            "endpoint = [{ address = 0x81, halt_after = 0 }]",
+            "endpoint = [{ address = 0x81, halt_after = 65536 }]",
+            "endpoint = [{ address = 1, halt_after = true }]",
+            "endpoint = [{ address = 0x81, naks = 301 }]",
+            "endpoint = [{ address = 1, naks = -1 }]",
+            "endpoint = [{ address = 1, naks = \"1\" }]",
+            "endpoint = [{ address = 1, data = \"\" }]",
+            "endpoint = [{ address = 0x81, source = \"0\", naks = 301 }]",
+            "endpoints = []",
+        ],
+    },
+    Cases {
+        told: "plan: device 2: bad hex",
+        texts: &[
+            "endpoint = [{ address = 0x81, source = \"0\" }]",
+            "endpoint = [{ address = 0x81, source = \"0x\" }]",
+            "endpoint = [{ address = 1 }, { address = 0x81, packets = [\"00\", \"0g\"] }]",
+        ],
+    },
+];
+
 #[test]
 fn devices(rt: HostRuntime) -> Result<(), AllocError> {
     check(&rt, rt.alloc(), &[FUNCTION, "[[device]]\n"], &DEVICES)
@@ -216,6 +295,11 @@ fn keys_of_a_device(rt: HostRuntime) -> Result<(), AllocError> {
 #[test]
 fn requests_of_a_device(rt: HostRuntime) -> Result<(), AllocError> {
     check(&rt, rt.alloc(), &[FUNCTION, HUB], &REQUESTS)
+}
+
+#[test]
+fn endpoints_of_a_device(rt: HostRuntime) -> Result<(), AllocError> {
+    check(&rt, rt.alloc(), &[FUNCTION, HUB], &ENDPOINTS)
 }
 
 #[test]

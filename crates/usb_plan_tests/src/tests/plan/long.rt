@@ -61,8 +61,56 @@ const LIST_ENDS: &[Cases] = &[
     },
 ];
 
+/// The end of an endpoint's text of digits, with no digits or with two.
+const ENDPOINT_TEXT_ENDS: &[Cases] = &[
+    Cases {
+        told: "plan",
+        texts: &["\" }]"],
+    },
+    Cases {
+        told: "plan: device 2: bad value",
+        texts: &["00\" }]"],
+    },
+];
+
+/// The end of an endpoint's list of packets, with no other packet or with one.
+const PACKET_ENDS: &[Cases] = &[
+    Cases {
+        told: "plan",
+        texts: &["] }]"],
+    },
+    Cases {
+        told: "plan: device 2: bad value",
+        texts: &["\"\",] }]"],
+    },
+];
+
+/// The end of an endpoint's list of one packet, with no digits or with two.
+const ONLY_PACKET_ENDS: &[Cases] = &[
+    Cases {
+        told: "plan",
+        texts: &["\"] }]"],
+    },
+    Cases {
+        told: "plan: device 2: bad value",
+        texts: &["00\"] }]"],
+    },
+];
+
+/// The end of a list of tables, with no other one or with one that lacks a key.
+const TABLE_ENDS: &[Cases] = &[
+    Cases {
+        told: "plan",
+        texts: &["]"],
+    },
+    Cases {
+        told: "plan: device 2: bad value",
+        texts: &["{}]"],
+    },
+];
+
 /// Keys of the second device that hold as much as they may.
-const KEYS: [Long; 7] = [
+const KEYS: [Long; 12] = [
     Long {
         before: "configs = []\ndescriptor = \"",
         piece: Piece::Same("00"),
@@ -104,6 +152,36 @@ const KEYS: [Long; 7] = [
         piece: Piece::Same("00"),
         times: 65_535,
         after: TEXT_ENDS,
+    },
+    Long {
+        before: "descriptor = \"\"\nconfigs = []\nendpoint = [{ address = 129, source = \"",
+        piece: Piece::Same("00"),
+        times: 65_535,
+        after: ENDPOINT_TEXT_ENDS,
+    },
+    Long {
+        before: "descriptor = \"\"\nconfigs = []\nendpoint = [{ address = 129, packets = [",
+        piece: Piece::Same("\"\","),
+        times: 1_000,
+        after: PACKET_ENDS,
+    },
+    Long {
+        before: "descriptor = \"\"\nconfigs = []\nendpoint = [{ address = 129, packets = [\"",
+        piece: Piece::Same("00"),
+        times: 64,
+        after: ONLY_PACKET_ENDS,
+    },
+    Long {
+        before: "descriptor = \"\"\nconfigs = []\nendpoint = [{ address = 129 }, { address = 130 }, { address = 131 }, { address = 132 }, { address = 133 }, { address = 134 }, { address = 135 }, { address = 136 }, { address = 137 }, { address = 138 }, { address = 139 }, { address = 140 }, { address = 141 }, { address = 142 }, { address = 143 },",
+        piece: Piece::Numbered("{ address = ", " },"),
+        times: 15,
+        after: TABLE_ENDS,
+    },
+    Long {
+        before: "descriptor = \"\"\nconfigs = []\nrequest = [",
+        piece: Piece::Numbered("{ type = 0x21, request = ", " },"),
+        times: 64,
+        after: TABLE_ENDS,
     },
 ];
 

@@ -1,7 +1,7 @@
 //! What is read of a text.
 use super::FUNCTION;
 use std::alloc::{AllocError, Global};
-use usb_device::{DeviceSpec, OwnAnswer, OwnRequest};
+use usb_device::{DeviceSpec, EndpointData, EndpointSpec, OwnAnswer, OwnRequest};
 use usb_plan::{bound, read_plan};
 use usb_sim::{Action, Ask, Change, Plan};
 
@@ -36,6 +36,30 @@ fn put_request(text: &mut String, row: &OwnRequest) -> Result<(), AllocError> {
     }
 }
 
+/// Adds what an endpoint gives, packets with a bar between them.
+fn put_data(text: &mut String, content: &EndpointData) -> Result<(), AllocError> {
+    match content {
+        EndpointData::Source(bytes) => {
+            text.push_str(" of")?;
+            put_bytes(text, bytes.as_slice())?;
+        }
+        EndpointData::Packets(packets) => {
+            for packet in packets.as_slice() {
+                text.push_str(" |")?;
+                put_bytes(text, packet.as_slice())?;
+            }
+        }
+    }
+    Ok(())
+}
+
+/// Adds an endpoint that a plan describes.
+fn put_endpoint(text: &mut String, row: &EndpointSpec) -> Result<(), AllocError> {
+    write!(text, ", endpoint {} naks {}", row.address.get(), row.naks)?;
+    put_field(text, row.halt_after)?;
+    put_data(text, &row.data)
+}
+
 /// Adds the device and what it holds.
 fn put_device(text: &mut String, device: &DeviceSpec) -> Result<(), AllocError> {
     write!(text, "; {}", device.name())?;
@@ -43,6 +67,9 @@ fn put_device(text: &mut String, device: &DeviceSpec) -> Result<(), AllocError> 
     for config in device.configs() {
         text.push_str(",")?;
         put_bytes(text, config.as_slice())?;
+    }
+    for row in device.endpoints().as_slice() {
+        put_endpoint(text, row)?;
     }
     for request in device.requests().as_slice() {
         put_request(text, request)?;
@@ -122,7 +149,7 @@ struct Example {
     read: &'static str,
 }
 
-const EXAMPLES: [Example; 9] = [
+const EXAMPLES: [Example; 10] = [
     Example {
         text: &["limit = 0\nroots = 1\n"],
         read: "limit 0, roots 1, bound 2",
@@ -170,6 +197,15 @@ const EXAMPLES: [Example; 9] = [
             "request = [{ type = 0x81, request = 6, kept = true }, { type = 0xA1, request = 1, refuse = \"data\" }, { type = 0x40, request = 255, refuse = \"status\" }]\n",
         ],
         read: "limit 1, roots 1, bound 2; a, 129 6 - - - kept, 161 1 - - - refused, 64 255 - - - refused at status",
+    },
+    Example {
+        text: &[
+            "limit = 1\nroots = 1\n[[device]]\nname = \"a\"\nspeed = \"full\"\ndescriptor = \"\"\nconfigs = []\n",
+            "request = [{ type = 0x21, request = 9 }]\n",
+            "[[device.endpoint]]\naddress = 0x81\nsource = \"00fF\"\nhalt_after = 3\n[[device.endpoint]]\naddress = 2\nnaks = 300\n",
+            "[[device.endpoint]]\naddress = 130\npackets = [\"01\", \"\", \"0203\"]\nhalt_after = 65535\nnaks = 2\n[[device.endpoint]]\naddress = 131\npackets = []\n",
+        ],
+        read: "limit 1, roots 1, bound 2; a, endpoint 129 naks 0 3 of 0 255, endpoint 2 naks 300 - of, endpoint 130 naks 2 65535 | 1 | | 2 3, endpoint 131 naks 0 -, 33 9 - - - taken",
     },
     // a look more makes each event dearer
     Example {
