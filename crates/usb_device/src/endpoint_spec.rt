@@ -41,7 +41,7 @@ pub struct EndpointSpec {
     pub data: EndpointData,
     /// After how many packets since the plug it halts once, if it ever does.
     pub halt_after: Option<u16>,
-    /// How many NAKs it gives before each packet, at most 300.
+    /// How many NAKs it gives before each packet.
     pub naks: u16,
 }
 
