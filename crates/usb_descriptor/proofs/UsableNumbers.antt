@@ -1,5 +1,6 @@
 -- Which numbers and maximums the endpoints of a text have that a pipe can use.
-use Rattle.std.proofs.Common.{◌≡◌, ◌≤◌, ℕ, ◌==◌, nat_le, not, ◌&&◌, Bool, true, false, List, [], ◌∷◌}
+use Rattle.std.proofs.Common.{◌≡◌, ◌≤◌, ℕ, ◌==◌, nat_le, not, ◌&&◌, Bool, true, false, List, []}
+use Rattle.std.proofs.Common.{◌∷◌}
 use Rattle.std.proofs.Common.{Option, None, Some, Result, Ok, Err, refl, sym, subst, ap, ◌∙◌, arith}
 use Rattle.std.proofs.Common.{if◌then◌else◌}
 use Rattle.std.proofs.lemmas.Bool.Decides.{nat_tests}
@@ -100,7 +101,8 @@ with_number to_host e described so endpoint end h =
     by_number : (b : Bool) → has_number to_host e endpoint ≡ b
         → (if b then described endpoint else None) ≡ Some end → IsEnd e end
     by_number false at g = cc g
-    by_number true at g = subst (λ n. IsEnd n end) (numbered to_host e endpoint at) (so endpoint end g)
+    by_number true at g =
+        subst (λ n. IsEnd n end) (numbered to_host e endpoint at) (so endpoint end g)
 
 bulk_first : (to_host : Bool) (e : ℕ) (items : List Item) (end : ℕ × ℕ)
     → first_from (bulk_with to_host e) false items ≡ Some end → IsEnd e end

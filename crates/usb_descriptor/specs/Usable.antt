@@ -1,6 +1,6 @@
 -- The endpoints that a pipe can use, each by its number and its direction (5.7.3, 5.8.3, 9.6.6).
-use Rattle.std.specs.Prelude.{◌≡◌, ◌≤◌, ℕ, ◌==◌, nat_le, not, ◌&&◌, if◌then◌else◌, List, Bool, true, false}
-use Rattle.std.specs.Prelude.{Option, Some, None, Result, Ok, Err, get_or}
+use Rattle.std.specs.Prelude.{◌≡◌, ◌≤◌, ℕ, ◌==◌, nat_le, not, ◌&&◌, if◌then◌else◌, List, Bool}
+use Rattle.std.specs.Prelude.{true, false, Option, Some, None, Result, Ok, Err, get_or}
 use Rattle.std.specs.Option.{option_or}
 use Rattle.usb_descriptor.specs.declared.fault.DescriptorFault.{DescriptorFault}
 use Rattle.usb_descriptor.specs.declared.item.Item.{Item}
@@ -17,7 +17,8 @@ has_number true e endpoint = is_in endpoint && endpoint_number endpoint == e
 has_number false e endpoint = not (is_in endpoint) && endpoint_number endpoint == e
 
 unfoldable pub bulk_with : Bool → ℕ → List ℕ → Option (ℕ × ℕ)
-bulk_with to_host e endpoint = if has_number to_host e endpoint then bulk_described endpoint else None
+bulk_with to_host e endpoint =
+    if has_number to_host e endpoint then bulk_described endpoint else None
 
 -- the most bytes of an interrupt endpoint's packet, at low speed and at full speed (5.7.3)
 abbrev pub interrupt_most : Bool → ℕ

@@ -163,7 +163,8 @@ impl ConfigView<'_> {
     /// has alternate setting 0. Of the items with one address the first bulk item counts, else the
     /// first interrupt item.
     pub fn usable_endpoints(&self, low: bool) -> UsableEndpoints
-        ensures items { IsTableOf (λ to_host e. usable_at low to_host e (items_of self.now)) result }
+        ensures items { IsTableOf (λ to_host e. usable_at low to_host e (items_of self.now))
+            result }
         ensures text { IsTableOf (λ to_host e. usable_of low to_host e self.now) result }
     {
         let mut table = UsableEndpoints::none();

@@ -1,5 +1,6 @@
 -- Which endpoints are served, by their numbers.
-use Rattle.std.proofs.Common.{◌≡◌, ◌≤◌, ◌+◌, ◌-◌, ◌==◌, ◌||◌, ◌&&◌, nat_le, ℕ, Bool, true, false, List}
+use Rattle.std.proofs.Common.{◌≡◌, ◌≤◌, ◌+◌, ◌-◌, ◌==◌, ◌||◌, ◌&&◌, nat_le, ℕ, Bool, true, false}
+use Rattle.std.proofs.Common.{List}
 use Rattle.std.proofs.Common.{if◌then◌else◌, Option, None, Some, is_some, refl, ap, subst, arith}
 use Rattle.std.proofs.lemmas.Bool.Decides.{nat_tests}
 use Rattle.usb_request.specs.{DIRECTION_IN, STATUS_ENDPOINT}
@@ -63,7 +64,8 @@ out_max-small e most s h = small_at e most s.spec.low false (s.registers.configu
     (text_of s.spec s.registers) h
 
 -- it is there where it has a maximum, and not where its number is too large
-is_some-max : (o : Option UsableEndpoint) (most : ℕ) → max_of_usable o ≡ Some most → is_some o ≡ true
+is_some-max : (o : Option UsableEndpoint) (most : ℕ) → max_of_usable o ≡ Some most
+    → is_some o ≡ true
 is_some-max None most h = cc h
 is_some-max (Some end) most h = refl
 
