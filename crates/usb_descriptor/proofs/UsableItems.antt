@@ -4,9 +4,18 @@ use Rattle.std.proofs.Common.{Some, refl, if◌then◌else◌}
 use Rattle.std.specs.Option.{option_or}
 use Rattle.usb_descriptor.specs.declared.item.Item.{Item}
 use Rattle.usb_descriptor.specs.{EndpointKind, Endpoint, UsableEndpoint, as_usable, bulk_described}
-use Rattle.usb_descriptor.specs.{bulk_from, bulk_with, counting_of, first_from, has_number}
-use Rattle.usb_descriptor.specs.{interrupt_described, interrupt_from, interrupt_with, usable_item}
+use Rattle.usb_descriptor.specs.{bulk_with, counting_of, first_from, has_number}
+use Rattle.usb_descriptor.specs.{interrupt_described, interrupt_with, usable_item}
 use Rattle.usb_descriptor.specs.declared.usable.EndpointKind.TheVariants.{Bulk, Interrupt}
+
+-- the first of each kind among the items behind one, after which endpoints count or not
+abbrev pub bulk_from : Bool → Bool → ℕ → Bool → List Item → Option UsableEndpoint
+bulk_from low to_host e counts items =
+    if low then None else as_usable Bulk (first_from (bulk_with to_host e) counts items)
+
+abbrev pub interrupt_from : Bool → Bool → ℕ → Bool → List Item → Option UsableEndpoint
+interrupt_from low to_host e counts items =
+    as_usable Interrupt (first_from (interrupt_with low to_host e) counts items)
 
 pub counting_of-none : (c : Option UsableEndpoint) → counting_of c None ≡ c
 counting_of-none None = refl

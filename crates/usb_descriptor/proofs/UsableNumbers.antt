@@ -119,7 +119,7 @@ interrupt_first low to_host e items end h = first_so (interrupt_with low to_host
 pub usable_of-small : (low to_host : Bool) (e : ℕ) (bytes : List ℕ) (end : UsableEndpoint)
     → usable_of low to_host e bytes ≡ Some end
     → (1 ≤ e) × (e ≤ 15) × (1 ≤ end.max) × (end.max ≤ 64)
-unfolding usable_of usable_at
+unfolding usable_of usable_at first_counting
 usable_of-small low to_host e bytes end h = by_text (config_of bytes) h
   where
     Small : Type 0

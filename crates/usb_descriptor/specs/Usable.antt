@@ -9,7 +9,7 @@ use Rattle.usb_descriptor.specs.declared.usable.EndpointKind.TheVariants.{Bulk, 
 use Rattle.usb_descriptor.specs.declared.usable.UsableEndpoint.{UsableEndpoint}
 use Rattle.usb_descriptor.specs.Item.{is_in, endpoint_number, transfer_of, is_interrupt, items_of}
 use Rattle.usb_descriptor.specs.Config.{config_of}
-use Rattle.usb_descriptor.specs.Choice.{bulk_described, packet_size, first_from}
+use Rattle.usb_descriptor.specs.Choice.{bulk_described, packet_size, first_counting}
 
 -- the endpoint has this direction and this number; the reserved bits of its address do not count
 abbrev pub has_number : Bool → ℕ → List ℕ → Bool
@@ -39,20 +39,13 @@ abbrev pub as_usable : EndpointKind → Option (ℕ × ℕ) → Option UsableEnd
 as_usable kind None = None
 as_usable kind (Some end) = Some (record { kind = kind; max = end.1 })
 
--- the first of the items that follow an item with this count or not
-abbrev pub bulk_from : Bool → Bool → ℕ → Bool → List Item → Option UsableEndpoint
-bulk_from low to_host e counts items =
-    if low then None else as_usable Bulk (first_from (bulk_with to_host e) counts items)
-
-abbrev pub interrupt_from : Bool → Bool → ℕ → Bool → List Item → Option UsableEndpoint
-interrupt_from low to_host e counts items =
-    as_usable Interrupt (first_from (interrupt_with low to_host e) counts items)
-
 -- of the items with one address the first bulk item counts, else the first interrupt item; at low
 -- speed there is no bulk
 unfoldable pub usable_at : Bool → Bool → ℕ → List Item → Option UsableEndpoint
 usable_at low to_host e items =
-    option_or (bulk_from low to_host e false items) (interrupt_from low to_host e false items)
+    option_or
+    (if low then None else as_usable Bulk (first_counting (bulk_with to_host e) items))
+    (as_usable Interrupt (first_counting (interrupt_with low to_host e) items))
 
 abbrev pub usable_in : Bool → Bool → ℕ → Result (List ℕ) DescriptorFault → Option UsableEndpoint
 usable_in low to_host e (Err fault) = None

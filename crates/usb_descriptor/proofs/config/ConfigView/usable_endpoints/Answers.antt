@@ -1,11 +1,11 @@
 use Rattle.std.proofs.Common.{◌∙◌, refl, sym, ap}
-use Rattle.usb_descriptor.specs.{end_at, usable_at, usable_in, usable_of}
+use Rattle.usb_descriptor.specs.{end_at, first_counting, usable_at, usable_in, usable_of}
 use Rattle.usb_descriptor.proofs.Texts.{config_of-is}
 use Rattle.usb_descriptor.proofs.UsableItems.{taken_all, taken_then}
 use Rattle.usb_descriptor.proofs.config.ConfigView.usable_endpoints.Goals as goal
 
 pub loop-item-init : goal.loop-item-init
-unfolding usable_at
+unfolding usable_at first_counting
 loop-item-init c = record {
   next = tt;
   ends = tt;

@@ -1,7 +1,7 @@
 use Rattle.std.proofs.Common.{◌≡◌, ℕ, Bool}
 use Rattle.std.specs.Option.{option_or}
-use Rattle.usb_descriptor.specs.{items_of, bulk_from, counting_of, end_at, interrupt_from}
-use Rattle.usb_descriptor.specs.{usable_at}
+use Rattle.usb_descriptor.specs.{items_of, counting_of, end_at, usable_at}
+use Rattle.usb_descriptor.proofs.UsableItems.{bulk_from, interrupt_from}
 use Rattle.usb_descriptor.proofs.config.ConfigView.usable_endpoints.Given as goal
 
 abbrev pub invariant-loop-item : goal.invariant-loop-item
