@@ -29,6 +29,7 @@ use Rattle.usb_transaction.specs.{TransFault, Stalled, Busy, NoAnswer, Bus, NoTh
 use Rattle.usb_transaction.specs.{SourceInFailure, SinkOutFailure, heard_as, heard_when_sent, is_at}
 use Rattle.usb_transaction.specs.{SourceCut, none_came, one_came, SourceEnds, SourceIn}
 use Rattle.usb_transaction.specs.{SourceBetween, SinkEnds, SinkOut, SinkBetween, AttemptLog}
+use Rattle.usb_transaction.specs.{IsPacedWithin}
 use Rattle.usb_transaction.specs.{waits_with, waits_in, IsNoEnd, KeepsTrying, TransactionDone}
 use Rattle.usb_transaction.specs.{Transacted, in_attempt, out_attempt, packed}
 use Rattle.usb_transaction.proofs.DeviceRuns.{Any, EachIf, IsEnd, IsOfBus, RunThrough, asked_in}
@@ -42,24 +43,24 @@ use Rattle.usb_transaction.proofs.Trails.{run_short}
 -- IN
 
 -- the endpoint behind its next packet
-abbrev end_behind : ℕ → ℕ → State → InEnd
+abbrev pub end_behind : ℕ → ℕ → State → InEnd
 end_behind e most s = given_on (next_place s e most (in_end s e).place) (in_end s e)
 
 -- the device after a packet, where it saw that it came
-abbrev stepped : ℕ → ℕ → State → Bool → State
+abbrev pub stepped : ℕ → ℕ → State → Bool → State
 stepped e most s came = if came then forgotten (with_in s e (end_behind e most s)) else s
 
-stepped_end : (e most : ℕ) (s : State) → in_end (stepped e most s true) e ≡ end_behind e most s
+pub stepped_end : (e most : ℕ) (s : State) → in_end (stepped e most s true) e ≡ end_behind e most s
 stepped_end e most s = at_same no_in e (end_behind e most s) s.ins
 
 -- the endpoint after a NAK
-abbrev end_hesitated : ℕ → State → InEnd
+abbrev pub end_hesitated : ℕ → State → InEnd
 end_hesitated e s = record (in_end s e) { pace = hesitated (in_end s e).pace }
 
-hesitates_end : (e : ℕ) (s : State) → in_end (in_hesitates s e) e ≡ end_hesitated e s
+pub hesitates_end : (e : ℕ) (s : State) → in_end (in_hesitates s e) e ≡ end_hesitated e s
 hesitates_end e s = at_same no_in e (end_hesitated e s) s.ins
 
-only_same : (e : ℕ) (s : State) → OnlySource e s s
+pub only_same : (e : ℕ) (s : State) → OnlySource e s s
 only_same e s = record { rest = refl; others = λ a h. refl }
 
 only_stepped : (e most : ℕ) (s : State) → OnlySource e s (stepped e most s true)
@@ -85,15 +86,17 @@ hesitates_at {e} {most} {got} s (ahead g p q) = ahead
     (ap (λ (x : InEnd). is_some (next_packet s e most x.place)) (hesitates_end e s) ∙ p)
     (ap (λ (x : InEnd). x.state.toggle) (hesitates_end e s) ∙ q)
 
--- it stays prompt
-stepped_prompt : (e most : ℕ) (s : State) → IsPrompt (in_end s e).pace
-    → IsPrompt (in_end (stepped e most s true) e).pace
-stepped_prompt e most s x =
-    subst (λ (y : InEnd). IsPrompt y.pace) (sym (stepped_end e most s)) (x.1, x.1)
+-- it gives no more NAKs before a packet than it did
+abbrev pub StaysPaced : ℕ → State → State → Type 0
+StaysPaced e s v = (limit : ℕ) → IsPacedWithin limit (in_end s e).pace
+    → IsPacedWithin limit (in_end v e).pace
 
-hesitates_prompt : (e : ℕ) (s : State) → IsPrompt (in_end s e).pace
-    → IsPrompt (in_end (in_hesitates s e) e).pace
-hesitates_prompt e s x = subst (λ (y : InEnd). IsPrompt y.pace) (sym (hesitates_end e s))
+stepped_paced : (e most : ℕ) (s : State) → StaysPaced e s (stepped e most s true)
+stepped_paced e most s n x =
+    subst (λ (y : InEnd). IsPacedWithin n y.pace) (sym (stepped_end e most s)) (x.1, x.1)
+
+hesitates_paced : (e : ℕ) (s : State) → StaysPaced e s (in_hesitates s e)
+hesitates_paced e s n x = subst (λ (y : InEnd). IsPacedWithin n y.pace) (sym (hesitates_end e s))
     (omega (arith, x.0), x.1)
 
 only_then : (e : ℕ) (s u v : State) → OnlySource e s u → OnlySource e u v → OnlySource e s v
@@ -102,13 +105,13 @@ only_then e s u v x y = record {
   others = λ a h. y.others a h ∙ x.others a h;
 }
 
-abbrev SourceStep : ℕ → ℕ → Toggle → State → Option (List ℕ) → State → Type 0
+abbrev pub SourceStep : ℕ → ℕ → Toggle → State → Option (List ℕ) → State → Type 0
 SourceStep e most awaited s came v = (got : ℕ) → 1 ≤ most → SourceAt e most got awaited s
     → SourceOn e most got awaited s came v
 
 -- what the host hears of an attempt, and what is left of the endpoint; `Clear` is that each packet
 -- comes whole
-data SourceGave (e most max : ℕ) (awaited : Toggle) (Clear : Type 0) (s : State) : HeardOutcome
+pub data SourceGave (e most max : ℕ) (awaited : Toggle) (Clear : Type 0) (s : State) : HeardOutcome
     → State → Type 0 where
   unheard : (Clear → ((in_end s e).state.halted ≡ false) × (GivesWithin max e most s → ⊥))
       → SourceGave e most max awaited Clear s Lost s
@@ -189,13 +192,13 @@ pub source_at_kept : (t : Target) {ep : ℕ} (s u : State) → OnlySource ep s u
 source_at_kept t s u e h = ap (λ x. is_at x t) e.rest ∙ h
 
 -- what a transaction leaves of the endpoint
-abbrev SourceLeft : ℕ → ℕ → Toggle → Result (List ℕ) TransFault → State → State → Type 0
+abbrev pub SourceLeft : ℕ → ℕ → Toggle → Result (List ℕ) TransFault → State → State → Type 0
 SourceLeft e most awaited result s v =
     OnlySource e s v × ((n : ℕ) → 1 ≤ most → SourceAt e most n awaited s
     → SourceEnds e most n awaited s result v)
     × (result ≡ Err Stalled → (in_end v e).state.halted ≡ true)
     × ((in_end s e).state.halted ≡ true → (v ≡ s) × ((bytes : List ℕ) → result ≡ Ok bytes → ⊥))
-    × (IsPrompt (in_end s e).pace → IsPrompt (in_end v e).pace)
+    × StaysPaced e s v
 
 source_ends_stepped : (e most n : ℕ) (awaited : Toggle) (s : State)
     (result : Result (List ℕ) TransFault) (v : State)
@@ -221,23 +224,23 @@ after_nak e most awaited s result f v l = (
   λ m one at. source_ends_hesitates e most m awaited s result v (l.1 m one (hesitates_at s at)),
   l.2,
   λ c. false_true (sym f ∙ c),
-  λ x. l.4 (hesitates_prompt e s x),
+  λ n x. l.4 n (hesitates_paced e s n x),
 )
 
 module _ {e most max : ℕ} {awaited : Toggle} {Clear : Type 0} {s : State} where
-  kept : {h : HeardOutcome} {v : State} → SourceGave e most max awaited Clear s h v
+  pub kept : {h : HeardOutcome} {v : State} → SourceGave e most max awaited Clear s h v
       → OnlySource e s v × ((in_end s e).state.halted ≡ true → v ≡ s)
-      × (IsPrompt (in_end s e).pace → IsPrompt (in_end v e).pace)
+      × StaysPaced e s v
   kept (moved b true f on) =
-      (only_stepped e most s, λ c. false_true (sym f ∙ c), stepped_prompt e most s)
+      (only_stepped e most s, λ c. false_true (sym f ∙ c), stepped_paced e most s)
   kept (again true f n q c on) =
-      (only_stepped e most s, λ c. false_true (sym f ∙ c), stepped_prompt e most s)
-  kept (hesitates f n) = (only_hesitates e s, λ c. false_true (sym f ∙ c), hesitates_prompt e s)
-  kept (lost_nak d f n) = (only_hesitates e s, λ c. false_true (sym f ∙ c), hesitates_prompt e s)
-  kept g = (only_same e s, λ c. refl, λ x. x)
+      (only_stepped e most s, λ c. false_true (sym f ∙ c), stepped_paced e most s)
+  kept (hesitates f n) = (only_hesitates e s, λ c. false_true (sym f ∙ c), hesitates_paced e s)
+  kept (lost_nak d f n) = (only_hesitates e s, λ c. false_true (sym f ∙ c), hesitates_paced e s)
+  kept g = (only_same e s, λ c. refl, λ n x. x)
 
   -- an attempt that does not end the transaction, and the rest of it
-  before : {h : HeardOutcome} {u : State} (result : Result (List ℕ) TransFault)
+  pub before : {h : HeardOutcome} {u : State} (result : Result (List ℕ) TransFault)
       → SourceGave e most max awaited Clear s h u → IsNoEnd h → (v : State)
       → SourceLeft e most awaited result u v → SourceLeft e most awaited result s v
   before result (moved b came f on) n v l = elim n [ ]
@@ -246,7 +249,7 @@ module _ {e most max : ℕ} {awaited : Toggle} {Clear : Type 0} {s : State} wher
     λ m one at. source_ends_stepped e most m awaited s result v (l.1 m one (on m one at)),
     l.2,
     λ c. false_true (sym f ∙ c),
-    λ x. l.4 (stepped_prompt e most s x),
+    λ n x. l.4 n (stepped_paced e most s n x),
   )
   before result (hesitates f w) n v l = after_nak e most awaited s result f v l
   before result (lost_nak d f w) n v l = after_nak e most awaited s result f v l
@@ -260,7 +263,7 @@ module _ {e most max : ℕ} {awaited : Toggle} {Clear : Type 0} {s : State} wher
   cut (lost_nak d f w) n m at = none_came (hesitates_at s at)
   cut g n m at = none_came at
 
-  came_in : {bytes : List ℕ} {v : State}
+  pub came_in : {bytes : List ℕ} {v : State}
       → SourceGave e most max awaited Clear s (Moved (packed bytes)) v
       → SourceLeft e most awaited (Ok bytes) s v
   came_in (moved b true f on) = (
@@ -268,17 +271,17 @@ module _ {e most max : ℕ} {awaited : Toggle} {Clear : Type 0} {s : State} wher
     on,
     λ e. cc e,
     λ c. false_true (sym f ∙ c),
-    stepped_prompt e most s,
+    stepped_paced e most s,
   )
   came_in (moved b false f on) =
-      (only_same e s, on, λ e. cc e, λ c. false_true (sym f ∙ c), λ x. x)
+      (only_same e s, on, λ e. cc e, λ c. false_true (sym f ∙ c), λ n x. x)
 
-  stalls_in : {v : State} → SourceGave e most max awaited Clear s Refused v
+  pub stalls_in : {v : State} → SourceGave e most max awaited Clear s Refused v
       → SourceLeft e most awaited (Err Stalled) s v
   stalls_in (refused f) =
-      (only_same e s, λ n m at. at, λ r. f, λ c. (refl, λ b r. cc r), λ x. x)
+      (only_same e s, λ n m at. at, λ r. f, λ c. (refl, λ b r. cc r), λ n x. x)
 
-  ended_in : (result : Result (List ℕ) TransFault) (o : Outcome) (outcomes : List Outcome)
+  pub ended_in : (result : Result (List ℕ) TransFault) (o : Outcome) (outcomes : List Outcome)
       {v : State} → SourceGave e most max awaited Clear s (heard_as awaited o) v
       → IsEnd (heard_as awaited) result o outcomes → SourceLeft e most awaited result s v
   ended_in (Ok bytes) o outcomes {v} g is =
@@ -293,15 +296,15 @@ module _ {e most max : ℕ} {awaited : Toggle} {Clear : Type 0} {s : State} wher
     λ n m at. at,
     λ e. cc e,
     λ c. (refl, λ b e. cc e),
-    λ x. x,
+    λ n x. x,
   )
 
-  unheard_in : {v : State} → SourceGave e most max awaited Clear s Lost v → Clear
+  pub unheard_in : {v : State} → SourceGave e most max awaited Clear s Lost v → Clear
       → ((in_end s e).state.halted ≡ false) × (GivesWithin max e most s → ⊥)
   unheard_in (unheard c) = c
   unheard_in (lost_nak d f n) = λ c. absurd (d c)
 
-  no_waits_in : {h : HeardOutcome} {v : State} → SourceGave e most max awaited Clear s h v
+  pub no_waits_in : {h : HeardOutcome} {v : State} → SourceGave e most max awaited Clear s h v
       → (in_end s e).state.halted ≡ true → (n : ℕ) → waits_with h n + 0 ≤ n + 0
   no_waits_in (empty f e) c n = false_true (sym f ∙ c)
   no_waits_in (hesitates f w) c n = false_true (sym f ∙ c)
@@ -309,7 +312,7 @@ module _ {e most max : ℕ} {awaited : Toggle} {Clear : Type 0} {s : State} wher
   no_waits_in g c n = omega arith
 
   -- it goes on listening
-  stays_in : {j : Location} {v : State} (t : Target) {h : HeardOutcome}
+  pub stays_in : {j : Location} {v : State} (t : Target) {h : HeardOutcome}
       → SourceGave e most max awaited Clear s h v → Listens t j s × IsSource e most s
       → Listens t j v
       × IsSource e most v
@@ -332,7 +335,7 @@ module _ (t : Target) (ep : ℕ) (awaited : Toggle) where
   Ran GaveUp result old new j s v = RunThrough (DidIn a_in) a_in hear (IsEnd hear result) GaveUp old
       new j s v
 
-  did_in : (most : ℕ) (w : World) (j : Location) (u v : State) → DidIn a_in w j u v
+  pub did_in : (most : ℕ) (w : World) (j : Location) (u v : State) → DidIn a_in w j u v
       → is_at u t ≡ true → IsSource ep most u
       → SourceGave ep most t.max awaited ((damage_in w ≡ None) × Listens t j u) u
       (hear (outcome_in a_in w)) v
@@ -356,7 +359,7 @@ module _ (t : Target) (ep : ℕ) (awaited : Toggle) where
     source = λ h most n i. (left h most i).1 n;
     stalled = λ h most i. (left h most i).2;
     halted = λ h most i. (left h most i).3;
-    paced = λ h most i. (left h most i).4;
+    paced = λ h most i. (left h most i).4 100;
   }
     where
       away : is_at s t ≡ false → v ≡ s
@@ -393,7 +396,7 @@ source_leaves t ep awaited result old new settled x single =
       λ n m at. none_came at,
       λ e. cc e,
       λ c. (refl, λ b e. cc e),
-      λ x. x,
+      λ n x. x,
     )) result gave) old new)
     (over_in t ep old new settled single (heard_as awaited) result x)
 
@@ -419,7 +422,7 @@ source_between t ep awaited outcomes old now settled trail onward single =
       λ n m at. at,
       λ e. cc e,
       λ c. (refl, λ b e. cc e),
-      λ x. x,
+      λ n x. x,
     )) old now j s v
     (stopped tt run onward) in
     record { others = x.others; frame = x.frame; source = x.source })

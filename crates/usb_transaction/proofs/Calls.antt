@@ -45,6 +45,7 @@ use Rattle.usb_transaction.proofs.BulkTransactions.{source_why}
 use Rattle.usb_transaction.proofs.ControlTransactions.{control_in_why, control_leaves}
 use Rattle.usb_transaction.proofs.ControlTransactions.{read_status_why, status_leaves}
 use Rattle.usb_transaction.proofs.Polls.{poll_leaves, poll_why}
+use Rattle.usb_transaction.proofs.SourcePolls.{source_poll_why, source_polled}
 use Rattle.usb_transaction.proofs.TransactionTries.{ends_of, poll_ends}
 use Rattle.usb_transaction.proofs.WriteFailures.{write_out_why, write_status_why}
 
@@ -614,5 +615,7 @@ module _ (t : Target) (ep : ℕ) (toggle : Toggle) (old new : World) (least : 1 
         what = what_poll result x;
         why = λ one u. poll_why t toggle result old new least settled u.few
             (subst (λ k. Polled toggle (in_attempt t k) old result new) one x) u.whole u.single;
+        source = source_polled t ep toggle result old new settled x;
+        source_why = λ u. source_poll_why t ep toggle result old new settled u.few x u.single;
         who = who_poll result x;
       }

@@ -1,10 +1,10 @@
 -- One device over the attempts of a transaction: what it was, what each attempt did to it, and what
 -- it is.
 use Rattle.std.proofs.lemmas.Bool.Decides.{nat_tests}
-use Rattle.std.proofs.Common.{◌≡◌, ◌≢◌, inl, inr, ◌&&◌, ◌||◌, not, nat_lt, if◌then◌else◌, ℕ, ◌+◌}
-use Rattle.std.proofs.Common.{◌<◌, ◌≤◌, ◌==◌, List, [], ◌∷◌, true, false, Option, None, Some}
+use Rattle.std.proofs.Common.{◌≡◌, ◌≢◌, ◌⊎◌, inl, inr, ◌&&◌, ◌||◌, not, nat_lt, if◌then◌else◌, ℕ}
+use Rattle.std.proofs.Common.{◌+◌, ◌<◌, ◌≤◌, ◌==◌, List, [], ◌∷◌, true, false, Option, None, Some}
 use Rattle.std.proofs.Common.{Result, Ok, Err, refl, sym, subst, ap, ◌∙◌, arith}
-use Rattle.usb_packet.specs.{Toggle}
+use Rattle.usb_packet.specs.{Toggle, Zero, One, other}
 use Rattle.usb_device.specs.{State, Reply, is_busy, Way, in_law, out_law, row_of, Location}
 use Rattle.usb_device.specs.{reach_on, state_on}
 use Rattle.usb_device.specs.Attempt.{whole, broken}
@@ -21,7 +21,7 @@ use Rattle.usb_transaction.specs.{NoAnswer, Bus, polled_as, NoThreeDamaged, List
 use Rattle.usb_transaction.specs.{is_at, AttemptLog, start, next, waits_with, errors_running}
 use Rattle.usb_transaction.specs.{waits_in, IsNoEnd, KeepsTrying, LastOutcome, TransactionDone}
 use Rattle.usb_transaction.specs.{BusFailed, Transacted, Polled, packed, in_attempt, out_attempt}
-use Rattle.usb_transaction.proofs.Trails.{LostRun, last_erred, last_waited, lost_more}
+use Rattle.usb_transaction.proofs.Trails.{LostRun, damaged_more, last_erred, last_waited, lost_more}
 use Rattle.usb_transaction.proofs.Trails.{lost_run_none, run_short, trail_settled}
 
 -- what each attempt does to a device
@@ -413,6 +413,47 @@ module _ (t : Target) (ep : ℕ) (toggle : Toggle) (bytes : List ℕ) (old new :
 pub one_wait : (h : HeardOutcome) (n : ℕ) → waits_with h n ≤ n + 1
 one_wait h n = grind arith
 
+-- what an attempt that goes on does to the toggle that an endpoint gives
+pub record Turns (awaited given after : Toggle) (h : HeardOutcome) (Damaged : Type 0) : Type 0 where
+  pub even : given ≡ awaited → (after ≡ awaited) × (h ≡ Lost)
+  pub behind : given ≡ other awaited → (after ≡ awaited) ⊎ ((after ≡ other awaited) × Damaged)
+
+either : (t awaited : Toggle) → (t ≡ awaited) ⊎ (t ≡ other awaited)
+either Zero Zero = inl refl
+either Zero One = inr refl
+either One Zero = inr refl
+either One One = inl refl
+
+-- it gives the awaited toggle, and there were few waits; or it gives the other one, and at least as
+-- many attempts running were damaged as there were waits
+abbrev Stands : Toggle → World → Toggle → ℕ → World → Type 0
+Stands awaited old given n w = ((given ≡ awaited) × (n ≤ 3)) ⊎ ((given ≡ other awaited)
+    × ((k : ℕ) × LostRun old.damages k w.attempts × (n ≤ k)))
+
+stands_most : (awaited : Toggle) (old : World) (given : Toggle) (n : ℕ) (w : World)
+    → NoThreeDamaged old → Stands awaited old given n w → n ≤ 3
+stands_most awaited old given n w three (inl y) = y.1
+stands_most awaited old given n w three (inr y) =
+    omega (arith, y.1.2, run_short old y.1.0 w.attempts three y.1.1)
+
+stands_on : (hear : Outcome → HeardOutcome) (awaited : Toggle) {a : Attempt} {old w : World}
+    {given after_it : Toggle} {outcomes : List Outcome} → NoThreeDamaged old
+    → AttemptLog a old outcomes w → Made w (after (attempt a) w) → (n : ℕ)
+    → Turns awaited given after_it (hear (outcome_in a w)) (damage_in w ≢ None)
+    → Stands awaited old given n w
+    → Stands awaited old after_it (waits_with (hear (outcome_in a w)) n) (after (attempt a) w)
+stands_on hear awaited three trail made n turn (inl y) =
+    inl ((turn.even y.0).0, rw (turn.even y.0).1 y.1)
+stands_on hear awaited {a} {old} {w} three trail made n turn (inr y) =
+    let one : waits_with (hear (outcome_in a w)) n ≤ n + 1 = one_wait (hear (outcome_in a w)) n in
+    elim (turn.behind y.0) [
+      | inl e ↦ inl (e, omega (arith, one, y.1.2, run_short old y.1.0 w.attempts three y.1.1))
+      | inr e ↦ inr (
+        e.0,
+        (y.1.0 + 1, damaged_more trail made y.1.0 e.1 y.1.1, omega (arith, one, y.1.2)),
+      )
+    ]
+
 -- Why a transaction with a device of a kind fails: what is of the kind stays so over attempts that
 -- go on
 
@@ -475,3 +516,29 @@ module _ {Did : Deeds} {a : Attempt} {hear : Outcome → HeardOutcome} {old new 
           → waits_in hear outcomes + m ≤ left s → waits_with (hear o) (waits_in hear outcomes) + n
           ≤ waits_in hear outcomes + m → waits_in hear (o ∷ outcomes) + n ≤ left s
       one_left outcomes o m n x y = omega (arith, x, y)
+
+  -- where an endpoint gives the awaited toggle, an attempt that goes on is an error; where it gives
+  -- the other one, it comes to give the awaited one, or the attempt was damaged. So few are waits
+  pub few_repeats : (awaited : Toggle) (given : State → Toggle) → NoThreeDamaged old
+      → ((w : World) (u x : State) → Did w j u x → Is u → IsNoEnd (hear (outcome_in a w))
+      → Turns awaited (given u) (given x) (hear (outcome_in a w)) (damage_in w ≢ None))
+      → Through Did a hear (Err Busy) old new j s v → ⊥
+  unfolding waits_in
+  few_repeats awaited given three turns x =
+      at_end hear (λ outcomes w u. Is u
+      × Stands awaited old (given u) (waits_in hear outcomes) w)
+      (is, first (either (given s) awaited))
+      (λ outcomes w u y t made i d n. (
+        stays w u y d n i.0,
+        stands_on hear awaited three t made (waits_in hear outcomes) (turns w u y d i.0 n) i.1,
+      )) (λ y. ⊥) v
+      (λ outcomes w u t i d end told.
+      let stands : Stands awaited old (given v) (waits_in hear (outcome_in a w ∷ outcomes))
+      (after (attempt a) w) = stands_on hear awaited three t (told (λ g. g tt)).0
+      (waits_in hear outcomes) (turns w u v d i.0 end.0) i.1 in
+      omega (arith, end.1, stands_most awaited old (given v) _ (after (attempt a) w) three stands))
+      (λ gave outcomes w i. gave tt) x
+    where
+      first : (given s ≡ awaited) ⊎ (given s ≡ other awaited) → Stands awaited old (given s) 0 old
+      first (inl e) = inl (e, omega arith)
+      first (inr e) = inr (e, (0, lost_run_none old.damages old.attempts, omega arith))

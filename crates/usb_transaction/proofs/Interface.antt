@@ -18,6 +18,7 @@ pub use Rattle.usb_transaction.proofs.DeviceRuns.{was_then}
 pub use Rattle.usb_transaction.proofs.Polls.{poll_why}
 pub use Rattle.usb_transaction.proofs.SetupTransactions.{set_up_why, setup_leaves, spared_all}
 pub use Rattle.usb_transaction.proofs.SetupTransactions.{spared_joined, spared_wider, spec_stays}
+pub use Rattle.usb_transaction.proofs.SourcePolls.{source_poll_why, source_polled}
 pub use Rattle.usb_transaction.proofs.Trails.{polled_attempts, trail_course, trail_damages}
 pub use Rattle.usb_transaction.proofs.Trails.{trail_settled, trail_unshared, transacted_unshared}
 pub use Rattle.usb_transaction.proofs.WriteFailures.{write_out_why, write_status_why}

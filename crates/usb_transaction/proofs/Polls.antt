@@ -1,5 +1,5 @@
 -- A poll of a hub's status endpoint (11.12.3): what it leaves of each device, and why it fails.
-use Rattle.std.proofs.Common.{◌≡◌, ◌≢◌, ◌+◌, ◌≤◌, ◌⊎◌, inl, inr, ℕ, ◌==◌, nat_le, ◌&&◌}
+use Rattle.std.proofs.Common.{◌≡◌, ◌≢◌, ◌≤◌, ◌⊎◌, inl, inr, ℕ, ◌==◌, nat_le, ◌&&◌}
 use Rattle.std.proofs.Common.{if◌then◌else◌, Bool, true, false, List, [], ◌∷◌, length, Option, None}
 use Rattle.std.proofs.Common.{Some, Result, Ok, Err, refl, sym, subst, ap, ◌∙◌, arith}
 use Rattle.arrayvec.specs.ArrayVec.{ArrayVec}
@@ -23,15 +23,13 @@ use Rattle.usb_transaction.specs.{TransFault, Stalled, Busy, NoAnswer, Bus, Hear
 use Rattle.usb_transaction.specs.{Repeat, Lost, Target, NoThreeDamaged, Listens, PollFailure}
 use Rattle.usb_transaction.specs.{polled, polled_as, IsNotOfBus, is_at, ToldIn, ToldSince, ToldBy}
 use Rattle.usb_transaction.specs.{ToldSome, none_came, one_came, PollEnds, ChangesIn, AttemptLog}
-use Rattle.usb_transaction.specs.{IsNoEnd, Polled, waits_with, waits_in, errors_running, packed}
+use Rattle.usb_transaction.specs.{IsNoEnd, Polled, packed}
 use Rattle.usb_transaction.specs.{in_attempt}
 use Rattle.usb_transaction.proofs.DeviceRuns.{AttemptDelivered, IsOfBus, IsPollEnd, RunThrough}
 use Rattle.usb_transaction.proofs.DeviceRuns.{AttemptLeft, as_whole, asked_in, at_end, each_device}
-use Rattle.usb_transaction.proofs.DeviceRuns.{in_others, listens_on, of_bus, one_wait, over_polled}
-use Rattle.usb_transaction.proofs.DeviceRuns.{stays_away}
+use Rattle.usb_transaction.proofs.DeviceRuns.{Turns, few_repeats, heeded, in_others, listens_on}
+use Rattle.usb_transaction.proofs.DeviceRuns.{of_bus, over_polled, stays_away}
 use Rattle.usb_transaction.proofs.LastOutcomes.{polled_last}
-use Rattle.usb_transaction.proofs.Trails.{LostRun, damaged_more, lost_more, lost_run_none}
-use Rattle.usb_transaction.proofs.Trails.{run_short}
 
 -- The replies to IN 1 of a configured hub, by whether all packets came whole
 
@@ -237,8 +235,7 @@ module _ (t : Target) (toggle : Toggle) (old : World) (m : 1 ≤ t.max) (j : Loc
   hear o = polled_as toggle o
 
   -- one attempt
-  module _ (outcomes : List Outcome) (w : World) (trail : AttemptLog a old outcomes w) (u v : State)
-      (x : OnlyChanges s u) (d : DidIn a w j u v) where
+  module _ (w : World) (u v : State) (x : OnlyChanges s u) (d : DidIn a w j u v) where
     still_at : is_at u t ≡ true
     still_at = ap (λ y. is_at y t) x ∙ at
 
@@ -267,24 +264,6 @@ module _ (t : Target) (toggle : Toggle) (old : World) (m : 1 ≤ t.max) (j : Loc
       held = v.held;
     }) x
 
-    -- what its ports tell now, by any world that more of the same attempts lead to
-    told_here : (b : PortState) (below : Ports) → place_on (at_attempt w).roots j
-        ≡ Some (full b u below) → (now : World) (later : List Outcome) → AttemptLog a w later now
-        → ToldIn a old now j (change_bits (row_of below))
-    told_here b below stood now later since =
-        record {
-          outcomes = outcomes;
-          mid = w;
-          trail = trail;
-          b = b;
-          s = u;
-          below = below;
-          stood = stood;
-          told = refl;
-          later = later;
-          since = since;
-        }
-
     -- of anything that is so of the bits that its ports tell now
     gave_it : (Told : ℕ → Type 0) → ((b : PortState) (below : Ports)
         → place_on (at_attempt w).roots j ≡ Some (full b u below)
@@ -304,62 +283,81 @@ module _ (t : Target) (toggle : Toggle) (old : World) (m : 1 ≤ t.max) (j : Loc
         (poll_on (ToldSome Told) toggle u tells (row_of below) (λ some. (some, so)) before t.max m
         y.first y.second y.third))
 
-    -- up to the attempt, or where it was made past it
-    abbrev Ever : ℕ → Type 0
-    Ever bits = (now : World) × ToldIn a old now j bits
+    module _ (outcomes : List Outcome) (trail : AttemptLog a old outcomes w) where
+      -- what its ports tell now, by any world that more of the same attempts lead to
+      told_here : (b : PortState) (below : Ports) → place_on (at_attempt w).roots j
+          ≡ Some (full b u below) → (now : World) (later : List Outcome) → AttemptLog a w later now
+          → ToldIn a old now j (change_bits (row_of below))
+      told_here b below stood now later since =
+          record {
+            outcomes = outcomes;
+            mid = w;
+            trail = trail;
+            b = b;
+            s = u;
+            below = below;
+            stood = stood;
+            told = refl;
+            later = later;
+            since = since;
+          }
 
-    by_then : PollAt (ToldSome (ToldSince a old w j)) toggle u → PollAt (ToldSome Ever) toggle u
-    by_then = poll_at-wider (ToldSome (ToldSince a old w j)) (ToldSome Ever)
-        (λ bits x. (x.0, (w, x.1.told))) toggle u
+      -- up to the attempt, or where it was made past it
+      abbrev Ever : ℕ → Type 0
+      Ever bits = (now : World) × ToldIn a old now j bits
 
-    gave_then : DidIn a w j u v → PollAt (ToldSome (ToldSince a old w j)) toggle u
-        → Says Ever 0 toggle t.max m v (outcome_in a w)
-    gave_then d before = gave_it Ever
-        (λ b below stood. (w, told_here b below stood w [] AttemptLog.start)) d (by_then before)
+      by_then : PollAt (ToldSome (ToldSince a old w j)) toggle u → PollAt (ToldSome Ever) toggle u
+      by_then = poll_at-wider (ToldSome (ToldSince a old w j)) (ToldSome Ever)
+          (λ bits x. (x.0, (w, x.1.told))) toggle u
 
-    gave_since : Made w (after (attempt a) w) → DidIn a w j u v
-        → PollAt (ToldSome (ToldSince a old w j)) toggle u
-        → Says (ToldSince a old (after (attempt a) w) j) 0 toggle t.max m v (outcome_in a w)
-    unfolding told_here
-    gave_since made d before =
-        gave_it (ToldSince a old (after (attempt a) w) j)
-        (λ b below stood. record {
-          told = told_here b below stood (after (attempt a) w)
-              (outcome_in a w ∷ []) (AttemptLog.next w AttemptLog.start made);
-          came = due_came a w made;
-        }) d
-        (poll_at-wider (ToldSome (ToldSince a old w j))
-        (ToldSome (ToldSince a old (after (attempt a) w) j))
-        (λ bits x. (x.0, told_on bits x.1)) toggle u before)
-      where
-        told_on : (bits : ℕ) → ToldSince a old w j bits
-            → ToldSince a old (after (attempt a) w) j bits
-        told_on bits x = record {
-          told = record {
-            outcomes = x.told.outcomes;
-            mid = x.told.mid;
-            trail = x.told.trail;
-            b = x.told.b;
-            s = x.told.s;
-            below = x.told.below;
-            stood = x.told.stood;
-            told = x.told.told;
-            later = outcome_in a w ∷ x.told.later;
-            since = AttemptLog.next w x.told.since made;
-          };
-          came = omega (arith, x.came, ready_taken w, due_came a w made);
-        }
+      gave_then : DidIn a w j u v → PollAt (ToldSome (ToldSince a old w j)) toggle u
+          → Says Ever 0 toggle t.max m v (outcome_in a w)
+      gave_then d before = gave_it Ever
+          (λ b below stood. (w, told_here b below stood w [] AttemptLog.start)) d (by_then before)
 
-    ended : (result : Result (Option (List ℕ)) TransFault) (new : World) → DidIn a w j u v
-        → PollAt (ToldSome (ToldSince a old w j)) toggle u
-        → IsPollEnd toggle result (outcome_in a w) outcomes
-        → ((IsOfBus result → ⊥) → AttemptLeft a w new)
-        → PollEnds (ToldBy a old result new j) toggle result v
-    ended (Ok got) new d before end made =
-        let m : AttemptLeft a w new = made (λ g. g tt) in
-        subst (λ n. PollEnds (ToldSince a old n j) toggle (Ok got) v) (sym m.1)
-        ((gave_since m.0 d before).1 (Ok got) outcomes end)
-    ended (Err fault) new d before end made = (gave_then d before).1 (Err fault) outcomes end
+      gave_since : Made w (after (attempt a) w) → DidIn a w j u v
+          → PollAt (ToldSome (ToldSince a old w j)) toggle u
+          → Says (ToldSince a old (after (attempt a) w) j) 0 toggle t.max m v (outcome_in a w)
+      unfolding told_here
+      gave_since made d before =
+          gave_it (ToldSince a old (after (attempt a) w) j)
+          (λ b below stood. record {
+            told = told_here b below stood (after (attempt a) w)
+                (outcome_in a w ∷ []) (AttemptLog.next w AttemptLog.start made);
+            came = due_came a w made;
+          }) d
+          (poll_at-wider (ToldSome (ToldSince a old w j))
+          (ToldSome (ToldSince a old (after (attempt a) w) j))
+          (λ bits x. (x.0, told_on bits x.1)) toggle u before)
+        where
+          told_on : (bits : ℕ) → ToldSince a old w j bits
+              → ToldSince a old (after (attempt a) w) j bits
+          told_on bits x = record {
+            told = record {
+              outcomes = x.told.outcomes;
+              mid = x.told.mid;
+              trail = x.told.trail;
+              b = x.told.b;
+              s = x.told.s;
+              below = x.told.below;
+              stood = x.told.stood;
+              told = x.told.told;
+              later = outcome_in a w ∷ x.told.later;
+              since = AttemptLog.next w x.told.since made;
+            };
+            came = omega (arith, x.came, ready_taken w, due_came a w made);
+          }
+
+      ended : (result : Result (Option (List ℕ)) TransFault) (new : World) → DidIn a w j u v
+          → PollAt (ToldSome (ToldSince a old w j)) toggle u
+          → IsPollEnd toggle result (outcome_in a w) outcomes
+          → ((IsOfBus result → ⊥) → AttemptLeft a w new)
+          → PollEnds (ToldBy a old result new j) toggle result v
+      ended (Ok got) new d before end made =
+          let m : AttemptLeft a w new = made (λ g. g tt) in
+          subst (λ n. PollEnds (ToldSince a old n j) toggle (Ok got) v) (sym m.1)
+          ((gave_since m.0 d before).1 (Ok got) outcomes end)
+      ended (Err fault) new d before end made = (gave_then d before).1 (Err fault) outcomes end
 
   left : (result : Result (Option (List ℕ)) TransFault) (new : World) (v : State)
       → RunThrough (DidIn a) a hear (IsPollEnd toggle result) (IsOfBus result) old new j s v
@@ -370,14 +368,14 @@ module _ (t : Target) (toggle : Toggle) (old : World) (m : 1 ≤ t.max) (j : Loc
       × (PollAt NeverTold toggle s → PollAt (ToldSome (ToldSince a old w j)) toggle u))
       (refl, never_told (ToldSome (ToldSince a old old j)) toggle s)
       (λ outcomes w u x r made i d n. (
-        frame outcomes w r u x i.0 d,
-        λ k. (gave_since outcomes w r u x i.0 d made d (i.1 k)).0 n,
+        frame w u x i.0 d,
+        λ k. (gave_since w u x i.0 d outcomes r made d (i.1 k)).0 n,
       ))
       (λ x. OnlyChanges s x × (PollAt NeverTold toggle s
       → PollEnds (ToldBy a old result new j) toggle result x)) v
       (λ outcomes w u r i d end made. (
-        frame outcomes w r u v i.0 d,
-        λ k. ended outcomes w r u v i.0 d result new d (i.1 k) end made,
+        frame w u v i.0 d,
+        λ k. ended w u v i.0 d outcomes r result new d (i.1 k) end made,
       ))
       (λ gave outcomes w i. (
         i.0,
@@ -387,97 +385,44 @@ module _ (t : Target) (toggle : Toggle) (old : World) (m : 1 ≤ t.max) (j : Loc
             (λ bits x. (x.0, (w, x.1.told))) toggle v (i.1 k))) result gave,
       )) run
 
-  -- the endpoint is level, and no attempt is a wait; or it is behind, and as many as there were
-  -- waits were damaged
-  abbrev Stands : ℕ → World → State → Type 0
-  Stands n w u = ((u.changes.toggle ≡ toggle) × (n ≤ 3))
-      ⊎ ((u.changes.toggle ≡ other toggle) × ((k : ℕ) × LostRun old.damages k w.attempts × (n ≤ k)))
+  -- a hub that listens, and whose endpoint is not halted
+  module _ (three : NoThreeDamaged old) (l : Listens t j s) where
+    abbrev Answers : State → Type 0
+    Answers u = OnlyChanges s u × (u.changes.halted ≡ false)
 
-  module _ (three : NoThreeDamaged old) where
-    few : (n : ℕ) (w : World) (u : State) → Stands n w u → n ≤ 3
-    few n w u (inl y) = y.1
-    few n w u (inr y) = omega (arith, y.1.2, run_short old y.1.0 w.attempts three y.1.1)
+    module _ (w : World) (u y : State) (d : DidIn a w j u y) (is : Answers u) where
+      stays : Answers y
+      stays = (frame w u y is.0 d, (step w u y is.0 d).quiet ∙ is.1)
 
-    stands_on : {outcomes : List Outcome} (n : ℕ) (w : World) (u v : State) (clear : Bool)
-        → AttemptLog a old outcomes w → Made w (after (attempt a) w)
-        → (damage_in w ≡ None → clear ≡ true)
-        → PollStep toggle u clear (outcome_in a w) v → IsNoEnd (hear (outcome_in a w))
-        → Stands n w u → Stands (waits_with (hear (outcome_in a w)) n) (after (attempt a) w) v
-    stands_on n w u v clear trail made came_whole x z (inl y) =
-        inl ((x.even y.0 z).0, rw (x.even y.0 z).1 y.1)
-    stands_on n w u v clear trail made came_whole x z (inr y) =
-        let one : waits_with (hear (outcome_in a w)) n ≤ n + 1 =
-        one_wait (hear (outcome_in a w)) n in
-        elim (x.behind y.0 z) [
-          | inl e ↦ inl (e, omega (arith, one, y.1.2, run_short old y.1.0 w.attempts three y.1.1))
-          | inr e ↦ inr (
-            e.0,
-            (
-              y.1.0 + 1,
-              damaged_more trail made y.1.0 (λ none. false_true (sym e.1 ∙ came_whole none)) y.1.1,
-              omega (arith, one, y.1.2),
-            ),
-          )
-        ]
+      heeds : damage_in w ≡ None → hear (outcome_in a w) ≢ Lost
+      heeds none = (step w u y is.0 d).heeds (is_clear w u y is.0 d l none)
 
-    abbrev Runs : List Outcome → World → State → Type 0
-    Runs outcomes w u = OnlyChanges s u × (u.changes.halted ≡ false)
-        × LostRun old.damages (errors_running hear outcomes) w.attempts
-        × Stands (waits_in hear outcomes) w u
+      turns : IsNoEnd (hear (outcome_in a w)) → Turns toggle u.changes.toggle y.changes.toggle
+          (hear (outcome_in a w)) (damage_in w ≢ None)
+      turns n = record {
+        even = λ q. (step w u y is.0 d).even q n;
+        behind = λ q. elim ((step w u y is.0 d).behind q n) [
+          | inl e ↦ inl e
+          | inr e ↦ inr (e.0, λ none. false_true (sym e.1 ∙ is_clear w u y is.0 d l none))
+        ];
+      }
 
-    answers : Listens t j s → PollAt NeverTold toggle s → s.changes.halted ≡ false
-        → (fault : TransFault) → IsNotOfBus {A = Option (List ℕ)} (Err fault)
+    answers : s.changes.halted ≡ false → (fault : TransFault)
+        → IsNotOfBus {A = Option (List ℕ)} (Err fault)
         → (new : World) (v : State) → RunThrough (DidIn a) a hear (IsPollEnd toggle (Err fault))
         (IsOfBus {A = Option (List ℕ)} (Err fault)) old new j s v → ⊥
-    unfolding waits_in errors_running
-    answers l start quiet fault sound new v run =
-        at_end hear Runs (refl, quiet, lost_run_none old.damages old.attempts, begins start)
-        (λ outcomes w u x r made i d n. one_more outcomes w u x r made i d n) (λ x. ⊥) v
-        (λ outcomes w u r i d end made. never fault sound outcomes w
-        ((step outcomes w r u v i.0 d).unstalled i.1)
-        (λ n g. one_more outcomes w u v r (made g).0 i d n) end)
-        (λ gave outcomes w i. gave sound) run
-      where
-        begins : PollAt NeverTold toggle s → Stands 0 old s
-        begins (level q e) = inl (e, omega arith)
-        begins (told bits so q e) = elim so [ ]
-        begins (ahead bits q e) = inr (e, (0, lost_run_none old.damages old.attempts, omega arith))
-
-        one_more : (outcomes : List Outcome) (w : World) (u x : State) → AttemptLog a old outcomes w
-            → Made w (after (attempt a) w) → Runs outcomes w u → DidIn a w j u x
-            → IsNoEnd (hear (outcome_in a w))
-            → Runs (outcome_in a w ∷ outcomes) (after (attempt a) w) x
-        one_more outcomes w u x r made i d n =
-            let y : _ = step outcomes w r u x i.0 d in
-            let whole_then : _ = is_clear outcomes w r u x i.0 d l in (
-              frame outcomes w r u x i.0 d,
-              y.quiet ∙ i.1,
-              lost_more r made hear (λ none. y.heeds (whole_then none)) i.2,
-              stands_on (waits_in hear outcomes) w u x _ r made whole_then y n i.3,
-            )
-
-        never : (fault : TransFault) → IsNotOfBus {A = Option (List ℕ)} (Err fault)
-            → (outcomes : List Outcome) (w : World) → outcome_in a w ≢ Stall
-            → (IsNoEnd (hear (outcome_in a w)) → (IsOfBus {A = Option (List ℕ)} (Err fault) → ⊥)
-            → Runs (outcome_in a w ∷ outcomes) (after (attempt a) w) v)
-            → IsPollEnd toggle (Err fault) (outcome_in a w) outcomes → ⊥
-        never Stalled sound outcomes w loud runs end = loud end
-        never Busy sound outcomes w loud runs end =
-            absurd (omega (
-              arith,
-              end.1,
-              few (waits_in hear (outcome_in a w ∷ outcomes))
-                  (after (attempt a) w) v (runs end.0 (λ g. g tt)).3,
-            ))
-        never NoAnswer sound outcomes w loud runs end =
-            absurd (omega (
-              arith,
-              end.1,
-              run_short old
-                  (errors_running hear (outcome_in a w ∷ outcomes)) (after (attempt a) w).attempts
-                  three (runs end.0 (λ g. g tt)).2,
-            ))
-        never (Bus f) sound outcomes w loud runs end = sound
+    answers quiet Stalled sound new v run =
+        at_end hear (λ outcomes w u. Answers u) (refl, quiet)
+        (λ outcomes w u y r made i d n. stays w u y d i) (λ y. ⊥) v
+        (λ outcomes w u r i d end made. (step w u v i.0 d).unstalled i.1 end)
+        (λ gave outcomes w i. gave tt) run
+    answers quiet Busy sound new v run =
+        few_repeats Answers (λ w u y d n i. stays w u y d i) (refl, quiet) toggle
+        (λ u. u.changes.toggle) three (λ w u y d i n. turns w u y d i n) run
+    answers quiet NoAnswer sound new v run =
+        heeded Answers (λ w u y d n i. stays w u y d i) (refl, quiet) three
+        (λ w u y d i none. heeds w u y d i none) run
+    answers quiet (Bus fault) sound new v run = sound
 
 -- Each device
 
@@ -507,8 +452,7 @@ poll_why t toggle result old new m settled three x sound single =
     each_device _ (PollFailure t toggle result) old new
     (λ j s v run. record {
       answered = λ l h start quiet fault e.
-          answers t toggle old m j s l.at h three l start quiet fault (subst IsNotOfBus e sound) new
-          v
+          answers t toggle old m j s l.at h three l quiet fault (subst IsNotOfBus e sound) new v
           (subst (λ r. RunThrough (DidIn (in_attempt t 1)) (in_attempt t 1) (polled_as toggle)
           (IsPollEnd toggle r) (IsOfBus r) old new j s v) e run);
     })

@@ -15,7 +15,7 @@ use Rattle.usb_transaction.specs.Answerers.{Answerer}
 use Rattle.usb_transaction.specs.HeardOutcomes.{heard_as, heard_when_sent, set_up_as}
 use Rattle.usb_transaction.specs.AskedDevices.{SetupAccepted, Answered, Took, IsUnheard}
 use Rattle.usb_transaction.specs.Leaves.{IsNotOfBus, ControlIn, ReadStatus, SourceIn, SinkOut}
-use Rattle.usb_transaction.specs.Leaves.{ChangesIn, SetupDone}
+use Rattle.usb_transaction.specs.Leaves.{ChangesIn, SetupDone, SourcePolled}
 use Rattle.usb_transaction.specs.ControlWrites.{WriteOut, WriteStatusIn}
 use Rattle.usb_transaction.specs.SparedDevices.{EachSpared}
 use Rattle.usb_transaction.specs.AttemptLogs.{Transacted, Polled}
@@ -23,7 +23,8 @@ use Rattle.usb_transaction.specs.Transactions.{Ends, SetupEnds, packed, setup_at
 use Rattle.usb_transaction.specs.Transactions.{out_attempt}
 use Rattle.usb_transaction.specs.Failures.{NoThreeDamaged, SetupFailure, ControlInFailure}
 use Rattle.usb_transaction.specs.Failures.{StatusReadFailure, SourceInFailure, SinkOutFailure}
-use Rattle.usb_transaction.specs.Failures.{PollFailure, WriteOutFailure, WriteStatusFailure}
+use Rattle.usb_transaction.specs.Failures.{PollFailure, SourcePollFailure, WriteOutFailure}
+use Rattle.usb_transaction.specs.Failures.{WriteStatusFailure}
 
 -- nothing but the device hindered a call: no three attempts running are damaged, the bus did not
 -- give up, and no address was ever held twice
@@ -130,7 +131,8 @@ pub record SendsOut (t : Target) (ep : ℕ) (toggle : Toggle) (bytes : List ℕ)
   pub who : OnOk result (new.shared ≡ false → Answerer t old new)
   pub means : MeansOfOut t ep toggle bytes old result new
 
--- a poll of a hub's status endpoint, which is its endpoint 1 (11.12.3), or of another
+-- a poll of a hub's status endpoint, which is its endpoint 1 (11.12.3), or of one that gives packets
+-- (5.7)
 
 pub record PollsIn (t : Target) (ep : ℕ) (toggle : Toggle) (old : World)
     (result : Result (Option (List ℕ)) TransFault) (new : World) : Type 0 where
@@ -139,4 +141,7 @@ pub record PollsIn (t : Target) (ep : ℕ) (toggle : Toggle) (old : World)
   pub short : IfOk result (λ got. IfSome got (λ bytes. length bytes ≤ t.max))
   pub what : ep ≡ 1 → new.shared ≡ false → EachWas (ChangesIn t toggle old result new) old new
   pub why : ep ≡ 1 → IsUnhindered old result new → EachWas (PollFailure t toggle result) old new
+  pub source : new.shared ≡ false → EachWas (SourcePolled t ep toggle result) old new
+  pub source_why : IsUnhindered old result new → EachWas (SourcePollFailure t ep toggle result) old
+      new
   pub who : OnOk result (new.shared ≡ false → Answerer t old new)

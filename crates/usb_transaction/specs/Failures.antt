@@ -101,3 +101,12 @@ pub record PollFailure (t : Target) (toggle : Toggle) (result : Result (Option (
     (x : Location) (s v : State) : Type 0 where
   pub answered : Listens t x s → tells_changes s.spec s.registers ≡ true → PollAt NeverTold toggle s
       → s.changes.halted ≡ false → (fault : TransFault) → result ≡ Err fault → ⊥
+
+-- an endpoint besides endpoint 0 that is polled: it answers, where its packets are as short as the
+-- host wants them, or where it is halted. A NAK ends the poll, and repeats are few
+pub record SourcePollFailure (t : Target) (ep : ℕ) (awaited : Toggle)
+    (result : Result (Option (List ℕ)) TransFault) (x : Location) (s v : State) : Type 0 where
+  pub answered : Listens t x s → (most : ℕ) → IsSource ep most s → GivesWithin t.max ep most s
+      → (result ≢ Err NoAnswer) × (result ≢ Err Busy)
+  pub halted : Listens t x s → (most : ℕ) → IsSource ep most s
+      → (in_end s ep).state.halted ≡ true → (result ≢ Err NoAnswer) × (result ≢ Err Busy)

@@ -10,7 +10,7 @@ use Rattle.usb_device.specs.{full, acted, row_of, Location, place_on, ReadingAt,
 use Rattle.usb_device.specs.{StatusGiven, IsRead, IsSource, SourceAt, SourceOn, IsSink, SinkAt}
 use Rattle.usb_device.specs.{Joined, PollAt, NeverTold, ToldByte, OnlyControl, OnlyStage}
 use Rattle.usb_device.specs.{OnlySource, OnlySink, OnlyChanges, Stage, writing, is_done, in_end}
-use Rattle.usb_device.specs.{out_end, IsPrompt}
+use Rattle.usb_device.specs.{out_end, IsPrompt, next_packet, Pace}
 use Rattle.usb_world.specs.{Attempt, Outcome, World, HolderIn, at_attempt, attempt, after}
 use Rattle.usb_tree.specs.{address_of}
 use Rattle.usb_transaction.specs.declared.target.Target.{Target}
@@ -146,6 +146,38 @@ pub record SourceBetween (t : Target) (ep : ℕ) (awaited : Toggle) (x : Locatio
   pub frame : (most : ℕ) → IsSource ep most s → OnlySource ep s v
   pub source : is_at s t ≡ true → (most got : ℕ) → IsSource ep most s → 1 ≤ most
       → SourceAt ep most got awaited s → SourceAt ep most got awaited v
+
+-- an endpoint gives at most so many NAKs before its next packet, and before each behind it
+abbrev pub IsPacedWithin : ℕ → Pace → Type 0
+IsPacedWithin limit pace = (pace.naks ≤ limit) × (pace.each ≤ limit)
+
+-- what a poll says of an endpoint that gives packets
+abbrev pub SourcePollEnds : ℕ → ℕ → ℕ → Toggle → State → Result (Option (List ℕ)) TransFault → State
+    → Type 0
+SourcePollEnds ep most got awaited s (Ok packet) v = SourceOn ep most got awaited s packet v
+SourcePollEnds ep most got awaited s (Err Stalled) v = SourceOn ep most got awaited s None v
+SourcePollEnds ep most got awaited s (Err Busy) v = SourceOn ep most got awaited s None v
+SourcePollEnds ep most got awaited s (Err NoAnswer) v = SourceOn ep most got awaited s None v
+SourcePollEnds ep most got awaited s (Err (Bus fault)) v = SourceCut ep most got awaited s v
+
+-- a poll of an endpoint besides endpoint 0 (5.7): NAK is an answer. Where the endpoint gives none
+-- before its packets, nothing was left to give
+pub record SourcePolled (t : Target) (ep : ℕ) (awaited : Toggle)
+    (result : Result (Option (List ℕ)) TransFault) (x : Location) (s v : State) : Type 0 where
+  pub others : is_at s t ≡ false → v ≡ s
+  pub frame : (most : ℕ) → IsSource ep most s → OnlySource ep s v
+  pub source : is_at s t ≡ true → (most got : ℕ) → IsSource ep most s → 1 ≤ most
+      → SourceAt ep most got awaited s → SourcePollEnds ep most got awaited s result v
+  pub stalled : is_at s t ≡ true → (most : ℕ) → IsSource ep most s → result ≡ Err Stalled
+      → (in_end v ep).state.halted ≡ true
+  pub halted : is_at s t ≡ true → (most : ℕ) → IsSource ep most s
+      → (in_end s ep).state.halted ≡ true
+      → (v ≡ s) × ((got : Option (List ℕ)) → result ≡ Ok got → ⊥)
+  pub paced : is_at s t ≡ true → (most limit : ℕ) → IsSource ep most s
+      → IsPacedWithin limit (in_end s ep).pace → IsPacedWithin limit (in_end v ep).pace
+  pub empty : is_at s t ≡ true → (most : ℕ) → IsSource ep most s
+      → (in_end s ep).pace.naks ≡ 0 → (in_end s ep).pace.each ≡ 0 → result ≡ Ok None
+      → next_packet v ep most (in_end v ep).place ≡ None
 
 -- what an answer says of a packet that was sent to an OUT endpoint
 abbrev pub SinkEnds : ℕ → List ℕ → List ℕ → Toggle → Result (List ℕ) TransFault → State → Type 0

@@ -22,11 +22,12 @@ pub use Leaves.{AcceptedAt, AcceptedSince, CanAccept, CanAnswer, ChangesIn, Cont
 pub use Leaves.{IsNotOfBus, PollCut, PollEnds, ReadCut, ReadEnds, ReadStatus, SetupDone}
 pub use Leaves.{SinkBetween, SinkEnds, SinkOut, SourceBetween, SourceCut, SourceEnds, SourceIn}
 pub use Leaves.{StatusEnds, ToldBy, ToldIn, ToldSince, ToldSome, is_at, none_came, one_came, over}
-pub use Leaves.{refuses_in}
+pub use Leaves.{refuses_in, IsPacedWithin, SourcePollEnds, SourcePolled}
 pub use ControlWrites.{WriteEnds, WriteOut, WriteStatusEnds, WriteStatusIn}
 pub use Failures.{ControlInFailure, Expects, Fits, HasNext, Listens, NoThreeDamaged, PollFailure}
 pub use Failures.{SetupFailure, SinkOutFailure, SourceInFailure, StatusReadFailure, WriteOutFailure}
-pub use Failures.{WriteStatusFailure, data_write, refusal, refused_write, status}
+pub use Failures.{SourcePollFailure, WriteStatusFailure, data_write, refusal, refused_write}
+pub use Failures.{status}
 pub use Losses.{LosesNone, LossesIn, begins_no_stretch}
 pub use Answerers.{Answerer, HadOne, IsAnswer}
 pub use SparedDevices.{EachSpared, IsSpared}

@@ -17,7 +17,8 @@ ghost use Rattle.usb_transaction.specs.declared.fault.TransFault.{TransFault as 
 ghost use Rattle.usb_transaction.specs.declared.target.Target.{Target as ATarget};
 ghost use Rattle.usb_transaction.specs.Answerers.{HadOne, IsAnswer};
 ghost use Rattle.usb_transaction.specs.Attempts.{IsOnly, TransactionAttempts};
-ghost use Rattle.usb_transaction.specs.HeardOutcomes.{heard_as, heard_when_sent, set_up_as};
+ghost use Rattle.usb_transaction.specs.HeardOutcomes.{heard_as, heard_when_sent, polled_as};
+ghost use Rattle.usb_transaction.specs.HeardOutcomes.{set_up_as};
 ghost use Rattle.usb_transaction.specs.Losses.{begins_no_stretch, LossesIn, LosesNone};
 ghost use Rattle.usb_transaction.specs.Leaves.{SourceBetween, SinkBetween};
 ghost use Rattle.usb_transaction.specs.AttemptLogs.{AttemptLog, KeepsTrying, TransactionDone, Transacted, Polled};
@@ -60,11 +61,16 @@ pub fn who_had_the_address()
 {}
 
 /// Between any two attempts of a bulk transaction the two ends are level or one is a packet ahead
-/// (5.8, 8.6), if no address was ever held twice.
+/// (5.8, 8.6), if no address was ever held twice. So it is of a poll of an endpoint that gives
+/// packets (5.7).
 pub fn what_is_so_between_bulk_attempts()
     ensures into { (t : ATarget) (ep : ℕ) (awaited : Toggle) (outcomes : List AnOutcome)
         (old now : World) → IsSettled old.roots
         → AttemptLog (in_attempt t ep) old outcomes now → KeepsTrying (heard_as awaited) outcomes
+        → now.shared ≡ false → EachWas (SourceBetween t ep awaited) old now }
+    ensures polled { (t : ATarget) (ep : ℕ) (awaited : Toggle) (outcomes : List AnOutcome)
+        (old now : World) → IsSettled old.roots
+        → AttemptLog (in_attempt t ep) old outcomes now → KeepsTrying (polled_as awaited) outcomes
         → now.shared ≡ false → EachWas (SourceBetween t ep awaited) old now }
     ensures out { (t : ATarget) (ep : ℕ) (toggle : Toggle) (bytes : List ℕ)
         (outcomes : List AnOutcome) (old now : World) → IsSettled old.roots

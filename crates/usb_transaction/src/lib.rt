@@ -13,8 +13,10 @@
 //!   (`what_a_transaction_attempts`).
 //! - Over any bus, the toggle flips exactly if the call is done (`data_in`, `data_out`).
 //! - If no address was held twice, and host and device were as far as each other, the packet that
-//!   came is the next one. Between attempts they are level, or one end is a packet ahead
-//!   (`what_is_so_between_bulk_attempts`).
+//!   came is the next one, by `data_in` and by `poll_in` (*SourceIn*, *SourcePolled*). Between
+//!   attempts they are level, or one end is a packet ahead (`what_is_so_between_bulk_attempts`).
+//! - While no three attempts in a row are damaged, an endpoint that hears them answers. A poll ends
+//!   at NAK, so the endpoint may give any number of them (*SourcePollFailure*).
 //!
 //! One record has all that a call says: `SetsUp`, `AsksIn`, `SendsOut` and `PollsIn`
 //! (`specs/Calls.antt`). `docs/PROVED.md` reads them.

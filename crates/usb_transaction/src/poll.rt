@@ -15,9 +15,15 @@ use usb_packet::Toggle;
 /// Asks an endpoint, 0 to 15, whether it has a data packet (5.7, 8.5.4): None at NAK.
 ///
 /// It asks again after an error or a packet of the other toggle, which is a repeat and discarded.
-/// The toggle changes exactly if a packet came. If no address was ever held twice, and no earlier
-/// poll failed, a hub's byte is what its ports reported at one of the attempts. At None they
-/// reported nothing.
+/// The toggle changes exactly if a packet came.
+///
+/// If no address was ever held twice, the packet is the next one that the device at the target's
+/// address has for the endpoint: each comes once. At None an endpoint that gives no NAK before
+/// its packets has none left. A hub's byte is what its ports reported at one of the attempts, if
+/// no earlier poll failed. At None they reported nothing.
+///
+/// An endpoint may give any number of NAKs. A poll that it hears ends in `Busy` or `NoAnswer` only
+/// where three attempts in a row are damaged, or a packet is longer than the target's maximum.
 ///
 /// # Errors
 ///
