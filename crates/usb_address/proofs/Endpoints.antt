@@ -1,8 +1,8 @@
 -- Polls, bulk transfers and clears of halts keep addresses, whatever their answers are and whatever
 -- was lost.
-use Rattle.std.proofs.Common.{◌≡◌, ◌≢◌, ℕ, zero, suc, ◌⊎◌, inl, inr, false, List, [], ◌∷◌, length}
-use Rattle.std.proofs.Common.{take, Option, None, Some, Result, Ok, Err, refl, ap, sym, subst, ◌∙◌}
-use Rattle.std.proofs.Common.{arith, MatchResult}
+use Rattle.std.proofs.Common.{◌≡◌, ◌≢◌, ℕ, zero, suc, ◌⊎◌, inl, inr, Bool, true, false, List, []}
+use Rattle.std.proofs.Common.{◌∷◌, length, take, Option, None, Some, Result, Ok, Err, refl, ap, sym}
+use Rattle.std.proofs.Common.{subst, ◌∙◌, arith, MatchResult}
 use Rattle.std.specs.Global.{Vec}
 use Rattle.arrayvec.specs.ArrayVec.{ArrayVec}
 use Rattle.usb_packet.specs.{Toggle, flips}
@@ -13,7 +13,7 @@ use Rattle.usb_transaction.specs.{Target, TransFault, heard_as, polled_as, heard
 use Rattle.usb_transaction.specs.{in_attempt, out_attempt, AttemptsMade, AttemptLog, start}
 use Rattle.usb_transaction.specs.{Transacted}
 use Rattle.usb_transaction.specs.declared.fault.TransFault.TheVariants as trans
-use Rattle.usb_pipe.specs.{Condition, PipeFault, Bulk, halt_address, packets_of, Sends, Receives}
+use Rattle.usb_pipe.specs.{Condition, PipeFault, PipeState, halt_address, packets_of, Sends, Receives}
 use Rattle.usb_pipe.specs.{Cleared, Clears, FaultAfter, packet_target, Interrupt, PollAsked, Polls}
 use Rattle.usb_pipe.specs.{Gave, Came, Puts, Fetches, SendEnds, NotCame, NoRoomLeft, ReceiveEnds}
 use Rattle.usb_pipe.specs.declared.condition.Condition.TheVariants as condition
@@ -135,8 +135,8 @@ module _ (t : Target) (ep : ℕ) (first : Toggle) where
         none_transacted g heard_when_sent (out_attempt t ep (flips x.packets first)
         (take t.max x.rest)) x.mid (ap (λ w. w.fault) same ∙ e) x.fault new x.lost ∙ same
 
-pub sends_keep : (bytes : List ℕ) (pipe : Bulk) (old : World) (result : Result (Unit {0}) PipeFault)
-    (left : Bulk) (new : World) → Sends bytes pipe old result left new → KeepsAddresses old new
+pub sends_keep : (bytes : List ℕ) (pipe : PipeState) (old : World) (result : Result (Unit {0}) PipeFault)
+    (left : PipeState) (new : World) → Sends bytes pipe old result left new → KeepsAddresses old new
 sends_keep bytes pipe old result left new x = split pipe.condition refl
   where
     some : pipe.condition ≢ condition.Broken → (b : List ℕ) → bytes ≡ b → KeepsAddresses old new
@@ -210,8 +210,8 @@ module _ (t : Target) (ep : ℕ) (far : ep ≢ 0) (first : Toggle) where
         let same : x.mid ≡ old = none_came g e x.before in
         absurd (cc (ap (λ w. w.fault) same ∙ e, trail_sound x.came.trail))
 
-pub receives_keep : (wanted : ℕ) (pipe : Bulk) → pipe.ep ≢ 0
-    → (old : World) (result : Result (Vec ℕ) PipeFault) (left : Bulk) (new : World)
+pub receives_keep : (wanted : ℕ) (pipe : PipeState) → pipe.ep ≢ 0
+    → (old : World) (result : Result (Vec ℕ) PipeFault) (left : PipeState) (new : World)
     → Receives wanted pipe old result left new → KeepsAddresses old new
 receives_keep wanted pipe far old result left new x = split pipe.condition refl
   where
@@ -238,9 +238,10 @@ module _ (endpoint : ℕ) where
   unfolding clear_endpoint_halt
   clear_other = refl
 
-pub clears_keep : (pipe : Bulk) (old : World) (result : Result (Unit {0}) PipeFault) (left : Bulk)
-    (new : World) → Clears pipe old result left new → KeepsAddresses old new
-clears_keep pipe old result left new x = split pipe.condition refl
+pub clears_keep : (is_sent : Bool) (pipe : PipeState) (old : World)
+    (result : Result (Unit {0}) PipeFault) (left : PipeState) (new : World)
+    → Clears is_sent pipe old result left new → KeepsAddresses old new
+clears_keep is_sent pipe old result left new x = split is_sent refl
   where
     asked : Cleared pipe old result left new → KeepsAddresses old new
     asked y =
@@ -249,6 +250,6 @@ clears_keep pipe old result left new x = split pipe.condition refl
         (same_setup (clear_endpoint_halt endpoint)) (harmless endpoint) (clear_other endpoint) 2
         1 old new result y.ends y.stages
 
-    split : (c : Condition) → pipe.condition ≡ c → KeepsAddresses old new
-    split condition.Ready e = same_keeps old new (x.ready e).world_kept
-    split c e = asked (x.sent (λ h. absurd (cc (e, h))))
+    split : (b : Bool) → is_sent ≡ b → KeepsAddresses old new
+    split true e = asked (x.sent e)
+    split false e = same_keeps old new (x.ready e).world_kept

@@ -19,14 +19,14 @@ use Rattle.usb_transaction.proofs.Interface.{transacted_unshared, control_in_lea
 use Rattle.usb_transaction.proofs.Interface.{had_one, poll_answered, poll_had, read_answered}
 use Rattle.usb_transaction.proofs.Interface.{read_had, set_up_had, sink_over, source_over}
 use Rattle.usb_transaction.proofs.Interface.{wait_answered, write_answered, write_had}
-use Rattle.usb_pipe.specs.{Bulk, Sends, Receives, as_pipe_fault, packet_target, Interrupt, Polls}
+use Rattle.usb_pipe.specs.{PipeState, Sends, Receives, as_pipe_fault, packet_target, Interrupt, Polls}
 use Rattle.usb_pipe.specs.{IsTransferAnswer, Gave, Came, NotGone, NotCame, NoRoomLeft, SetUp, Goes}
-use Rattle.usb_pipe.specs.{DataStage, NoSetUp, Reads, Writes, PipeFault}
+use Rattle.usb_pipe.specs.{DataStage, NoSetUp, Reads, Writes, PipeFault, PipePolls, polled_pipe}
 use Rattle.usb_pipe.specs.Moves as moves
 use Rattle.usb_pipe.specs.Stages as stages
 use Rattle.usb_pipe.specs.declared.condition.Condition.TheVariants.{Broken}
 use Rattle.usb_pipe.specs.declared.fault.PipeFault.TheVariants as pipe_fault
-use Rattle.usb_pipe.proofs.BulkCalls.{send_by, receive_by}
+use Rattle.usb_pipe.proofs.BulkCalls.{poll_by, send_by, receive_by}
 use Rattle.usb_pipe.proofs.ControlSteps.{ended_settled, ended_unshared, host_harmless}
 use Rattle.usb_pipe.proofs.ControlSteps.{bytes_of-length, Requested, requested_leaves}
 
@@ -158,7 +158,7 @@ answerer_after_passed {t} {old} {mid} {new} x settled single last =
     }
 
 -- it is the device of the pipe
-of_device : (t : Target) (max : ℕ) {old new : World} → Answerer (packet_target t max) old new
+pub of_device : (t : Target) (max : ℕ) {old new : World} → Answerer (packet_target t max) old new
     → Answerer t old new
 of_device t max a = record {
   spot = a.spot;
@@ -287,7 +287,7 @@ gone_answered t ep first {new} settled (moves.packet {n} {mid} bytes g full more
     answerer_after_passed (gave_passed t ep first g) settled (ended_unshared puts single)
     (λ h. write_answered t ep (flips n first) bytes [] mid new h puts single)
 
-pub who_sends : (bytes : List ℕ) (pipe : Bulk) (u : Unit {0}) (left : Bulk) (old new : World)
+pub who_sends : (bytes : List ℕ) (pipe : PipeState) (u : Unit {0}) (left : PipeState) (old new : World)
     → bytes ≢ []
     → Sends bytes pipe old (Ok u) left new → new.shared ≡ false → Answerer pipe.target old new
 who_sends bytes pipe u left old new some x single =
@@ -296,7 +296,7 @@ who_sends bytes pipe u left old new some x single =
     of_device pipe.target pipe.max (gone_answered (packet_target pipe.target pipe.max) pipe.ep
     pipe.toggle s.settled s.went.gone some single)
 
-pub who_receives : (wanted : ℕ) (pipe : Bulk) (bytes : Vec ℕ) (left : Bulk) (old new : World)
+pub who_receives : (wanted : ℕ) (pipe : PipeState) (bytes : Vec ℕ) (left : PipeState) (old new : World)
     → wanted ≢ 0 → Receives wanted pipe old (Ok bytes) left new → new.shared ≡ false
     → Answerer pipe.target old new
 who_receives wanted pipe bytes left old new some x single =
@@ -309,7 +309,7 @@ who_receives wanted pipe bytes left old new some x single =
     (ended_unshared c.came single)
     (λ h. read_answered t pipe.ep (flips c.packets pipe.toggle) c.last c.mid new h c.came single))
 
-module _ (pipe : Bulk) (why : PipeFault) (old new : World) (settled : IsSettled old.roots)
+module _ (pipe : PipeState) (why : PipeFault) (old new : World) (settled : IsSettled old.roots)
     (y : IsTransferAnswer why) (single : new.shared ≡ false) where
   abbrev Packets : Target
   Packets = packet_target pipe.target pipe.max
@@ -342,7 +342,7 @@ module _ (pipe : Bulk) (why : PipeFault) (old new : World) (settled : IsSettled 
 not_broken : (why : PipeFault) → IsTransferAnswer why → ◌≢◌ {A = PipeFault} why pipe_fault.Broken
 not_broken why y e = subst IsTransferAnswer e y
 
-pub who_send_had : (bytes : List ℕ) (pipe : Bulk) (why : PipeFault) (left : Bulk) (old new : World)
+pub who_send_had : (bytes : List ℕ) (pipe : PipeState) (why : PipeFault) (left : PipeState) (old new : World)
     → IsTransferAnswer why
     → Sends bytes pipe old (Err why) left new → new.shared ≡ false → HadOne pipe.target old
 who_send_had bytes pipe why left old new y x single =
@@ -350,7 +350,7 @@ who_send_had bytes pipe why left old new y x single =
     (λ none i. cc i.answer)
     (λ works some m. not_gone_had pipe why old new m.settled y single bytes m.went) x
 
-pub who_receive_had : (wanted : ℕ) (pipe : Bulk) (why : PipeFault) (left : Bulk) (old new : World)
+pub who_receive_had : (wanted : ℕ) (pipe : PipeState) (why : PipeFault) (left : PipeState) (old new : World)
     → IsTransferAnswer why
     → Receives wanted pipe old (Err why) left new → new.shared ≡ false → HadOne pipe.target old
 who_receive_had wanted pipe why left old new y x single =
@@ -375,3 +375,11 @@ who_poll_had pipe why left old new settled y x single =
     let n = x.asked in
     poll_had pipe.target pipe.ep pipe.toggle n.fault old new settled
     (trans_answer why n.fault n.told y) n.polled single
+
+pub who_packet_had : (pipe : PipeState) (why : PipeFault) (left : PipeState) (old new : World)
+    → IsTransferAnswer why
+    → PipePolls pipe old (Err why) left new → new.shared ≡ false → HadOne pipe.target old
+who_packet_had pipe why left old new y x single =
+    poll_by (HadOne pipe.target old) (λ i. absurd (not_broken why y (cc i.answer)))
+    (λ works m. had_of_device pipe.target pipe.max
+    (who_poll_had (polled_pipe pipe) why (polled_pipe left) old new m.settled y m.polls single)) x

@@ -1,6 +1,6 @@
 -- Which attempts a transfer made, as a course of the world.
 use Rattle.std.proofs.Common.{inl, inr, ℕ, List, [], ◌∷◌, ◌++◌, length, take, min, ◌*◌, ◌<◌, ◌≤◌}
-use Rattle.std.proofs.Common.{Option, None, Some, Result, Ok, Err, refl, ◌≡◌, ◌⊎◌, sym, subst, ◌∙◌}
+use Rattle.std.proofs.Common.{Bool, Option, None, Some, Result, Ok, Err, refl, ◌≡◌, ◌⊎◌, sym, subst, ◌∙◌}
 use Rattle.std.proofs.Common.{arith, append_assoc, append-nil, length-append}
 use Rattle.std.specs.Global.{Vec}
 use Rattle.std.proofs.lemmas.List.{take_min}
@@ -15,14 +15,14 @@ use Rattle.usb_transaction.specs.{TransactionDone, BusFailed, AttemptLog, start 
 use Rattle.usb_transaction.specs.{KeepsTrying, Transacted, in_attempt, out_attempt, setup_attempt}
 use Rattle.usb_transaction.specs.declared.fault.TransFault.TheVariants as trans
 use Rattle.usb_transaction.proofs.Interface.{polled_attempts, trail_course}
-use Rattle.usb_pipe.specs.{IsOfTransfer, TransferAttempts, Bulk, halt_address, Receives, Clears}
+use Rattle.usb_pipe.specs.{IsOfTransfer, TransferAttempts, PipeState, halt_address, Receives, Clears}
 use Rattle.usb_pipe.specs.{Sends, as_pipe_fault, packet_target, Interrupt, Polls, PollAsked}
 use Rattle.usb_pipe.specs.{IsBehind, Came, ReceiveEnds, Gave, SendsAt, SendEnds, Goes, DataStage}
-use Rattle.usb_pipe.specs.{SetUp, DataLost, NoRoom, Reads, Writes, PipeFault}
+use Rattle.usb_pipe.specs.{SetUp, DataLost, NoRoom, Reads, Writes, PipeFault, PipePolls, polled_pipe}
 use Rattle.usb_pipe.specs.Moves as moves
 use Rattle.usb_pipe.specs.Stages as stages
 use Rattle.usb_pipe.specs.declared.fault.PipeFault.TheVariants as pipe_fault
-use Rattle.usb_pipe.proofs.BulkCalls.{receive_by, clear_by, send_by}
+use Rattle.usb_pipe.proofs.BulkCalls.{receive_by, clear_by, poll_by, send_by}
 use Rattle.usb_pipe.proofs.ControlSteps.{transacted_ended}
 
 -- a transaction of IN, or of the OUT that ends a read
@@ -150,12 +150,13 @@ module _ (t : Target) (request : Setup) where
   write_attempts (Err why) old new (inr x) = lost_kind K (heard_as One) (in_attempt t 0)
       (λ o w r on. inr (inl refl)) why x.fault x.told (asked_first x.set_up) x.status
 
-pub clear_attempts : (pipe : Bulk) (result : Result (Unit {0}) PipeFault) (left : Bulk)
-    (old new : World) → Clears pipe old result left new → TransferAttempts (IsOfTransfer pipe.target
+pub clear_attempts : (is_sent : Bool) (pipe : PipeState) (result : Result (Unit {0}) PipeFault)
+    (left : PipeState) (old new : World) → Clears is_sent pipe old result left new
+    → TransferAttempts (IsOfTransfer pipe.target
     (clear_endpoint_halt (halt_address pipe.ep pipe.is_in))) old result new
-clear_attempts pipe result left old new x =
-    clear_by _ (λ ready i. idle_kind i.world_kept (λ f e. cc (i.answer, e)))
-    (λ unready y. write_attempts pipe.target _ result old new y.stages) x
+clear_attempts is_sent pipe result left old new x =
+    clear_by _ (λ none i. idle_kind i.world_kept (λ f e. cc (i.answer, e)))
+    (λ some y. write_attempts pipe.target _ result old new y.stages) x
 
 -- Pipes to the host
 
@@ -185,7 +186,7 @@ moved_attempts t ep first wanted (Err why) old new (inr x) =
       cut = λ f e. cc (x.told, e);
     }
 
-pub receive_attempts : (wanted : ℕ) (pipe : Bulk) (result : Result (Vec ℕ) PipeFault) (left : Bulk)
+pub receive_attempts : (wanted : ℕ) (pipe : PipeState) (result : Result (Vec ℕ) PipeFault) (left : PipeState)
     (old new : World) → Receives wanted pipe old result left new
     → TransferAttempts (IsOnly (in_attempt (packet_target pipe.target pipe.max) pipe.ep)) old
     result new
@@ -213,6 +214,14 @@ pub poll_attempts : (pipe : Interrupt) (result : Result (Option (ArrayVec ℕ)) 
     → Polls pipe old result left new → TransferAttempts (IsOnly (in_attempt pipe.target pipe.ep))
     old result new
 poll_attempts pipe result left old new x = asked_attempts pipe result old new x.asked
+
+pub packet_attempts : (pipe : PipeState) (result : Result (Option (ArrayVec ℕ)) PipeFault)
+    (left : PipeState) (old new : World) → PipePolls pipe old result left new
+    → TransferAttempts (IsOnly (in_attempt (packet_target pipe.target pipe.max) pipe.ep)) old
+    result new
+packet_attempts pipe result left old new x =
+    poll_by _ (λ i. idle_kind i.world_kept (λ f e. cc (i.answer, e)))
+    (λ works y. asked_attempts (polled_pipe pipe) result old new y.polls.asked) x
 
 -- Sends, packet by packet
 
@@ -279,8 +288,8 @@ module _ (t : Target) (ep : ℕ) (first : Toggle) (total : List ℕ) (old : Worl
       (moment_is x.rest x.before x.full x.split) why x.fault x.told
       (gave_course x.before x.rest x.split (λ lt. x.full)) x.lost
 
-pub send_attempts : (bytes : List ℕ) (pipe : Bulk) (result : Result (Unit {0}) PipeFault)
-    (left : Bulk) (old new : World) → Sends bytes pipe old result left new
+pub send_attempts : (bytes : List ℕ) (pipe : PipeState) (result : Result (Unit {0}) PipeFault)
+    (left : PipeState) (old new : World) → Sends bytes pipe old result left new
     → TransferAttempts (SendsAt (packet_target pipe.target pipe.max) pipe.ep pipe.toggle bytes
     old) old result new
 send_attempts bytes pipe result left old new x =

@@ -1,14 +1,16 @@
 -- A call through a bulk pipe: it made no attempt, or its transfer.
 use Rattle.std.proofs.Common.{◌≡◌, ◌≢◌, ◌∙◌, ◌⊎◌, inl, inr, refl, sym, arith, eq-zero-or-pos, ℕ}
-use Rattle.std.proofs.Common.{List, [], ◌∷◌, length, Result, Ok, Err, MatchResult}
+use Rattle.std.proofs.Common.{List, [], ◌∷◌, length, Bool, true, false, Option, Result, Ok, Err}
+use Rattle.std.proofs.Common.{MatchResult}
+use Rattle.arrayvec.specs.ArrayVec.{ArrayVec}
 use Rattle.std.specs.Global.{Vec}
 use Rattle.std.specs.Int.{div_ceil}
 use Rattle.usb_packet.specs.{Toggle}
 use Rattle.usb_tree.specs.{IsSettled}
 use Rattle.usb_world.specs.{World}
 use Rattle.usb_transaction.specs.{Target}
-use Rattle.usb_pipe.specs.{Condition, PipeFault, Bulk, Idle, MovedOut, Sends, MovedIn, Receives}
-use Rattle.usb_pipe.specs.{Cleared, Clears, Gave, Came}
+use Rattle.usb_pipe.specs.{Condition, PipeFault, PipeState, Idle, MovedOut, Sends, MovedIn, Receives}
+use Rattle.usb_pipe.specs.{Cleared, Clears, PollsOnce, PipePolls, Gave, Came}
 use Rattle.usb_pipe.specs.declared.condition.Condition.TheVariants.{Ready, Halted, Broken}
 use Rattle.usb_pipe.specs.declared.fault.PipeFault.TheVariants as pipe_fault
 use Rattle.usb_pipe.specs.Moves.{start, packet}
@@ -24,8 +26,8 @@ ready_or G c works ready halted = elim (condition_decided c Ready) [
   | inr n ↦ halted (grind arith)
 ]
 
-pub send_by : {bytes : List ℕ} {pipe : Bulk} {old : World} {result : Result (Unit {0}) PipeFault}
-    {left : Bulk} {new : World} (G : Type 0)
+pub send_by : {bytes : List ℕ} {pipe : PipeState} {old : World} {result : Result (Unit {0}) PipeFault}
+    {left : PipeState} {new : World} (G : Type 0)
     → (Idle (Err pipe_fault.Broken) pipe old result left new → G)
     → (bytes ≡ [] → Idle (Ok tt) pipe old result left new → G)
     → (pipe.condition ≢ Broken → bytes ≢ [] → MovedOut (div_ceil (length bytes) pipe.max) bytes pipe
@@ -41,8 +43,8 @@ send_by {bytes} {pipe} G broken nothing moved x =
     by_bytes works (b ∷ more) e = moved works (λ h. cc (sym e ∙ h))
         (x.moved works (λ h. cc (sym e ∙ h)))
 
-pub receive_by : {wanted : ℕ} {pipe : Bulk} {old : World} {result : Result (Vec ℕ) PipeFault}
-    {left : Bulk} {new : World} (G : Type 0)
+pub receive_by : {wanted : ℕ} {pipe : PipeState} {old : World} {result : Result (Vec ℕ) PipeFault}
+    {left : PipeState} {new : World} (G : Type 0)
     → (result ≡ Err pipe_fault.Broken → left ≡ pipe → new ≡ old → G)
     → ((bytes : Vec ℕ) → result ≡ Ok bytes → bytes.items ≡ [] → left ≡ pipe → new ≡ old → G)
     → (pipe.condition ≢ Broken → wanted ≢ 0 → MovedIn wanted pipe old result left new → G)
@@ -62,15 +64,26 @@ receive_by {wanted} {pipe} {old} {result} {left} {new} G broken nothing moved x 
     by_answer (Ok bytes) is none kept same = nothing bytes is none kept same
     by_answer (Err why) is none kept same = absurd none
 
-pub clear_by : {pipe : Bulk} {old : World} {result : Result (Unit {0}) PipeFault} {left : Bulk}
-    {new : World} (G : Type 0)
-    → (pipe.condition ≡ Ready → Idle (Ok tt) pipe old result left new → G)
-    → (pipe.condition ≢ Ready → Cleared pipe old result left new → G)
-    → Clears pipe old result left new → G
-clear_by {pipe} G ready sent x = elim (condition_decided pipe.condition Ready) [
-  | inl e ↦ ready e (x.ready e)
-  | inr n ↦ sent n (x.sent n)
+pub poll_by : {pipe : PipeState} {old : World} {result : Result (Option (ArrayVec ℕ)) PipeFault}
+    {left : PipeState} {new : World} (G : Type 0)
+    → (Idle (Err pipe_fault.Broken) pipe old result left new → G)
+    → (pipe.condition ≢ Broken → PollsOnce pipe old result left new → G)
+    → PipePolls pipe old result left new → G
+poll_by {pipe} G broken asked x = elim (condition_decided pipe.condition Broken) [
+  | inl e ↦ broken (x.broken e)
+  | inr works ↦ asked works (x.asked works)
 ]
+
+pub clear_by : {is_sent : Bool} {pipe : PipeState} {old : World}
+    {result : Result (Unit {0}) PipeFault} {left : PipeState} {new : World} (G : Type 0)
+    → (is_sent ≡ false → Idle (Ok tt) pipe old result left new → G)
+    → (is_sent ≡ true → Cleared pipe old result left new → G)
+    → Clears is_sent pipe old result left new → G
+clear_by {is_sent} G ready sent x = split is_sent refl
+  where
+    split : (b : Bool) → is_sent ≡ b → G
+    split true e = sent e (x.sent e)
+    split false e = ready e (x.ready e)
 
 -- no device remembers a packet between two packets of a transfer
 

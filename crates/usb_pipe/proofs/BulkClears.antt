@@ -15,11 +15,11 @@ use Rattle.usb_world.specs.{is_harmless, World, EachWas}
 use Rattle.usb_world.proofs.Interface.{each_none, each_wider}
 use Rattle.usb_transaction.specs.{Answerer, NoThreeDamaged, is_at, AttemptsMade}
 use Rattle.usb_transaction.proofs.Interface.{spared_all}
-use Rattle.usb_pipe.specs.{Condition, PipeFault, Bulk, is_ready, halt_address, cleared, Cleared}
+use Rattle.usb_pipe.specs.{PipeFault, PipeState, needs_clear, halt_address, cleared, Cleared}
 use Rattle.usb_pipe.specs.{Clears, FaultAfter, WriteFailure, EffectOrNone, none, some, whole}
 use Rattle.usb_pipe.specs.{WasRefused, WriteLeaves, OutPipeInSync, InPipeInSync, ClearLeaves}
-use Rattle.usb_pipe.specs.{IsNoBusFault, OnlyEndpoint, BulkClear, Unshared}
-use Rattle.usb_pipe.specs.declared.condition.Condition.TheVariants.{Ready, Broken}
+use Rattle.usb_pipe.specs.{IsNoBusFault, OnlyEndpoint, PipeClear, Unshared}
+use Rattle.usb_pipe.specs.declared.condition.Condition.TheVariants.{Broken}
 use Rattle.usb_pipe.specs.declared.fault.PipeFault.TheVariants as pipe_fault
 use Rattle.usb_pipe.proofs.Answerers.{who_writes}
 use Rattle.usb_pipe.proofs.BulkCalls.{clear_by}
@@ -50,15 +50,15 @@ unfolding clear_endpoint_halt bytes_of setup_of
 same_request index = rw (two_bytes_word index)
 
 -- the request of a clear
-abbrev pub clear_of : Bulk → Setup
+abbrev pub clear_of : PipeState → Setup
 clear_of pipe = clear_endpoint_halt (halt_address pipe.ep pipe.is_in)
 
-pub asks_out : (pipe : Bulk) (s : State) → pipe.is_in ≡ false → IsSink pipe.ep pipe.max s
+pub asks_out : (pipe : PipeState) (s : State) → pipe.is_in ≡ false → IsSink pipe.ep pipe.max s
     → outcome s.spec s.registers (clear_of pipe) ≡ unhalts (BulkOut pipe.ep)
 asks_out pipe s out i = outcome-clear_halt s.spec s.registers (halt_address pipe.ep pipe.is_in)
     ∙ rw (out, served-out pipe.ep pipe.max s i)
 
-pub clear_of-in : (pipe : Bulk) (s : State) → pipe.is_in ≡ true → IsSource pipe.ep pipe.max s
+pub clear_of-in : (pipe : PipeState) (s : State) → pipe.is_in ≡ true → IsSource pipe.ep pipe.max s
     → outcome s.spec s.registers (clear_of pipe) ≡ unhalts (BulkIn pipe.ep)
 clear_of-in pipe s is i = outcome-clear_halt s.spec s.registers (halt_address pipe.ep pipe.is_in)
     ∙ rw (is, served-in pipe.ep pipe.max s i)
@@ -231,18 +231,17 @@ module _ (request : Setup) (which : ServedEndpoint) (s : State)
 -- One device and its pipe
 
 -- a clear that is done
-done_leaves : (pipe : Bulk) (done : Unit {0}) → is_ready pipe.condition ≡ false
-    → {old new : World} (j : Location) (s v : State)
+done_leaves : (pipe : PipeState) (done : Unit {0}) → {old new : World} (j : Location) (s v : State)
     → WriteLeaves pipe.target (clear_of pipe) (Ok done) old new j s v
-    → ClearLeaves pipe (Ok done) (cleared pipe (Ok done)) j s v
-done_leaves pipe done unready j s v x = record {
+    → ClearLeaves true pipe (Ok done) (cleared pipe (Ok done)) j s v
+done_leaves pipe done j s v x = record {
   others = x.others;
   sink = λ at out f.
       let d = x.done at done refl in
       let o = ended_rests (clear_of pipe) (BulkOut pipe.ep) s (asks_out pipe s out f.endpoint) d.row
       d.address v d.is d.given d.rest in
       let there = out_rests pipe.ep s in
-      rw (unready, o) (
+      rw o (
         record {
           endpoint = record { endpoint = f.endpoint.endpoint; not_zero = f.endpoint.not_zero };
           level = λ r. ap (λ end. end.state.toggle) there;
@@ -256,7 +255,7 @@ done_leaves pipe done unready j s v x = record {
       let o = ended_rests (clear_of pipe) (BulkIn pipe.ep) s (clear_of-in pipe s is f.endpoint)
       d.row d.address v d.is d.given d.rest in
       let there = in_rests pipe.ep s in
-      rw (unready, o) (
+      rw o (
         record {
           endpoint = record {
             endpoint = f.endpoint.endpoint;
@@ -281,7 +280,7 @@ done_leaves pipe done unready j s v x = record {
 
 -- one that failed
 
-failed_sink : (pipe : Bulk) (s v : State) → OutPipeInSync pipe s → OnlyStage s v
+failed_sink : (pipe : PipeState) (s v : State) → OutPipeInSync pipe s → OnlyStage s v
     ⊎ OnlyRested (BulkOut pipe.ep) s v
     → OutPipeInSync (record pipe { condition = Broken }) v
     × ((out_end v pipe.ep).sink ≡ (out_end s pipe.ep).sink)
@@ -290,7 +289,7 @@ failed_sink : (pipe : Bulk) (s v : State) → OutPipeInSync pipe s → OnlyStage
 failed_sink pipe s v f (inl o) = grind arith
 failed_sink pipe s v f (inr o) = let there = out_rests pipe.ep s in grind (arith, there)
 
-failed_source : (pipe : Bulk) (got : ℕ) (s v : State) → InPipeInSync pipe got s → OnlyStage s v
+failed_source : (pipe : PipeState) (got : ℕ) (s v : State) → InPipeInSync pipe got s → OnlyStage s v
     ⊎ OnlyRested (BulkIn pipe.ep) s v
     → InPipeInSync (record pipe { condition = Broken }) got v
     × ((in_end v pipe.ep).place ≡ (in_end s pipe.ep).place)
@@ -299,9 +298,9 @@ failed_source : (pipe : Bulk) (got : ℕ) (s v : State) → InPipeInSync pipe go
 failed_source pipe got s v f (inl o) = grind arith
 failed_source pipe got s v f (inr o) = let there = in_rests pipe.ep s in grind (arith, there)
 
-failed_leaves : (pipe : Bulk) (why : PipeFault) (old new : World) → FaultAfter 1 old why new
+failed_leaves : (pipe : PipeState) (why : PipeFault) (old new : World) → FaultAfter 1 old why new
     → (j : Location) (s v : State) → WriteLeaves pipe.target (clear_of pipe) (Err why) old new j s v
-    → ClearLeaves pipe (Err why) (cleared pipe (Err why)) j s v
+    → ClearLeaves true pipe (Err why) (cleared pipe (Err why)) j s v
 failed_leaves pipe why old new ends j s v x = record {
   others = x.others;
   sink = λ at out f.
@@ -333,70 +332,90 @@ failed_leaves pipe why old new ends j s v x = record {
 }
 
 -- one that makes no request
-ready_leaves : (pipe : Bulk) → is_ready pipe.condition ≡ true → (j : Location) (s : State)
-    → ClearLeaves pipe (Ok tt) pipe j s s
-ready_leaves pipe ready j s = record {
+none_leaves : (pipe : PipeState) (j : Location) (s : State)
+    → ClearLeaves false pipe (Ok tt) pipe j s s
+none_leaves pipe j s = record {
   others = λ _. refl;
-  sink = λ at out f. rw ready (f, refl, refl);
-  source = λ at is got f. rw ready (f, refl, refl);
+  sink = λ at out f. (f, refl, refl);
+  source = λ at is got f. (f, refl, refl);
   only_sink = λ out i. only_none (BulkOut pipe.ep) s;
   only_source = λ is i. only_none (BulkIn pipe.ep) s;
 }
 
-not_ready : (c : Condition) → c ≢ Ready → is_ready c ≡ false
-not_ready c n = grind arith
-
 -- A call
 
-pub clear_leaves : (pipe : Bulk) (result : Result (Unit {0}) PipeFault) (left : Bulk)
-    (old new : World) → Clears pipe old result left new → new.shared ≡ false
-    → EachWas (ClearLeaves pipe result left) old new
-clear_leaves pipe result left old new x single =
-    clear_by (EachWas (ClearLeaves pipe result left) old new)
-    (λ ready i. rw (i.answer, i.pipe_kept, i.world_kept)
-    (each_none _ (ready_leaves pipe (ap is_ready ready)) old))
-    (λ unready y. rw y.pipe_left (sent (not_ready pipe.condition unready) result y)) x
-  where
-    sent : is_ready pipe.condition ≡ false → (r : Result (Unit {0}) PipeFault)
-        → Cleared pipe old r left new → EachWas (ClearLeaves pipe r (cleared pipe r)) old new
-    sent unready r y = by_result r y.ends (spared_all pipe.target (clear_of pipe) _ old new
-        (harmless _) (write_leaves pipe.target (clear_of pipe) r old new (clear_halt-length _)
-        (same_request _) y.settled y.stages single))
-      where
-        by_result : (r : Result (Unit {0}) PipeFault)
-            → MatchResult r (λ done. AttemptsMade 2 old new) (λ why. FaultAfter 1 old why new)
-            → EachWas (WriteLeaves pipe.target (clear_of pipe) r old new) old new
-            → EachWas (ClearLeaves pipe r (cleared pipe r)) old new
-        by_result (Ok done) ends w = each_wider _ _ (done_leaves pipe done unready) old new w
-        by_result (Err why) ends w = each_wider _ _ (failed_leaves pipe why old new ends) old new w
+module _ (pipe left : PipeState) (old new : World) (single : new.shared ≡ false) where
+  sent_leaves : (result : Result (Unit {0}) PipeFault) → Cleared pipe old result left new
+      → EachWas (ClearLeaves true pipe result (cleared pipe result)) old new
+  sent_leaves result y = by_result result y.ends (spared_all pipe.target (clear_of pipe) _ old new
+      (harmless _) (write_leaves pipe.target (clear_of pipe) result old new (clear_halt-length _)
+      (same_request _) y.settled y.stages single))
+    where
+      by_result : (r : Result (Unit {0}) PipeFault)
+          → MatchResult r (λ done. AttemptsMade 2 old new) (λ why. FaultAfter 1 old why new)
+          → EachWas (WriteLeaves pipe.target (clear_of pipe) r old new) old new
+          → EachWas (ClearLeaves true pipe r (cleared pipe r)) old new
+      by_result (Ok done) ends w = each_wider _ _ (done_leaves pipe done) old new w
+      by_result (Err why) ends w = each_wider _ _ (failed_leaves pipe why old new ends) old new w
 
-clear_why : (pipe : Bulk) (result : Result (Unit {0}) PipeFault) (left : Bulk) (old new : World)
-    → NoThreeDamaged old → Clears pipe old result left new → IsNoBusFault result
+pub clear_leaves : (is_sent : Bool) (pipe : PipeState) (result : Result (Unit {0}) PipeFault)
+    (left : PipeState) (old new : World) → Clears is_sent pipe old result left new
+    → new.shared ≡ false → EachWas (ClearLeaves is_sent pipe result left) old new
+clear_leaves is_sent pipe result left old new x single =
+    clear_by (EachWas (ClearLeaves is_sent pipe result left) old new)
+    (λ none i. rw (none, i.answer, i.pipe_kept, i.world_kept)
+    (each_none _ (none_leaves pipe) old))
+    (λ some y. rw (some, y.pipe_left) (sent_leaves pipe left old new single result y)) x
+
+clear_why : (is_sent : Bool) (pipe : PipeState) (result : Result (Unit {0}) PipeFault)
+    (left : PipeState) (old new : World) → NoThreeDamaged old
+    → Clears is_sent pipe old result left new → IsNoBusFault result
     → new.shared ≡ false → EachWas (WriteFailure pipe.target result) old new
-clear_why pipe result left old new three x sound single =
+clear_why is_sent pipe result left old new three x sound single =
     clear_by (EachWas (WriteFailure pipe.target result) old new)
-    (λ ready i. rw (i.answer, i.world_kept)
+    (λ none i. rw (i.answer, i.world_kept)
     (each_none _ (λ j s. record { answered = λ l e. cc e; waited = λ l idle few e. cc e })
     old))
-    (λ unready y. spared_all pipe.target (clear_of pipe) _ old new (harmless _)
+    (λ some y. spared_all pipe.target (clear_of pipe) _ old new (harmless _)
     (write_why pipe.target (clear_of pipe) result old new (clear_halt-length _)
     (same_request _) y.settled three y.stages sound single)) x
 
-clear_who : (pipe : Bulk) (result : Result (Unit {0}) PipeFault) (left : Bulk) (old new : World)
-    → Clears pipe old result left new
-    → OnOk result (pipe.condition ≢ Ready → Unshared new (Answerer pipe.target old new))
-clear_who pipe (Ok done) left old new x = λ unready.
-    let c = x.sent unready in
+clear_who : (is_sent : Bool) (pipe : PipeState) (result : Result (Unit {0}) PipeFault)
+    (left : PipeState) (old new : World) → Clears is_sent pipe old result left new
+    → OnOk result (is_sent ≡ true → Unshared new (Answerer pipe.target old new))
+clear_who is_sent pipe (Ok done) left old new x = λ some.
+    let c = x.sent some in
     who_writes pipe.target (clear_of pipe) done old new (same_request _)
     (λ h. cc (sym (harmless (halt_address pipe.ep pipe.is_in)) ∙ h)) c.settled c.stages
-clear_who pipe (Err why) left old new x = tt
+clear_who is_sent pipe (Err why) left old new x = tt
 
-pub clear_told : (pipe : Bulk) (result : Result (Unit {0}) PipeFault) (left : Bulk)
-    (old new : World) → Clears pipe old result left new → BulkClear pipe old result left new
-clear_told pipe result left old new x =
+pub clear_told : (is_sent : Bool) (pipe : PipeState) (result : Result (Unit {0}) PipeFault)
+    (left : PipeState) (old new : World) → Clears is_sent pipe old result left new
+    → PipeClear is_sent pipe old result left new
+clear_told is_sent pipe result left old new x =
     record {
       clears = x;
-      what = clear_leaves pipe result left old new x;
-      why = λ three. clear_why pipe result left old new three x;
-      who = clear_who pipe result left old new x;
+      what = clear_leaves is_sent pipe result left old new x;
+      why = λ three. clear_why is_sent pipe result left old new three x;
+      who = clear_who is_sent pipe result left old new x;
     }
+
+-- The three ways to a clear: it is asked for, it is needed, or it is not
+
+pub clear_sent : (pipe : PipeState) (result : Result (Unit {0}) PipeFault) (left : PipeState)
+    (old new : World) → Cleared pipe old result left new → PipeClear true pipe old result left new
+clear_sent pipe result left old new y =
+    clear_told true pipe result left old new (record { ready = λ none. cc none; sent = λ some. y })
+
+pub clear_needed : (pipe : PipeState) (result : Result (Unit {0}) PipeFault) (left : PipeState)
+    (old new : World) → needs_clear pipe ≡ true → PipeClear true pipe old result left new
+    → PipeClear (needs_clear pipe) pipe old result left new
+clear_needed pipe result left old new needed x =
+    subst (λ sent. PipeClear sent pipe old result left new) (sym needed) x
+
+pub clear_unneeded : (pipe : PipeState) (w : World) → needs_clear pipe ≡ false
+    → PipeClear (needs_clear pipe) pipe w (Ok tt) pipe w
+clear_unneeded pipe w unneeded = clear_told (needs_clear pipe) pipe (Ok tt) pipe w w (record {
+  ready = λ none. record { answer = refl; pipe_kept = refl; world_kept = refl };
+  sent = λ some. cc (sym unneeded ∙ some);
+})

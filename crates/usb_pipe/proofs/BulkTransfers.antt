@@ -23,12 +23,12 @@ use Rattle.usb_transaction.proofs.Interface.{sink_kept, sink_leaves, sink_over, 
 use Rattle.usb_transaction.proofs.Interface.{trail_unshared, transacted_unshared, source_at_kept}
 use Rattle.usb_transaction.proofs.Interface.{source_kept, source_leaves, source_over, source_why}
 use Rattle.usb_pipe.specs.declared.condition.Condition.TheVariants.{Ready, Halted, Broken}
-use Rattle.usb_pipe.specs.{PipeFault, Bulk, after_fault, after_transfer, MovedOut, Sends, MovedIn}
+use Rattle.usb_pipe.specs.{PipeFault, PipeState, after_fault, after_transfer, MovedOut, Sends, MovedIn}
 use Rattle.usb_pipe.specs.{Receives, PacketsSent, PacketsReceived, FaultAfter, as_pipe_fault}
 use Rattle.usb_pipe.specs.{packet_target, SendFailure, ReceiveFailure, IsNoBusFault, pipe_known}
 use Rattle.usb_pipe.specs.{came_with, OutPipeInSync, FrontTaken, SendLeaves, SendingLeaves}
 use Rattle.usb_pipe.specs.{InPipeInSync, GaveNext, ReceiveLeaves, Gave, Came, NotGone}
-use Rattle.usb_pipe.specs.{WhileSending, AllCame, NotCame, NoRoomLeft, Unshared, BulkSend, BulkReceive}
+use Rattle.usb_pipe.specs.{WhileSending, AllCame, NotCame, NoRoomLeft, Unshared, PipeSend, PipeReceive}
 use Rattle.usb_pipe.specs.declared.fault.PipeFault.TheVariants as pipe_fault
 use Rattle.usb_pipe.specs.Moves.{start, packet}
 use Rattle.usb_pipe.proofs.Answerers.{who_sends, who_receives}
@@ -42,7 +42,7 @@ use Rattle.usb_pipe.proofs.TransactionFaults.{Fell, fell_same_fault}
 use Rattle.usb_pipe.proofs.TransferLosses.{send_losses, receive_losses}
 
 -- the device, at the endpoint of a pipe
-abbrev end_of : Bulk → Target
+abbrev end_of : PipeState → Target
 end_of pipe = packet_target pipe.target pipe.max
 
 -- the other toggle is that of the next packet
@@ -51,7 +51,7 @@ turned_on : (n : ℕ) (first toggle : Toggle) → toggle ≡ other (flips n firs
 turned_on n first toggle e = flips_more n first (flips n first) toggle refl e
 
 -- the packets of an endpoint have a maximum of their own
-listens_packet : (t : Target) (max : ℕ) (place : Location) (s u : State) → u.spec ≡ s.spec
+pub listens_packet : (t : Target) (max : ℕ) (place : Location) (s u : State) → u.spec ≡ s.spec
     → u.registers ≡ s.registers → Listens t place s → Listens (packet_target t max) place u
 listens_packet t max place s u e f l = let k = listens_on t place s u e f l in
     record { at = k.at; loud = k.loud; hears = k.hears }
@@ -171,12 +171,12 @@ fits_packet max rest = let l = length-take max rest in omega (arith, l)
 -- One device and its pipe
 
 -- a call that makes no attempt
-idle_leaves : (bytes : List ℕ) (pipe : Bulk) (given : Result (Unit {0}) PipeFault)
+idle_leaves : (bytes : List ℕ) (pipe : PipeState) (given : Result (Unit {0}) PipeFault)
     → pipe_known given pipe ≡ pipe → OnOk given (bytes ≡ []) → (j : Location) (s : State)
     → SendLeaves bytes pipe given pipe j s s
 idle_leaves bytes pipe given same none j s = grind (arith, none_taken, append-nil)
 
-module _ (bytes : List ℕ) (pipe left : Bulk) (n : ℕ) (works : pipe.condition ≢ Broken) where
+module _ (bytes : List ℕ) (pipe left : PipeState) (n : ℕ) (works : pipe.condition ≢ Broken) where
   abbrev Given : List ℕ → Location → State → State → Type 0
   Given sent = GaveLeaves (end_of pipe) pipe.ep pipe.toggle n sent
 
@@ -225,7 +225,7 @@ module _ (bytes : List ℕ) (pipe left : Bulk) (n : ℕ) (works : pipe.condition
 
 -- A call that sends
 
-sent_leaves : (bytes : List ℕ) (pipe : Bulk) (result : Result (Unit {0}) PipeFault) (left : Bulk)
+sent_leaves : (bytes : List ℕ) (pipe : PipeState) (result : Result (Unit {0}) PipeFault) (left : PipeState)
     (old new : World) → pipe.condition ≢ Broken → bytes ≢ []
     → MovedOut (div_ceil (length bytes) pipe.max) bytes pipe old result left new
     → new.shared ≡ false → EachWas (SendLeaves bytes pipe result left) old new
@@ -245,8 +245,8 @@ sent_leaves bytes pipe (Err why) left old new works some x single =
     (sink_leaves (end_of pipe) pipe.ep (flips g.packets pipe.toggle) (take pipe.max g.rest)
     (Err g.fault) g.mid new began g.lost single)
 
-pub send_leaves : (bytes : List ℕ) (pipe : Bulk) (result : Result (Unit {0}) PipeFault)
-    (left : Bulk) (old new : World) → Sends bytes pipe old result left new → new.shared ≡ false
+pub send_leaves : (bytes : List ℕ) (pipe : PipeState) (result : Result (Unit {0}) PipeFault)
+    (left : PipeState) (old new : World) → Sends bytes pipe old result left new → new.shared ≡ false
     → EachWas (SendLeaves bytes pipe result left) old new
 send_leaves bytes pipe result left old new x single =
     send_by (EachWas (SendLeaves bytes pipe result left) old new)
@@ -258,7 +258,7 @@ send_leaves bytes pipe result left old new x single =
 
 -- why it fails
 
-lost_send : (pipe : Bulk) (n : ℕ) (sent rest : List ℕ) (why : PipeFault) (fault : TransFault)
+lost_send : (pipe : PipeState) (n : ℕ) (sent rest : List ℕ) (why : PipeFault) (fault : TransFault)
     → why ≡ as_pipe_fault fault → (j : Location) (s u v : State)
     → GaveLeaves (end_of pipe) pipe.ep pipe.toggle n sent j s u
     → SinkOutFailure (end_of pipe) pipe.ep (flips n pipe.toggle) (take pipe.max rest)
@@ -275,7 +275,7 @@ lost_send pipe n sent rest why fault told j s u v x y = record {
         listens_packet pipe.target pipe.max j s u (ap (λ q. q.spec) only)
         (ap (λ q. q.registers) only) l
 
-module _ (bytes : List ℕ) (pipe left : Bulk) (old new : World) (single : new.shared ≡ false) where
+module _ (bytes : List ℕ) (pipe left : PipeState) (old new : World) (single : new.shared ≡ false) where
   -- an answer that is neither fault
   never_sent : (result : Result (Unit {0}) PipeFault) → Sends bytes pipe old result left new
       → result ≢ Err pipe_fault.NoAnswer → result ≢ Err pipe_fault.Busy
@@ -307,7 +307,7 @@ module _ (bytes : List ℕ) (pipe left : Bulk) (old new : World) (single : new.s
 -- At each moment: behind the packets before, the one that is being sent has joined what the device
 -- took, or not yet
 
-sending_then : (sent rest : List ℕ) (pipe : Bulk) (n : ℕ) (j : Location) (s u v : State)
+sending_then : (sent rest : List ℕ) (pipe : PipeState) (n : ℕ) (j : Location) (s u v : State)
     → GaveLeaves (end_of pipe) pipe.ep pipe.toggle n sent j s u
     → SinkBetween (end_of pipe) pipe.ep (flips n pipe.toggle) (take pipe.max rest) j u v
     → SendingLeaves sent (take pipe.max rest) (flips n pipe.toggle) pipe j s v
@@ -319,7 +319,7 @@ sending_then sent rest pipe n j s u v x y = record {
       (fits_packet pipe.max rest) (sink_level x i (take pipe.max rest) h (f.level e));
 }
 
-pub sending_leaves : (bytes : List ℕ) (pipe : Bulk) (old now : World) → IsSettled old.roots
+pub sending_leaves : (bytes : List ℕ) (pipe : PipeState) (old now : World) → IsSettled old.roots
     → (g : WhileSending (end_of pipe) pipe.ep pipe.toggle bytes old now) → now.shared ≡ false
     → EachWas (SendingLeaves g.sent (take pipe.max g.rest) (flips g.packets pipe.toggle) pipe) old
     now
@@ -425,7 +425,7 @@ came_damages (packet bytes c fetches full) = ended_damages fetches ∙ came_dama
 -- One device and its pipe
 
 -- all came
-all_came : (pipe left : Bulk) (bytes : Vec ℕ) (n : ℕ) → pipe.condition ≢ Broken
+all_came : (pipe left : PipeState) (bytes : Vec ℕ) (n : ℕ) → pipe.condition ≢ Broken
     → left ≡ record pipe { toggle = left.toggle; condition = Ready }
     → left.toggle ≡ flips (n + 1) pipe.toggle
     → (j : Location) (s v : State) → CameLeaves (end_of pipe) pipe.ep pipe.toggle (n + 1)
@@ -450,7 +450,7 @@ all_came pipe left bytes n works e turned j s v x = record {
         (λ r. let none = (x.still h f.endpoint (f.halted r)).1 in absurd (omega (arith, none)))
 
 -- no bytes came, and the pipe that is left is at the place of the one before
-nothing_came : (pipe left : Bulk) (bytes : List ℕ) (place : ℕ) (s v : State) → bytes ≡ []
+nothing_came : (pipe left : PipeState) (bytes : List ℕ) (place : ℕ) (s v : State) → bytes ≡ []
     → InPipeInSync left place v → GaveNext pipe place bytes left s v
 nothing_came pipe left bytes place s v none f = record {
   behind = place;
@@ -461,7 +461,7 @@ nothing_came pipe left bytes place s v none f = record {
 
 -- where a call fails, no more is known of the endpoint than that it is the one it was, and that it
 -- is halted where it answered STALL
-lost_came : (old new : World) (pipe left : Bulk) (why : PipeFault) → FaultAfter 0 old why new
+lost_came : (old new : World) (pipe left : PipeState) (why : PipeFault) → FaultAfter 0 old why new
     → left ≡ record pipe { toggle = left.toggle; condition = after_fault pipe.condition why }
     → (j : Location) (s v : State) → (is_at s pipe.target ≡ false → v ≡ s)
     → (IsSource pipe.ep pipe.max s → OnlySource pipe.ep s v)
@@ -479,7 +479,7 @@ lost_came old new pipe left why ends e j s v others frame halted = record {
     still h place f = grind (arith, source_kept, frame, halted)
 
 -- a call that makes no attempt
-idle_came : (pipe : Bulk) (result : Result (Vec ℕ) PipeFault) → pipe_known result pipe ≡ pipe
+idle_came : (pipe : PipeState) (result : Result (Vec ℕ) PipeFault) → pipe_known result pipe ≡ pipe
     → came_with result ≡ [] → (j : Location) (s : State) → ReceiveLeaves pipe result pipe j s s
 idle_came pipe result same none j s = record {
   others = λ h. refl;
@@ -489,11 +489,11 @@ idle_came pipe result same none j s = record {
 }
 
 -- a packet that did not come, behind others that did
-module _ (wanted : ℕ) (pipe : Bulk) (n : ℕ) (got : List ℕ) (why : PipeFault) (fault : TransFault)
+module _ (wanted : ℕ) (pipe : PipeState) (n : ℕ) (got : List ℕ) (why : PipeFault) (fault : TransFault)
     (works : pipe.condition ≢ Broken) (least : 1 ≤ pipe.max) (told : why ≡ as_pipe_fault fault)
     (few : n < wanted) (j : Location) (s u v : State)
     (x : CameLeaves (end_of pipe) pipe.ep pipe.toggle n got j s u) where
-  lost_then : (old new : World) (left : Bulk) → FaultAfter 0 old why new
+  lost_then : (old new : World) (left : PipeState) → FaultAfter 0 old why new
       → left ≡ record pipe { toggle = left.toggle; condition = after_fault pipe.condition why }
       → SourceIn (end_of pipe) pipe.ep (flips n pipe.toggle) (Err fault) j u v
       → ReceiveLeaves pipe (Err why) left j s v
@@ -555,7 +555,7 @@ module _ (wanted : ℕ) (pipe : Bulk) (n : ℕ) (got : List ℕ) (why : PipeFaul
 
 -- A call that receives
 
-module _ (wanted : ℕ) (pipe left : Bulk) (old new : World) (least : 1 ≤ pipe.max)
+module _ (wanted : ℕ) (pipe left : PipeState) (old new : World) (least : 1 ≤ pipe.max)
     (single : new.shared ≡ false) where
   received_leaves : (result : Result (Vec ℕ) PipeFault) → pipe.condition ≢ Broken
       → MovedIn wanted pipe old result left new → EachWas (ReceiveLeaves pipe result left) old new
@@ -587,7 +587,7 @@ module _ (wanted : ℕ) (pipe left : Bulk) (old new : World) (least : 1 ≤ pipe
           j s v y.others y.frame (λ stalled h i. cc (g.told, stalled))) old new
           (came_on (end_of pipe) pipe.ep pipe.toggle least x.settled g.before g.came single)
 
-pub receive_leaves : (wanted : ℕ) (pipe : Bulk) (result : Result (Vec ℕ) PipeFault) (left : Bulk)
+pub receive_leaves : (wanted : ℕ) (pipe : PipeState) (result : Result (Vec ℕ) PipeFault) (left : PipeState)
     (old new : World) → 1 ≤ pipe.max → Receives wanted pipe old result left new → new.shared ≡ false
     → EachWas (ReceiveLeaves pipe result left) old new
 receive_leaves wanted pipe result left old new least x single =
@@ -599,7 +599,7 @@ receive_leaves wanted pipe result left old new least x single =
     (λ works some y. received_leaves wanted pipe left old new least single result works y) x
 
 -- why it fails
-module _ (wanted : ℕ) (pipe left : Bulk) (old new : World) (least : 1 ≤ pipe.max)
+module _ (wanted : ℕ) (pipe left : PipeState) (old new : World) (least : 1 ≤ pipe.max)
     (single : new.shared ≡ false) where
   never_received : (result : Result (Vec ℕ) PipeFault) → Receives wanted pipe old result left new
       → result ≢ Err pipe_fault.NoAnswer → result ≢ Err pipe_fault.Busy
@@ -642,8 +642,8 @@ module _ (wanted : ℕ) (pipe left : Bulk) (old new : World) (least : 1 ≤ pipe
 
 -- A call that moved packets, by what these tell
 
-pub sends_by : (bytes : List ℕ) (pipe : Bulk) (old : World) (result : Result (Unit {0}) PipeFault)
-    (left : Bulk) (new : World) → pipe.condition ≢ Broken → bytes ≢ []
+pub sends_by : (bytes : List ℕ) (pipe : PipeState) (old : World) (result : Result (Unit {0}) PipeFault)
+    (left : PipeState) (new : World) → pipe.condition ≢ Broken → bytes ≢ []
     → PacketsSent (packet_target pipe.target pipe.max) pipe.ep pipe.toggle bytes old result
     left.toggle new → left ≡ record pipe {
       toggle = left.toggle;
@@ -664,8 +664,8 @@ sends_by bytes pipe old result left new works some x is settled = record {
   };
 }
 
-pub receives_by : (wanted : ℕ) (pipe : Bulk) (old : World) (result : Result (Vec ℕ) PipeFault)
-    (left : Bulk) (new : World) → pipe.condition ≢ Broken → wanted ≢ 0
+pub receives_by : (wanted : ℕ) (pipe : PipeState) (old : World) (result : Result (Vec ℕ) PipeFault)
+    (left : PipeState) (new : World) → pipe.condition ≢ Broken → wanted ≢ 0
     → PacketsReceived (packet_target pipe.target pipe.max) pipe.ep pipe.toggle wanted old result
     left.toggle new → left ≡ record pipe {
       toggle = left.toggle;
@@ -688,9 +688,9 @@ receives_by wanted pipe old result left new works some x is settled = record {
 
 -- The record of a call
 
-pub send_told : (bytes : List ℕ) (pipe : Bulk) (result : Result (Unit {0}) PipeFault) (left : Bulk)
+pub send_told : (bytes : List ℕ) (pipe : PipeState) (result : Result (Unit {0}) PipeFault) (left : PipeState)
     (old new : World) → Sends bytes pipe old result left new
-    → BulkSend bytes pipe old result left new
+    → PipeSend bytes pipe old result left new
 send_told bytes pipe result left old new x = record {
   sends = x;
   what = send_leaves bytes pipe result left old new x;
@@ -704,9 +704,9 @@ send_told bytes pipe result left old new x = record {
     who (Ok done) x = λ some. who_sends bytes pipe done left old new some x
     who (Err why) x = tt
 
-pub receive_told : (wanted : ℕ) (pipe : Bulk) (result : Result (Vec ℕ) PipeFault) (left : Bulk)
+pub receive_told : (wanted : ℕ) (pipe : PipeState) (result : Result (Vec ℕ) PipeFault) (left : PipeState)
     (old new : World) → 1 ≤ pipe.max → Receives wanted pipe old result left new
-    → BulkReceive wanted pipe old result left new
+    → PipeReceive wanted pipe old result left new
 receive_told wanted pipe result left old new fits x = record {
   receives = x;
   what = receive_leaves wanted pipe result left old new fits x;

@@ -7,6 +7,7 @@ pub mod NextPackets
 pub mod ControlSteps
 pub mod Attempts
 pub mod InterruptPolls
+pub mod PacketPolls
 pub mod BulkClears
 pub mod ControlTransfers
 pub mod Answerers
@@ -14,4 +15,5 @@ pub mod DataWrites
 pub mod DataWriteLeaves
 pub mod BulkTransfers
 pub mod TransferLosses
+pub mod Reports
 pub mod Uses

@@ -9,7 +9,7 @@ use Rattle.usb_world.specs.{World}
 use Rattle.usb_transaction.specs.{Polled, in_attempt, TransFault, Target}
 use Rattle.usb_transaction.specs.declared.fault.TransFault.TheVariants as trans
 use Rattle.usb_transaction.proofs.Interface.{other_losses, out_losses}
-use Rattle.usb_pipe.specs.{Bulk, Sends, Receives, as_pipe_fault, packet_target, Interrupt}
+use Rattle.usb_pipe.specs.{PipeState, Sends, Receives, as_pipe_fault, packet_target, Interrupt}
 use Rattle.usb_pipe.specs.{PollAsked, Polls, IsNoBusFault, Gave, Came, SendEnds, ReceiveEnds}
 use Rattle.usb_pipe.specs.{PipeFault}
 use Rattle.usb_pipe.specs.Moves as moves
@@ -37,11 +37,11 @@ sent_losses t ep first total (Err why) old new settled x sound =
     (gave_settled x.before settled) over.trail ∙ gave_losses t ep first settled x.before
 
 -- what leaves the world as it was counts nothing
-losses_same : {old new : World} → new ≡ old → new.losses ≡ old.losses
+pub losses_same : {old new : World} → new ≡ old → new.losses ≡ old.losses
 losses_same e = ap (λ w. w.losses) e
 
-pub send_losses : (bytes : List ℕ) (pipe : Bulk) (result : Result (Unit {0}) PipeFault)
-    (left : Bulk) (old new : World) → Sends bytes pipe old result left new → IsNoBusFault result
+pub send_losses : (bytes : List ℕ) (pipe : PipeState) (result : Result (Unit {0}) PipeFault)
+    (left : PipeState) (old new : World) → Sends bytes pipe old result left new → IsNoBusFault result
     → new.losses ≡ old.losses
 send_losses bytes pipe result left old new x sound =
     send_by (new.losses ≡ old.losses) (λ i. losses_same i.world_kept)
@@ -74,7 +74,7 @@ received_losses t ep first wanted (Err why) old new other settled (inr x) sound 
     other_losses t ep x.mid new other (received_settled x.before settled) x.came.trail
     ∙ came_losses t ep first other settled x.before
 
-pub receive_losses : (wanted : ℕ) (pipe : Bulk) (result : Result (Vec ℕ) PipeFault) (left : Bulk)
+pub receive_losses : (wanted : ℕ) (pipe : PipeState) (result : Result (Vec ℕ) PipeFault) (left : PipeState)
     (old new : World) → pipe.ep ≢ 0
     → Receives wanted pipe old result left new → IsNoBusFault result → new.losses ≡ old.losses
 receive_losses wanted pipe result left old new other x sound =

@@ -1,7 +1,7 @@
 -- Why a whole transfer fails, where no three attempts running are damaged and the device stays
 -- reachable.
-use Rattle.usb_device.specs.{Location, tells_changes, State, IsSink, PollAt, NeverTold, in_end}
-use Rattle.usb_device.specs.{out_end, GivesWithin, HasPackets, IsPrompt}
+use Rattle.usb_device.specs.{Location, tells_changes, State, IsSink, IsSource, PollAt, NeverTold}
+use Rattle.usb_device.specs.{in_end, out_end, GivesWithin, HasPackets, IsPrompt}
 use Rattle.std.specs.Prelude.{◌≡◌, ◌≢◌, ℕ, ◌≤◌, true, false, Option}
 use Rattle.std.specs.Prelude.{Result, Err}
 use Rattle.arrayvec.specs.ArrayVec.{ArrayVec}
@@ -10,7 +10,7 @@ use Rattle.usb_request.specs.{Setup}
 use Rattle.usb_transaction.specs.{Target, Listens}
 use Rattle.usb_pipe.specs.declared.fault.PipeFault.{PipeFault}
 use Rattle.usb_pipe.specs.declared.fault.PipeFault.TheVariants.{Busy, NoAnswer}
-use Rattle.usb_pipe.specs.BulkPipes.{Bulk}
+use Rattle.usb_pipe.specs.EndpointPipes.{PipeState}
 use Rattle.usb_pipe.specs.InterruptPipes.{Interrupt}
 use Rattle.usb_pipe.specs.Leaves.{IsMaximum, InPipeInSync}
 
@@ -36,7 +36,7 @@ pub record DataWriteFailure (t : Target) (request : Setup) (result : Result (Uni
       → s.spec.naks ≤ 200 → result ≢ Err Busy
 
 -- an endpoint that takes bytes answers, and a prompt one does not keep the host waiting
-pub record SendFailure (pipe : Bulk) (result : Result (Unit {0}) PipeFault) (x : Location)
+pub record SendFailure (pipe : PipeState) (result : Result (Unit {0}) PipeFault) (x : Location)
     (s v : State) : Type 0 where
   pub answered : Listens pipe.target x s → IsSink pipe.ep pipe.max s → result ≢ Err NoAnswer
   pub waited : Listens pipe.target x s → IsSink pipe.ep pipe.max s
@@ -44,13 +44,22 @@ pub record SendFailure (pipe : Bulk) (result : Result (Unit {0}) PipeFault) (x :
 
 -- one that gives packets that are as short as the pipe's answers, and where it has as many as are
 -- wanted and is prompt, it does not keep the host waiting
-pub record ReceiveFailure (wanted : ℕ) (pipe : Bulk) (result : Result (Vec ℕ) PipeFault)
+pub record ReceiveFailure (wanted : ℕ) (pipe : PipeState) (result : Result (Vec ℕ) PipeFault)
     (x : Location) (s v : State) : Type 0 where
   pub answered : Listens pipe.target x s → (got : ℕ) → InPipeInSync pipe got s
       → GivesWithin pipe.max pipe.ep pipe.max s → result ≢ Err NoAnswer
   pub waited : Listens pipe.target x s → (got : ℕ) → InPipeInSync pipe got s
       → GivesWithin pipe.max pipe.ep pipe.max s → HasPackets pipe.ep pipe.max got wanted s
       → IsPrompt (in_end s pipe.ep).pace → result ≢ Err Busy
+
+-- one that gives packets that are as short as the pipe's answers a poll, be it by NAK or by STALL
+pub record PacketFailure (pipe : PipeState) (result : Result (Option (ArrayVec ℕ)) PipeFault)
+    (x : Location) (s v : State) : Type 0 where
+  pub answered : Listens pipe.target x s → IsSource pipe.ep pipe.max s
+      → GivesWithin pipe.max pipe.ep pipe.max s
+      → (result ≢ Err NoAnswer) × (result ≢ Err Busy)
+  pub halted : Listens pipe.target x s → IsSource pipe.ep pipe.max s
+      → (in_end s pipe.ep).state.halted ≡ true → (result ≢ Err NoAnswer) × (result ≢ Err Busy)
 
 -- a hub's status endpoint that is not halted tells its bits, or that there are none
 pub record PollingFailure (pipe : Interrupt) (result : Result (Option (ArrayVec ℕ)) PipeFault)

@@ -1,7 +1,7 @@
 -- One device over a whole control transfer (8.5.3): what it was before, seen from where it is
 -- reachable after it.
 use Rattle.std.specs.Prelude.{◌≡◌, ◌≢◌, ◌⊎◌, ◌≤◌, ℕ, List, [], ◌∷◌, ◌++◌, take}
-use Rattle.std.specs.Prelude.{true, false, Option, None, Some, Result, Ok, Err, ⊤, if◌then◌else◌}
+use Rattle.std.specs.Prelude.{Bool, true, false, Option, None, Some, Result, Ok, Err, ⊤, if◌then◌else◌}
 use Rattle.arrayvec.specs.ArrayVec.{ArrayVec}
 use Rattle.std.specs.Global.{Vec}
 use Rattle.usb_packet.specs.{Toggle, One}
@@ -12,13 +12,15 @@ use Rattle.usb_device.specs.{takes_address, first_stage, reading, ending, refuse
 use Rattle.usb_device.specs.{max_packet, State, accepted, NextBytes, NothingMoved}
 use Rattle.usb_device.specs.{tells_changes, rested, row_of, Location, IsRead, StatusGiven, IsSink}
 use Rattle.usb_device.specs.{SinkAt, IsSource, SourceAt, PollAt, NeverTold, OnlyControl, OnlyStage}
-use Rattle.usb_device.specs.{OnlySink, OnlySource, OnlyChanges, in_end, out_end}
+use Rattle.usb_device.specs.{OnlySink, OnlySource, OnlyChanges, in_data, in_end, out_end, next_packet}
+use Rattle.usb_device.specs.{GivesOn}
 use Rattle.usb_world.specs.{BusFault, one_more, World, Step, attempt, root_call, event, report}
 use Rattle.usb_world.specs.{Course}
 use Rattle.usb_transaction.specs.{Target, is_at, ToldSince, AcceptedAt, in_attempt, out_attempt}
+use Rattle.usb_transaction.specs.{IsPacedWithin}
 use Rattle.usb_pipe.specs.declared.condition.Condition.TheVariants.{Ready, Halted}
 use Rattle.usb_pipe.specs.declared.condition.Condition.TheVariants.{Broken as BrokenPipe}
-use Rattle.usb_pipe.specs.BulkPipes.{Bulk, is_ready}
+use Rattle.usb_pipe.specs.EndpointPipes.{PipeState}
 use Rattle.usb_pipe.specs.InterruptPipes.{Interrupt}
 use Rattle.usb_pipe.specs.declared.fault.PipeFault.{PipeFault}
 use Rattle.usb_pipe.specs.declared.fault.PipeFault.TheVariants.{Stalled, Busy, NoAnswer, Broken}
@@ -180,18 +182,18 @@ pub record LossesOf (t : Target) (request : Setup) (result : Result (Unit {0}) P
 abbrev pub LossesKept : Target → World → World → Location → State → State → Type 0
 LossesKept t old new x s v = is_at s t ≡ true → new.losses ≡ old.losses
 
--- Bulk pipes (5.8)
+-- Pipes to endpoints besides endpoint 0 (5.7, 5.8)
 
--- a bulk OUT pipe and the endpoint at its other end: a pipe that works awaits the same toggle as
+-- an OUT pipe and the endpoint at its other end: a pipe that works awaits the same toggle as
 -- the endpoint, and one that was stalled
 -- has an endpoint that is halted
-pub record OutPipeInSync (pipe : Bulk) (s : State) : Type 0 where
+pub record OutPipeInSync (pipe : PipeState) (s : State) : Type 0 where
   pub endpoint : IsSink pipe.ep pipe.max s
   pub level : pipe.condition ≡ Ready → (out_end s pipe.ep).state.toggle ≡ pipe.toggle
   pub halted : pipe.condition ≡ Halted → (out_end s pipe.ep).state.halted ≡ true
 
 -- what is known of a pipe: one at which the bus gave up is as good as broken
-abbrev pub pipe_known : {A : Type 0} → Result A PipeFault → Bulk → Bulk
+abbrev pub pipe_known : {A : Type 0} → Result A PipeFault → PipeState → PipeState
 pipe_known (Ok x) pipe = pipe
 pipe_known (Err Stalled) pipe = pipe
 pipe_known (Err Busy) pipe = pipe
@@ -209,15 +211,15 @@ pub record FrontTaken (bytes before after : List ℕ) : Type 0 where
 
 -- at a moment of a send: the bytes before the packet that is on its way joined what the device
 -- took, and the packet joined them or did not yet
-pub record SendingLeaves (sent packet : List ℕ) (toggle : Toggle) (pipe : Bulk) (x : Location)
+pub record SendingLeaves (sent packet : List ℕ) (toggle : Toggle) (pipe : PipeState) (x : Location)
     (s v : State) : Type 0 where
   pub others : is_at s pipe.target ≡ false → v ≡ s
   pub frame : IsSink pipe.ep pipe.max s → OnlySink pipe.ep s v
   pub way : is_at s pipe.target ≡ true → pipe.condition ≡ Ready → OutPipeInSync pipe s
       → SinkAt pipe.ep ((out_end s pipe.ep).sink ++ sent) packet toggle v
 
-pub record SendLeaves (bytes : List ℕ) (pipe : Bulk) (result : Result (Unit {0}) PipeFault)
-    (left : Bulk) (x : Location) (s v : State) : Type 0 where
+pub record SendLeaves (bytes : List ℕ) (pipe : PipeState) (result : Result (Unit {0}) PipeFault)
+    (left : PipeState) (x : Location) (s v : State) : Type 0 where
   pub others : is_at s pipe.target ≡ false → v ≡ s
   pub frame : IsSink pipe.ep pipe.max s → OnlySink pipe.ep s v
   pub fits : is_at s pipe.target ≡ true → OutPipeInSync pipe s
@@ -228,8 +230,8 @@ pub record SendLeaves (bytes : List ℕ) (pipe : Bulk) (result : Result (Unit {0
       → result ≡ Err fault
       → FrontTaken bytes (out_end s pipe.ep).sink (out_end v pipe.ep).sink
 
--- a bulk IN pipe that has got what stands before a place, and the endpoint at its other end
-pub record InPipeInSync (pipe : Bulk) (got : ℕ) (s : State) : Type 0 where
+-- an IN pipe that has got what stands before a place, and the endpoint at its other end
+pub record InPipeInSync (pipe : PipeState) (got : ℕ) (s : State) : Type 0 where
   pub endpoint : IsSource pipe.ep pipe.max s
   pub level : pipe.condition ≡ Ready → SourceAt pipe.ep pipe.max got pipe.toggle s
   pub halted : pipe.condition ≡ Halted → (in_end s pipe.ep).state.halted ≡ true
@@ -241,32 +243,62 @@ came_with (Err fault) = []
 
 -- through a pipe that had got what stands before a place these bytes came, which are the next
 -- packets; the pipe that is left has got what stands before the place behind them
-pub record GaveNext (pipe : Bulk) (got : ℕ) (bytes : List ℕ) (left : Bulk) (s v : State) : Type 0
+pub record GaveNext (pipe : PipeState) (got : ℕ) (bytes : List ℕ) (left : PipeState) (s v : State) : Type 0
   where
     pub behind : ℕ
     pub came : NextBytes pipe.ep pipe.max got bytes behind s
     pub level : InPipeInSync left behind v
 
-pub record ReceiveLeaves (pipe : Bulk) (result : Result (Vec ℕ) PipeFault) (left : Bulk)
+pub record ReceiveLeaves (pipe : PipeState) (result : Result (Vec ℕ) PipeFault) (left : PipeState)
     (x : Location) (s v : State) : Type 0 where
   pub others : is_at s pipe.target ≡ false → v ≡ s
   pub frame : IsSource pipe.ep pipe.max s → OnlySource pipe.ep s v
   pub gave : is_at s pipe.target ≡ true → (got : ℕ) → InPipeInSync pipe got s
       → GaveNext pipe got (came_with result) (pipe_known result left) s v
 
+-- these are the next packets of the endpoint, one by one
+pub record GavePackets (pipe : PipeState) (got : ℕ) (packets : List (List ℕ)) (left : PipeState)
+    (s v : State) : Type 0 where
+  pub behind : ℕ
+  pub come : GivesOn (in_data s pipe.ep) pipe.max got packets behind
+  pub level : InPipeInSync left behind v
+
+-- the packets that came with the answer of a poll: one, or none
+abbrev pub report_in : {E : Type 0} → Result (Option (ArrayVec ℕ)) E → List (List ℕ)
+report_in (Ok None) = []
+report_in (Ok (Some packet)) = packet.items ∷ []
+report_in (Err fault) = []
+
+-- a poll: the packet that came is the endpoint's next, and where one that does not hesitate gave
+-- none, it has none left; one that is halted gives none
+pub record PacketLeaves (pipe : PipeState) (result : Result (Option (ArrayVec ℕ)) PipeFault)
+    (left : PipeState) (x : Location) (s v : State) : Type 0 where
+  pub others : is_at s pipe.target ≡ false → v ≡ s
+  pub frame : IsSource pipe.ep pipe.max s → OnlySource pipe.ep s v
+  pub gave : is_at s pipe.target ≡ true → (got : ℕ) → InPipeInSync pipe got s
+      → GavePackets pipe got (report_in result) (pipe_known result left) s v
+  pub none : is_at s pipe.target ≡ true → IsSource pipe.ep pipe.max s
+      → (in_end s pipe.ep).pace.naks ≡ 0 → (in_end s pipe.ep).pace.each ≡ 0 → result ≡ Ok None
+      → next_packet v pipe.ep pipe.max (in_end v pipe.ep).place ≡ None
+  pub stalled : is_at s pipe.target ≡ true → IsSource pipe.ep pipe.max s → result ≡ Err Stalled
+      → (in_end v pipe.ep).state.halted ≡ true
+  pub halted : is_at s pipe.target ≡ true → IsSource pipe.ep pipe.max s
+      → (in_end s pipe.ep).state.halted ≡ true
+      → (v ≡ s) × ((got : Option (ArrayVec ℕ)) → result ≡ Ok got → ⊥)
+  pub paced : is_at s pipe.target ≡ true → (limit : ℕ) → IsSource pipe.ep pipe.max s
+      → IsPacedWithin limit (in_end s pipe.ep).pace → IsPacedWithin limit (in_end v pipe.ep).pace
+
 -- before which place stands what a pipe has got after a clear: where one was sent and is done, it
 -- is the device's own
-abbrev pub got_after : Bulk → ℕ → Result (Unit {0}) PipeFault → State → ℕ
-got_after pipe got (Ok done) s = if is_ready pipe.condition then got
-    else (in_end s pipe.ep).place
-got_after pipe got (Err fault) s = got
+abbrev pub got_after : Bool → ℕ → Result (Unit {0}) PipeFault → ℕ → ℕ
+got_after is_sent got (Ok done) place = if is_sent then place else got
+got_after is_sent got (Err fault) place = got
 
 -- an endpoint as it was, or begun again where a clear that was sent is done; where it failed,
 -- either
-abbrev pub BegunAgain : Bulk → Result (Unit {0}) PipeFault → EndpointState → EndpointState → Type 0
-BegunAgain pipe (Ok done) before after =
-    after ≡ (if is_ready pipe.condition then before else rested)
-BegunAgain pipe (Err fault) before after = (after ≡ before) ⊎ (after ≡ rested)
+abbrev pub BegunAgain : Bool → Result (Unit {0}) PipeFault → EndpointState → EndpointState → Type 0
+BegunAgain is_sent (Ok done) before after = after ≡ (if is_sent then rested else before)
+BegunAgain is_sent (Err fault) before after = (after ≡ before) ⊎ (after ≡ rested)
 
 -- nothing but where the control transfer stands changed, and one endpoint, which may have begun
 -- again: nothing moved there either
@@ -286,17 +318,18 @@ pub record OnlyEndpoint (which : ServedEndpoint) (s v : State) : Type 0 where
 
 -- a clear of a halt (9.4.5) moves no bytes, and both ends begin again together; each other endpoint
 -- stays as it was
-pub record ClearLeaves (pipe : Bulk) (result : Result (Unit {0}) PipeFault) (left : Bulk)
-    (x : Location) (s v : State) : Type 0 where
+pub record ClearLeaves (is_sent : Bool) (pipe : PipeState) (result : Result (Unit {0}) PipeFault)
+    (left : PipeState) (x : Location) (s v : State) : Type 0 where
   pub others : is_at s pipe.target ≡ false → v ≡ s
   pub sink : is_at s pipe.target ≡ true → pipe.is_in ≡ false → OutPipeInSync pipe s
       → OutPipeInSync (pipe_known result left) v
       × ((out_end v pipe.ep).sink ≡ (out_end s pipe.ep).sink)
-      × BegunAgain pipe result (out_end s pipe.ep).state (out_end v pipe.ep).state
+      × BegunAgain is_sent result (out_end s pipe.ep).state (out_end v pipe.ep).state
   pub source : is_at s pipe.target ≡ true → pipe.is_in ≡ true → (got : ℕ) → InPipeInSync pipe got s
-      → InPipeInSync (pipe_known result left) (got_after pipe got result s) v
+      → InPipeInSync (pipe_known result left)
+      (got_after is_sent got result (in_end s pipe.ep).place) v
       × ((in_end v pipe.ep).place ≡ (in_end s pipe.ep).place)
-      × BegunAgain pipe result (in_end s pipe.ep).state (in_end v pipe.ep).state
+      × BegunAgain is_sent result (in_end s pipe.ep).state (in_end v pipe.ep).state
   pub only_sink : pipe.is_in ≡ false → IsSink pipe.ep pipe.max s
       → OnlyEndpoint (BulkOut pipe.ep) s v
   pub only_source : pipe.is_in ≡ true → IsSource pipe.ep pipe.max s

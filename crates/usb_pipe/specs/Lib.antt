@@ -1,7 +1,7 @@
 pub mod Control
 pub mod End
 pub mod InterruptPipes
-pub mod BulkPipes
+pub mod EndpointPipes
 pub mod Moves
 pub mod Stages
 pub mod Packets
@@ -10,15 +10,17 @@ pub mod DataWrites
 pub mod Failures
 pub mod Attempts
 pub mod Transfers
+pub mod Reports
 pub mod Uses
 -- the words of this crate, wherever one stands
 pub use Control.{BusToldIt, FaultAfter, as_pipe_fault, ends_stage, write_bound}
 unfoldable pub use Control.{byte_bound, control_bound}
 pub use End.{IsEnd, packet_target}
 pub use InterruptPipes.{Interrupt, NoPoll, PollAsked, Polls, interrupt_made}
-pub use BulkPipes.{Bulk, Cleared, Clears, Idle, MovedIn, MovedOut, Receives, Sends, Turned}
-pub use BulkPipes.{after_failed_clear, after_fault, after_transfer, bulk_made, cleared}
-pub use BulkPipes.{halt_address, is_broken, is_ready, packets_of}
+pub use EndpointPipes.{PipeState, Cleared, Clears, Idle, MovedIn, MovedOut, Receives, Sends, Turned}
+pub use EndpointPipes.{PipePolls, PollsOnce, after_failed_clear, after_fault, after_transfer, cleared}
+pub use EndpointPipes.{halt_address, is_broken, is_ready, needs_clear, packets_of, pipe_made}
+pub use EndpointPipes.{polled_pipe}
 pub use Stages.{Asks, Confirms, DataEnds, DataLost, DataStage, Goes, NoData, NoRoom, NoSetUp}
 pub use Stages.{NoStatus, NotConfirmed, NotPut, PutsData, PutUnconfirmed, Reads, SetUp, WasPut}
 pub use Stages.{WasRead, Writes, Written}
@@ -27,18 +29,19 @@ pub use Moves.{ReceiveEnds, SendEnds, SendsAt, WhileSending, packets_came, packe
 pub use Packets.{PacketsReceived, PacketsSent}
 pub use Leaves.{AcceptedIn, AnswerRead, BegunAgain, ByteTold, CanEnd, ClearLeaves, EffectDone}
 pub use Leaves.{EffectOrNone, FrontTaken, InPipeInSync, IsBehind, IsBehindData, IsMaximum}
-pub use Leaves.{GaveNext, IsNoBusFault, IsTransferAnswer, LossesKept, LossesOf, Moment, OnlyEndpoint}
-pub use Leaves.{OutPipeInSync, PollLeaves, PollTells, ReadLeaves, ReceiveLeaves, SendLeaves}
+pub use Leaves.{GaveNext, GavePackets, IsNoBusFault, IsTransferAnswer, LossesKept, LossesOf, Moment, OnlyEndpoint}
+pub use Leaves.{OutPipeInSync, PacketLeaves, PollLeaves, PollTells, ReadLeaves, ReceiveLeaves, SendLeaves}
 pub use Leaves.{SendingLeaves, ToldOf}
 pub use Leaves.{TookItOrLost, WasRefused, WriteLeaves, came_with, got_after, lost, none, pipe_known}
-pub use Leaves.{some, took, whole}
+pub use Leaves.{report_in, some, took, whole}
 pub use DataWrites.{DataMoment, DataRefused, DataTaken, DataWriteLeaves, stage_begun}
 pub use Failures.{ControlReadFailure, DataWriteFailure, PollingFailure, ReceiveFailure}
-pub use Failures.{SendFailure, WriteFailure}
+pub use Failures.{PacketFailure, SendFailure, WriteFailure}
 pub use Attempts.{IsOfDataWrite, IsOfTransfer, TransferAttempts}
 pub use Transfers.{DataWrite}
-pub use Transfers.{BulkClear, BulkReceive, BulkSend, Completed, ControlRead, ControlWrite}
+pub use Transfers.{PipeClear, PipePoll, PipeReceive, PipeSend, Completed, ControlRead, ControlWrite}
 pub use Transfers.{InterruptPoll, Undamaged, Unshared}
+pub use Reports.{GaveReports, PollsInTurn, ReportsLeave}
 pub use Uses.{UsesBus}
 pub use declared.condition.Condition.{Condition}
 pub use declared.fault.PipeFault.{PipeFault}

@@ -8,7 +8,7 @@ use Rattle.usb_world.specs.{World}
 use Rattle.usb_transaction.specs.{Target, AttemptsMade}
 use Rattle.usb_pipe.specs.declared.fault.PipeFault.{PipeFault}
 use Rattle.usb_pipe.specs.declared.fault.PipeFault.TheVariants.{Stalled, Memory}
-use Rattle.usb_pipe.specs.BulkPipes.{packets_of, Turned}
+use Rattle.usb_pipe.specs.EndpointPipes.{packets_of, Turned}
 use Rattle.usb_pipe.specs.Control.{FaultAfter}
 use Rattle.usb_pipe.specs.Moves.{SendEnds, packets_gone, ReceiveEnds, packets_came}
 

@@ -1,7 +1,7 @@
 -- What each call tells of its transfer: how few attempts were made, which they were and what was
 -- heard of each, and what that says of each device.
-use Rattle.std.specs.Prelude.{◌≡◌, ◌≢◌, ℕ, ◌+◌, ◌≤◌, List, [], length, true, false, Option, Result}
-use Rattle.std.specs.Prelude.{Err, OnOk, IfOk, MatchResult}
+use Rattle.std.specs.Prelude.{◌≡◌, ◌≢◌, ℕ, ◌+◌, ◌≤◌, List, [], length, Bool, true, false, Option}
+use Rattle.std.specs.Prelude.{Result, Err, OnOk, IfOk, MatchResult}
 use Rattle.arrayvec.specs.ArrayVec.{ArrayVec}
 use Rattle.std.specs.Global.{Vec}
 use Rattle.std.specs.Int.{div_ceil}
@@ -10,18 +10,17 @@ use Rattle.usb_world.specs.{is_harmless, EachWas, World}
 use Rattle.usb_tree.specs.{IsSettled}
 use Rattle.usb_transaction.specs.{Target, Answerer, begins_no_stretch, EachSpared, AttemptsMade}
 use Rattle.usb_transaction.specs.{NoThreeDamaged}
-use Rattle.usb_pipe.specs.declared.condition.Condition.TheVariants.{Ready}
 use Rattle.usb_pipe.specs.declared.fault.PipeFault.{PipeFault}
 use Rattle.usb_pipe.specs.declared.fault.PipeFault.TheVariants.{Memory}
-use Rattle.usb_pipe.specs.BulkPipes.{Bulk, Sends, Receives, Clears}
+use Rattle.usb_pipe.specs.EndpointPipes.{PipeState, Sends, Receives, Clears, PipePolls}
 use Rattle.usb_pipe.specs.Control.{FaultAfter}
 use Rattle.usb_pipe.specs.InterruptPipes.{Interrupt, Polls}
 use Rattle.usb_pipe.specs.Stages.{PutsData, Reads, Writes}
 use Rattle.usb_pipe.specs.Leaves.{IsNoBusFault, ReadLeaves, WriteLeaves, LossesOf, LossesKept}
-use Rattle.usb_pipe.specs.Leaves.{SendLeaves, ReceiveLeaves, ClearLeaves, PollLeaves}
+use Rattle.usb_pipe.specs.Leaves.{SendLeaves, ReceiveLeaves, ClearLeaves, PacketLeaves, PollLeaves}
 use Rattle.usb_pipe.specs.DataWrites.{DataWriteLeaves}
 use Rattle.usb_pipe.specs.Failures.{ControlReadFailure, WriteFailure, SendFailure, ReceiveFailure}
-use Rattle.usb_pipe.specs.Failures.{DataWriteFailure, PollingFailure}
+use Rattle.usb_pipe.specs.Failures.{DataWriteFailure, PacketFailure, PollingFailure}
 
 -- When it is so
 
@@ -93,12 +92,12 @@ pub record DataWrite (t : Target) (request : Setup) (bytes : List ℕ) (old : Wo
   pub losses : begins_no_stretch request ≡ true
       → Completed result new (EachSpared t request (LossesKept t old new) old new)
 
--- Bulk pipes (5.8)
+-- Pipes to endpoints besides endpoint 0 (5.7, 5.8)
 
 -- bytes that were sent joined what the device took, all of them, in order and once; of a transfer
 -- that failed a front did
-pub record BulkSend (bytes : List ℕ) (pipe : Bulk) (old : World)
-    (result : Result (Unit {0}) PipeFault) (left : Bulk) (new : World) : Type 0 where
+pub record PipeSend (bytes : List ℕ) (pipe : PipeState) (old : World)
+    (result : Result (Unit {0}) PipeFault) (left : PipeState) (new : World) : Type 0 where
   pub sends : Sends bytes pipe old result left new
   pub what : Unshared new (EachWas (SendLeaves bytes pipe result left) old new)
   pub why : Undamaged old result new (EachWas (SendFailure pipe result) old new)
@@ -107,8 +106,8 @@ pub record BulkSend (bytes : List ℕ) (pipe : Bulk) (old : World)
 
 -- bytes that were received are the next packets of the endpoint, end to end, none twice and none
 -- left out
-pub record BulkReceive (wanted : ℕ) (pipe : Bulk) (old : World) (result : Result (Vec ℕ) PipeFault)
-    (left : Bulk) (new : World) : Type 0 where
+pub record PipeReceive (wanted : ℕ) (pipe : PipeState) (old : World) (result : Result (Vec ℕ) PipeFault)
+    (left : PipeState) (new : World) : Type 0 where
   pub receives : Receives wanted pipe old result left new
   pub what : Unshared new (EachWas (ReceiveLeaves pipe result left) old new)
   pub why : Undamaged old result new (EachWas (ReceiveFailure wanted pipe result) old new)
@@ -117,12 +116,23 @@ pub record BulkReceive (wanted : ℕ) (pipe : Bulk) (old : World) (result : Resu
 
 -- a clear of a halt moves no bytes (9.4.5); one that is done lets both ends begin again at DATA0,
 -- and an endpoint that gives packets goes on with the first whose ACK it has not seen
-pub record BulkClear (pipe : Bulk) (old : World) (result : Result (Unit {0}) PipeFault)
-    (left : Bulk) (new : World) : Type 0 where
-  pub clears : Clears pipe old result left new
-  pub what : Unshared new (EachWas (ClearLeaves pipe result left) old new)
+pub record PipeClear (is_sent : Bool) (pipe : PipeState) (old : World)
+    (result : Result (Unit {0}) PipeFault) (left : PipeState) (new : World) : Type 0 where
+  pub clears : Clears is_sent pipe old result left new
+  pub what : Unshared new (EachWas (ClearLeaves is_sent pipe result left) old new)
   pub why : Undamaged old result new (EachWas (WriteFailure pipe.target result) old new)
-  pub who : OnOk result (pipe.condition ≢ Ready → Unshared new (Answerer pipe.target old new))
+  pub who : OnOk result (is_sent ≡ true → Unshared new (Answerer pipe.target old new))
+
+-- a packet that a poll tells is the next one of the endpoint, none twice and none left out; a NAK
+-- is an answer, and whatever failed the pipe goes on as it was
+pub record PipePoll (pipe : PipeState) (old : World)
+    (result : Result (Option (ArrayVec ℕ)) PipeFault) (left : PipeState) (new : World) : Type 0
+  where
+    pub polls : PipePolls pipe old result left new
+    pub what : Unshared new (EachWas (PacketLeaves pipe result left) old new)
+    pub why : Undamaged old result new (EachWas (PacketFailure pipe result) old new)
+    pub who : OnOk result (Unshared new (Answerer pipe.target old new))
+    pub losses : pipe.ep ≢ 0 → IsNoBusFault result → new.losses ≡ old.losses
 
 -- Interrupt pipes (5.7)
 

@@ -1,10 +1,10 @@
-//! Whether a bulk pipe may move packets.
+//! Whether a pipe may move packets.
 ghost use Rattle.std.specs.Prelude.{◌≡◌};
-ghost use Rattle.usb_pipe.specs.BulkPipes.{is_broken, after_fault, after_transfer, after_failed_clear};
+ghost use Rattle.usb_pipe.specs.EndpointPipes.{is_broken, after_fault, after_transfer, after_failed_clear};
 
 use crate::PipeFault;
 
-/// What the answer of a pipe's last call that made an attempt leaves it in.
+/// What the last `send`, `receive` or clear that made an attempt leaves a pipe in.
 #[derive(Clone, Copy, Debug, PartialEq, Eq)]
 pub(crate) enum Condition {
     /// Both ends agree on which packets were moved.

@@ -1,9 +1,9 @@
 use Rattle.std.proofs.Common.{rules, arith, ap}
 use Rattle.std.proofs.lemmas.Grind.{common_steps}
-use Rattle.usb_pipe.specs.{Bulk}
+use Rattle.usb_pipe.specs.{PipeState}
 use Rattle.usb_pipe.proofs.Bounds.{few_packets}
 use Rattle.usb_pipe.proofs.BulkTransfers.{send_told, sends_by}
-use Rattle.usb_pipe.proofs.bulk.BulkPipe.send.Goals as goal
+use Rattle.usb_pipe.proofs.endpoint.EndpointPipe.send.Goals as goal
 
 pub returns-clause-transfer : goal.returns-clause-transfer
 returns-clause-transfer g c known = send_told _ _ _ _ _ _ (sends_by _ _ _ _ _ _ (search rules)
@@ -23,7 +23,7 @@ returns-clause-any_bus g c = (
   few_packets _ _ (omega (
     arith,
     c.self.invariant.least,
-    ap (λ (b : Bulk). b.max) c.self.view_is,
+    ap (λ (b : PipeState). b.max) c.self.view_is,
   )),
 )
 
@@ -34,7 +34,7 @@ returns-then-is_broken-clause-any_bus g c = (
   few_packets _ _ (omega (
     arith,
     c.self.invariant.least,
-    ap (λ (b : Bulk). b.max) c.self.view_is,
+    ap (λ (b : PipeState). b.max) c.self.view_is,
   )),
 )
 
@@ -45,6 +45,6 @@ returns-then-is_empty-clause-any_bus g c = (
   few_packets _ _ (omega (
     arith,
     c.self.invariant.least,
-    ap (λ (b : Bulk). b.max) c.self.view_is,
+    ap (λ (b : PipeState). b.max) c.self.view_is,
   )),
 )

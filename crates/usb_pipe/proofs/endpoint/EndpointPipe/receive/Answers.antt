@@ -1,6 +1,6 @@
 use Rattle.std.proofs.Common.{rules, subst, ◌≤◌}
 use Rattle.usb_pipe.proofs.BulkTransfers.{receive_told, receives_by}
-use Rattle.usb_pipe.proofs.bulk.BulkPipe.receive.Goals as goal
+use Rattle.usb_pipe.proofs.endpoint.EndpointPipe.receive.Goals as goal
 
 pub returns-clause-transfer : goal.returns-clause-transfer
 returns-clause-transfer g c known = receive_told _ _ _ _ _ _ (subst (λ p. 1 ≤ p.max) c.self.view_is

@@ -1,9 +1,12 @@
--- Bulk pipes.
+-- Pipes to endpoints besides endpoint 0 (5.7, 5.8).
 use Rattle.std.specs.Prelude.{◌≡◌, ◌≢◌, ℕ, ◌+◌, ◌*◌, ◌/◌, ◌<◌, ◌≤◌, min, List, [], length, Bool}
-use Rattle.std.specs.Prelude.{true, false, if◌then◌else◌, Result, Ok, Err, OnOk, IfOk, MatchResult}
+use Rattle.std.specs.Prelude.{true, false, not, if◌then◌else◌, Option, Result, Ok, Err, OnOk, IfOk}
+use Rattle.std.specs.Prelude.{MatchResult}
+use Rattle.arrayvec.specs.ArrayVec.{ArrayVec}
 use Rattle.std.specs.Global.{Vec}
 use Rattle.std.specs.Int.{div_ceil}
 use Rattle.usb_packet.specs.{Toggle, Zero, flips}
+use Rattle.usb_descriptor.specs.{EndpointKind}
 use Rattle.usb_world.specs.{World}
 use Rattle.usb_tree.specs.{IsSettled}
 use Rattle.usb_transaction.specs.{Target, AttemptsMade}
@@ -17,19 +20,21 @@ use Rattle.usb_request.specs.{DIRECTION_IN, clear_endpoint_halt}
 use Rattle.usb_pipe.specs.Control.{FaultAfter}
 use Rattle.usb_pipe.specs.Stages.{Writes}
 use Rattle.usb_pipe.specs.End.{packet_target}
+use Rattle.usb_pipe.specs.InterruptPipes.{Interrupt, Polls}
 use Rattle.usb_pipe.specs.Moves.{SendEnds, packets_gone, ReceiveEnds, packets_came}
 
-pub record Bulk : Type 0 where
+pub record PipeState : Type 0 where
   pub target : Target  -- with the maximum of endpoint 0
   pub ep : ℕ
+  pub kind : EndpointKind
   pub max : ℕ
   pub is_in : Bool
   pub toggle : Toggle  -- of the next packet
   pub condition : Condition
 
 -- the pipe as it was made
-abbrev pub bulk_made : Bulk → Bulk
-bulk_made pipe = record pipe { toggle = Zero; condition = Ready }
+abbrev pub pipe_made : PipeState → PipeState
+pipe_made pipe = record pipe { toggle = Zero; condition = Ready }
 
 abbrev pub is_ready : Condition → Bool
 is_ready Ready = true
@@ -79,16 +84,16 @@ abbrev pub packets_of : ℕ → ℕ → ℕ → ℕ
 packets_of bytes max wanted = min wanted (bytes / max + 1)
 
 -- a call that makes no attempt: the answer is given, and nothing changes
-pub record Idle {A : Type 0} (given : Result A PipeFault) (pipe : Bulk) (old : World)
-    (result : Result A PipeFault) (left : Bulk) (new : World) : Type 0 where
+pub record Idle {A : Type 0} (given : Result A PipeFault) (pipe : PipeState) (old : World)
+    (result : Result A PipeFault) (left : PipeState) (new : World) : Type 0 where
   pub answer : result ≡ given
   pub pipe_kept : left ≡ pipe
   pub world_kept : new ≡ old
 
 -- these bytes were sent, in n packets; the toggle is the one behind those that were acknowledged,
 -- however the transfer ended
-pub record MovedOut (n : ℕ) (bytes : List ℕ) (pipe : Bulk) (old : World)
-    (result : Result (Unit {0}) PipeFault) (left : Bulk) (new : World) : Type 0 where
+pub record MovedOut (n : ℕ) (bytes : List ℕ) (pipe : PipeState) (old : World)
+    (result : Result (Unit {0}) PipeFault) (left : PipeState) (new : World) : Type 0 where
   pub ends : MatchResult result (λ _. AttemptsMade n old new) (λ why. FaultAfter 0 old why new)
   pub went : SendEnds (packet_target pipe.target pipe.max) pipe.ep pipe.toggle bytes old result new
   pub behind : left.toggle ≡ flips (packets_gone (packet_target pipe.target pipe.max) pipe.ep
@@ -104,8 +109,8 @@ pub record MovedOut (n : ℕ) (bytes : List ℕ) (pipe : Bulk) (old : World)
   pub halted : result ≡ Err Stalled → Turned n pipe.toggle left.toggle
 
 -- what sending answers and leaves
-pub record Sends (bytes : List ℕ) (pipe : Bulk) (old : World) (result : Result (Unit {0}) PipeFault)
-    (left : Bulk) (new : World) : Type 0 where
+pub record Sends (bytes : List ℕ) (pipe : PipeState) (old : World) (result : Result (Unit {0}) PipeFault)
+    (left : PipeState) (new : World) : Type 0 where
   pub broken : pipe.condition ≡ Broken → Idle (Err fault.Broken) pipe old result left new
   pub nothing : pipe.condition ≢ Broken → bytes ≡ [] → Idle (Ok tt) pipe old result left new
   pub moved : pipe.condition ≢ Broken → bytes ≢ []
@@ -113,8 +118,8 @@ pub record Sends (bytes : List ℕ) (pipe : Bulk) (old : World) (result : Result
 
 -- at most `wanted` packets were received; the toggle is the one behind those that came, however the
 -- transfer ended
-pub record MovedIn (wanted : ℕ) (pipe : Bulk) (old : World) (result : Result (Vec ℕ) PipeFault)
-    (left : Bulk) (new : World) : Type 0 where
+pub record MovedIn (wanted : ℕ) (pipe : PipeState) (old : World) (result : Result (Vec ℕ) PipeFault)
+    (left : PipeState) (new : World) : Type 0 where
   pub ends : MatchResult result (λ bytes. AttemptsMade
       (packets_of (length bytes.items) pipe.max wanted) old new) (λ why. FaultAfter 0 old why new)
   pub came : ReceiveEnds (packet_target pipe.target pipe.max) pipe.ep pipe.toggle wanted old result
@@ -133,20 +138,20 @@ pub record MovedIn (wanted : ℕ) (pipe : Bulk) (old : World) (result : Result (
   pub halted : result ≡ Err Stalled → Turned wanted pipe.toggle left.toggle
 
 -- what receiving answers and leaves
-pub record Receives (wanted : ℕ) (pipe : Bulk) (old : World) (result : Result (Vec ℕ) PipeFault)
-    (left : Bulk) (new : World) : Type 0 where
+pub record Receives (wanted : ℕ) (pipe : PipeState) (old : World) (result : Result (Vec ℕ) PipeFault)
+    (left : PipeState) (new : World) : Type 0 where
   pub broken : pipe.condition ≡ Broken → (result ≡ Err fault.Broken) × (left ≡ pipe) × (new ≡ old)
   pub nothing : pipe.condition ≢ Broken → wanted ≡ 0
       → MatchResult result (λ bytes. bytes.items ≡ []) (λ _. ⊥) × (left ≡ pipe) × (new ≡ old)
   pub moved : pipe.condition ≢ Broken → wanted ≢ 0 → MovedIn wanted pipe old result left new
 
 -- what a clear leaves of a pipe
-abbrev pub cleared : Bulk → Result (Unit {0}) PipeFault → Bulk
+abbrev pub cleared : PipeState → Result (Unit {0}) PipeFault → PipeState
 cleared pipe (Ok done) = record pipe { toggle = Zero; condition = Ready }
 cleared pipe (Err why) = record pipe { condition = after_failed_clear pipe.condition why }
 
 -- CLEAR_FEATURE(ENDPOINT_HALT) was sent
-pub record Cleared (pipe : Bulk) (old : World) (result : Result (Unit {0}) PipeFault) (left : Bulk)
+pub record Cleared (pipe : PipeState) (old : World) (result : Result (Unit {0}) PipeFault) (left : PipeState)
     (new : World) : Type 0 where
   pub ends : MatchResult result (λ _. AttemptsMade 2 old new) (λ why. FaultAfter 1 old why new)
   pub stages : Writes pipe.target (clear_endpoint_halt (halt_address pipe.ep pipe.is_in)) old result
@@ -155,8 +160,35 @@ pub record Cleared (pipe : Bulk) (old : World) (result : Result (Unit {0}) PipeF
   pub room : result ≢ Err Memory
   pub pipe_left : left ≡ cleared pipe result
 
--- what clearing answers and leaves
-pub record Clears (pipe : Bulk) (old : World) (result : Result (Unit {0}) PipeFault) (left : Bulk)
-    (new : World) : Type 0 where
-  pub ready : pipe.condition ≡ Ready → Idle (Ok tt) pipe old result left new
-  pub sent : pipe.condition ≢ Ready → Cleared pipe old result left new
+-- a pipe that works is not cleared where that is not asked for
+abbrev pub needs_clear : PipeState → Bool
+needs_clear pipe = not (is_ready pipe.condition)
+
+-- what clearing answers and leaves, where the request was sent and where it was not
+pub record Clears (is_sent : Bool) (pipe : PipeState) (old : World)
+    (result : Result (Unit {0}) PipeFault) (left : PipeState) (new : World) : Type 0 where
+  pub ready : is_sent ≡ false → Idle (Ok tt) pipe old result left new
+  pub sent : is_sent ≡ true → Cleared pipe old result left new
+
+-- the pipe as one that is polled, with the endpoint's own maximum
+abbrev pub polled_pipe : PipeState → Interrupt
+polled_pipe pipe = record {
+  target = packet_target pipe.target pipe.max;
+  ep = pipe.ep;
+  toggle = pipe.toggle;
+}
+
+-- the endpoint was asked once; whatever the answer is, nothing of the pipe but its toggle changes
+pub record PollsOnce (pipe : PipeState) (old : World)
+    (result : Result (Option (ArrayVec ℕ)) PipeFault) (left : PipeState) (new : World) : Type 0
+  where
+    pub settled : IsSettled old.roots
+    pub polls : Polls (polled_pipe pipe) old result (polled_pipe left) new
+    pub pipe_left : left ≡ record pipe { toggle = left.toggle }
+
+-- what polling answers and leaves
+pub record PipePolls (pipe : PipeState) (old : World)
+    (result : Result (Option (ArrayVec ℕ)) PipeFault) (left : PipeState) (new : World) : Type 0
+  where
+    pub broken : pipe.condition ≡ Broken → Idle (Err fault.Broken) pipe old result left new
+    pub asked : pipe.condition ≢ Broken → PollsOnce pipe old result left new

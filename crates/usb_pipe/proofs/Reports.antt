@@ -1,0 +1,161 @@
+-- Polls through one pipe, one after another: what they tell are the next packets of the endpoint.
+use Rattle.std.proofs.Common.{◌≡◌, ◌≢◌, ◌∙◌, ◌⊎◌, inl, inr, refl, sym, ap, subst, arith, true, false}
+use Rattle.std.proofs.Common.{ℕ, List, [], ◌++◌, Option, None, Some, Result, Ok, Err, append-nil}
+use Rattle.arrayvec.specs.ArrayVec.{ArrayVec}
+use Rattle.usb_device.specs.{GivesOn, IsSource, Location, OnlySource, State, in_data, in_end}
+use Rattle.usb_device.proofs.Interface.{gives-append}
+use Rattle.usb_tree.specs.{IsSettled}
+use Rattle.usb_world.specs.{BusFault, EachWas, World}
+use Rattle.usb_world.proofs.Interface.{each_joined, each_none}
+use Rattle.usb_transaction.specs.{in_attempt, is_at, polled_as}
+use Rattle.usb_transaction.proofs.Interface.{others_stay_then, source_at_kept, source_kept}
+use Rattle.usb_transaction.proofs.Interface.{trail_unshared, transacted_unshared}
+use Rattle.usb_pipe.specs.{FaultAfter, GaveReports, InPipeInSync, Interrupt, PacketLeaves, PipeFault}
+use Rattle.usb_pipe.specs.{PipePoll, PipePolls, PipeState, PollAsked, PollsInTurn, ReportsLeave}
+use Rattle.usb_pipe.specs.{packet_target, pipe_known, polled_pipe, report_in}
+use Rattle.usb_pipe.specs.Reports.{start, poll}
+use Rattle.usb_pipe.specs.declared.fault.PipeFault.TheVariants as pipe_fault
+use Rattle.usb_pipe.proofs.BulkCalls.{poll_by}
+
+abbrev Answer : Type 0
+Answer = Result (Option (ArrayVec ℕ)) PipeFault
+
+-- One poll
+
+-- no address was held twice before
+asked_unshared : (pipe : Interrupt) (result : Answer) (old new : World) → IsSettled old.roots
+    → PollAsked pipe old result new → new.shared ≡ false → old.shared ≡ false
+asked_unshared pipe (Ok None) old new settled x single = trail_unshared x.trail single
+asked_unshared pipe (Ok (Some packet)) old new settled x single = trail_unshared x.trail single
+asked_unshared pipe (Err why) old new settled x single =
+    transacted_unshared (polled_as pipe.toggle) (in_attempt pipe.target pipe.ep) old new
+    (Err x.fault) x.polled settled single
+
+poll_unshared : {pipe left : PipeState} {result : Answer} {old new : World}
+    → PipePolls pipe old result left new → new.shared ≡ false → old.shared ≡ false
+poll_unshared {pipe} {left} {result} {old} {new} x single =
+    poll_by (old.shared ≡ false) (λ i. ap (λ w. w.shared) (sym i.world_kept) ∙ single)
+    (λ works y. asked_unshared (polled_pipe pipe) result old new y.settled y.polls.asked single) x
+
+-- of a pipe only the toggle changes
+poll_keeps : {pipe left : PipeState} {result : Answer} {old new : World}
+    → PipePolls pipe old result left new → left ≡ record pipe { toggle = left.toggle }
+poll_keeps {pipe} {left} x =
+    poll_by (left ≡ record pipe { toggle = left.toggle }) (λ i. rw i.pipe_kept refl)
+    (λ works y. y.pipe_left) x
+
+-- a bus that has given up tells no packet, and does not go on
+module _ (why : PipeFault) (old new : World) (fault : BusFault) where
+  given_up : FaultAfter 0 old why new → old.fault ≡ Some fault → new.fault ≢ None
+  given_up ends gone = grind arith
+
+none_told : {pipe left : PipeState} {old new : World} (result : Answer) (fault : BusFault)
+    → old.fault ≡ Some fault → PipePolls pipe old result left new
+    → (report_in result ≡ []) × (new.fault ≢ None)
+none_told {old = old} {new = new} (Ok got) fault gone x =
+    poll_by _ (λ i. cc i.answer) (λ works y. cc (sym gone ∙ y.polls.ends.sound)) x
+none_told {old = old} {new = new} (Err why) fault gone x =
+    poll_by _ (λ i. (refl, λ e. cc (sym gone ∙ ap (λ w. w.fault) (sym i.world_kept) ∙ e)))
+    (λ works y. (refl, given_up why old new fault y.polls.ends gone)) x
+
+-- while the bus is at work the pipe that is left is the one that is known
+known_left : {pipe left : PipeState} {old new : World} (result : Answer) → new.fault ≡ None
+    → PipePolls pipe old result left new → pipe_known result left ≡ left
+known_left (Ok got) works x = refl
+known_left {left = left} {old = old} {new = new} (Err why) works x =
+    poll_by _ (λ i. by_answer why i.answer) (λ able y. by_fault why y.polls.ends) x
+  where
+    by_answer : (why : PipeFault) → ◌≡◌ {A = Answer} (Err why) (Err pipe_fault.Broken)
+        → pipe_known {A = Option (ArrayVec ℕ)} (Err why) left ≡ left
+    by_answer (pipe_fault.Bus fault) e = cc e
+    by_answer why e = refl
+
+    by_fault : (why : PipeFault) → FaultAfter 0 old why new
+        → pipe_known {A = Option (ArrayVec ℕ)} (Err why) left ≡ left
+    by_fault (pipe_fault.Bus fault) ends = cc (sym works ∙ ends.told)
+    by_fault why ends = refl
+
+-- Polls in turn
+
+turn_keeps : {pipe : PipeState} {old : World} {packets : List (List ℕ)} {left : PipeState} {new : World}
+    → PollsInTurn pipe old packets left new → left ≡ record pipe { toggle = left.toggle }
+turn_keeps start = refl
+turn_keeps {pipe} {left} (poll x p) = poll_keeps p.polls
+    ∙ ap {B = PipeState} (λ q. record q { toggle = left.toggle }) (turn_keeps x)
+
+-- one device over one poll more
+module _ (pipe mid left : PipeState) (packets : List (List ℕ)) (result : Answer) (now new : World)
+    (kept : mid ≡ record pipe { toggle = mid.toggle }) (p : PipePolls mid now result left new)
+    (j : Location) (s u v : State) (x : ReportsLeave pipe packets mid now j s u)
+    (y : PacketLeaves mid result left j u v) where
+  module _ (i : IsSource pipe.ep pipe.max s) where
+    source_then : IsSource pipe.ep pipe.max u
+    source_then = source_kept pipe.ep pipe.max s u (x.frame i) i
+
+    frame_then : OnlySource pipe.ep u v
+    frame_then = subst (λ q. IsSource q.ep q.max u → OnlySource q.ep u v) kept y.frame source_then
+
+    same_data : in_data u pipe.ep ≡ in_data s pipe.ep
+    same_data = ap (λ q. in_data q pipe.ep) (x.frame i).rest
+
+    frame_both : OnlySource pipe.ep s v
+    frame_both = record {
+      rest = frame_then.rest ∙ ap {A = State} (λ q. record q { memory = v.memory; ins = v.ins })
+          (x.frame i).rest;
+      others = λ a h. frame_then.others a h ∙ (x.frame i).others a h;
+    }
+
+    at_then : is_at s pipe.target ≡ true → is_at u mid.target ≡ true
+    at_then h = rw kept (source_at_kept pipe.target s u (x.frame i) h)
+
+  gave_then : is_at s pipe.target ≡ true → (got : ℕ) → InPipeInSync pipe got s
+      → GaveReports pipe got (packets ++ report_in result) left new s v
+  gave_then h got f = by_bus now.fault refl
+    where
+      before : GaveReports pipe got packets mid now s u
+      before = x.gave h got f
+
+      by_bus : (fault : Option BusFault) → now.fault ≡ fault
+          → GaveReports pipe got (packets ++ report_in result) left new s v
+      by_bus (Some fault) gone =
+          let z = none_told result fault gone p in record {
+            behind = before.behind;
+            come = rw (z.0, append-nil packets) before.come;
+            level = λ works. absurd (z.1 works);
+          }
+      by_bus None able =
+          let z = y.gave (at_then f.endpoint h) before.behind (before.level able) in
+          let come : GivesOn (in_data s pipe.ep) pipe.max before.behind (report_in result) z.behind =
+          rw (← same_data f.endpoint)
+          (subst (λ q. GivesOn (in_data u q.ep) q.max before.behind (report_in result) z.behind)
+          kept z.come) in record {
+            behind = z.behind;
+            come = gives-append (in_data s pipe.ep) pipe.max got before.behind z.behind packets
+                (report_in result) before.come come;
+            level = λ works. subst (λ q. InPipeInSync q z.behind v) (known_left result works p)
+                z.level;
+          }
+
+  reports_then : ReportsLeave pipe (packets ++ report_in result) left new j s v
+  reports_then = record {
+    others = λ h. others_stay_then pipe.target s u v x.others
+        (subst (λ q. is_at u q.target ≡ false → v ≡ u) kept y.others) h;
+    frame = frame_both;
+    gave = gave_then;
+  }
+
+reports_none : (pipe : PipeState) (w : World) (j : Location) (s : State)
+    → ReportsLeave pipe [] pipe w j s s
+reports_none pipe w j s = record {
+  others = λ h. refl;
+  frame = λ i. record { rest = refl; others = λ a h. refl };
+  gave = λ h got f. record { behind = got; come = refl; level = λ works. f };
+}
+
+pub reports_leave : (pipe : PipeState) (old : World) (packets : List (List ℕ)) (left : PipeState)
+    (new : World) → PollsInTurn pipe old packets left new → new.shared ≡ false
+    → EachWas (ReportsLeave pipe packets left new) old new
+reports_leave pipe old packets left new start single = each_none _ (reports_none pipe old) old
+reports_leave pipe old packets left new (poll {packets = told} {mid} {now} {result} x p) single =
+    each_joined _ _ _ (reports_then pipe mid left told result now new (turn_keeps x) p.polls) old
+    now new (reports_leave pipe old told mid now x (poll_unshared p.polls single)) (p.what single)
