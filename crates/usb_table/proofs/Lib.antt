@@ -1,4 +1,5 @@
 pub mod entries
+pub mod FunctionCalls
 pub mod levels
 pub mod listings
 pub mod transfers

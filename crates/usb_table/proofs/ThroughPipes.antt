@@ -1,71 +1,31 @@
--- A call one way tries nothing, or goes through the pipe of that way to the device that was found.
-use Rattle.std.proofs.Common.{◌≡◌, refl, sym, ap, subst, ◌||◌, Bool, true, false, ℕ, Option, None}
-use Rattle.std.proofs.Common.{Some, Result, Err, not, is_some, IfSome}
+-- A call tries nothing, or goes through a pipe to the device that was found.
+use Rattle.std.proofs.Common.{◌≡◌, refl, sym, ap, subst, ◌||◌, Bool, true, false, Option, None}
+use Rattle.std.proofs.Common.{Some, Result, Err, is_some}
+use Rattle.std.specs.Option.{option_map}
 use Rattle.usb_world.specs.{World}
-use Rattle.usb_pipe.specs.{Bulk, Interrupt}
+use Rattle.usb_pipe.specs.{PipeState, pipe_made}
 use Rattle.usb_enum.specs.{Accepted, Finding}
 use Rattle.usb_enum.specs.declared.finding.Finding.TheVariants.{Device, Refused}
-use Rattle.usb_table.specs.{TableFault, Transfer, TransferFault, NoDevice, NoEndpoint, BulkPipes}
-use Rattle.usb_table.specs.{Pipes, Hub, Function, Absent, pipe_in, pipe_out, out_endpoint}
-use Rattle.usb_table.specs.{in_endpoint, IsBulkPipe, IsPipe, ArePipesIf, ArePipesOf, ArePipesTo}
-use Rattle.usb_table.specs.{ClearedIf, ClearedInOrder, NotTried, PipeDid, PipesCleared}
-use Rattle.usb_table.specs.{PipesThrough, ThroughIf, both_sides, one_side}
+use Rattle.usb_table.specs.{TableFault, Transfer, TransferFault, NoDevice, NoEndpoint}
+use Rattle.usb_table.specs.{FunctionPipes}
+use Rattle.usb_table.specs.{Pipes, Hub, Function, Absent, AreFunctionPipes, ArePipesIf, ArePipesOf}
+use Rattle.usb_table.specs.{ArePipesTo, ArePlaced, ClearedIf, ClearedInOrder, NotTried, PipeDid}
+use Rattle.usb_table.specs.{PipesCleared, PipesThrough, ThroughIf, first_pipe, through, with_pipe}
+use Rattle.usb_table.specs.{function_of, with_rest}
+use Rattle.usb_table.proofs.levels.StandingPipes.{IsPipeOf, Picks, PickedAt, in_place, pipe_of}
 
--- The pipe of one way
+-- the pipes to what was found stand in their places
 
-abbrev pub pipe_by : Bool → Pipes → Option Bulk
-pipe_by false pipes = pipe_out pipes
-pipe_by true pipes = pipe_in pipes
+placed_to : (device : Accepted) (below_hub : Bool) (pipes : Pipes)
+    → ArePipesTo device below_hub pipes → ArePlaced pipes
+placed_to device below_hub (Hub pipe) are = tt
+placed_to device below_hub (Function pipes) are = in_place device below_hub pipes are
+placed_to device below_hub Absent are = absurd are
 
-abbrev endpoint_by : Bool → Accepted → Option (ℕ × ℕ)
-endpoint_by false device = out_endpoint device
-endpoint_by true device = in_endpoint device
-
-both_sides-one_side : (is_in : Bool) (pipes : BulkPipes)
-    → both_sides is_in (one_side is_in pipes) (one_side (not is_in) pipes) ≡ pipes
-both_sides-one_side false pipes = refl
-both_sides-one_side true pipes = refl
-
-pipe_by-none : (is_in : Bool) (other : Option Bulk)
-    → pipe_by is_in (Function (both_sides is_in None other)) ≡ None
-pipe_by-none false other = refl
-pipe_by-none true other = refl
-
-pipe_by-hub : (is_in : Bool) (pipe : Interrupt) → pipe_by is_in (Hub pipe) ≡ None
-pipe_by-hub false pipe = refl
-pipe_by-hub true pipe = refl
-
-pipe_by-absent : (is_in : Bool) → pipe_by is_in Absent ≡ None
-pipe_by-absent false = refl
-pipe_by-absent true = refl
-
-one_side-pipe : (is_in : Bool) (device : Accepted) (below_hub : Bool) (pipes : BulkPipes)
-    → ArePipesTo device below_hub (Function pipes)
-    → IsPipe device is_in (endpoint_by is_in device) (one_side is_in pipes)
-one_side-pipe false device below_hub pipes are = are.1
-one_side-pipe true device below_hub pipes are = are.2
-
--- it moves packets that way
-
-faces_by : (device : Accepted) (is_in : Bool) (endpoint : Option (ℕ × ℕ)) (pipe : Option Bulk)
-    → IsPipe device is_in endpoint pipe → IfSome pipe (λ p. p.is_in ≡ is_in)
-faces_by device is_in endpoint None is = tt
-faces_by device is_in None (Some pipe) is = absurd is
-faces_by device is_in (Some endpoint) (Some pipe) is = is.way
-
-faces_to : (device : Accepted) (below_hub : Bool) (pipes : Pipes)
-    → ArePipesTo device below_hub pipes
-    → IfSome (pipe_out pipes) (λ p. p.is_in ≡ false) × IfSome (pipe_in pipes) (λ p. p.is_in ≡ true)
-faces_to device below_hub (Hub pipe) are = (tt, tt)
-faces_to device below_hub (Function pipes) are =
-    (faces_by device false _ pipes.out are.1, faces_by device true _ pipes.into are.2)
-faces_to device below_hub Absent are = absurd are
-
-pub faces : (finding : Finding) (below_hub : Bool) (pipes : Pipes)
-    → ArePipesOf finding below_hub pipes
-    → IfSome (pipe_out pipes) (λ p. p.is_in ≡ false) × IfSome (pipe_in pipes) (λ p. p.is_in ≡ true)
-faces (Device device) below_hub pipes are = faces_to device below_hub pipes are
-faces (Refused cause) below_hub pipes none = rw none (tt, tt)
+pub placed_of : (finding : Finding) (below_hub : Bool) (pipes : Pipes)
+    → ArePipesOf finding below_hub pipes → ArePlaced pipes
+placed_of (Device device) below_hub pipes are = placed_to device below_hub pipes are
+placed_of (Refused cause) below_hub pipes none = rw none tt
 
 -- A call goes through no pipes where no device was found
 
@@ -79,52 +39,76 @@ if_found P R None below_hub absent there pipes left none x =
 if_found P R (Some device) below_hub absent there pipes left are x =
     there device pipes left refl are x
 
--- The two cases of a call one way
+-- The two cases of a call through the pipe that is picked
 
-module _ {A : Type 0} (is_in : Bool) (So : PipeDid A) (old : World)
+-- it went through one, which another one to the same endpoint follows
+pub record WentThrough (device : Accepted) (below_hub : Bool)
+    (pick : FunctionPipes → Option PipeState) (pipes : FunctionPipes) (pipe left : PipeState)
+    : Type 0 where
+  pub picked : pick pipes ≡ Some pipe
+  pub of : IsPipeOf device below_hub pipes pipe
+  pub made : pipe_made left ≡ pipe_made pipe
+  pub again : pick (with_pipe left pipes) ≡ Some left
+
+module _ {A : Type 0} (pick : FunctionPipes → Option PipeState) (picks : Picks pick)
+    (So : PipeDid A) (same : (pipe : PipeState) (old : World) (result : Result A TableFault)
+    (left : PipeState) (new : World) → So pipe old result left new
+    → pipe_made left ≡ pipe_made pipe) (old : World)
     (result : Result A TableFault) (new : World) (found : Option Accepted) (below_hub : Bool)
     (R : Pipes → Pipes → Type 0)
-    (idle : (pipes : Pipes) (fault : TransferFault) → pipe_by is_in pipes ≡ None
+    (idle : (pipes : Pipes) (fault : TransferFault) → through pick pipes ≡ None
     → result ≡ Err (Transfer fault) → new ≡ old → R pipes pipes)
-    (went : (device : Accepted) (endpoint : ℕ × ℕ) (pipe left : Bulk) (other : Option Bulk)
-    → found ≡ Some device → IsBulkPipe device is_in endpoint pipe → So pipe old result left new
-    → R (Function (both_sides is_in (Some pipe) other))
-    (Function (both_sides is_in (Some left) other))) where
-  way_idle : (pipes left : Pipes) (fault : TransferFault) → pipe_by is_in pipes ≡ None
+    (went : (device : Accepted) (pipes : FunctionPipes) (pipe left : PipeState)
+    → found ≡ Some device → WentThrough device below_hub pick pipes pipe left
+    → So pipe old result left new → R (Function pipes) (Function (with_pipe left pipes))) where
+  none_picked : (pipes left : Pipes) (fault : TransferFault) → through pick pipes ≡ None
       → NotTried fault pipes old result left new → R pipes left
-  way_idle pipes left fault none x = subst (R pipes) (sym x.1) (idle pipes fault none x.0 x.2)
+  none_picked pipes left fault none x = subst (R pipes) (sym x.1) (idle pipes fault none x.0 x.2)
 
-  way_if : (device : Accepted) → found ≡ Some device → (endpoint : Option (ℕ × ℕ))
-      (pipe left other : Option Bulk) → IsPipe device is_in endpoint pipe
-      → ThroughIf So pipe old result left new
-      → R (Function (both_sides is_in pipe other)) (Function (both_sides is_in left other))
-  way_if device e endpoint None left other is x =
-      subst (λ l. R (Function (both_sides is_in None other)) (Function (both_sides is_in l other)))
-      (sym x.1) (idle _ NoEndpoint (pipe_by-none is_in other) x.0 x.2)
-  way_if device e endpoint (Some pipe) None other is x = absurd x
-  way_if device e None (Some pipe) (Some left) other is x = absurd is
-  way_if device e (Some endpoint) (Some pipe) (Some left) other is x =
-      went device endpoint pipe left other e is x
+  one_picked : (device : Accepted) (pipes : FunctionPipes) → found ≡ Some device
+      → AreFunctionPipes device below_hub pipes → (o rest : Option PipeState) → pick pipes ≡ o
+      → ThroughIf So o old result rest new
+      → R (Function pipes) (Function (with_rest rest pipes))
+  one_picked device pipes e are None rest is x =
+      subst (λ r. R (Function pipes) (Function (with_rest r pipes))) (sym x.1)
+      (idle (Function pipes) NoEndpoint is x.0 x.2)
+  one_picked device pipes e are (Some pipe) None is x = absurd x
+  one_picked device pipes e are (Some pipe) (Some left) is x =
+      let at : PickedAt pick pipes pipe =
+      picks pipes pipe (in_place device below_hub pipes are) is in
+      let made = same pipe old result left new x in
+      went device pipes pipe left e (record {
+        picked = is;
+        of = pipe_of device below_hub pipes pipe are at.at;
+        made = made;
+        again = at.again left made;
+      }) x
 
-  way_there : (device : Accepted) (pipes left : Pipes) → found ≡ Some device
-      → ArePipesTo device below_hub pipes → PipesThrough is_in So pipes old result left new
+  picked_there : (device : Accepted) (pipes left : Pipes) → found ≡ Some device
+      → ArePipesTo device below_hub pipes → PipesThrough pick So pipes old result left new
       → R pipes left
-  way_there device (Hub pipe) left e are x =
-      way_idle (Hub pipe) left NoEndpoint (pipe_by-hub is_in pipe) x
-  way_there device (Function pipes) left e are x =
-      let other = one_side (not is_in) pipes in
+  picked_there device (Hub pipe) left e are x = none_picked (Hub pipe) left NoEndpoint refl x
+  picked_there device (Function pipes) left e are x =
       subst (R (Function pipes)) (sym x.1)
-      (subst (λ p. R (Function p) (Function (both_sides is_in x.0 other)))
-      (both_sides-one_side is_in pipes)
-      (way_if device e (endpoint_by is_in device) (one_side is_in pipes) x.0 other
-      (one_side-pipe is_in device below_hub pipes are) x.2))
-  way_there device Absent left e are x = absurd are
+      (one_picked device pipes e are (pick pipes) x.0 refl x.2)
+  picked_there device Absent left e are x = absurd are
 
   pub through_pipes : (pipes left : Pipes) → ArePipesIf found below_hub pipes
-      → PipesThrough is_in So pipes old result left new → R pipes left
+      → PipesThrough pick So pipes old result left new → R pipes left
   through_pipes =
-      if_found (λ p l. PipesThrough is_in So p old result l new) R found below_hub
-      (λ left e. way_idle Absent left NoDevice (pipe_by-absent is_in)) way_there
+      if_found (λ p l. PipesThrough pick So p old result l new) R found below_hub
+      (λ left e. none_picked Absent left NoDevice refl) picked_there
+
+-- What a call leaves of the pipes to a function: another pipe in the place of one
+
+pub through_left : {A : Type 0} (pick : FunctionPipes → Option PipeState) (So : PipeDid A)
+    (pipes left : Pipes) (old : World) (result : Result A TableFault) (new : World)
+    → PipesThrough pick So pipes old result left new
+    → (rest : Option PipeState)
+    × (function_of left ≡ option_map (with_rest rest) (function_of pipes))
+through_left pick So (Hub pipe) left old result new x = (None, ap function_of x.1)
+through_left pick So (Function pipes) left old result new x = (x.0, ap function_of x.1)
+through_left pick So Absent left old result new x = (None, ap function_of x.1)
 
 -- The two cases of a clear of both
 
@@ -132,27 +116,26 @@ module _ (old : World) (result : Result (Unit {0}) TableFault) (new : World)
     (found : Option Accepted) (below_hub : Bool) (R : Pipes → Pipes → Type 0)
     (idle : (pipes : Pipes) (fault : TransferFault) → result ≡ Err (Transfer fault) → new ≡ old
     → R pipes pipes)
-    (went : (device : Accepted) (pipes left : BulkPipes) → found ≡ Some device
-    → IsPipe device false (out_endpoint device) pipes.out
-    → IsPipe device true (in_endpoint device) pipes.into
-    → ClearedInOrder pipes old result left new → R (Function pipes) (Function left)) where
+    (went : (device : Accepted) (pipes left : FunctionPipes) → found ≡ Some device
+    → AreFunctionPipes device below_hub pipes → ClearedInOrder pipes old result left new
+    → R (Function pipes) (Function left)) where
   both_idle : (pipes left : Pipes) (fault : TransferFault)
       → NotTried fault pipes old result left new → R pipes left
   both_idle pipes left fault x = subst (R pipes) (sym x.1) (idle pipes fault x.0 x.2)
 
-  both_if : (device : Accepted) → found ≡ Some device → (some : Bool) (pipes left : BulkPipes)
-      → ArePipesTo device below_hub (Function pipes) → ClearedIf some pipes old result left new
+  both_if : (device : Accepted) → found ≡ Some device → (some : Bool) (pipes left : FunctionPipes)
+      → AreFunctionPipes device below_hub pipes → ClearedIf some pipes old result left new
       → R (Function pipes) (Function left)
   both_if device e false pipes left are x =
       both_idle (Function pipes) (Function left) NoEndpoint (x.0, ap Function x.1, x.2)
-  both_if device e true pipes left are x = went device pipes left e are.1 are.2 x
+  both_if device e true pipes left are x = went device pipes left e are x
 
   both_there : (device : Accepted) (pipes left : Pipes) → found ≡ Some device
       → ArePipesTo device below_hub pipes → PipesCleared pipes old result left new → R pipes left
   both_there device (Hub pipe) left e are x = both_idle (Hub pipe) left NoEndpoint x
   both_there device (Function pipes) left e are x =
-      subst (R (Function pipes)) (sym x.1)
-      (both_if device e (is_some pipes.out || is_some pipes.into) pipes x.0 are x.2)
+      subst (R (Function pipes)) (sym x.1) (both_if device e
+      (is_some (first_pipe false pipes) || is_some (first_pipe true pipes)) pipes x.0 are x.2)
   both_there device Absent left e are x = absurd are
 
   pub through_both : (pipes left : Pipes) → ArePipesIf found below_hub pipes

@@ -5,30 +5,37 @@ use Rattle.std.proofs.Common.{Err, IfErr}
 use Rattle.std.proofs.lemmas.Grind.{common_steps}
 use Rattle.std.specs.Global.{Vec}
 use Rattle.std.specs.Int.{div_ceil}
+use Rattle.arrayvec.specs.ArrayVec.{ArrayVec}
 use Rattle.usb_world.specs.{BusFault, World, HasFault, AttemptsWithin}
 use Rattle.usb_world.proofs.Interface.{course_joined, each_joined, spends_none, spends_wider}
 use Rattle.usb_bus.specs.{Traced}
 use Rattle.usb_transaction.specs.{transaction_bound}
-use Rattle.usb_pipe.specs.{Bulk, write_bound, PipeFault}
+use Rattle.usb_pipe.specs.{PipeState, pipe_made, write_bound, PipeFault, needs_clear}
 use Rattle.usb_pipe.specs.declared.fault.PipeFault.TheVariants as pipe_fault
 use Rattle.usb_address.proofs.Interface.{keeps_then}
 use Rattle.usb_backlog.proofs.Interface.{all_then}
 use Rattle.usb_enum.specs.{Accepted}
 use Rattle.usb_table.specs.{TableFault, Transfer, TransferFault, of_pipe, Pipes, Function}
-use Rattle.usb_table.specs.{accepted_device_at, is_below_hub, TableClears, TableReceives}
-use Rattle.usb_table.specs.{TableSends, Transferred, IsBulkPipe, ArePipesIf, Table, GoesThrough}
-use Rattle.usb_table.specs.{pipes_at, ClearedAfter, ClearedBy, OnlyTransfers, PipeDid}
+use Rattle.usb_table.specs.{EndpointChoice, FunctionPipes, accepted_device_at, is_below_hub}
+use Rattle.usb_table.specs.{TableClears, TableClearsOf, TableReceives, TableReports, TableSends}
+use Rattle.usb_table.specs.{Transferred, ArePipesIf, Table, GoesThrough, first_pipe, pipe_to}
+use Rattle.usb_table.specs.{pipes_at, ClearedAfter, ClearedBy, ClearedOfThrough, OnlyTransfers}
+use Rattle.usb_table.specs.{PipeDid, PipesClearedOf, PipesReported, ReportedThrough, polls_through}
 use Rattle.usb_table.specs.{TableFaultAllowed, PipesCleared, PipesReceived, PipesSent, PipesThrough}
-use Rattle.usb_table.specs.{ReceivedThrough, SameSettings, SentThrough, both_sides, table_answer}
+use Rattle.usb_table.specs.{ReceivedThrough, SameSettings, SentThrough, receives_through}
+use Rattle.usb_table.specs.{sends_through, table_answer, with_pipe}
 use Rattle.usb_table.specs.declared.fault.TableFault.TheVariants as table_fault
-use Rattle.usb_table.proofs.transfers.DevicesKept.{PipeKeeps, clear_keeps, receive_keeps}
-use Rattle.usb_table.proofs.transfers.DevicesKept.{same_spares, send_keeps}
-use Rattle.usb_table.proofs.levels.KeptPipes.{ready_or_not}
+use Rattle.usb_table.proofs.transfers.DevicesKept.{PipeKeeps, clear_keeps, packet_keeps}
+use Rattle.usb_table.proofs.transfers.DevicesKept.{receive_keeps, same_spares, send_keeps}
+use Rattle.usb_table.proofs.transfers.DevicesKept.{sent_or_not}
 use Rattle.usb_table.proofs.levels.Levels.{moved_levels, still_levels}
-use Rattle.usb_table.proofs.levels.MovedPipes.{EachMoves, far_end, receive_each, send_each}
-use Rattle.usb_table.proofs.levels.MovedPipes.{some_bytes}
-use Rattle.usb_table.proofs.transfers.Restarts.{cleared_single, in_turn_moves}
-use Rattle.usb_table.proofs.ThroughPipes.{through_both, through_pipes}
+use Rattle.usb_table.proofs.levels.MovedPipes.{EachMoves, packet_each, receive_each, send_each}
+use Rattle.usb_table.proofs.levels.MovedPipes.{sound_known}
+use Rattle.usb_table.proofs.levels.StandingPipes.{Picks, far_end, in_place, polls_picks, polls_way}
+use Rattle.usb_table.proofs.levels.StandingPipes.{receives_picks, receives_way, sends_picks}
+use Rattle.usb_table.proofs.levels.StandingPipes.{sends_way, some_bytes, to_picks}
+use Rattle.usb_table.proofs.transfers.Restarts.{clear_of_moves, cleared_single, in_turn_moves}
+use Rattle.usb_table.proofs.ThroughPipes.{WentThrough, through_both, through_pipes}
 
 -- so few attempts were made, the fault is told, and what moved, of all devices and of the pipes to
 -- the one that was found
@@ -70,22 +77,23 @@ told_through old (Ok x) result w e kept = rw e tt
 told_through old (Err why) result w e kept =
     rw e (pipe_told why w (λ fault f. kept.told fault (ap Err f)))
 
--- One way
+-- Through one pipe
 
-module _ {A : Type 0} (is_in : Bool) (n : ℕ) (So : PipeDid A) (old : World)
-    (result : Result A TableFault) (new : World) (found : Option Accepted) where
-  abbrev WayLeaves : Type 0
-  WayLeaves =
-      (device : Accepted) (endpoint : ℕ × ℕ) (pipe left : Bulk) (other : Option Bulk)
-      → found ≡ Some device → IsBulkPipe device is_in endpoint pipe → So pipe old result left new
-      → LeavesTransfer n found (Function (both_sides is_in (Some pipe) other)) old result
-      (Function (both_sides is_in (Some left) other)) new
+module _ {A : Type 0} (pick : FunctionPipes → Option PipeState) (n : ℕ) (So : PipeDid A)
+    (old : World) (result : Result A TableFault) (new : World) (found : Option Accepted) where
+  abbrev PipeLeavesTransfer : Bool → Type 0
+  PipeLeavesTransfer below_hub =
+      (device : Accepted) (pipes : FunctionPipes) (pipe left : PipeState) → found ≡ Some device
+      → WentThrough device below_hub pick pipes pipe left → So pipe old result left new
+      → LeavesTransfer n found (Function pipes) old result (Function (with_pipe left pipes)) new
 
-  way_leaves : WayLeaves → (below_hub : Bool) (pipes left : Pipes)
-      → ArePipesIf found below_hub pipes → PipesThrough is_in So pipes old result left new
+  pipe_leaves : Picks pick → ((pipe : PipeState) (o : World) (r : Result A TableFault)
+      (left : PipeState) (w : World) → So pipe o r left w → pipe_made left ≡ pipe_made pipe)
+      → (below_hub : Bool) → PipeLeavesTransfer below_hub → (pipes left : Pipes)
+      → ArePipesIf found below_hub pipes → PipesThrough pick So pipes old result left new
       → LeavesTransfer n found pipes old result left new
-  way_leaves each below_hub =
-      through_pipes is_in So old result new found below_hub
+  pipe_leaves picks same below_hub each =
+      through_pipes pick picks So same old result new found below_hub
       (λ p l. LeavesTransfer n found p old result l new)
       (λ pipes fault none. idle_transfer_leaves n found pipes old result new fault) each
 
@@ -95,39 +103,80 @@ module _ {A : Type 0} (is_in : Bool) (n : ℕ) (So : PipeDid A) (old : World)
 packets_few : (bytes max : ℕ) → 1 ≤ max → div_ceil bytes max ≤ bytes
 packets_few bytes max least = grind (arith, common_steps)
 
-sends_leave : (bytes : List ℕ) (old : World) (result : Result (Unit {0}) TableFault)
-    (new : World) (found : Option Accepted)
-    → WayLeaves false (transaction_bound * length bytes) (λ p. SentThrough p bytes) old result new
-    found
-sends_leave bytes old result new found device endpoint pipe left other e is x =
-    let few = packets_few (length bytes) pipe.max (some_bytes device false endpoint pipe is) in
-    let far = far_end device false endpoint pipe is in
-    let kept = send_keeps bytes pipe far old x.answer left new x.sends in
-    let moves = send_each device endpoint pipe left other old new is bytes x.answer x.sends in
-    record {
-      spends = spends_wider _ _ old new x.count (omega (arith, few));
-      told = told_through old x.answer result new x.told kept;
-      worlds = kept.worlds;
-      moves = inr (device, e, moves);
-    }
+module _ (choice : EndpointChoice) (bytes : List ℕ) (old : World)
+    (result : Result (Unit {0}) TableFault) (new : World) (found : Option Accepted)
+    (below_hub : Bool) where
+  sends_leave : PipeLeavesTransfer (sends_through choice) (transaction_bound * length bytes)
+      (λ p. SentThrough p bytes) old result new found below_hub
+  sends_leave device pipes pipe left e w x =
+      let few = packets_few (length bytes) pipe.max (some_bytes pipe w.of) in
+      let kept = send_keeps bytes pipe (far_end pipe w.of) old x.answer left new x.sends in
+      let out = sends_way choice pipes pipe (in_place device below_hub pipes w.of.are) w.picked in
+      record {
+        spends = spends_wider _ _ old new x.count (omega (arith, few));
+        told = told_through old x.answer result new x.told kept;
+        worlds = kept.worlds;
+        moves = inr
+            (device, e, send_each pipe left w.of w.made old new out bytes x.answer x.sends);
+      }
 
 -- Packets that are received
 
-receives_leave : (packets : ℕ) (old : World) (result : Result (Vec ℕ) TableFault) (new : World)
-    (found : Option Accepted)
-    → WayLeaves true (transaction_bound * packets) (λ p. ReceivedThrough p packets) old result new
-    found
-receives_leave packets old result new found device endpoint pipe left other e is x =
-    let far = far_end device true endpoint pipe is in
-    let kept = receive_keeps packets pipe far old x.answer left new x.receives in
-    let moves =
-    receive_each device endpoint pipe left other old new is packets x.answer x.receives in
-    record {
-      spends = x.count;
-      told = told_through old x.answer result new x.told kept;
-      worlds = kept.worlds;
-      moves = inr (device, e, moves);
-    }
+module _ (choice : EndpointChoice) (packets : ℕ) (old : World) (result : Result (Vec ℕ) TableFault)
+    (new : World) (found : Option Accepted) (below_hub : Bool) where
+  receives_leave : PipeLeavesTransfer (receives_through choice) (transaction_bound * packets)
+      (λ p. ReceivedThrough p packets) old result new found below_hub
+  receives_leave device pipes pipe left e w x =
+      let kept = receive_keeps packets pipe (far_end pipe w.of) old x.answer left new x.receives in
+      let into = receives_way choice pipes pipe (in_place device below_hub pipes w.of.are) w.picked
+      in
+      record {
+        spends = x.count;
+        told = told_through old x.answer result new x.told kept;
+        worlds = kept.worlds;
+        moves = inr (
+          device,
+          e,
+          receive_each pipe left w.of w.made old new into packets x.answer x.receives,
+        );
+      }
+
+-- One that is polled
+
+module _ (endpoint : ℕ) (old : World) (result : Result (Option (ArrayVec ℕ)) TableFault)
+    (new : World) (found : Option Accepted) (below_hub : Bool) where
+  reports_leave : PipeLeavesTransfer (polls_through endpoint) transaction_bound ReportedThrough old
+      result new found below_hub
+  reports_leave device pipes pipe left e w x =
+      let kept = packet_keeps pipe (far_end pipe w.of) old x.answer left new x.polls in
+      let into = polls_way endpoint pipes pipe w.picked in
+      record {
+        spends = x.count;
+        told = told_through old x.answer result new x.told kept;
+        worlds = kept.worlds;
+        moves = inr
+            (device, e, packet_each pipe left w.of w.made old new into x.answer x.polls);
+      }
+
+-- A halt that is cleared
+
+module _ (endpoint : ℕ) (old : World) (result : Result (Unit {0}) TableFault) (new : World)
+    (found : Option Accepted) (below_hub : Bool) where
+  clears_of_leave : PipeLeavesTransfer (pipe_to endpoint) write_bound ClearedOfThrough old result
+      new found below_hub
+  clears_of_leave device pipes pipe left e w x =
+      let kept = clear_keeps true pipe old x.answer left new x.cleared.clears in
+      record {
+        spends = x.cleared.count;
+        told = told_through old x.answer result new x.told kept;
+        worlds = kept.worlds;
+        moves = inr (
+          device,
+          e,
+          clear_of_moves pipe left w.of w.made (new.fault ≡ None) old x.answer
+              new (sound_known old x.answer left new kept) x.cleared.clears,
+        );
+      }
 
 -- Halts that are cleared, one and then the other
 
@@ -145,21 +194,22 @@ spares_then old mid new x y sound single = record {
   backlog = λ still. all_then (x.backlog sound) (y.backlog still);
 }
 
-cleared_by : (pipe left : Option Bulk) (old : World) (answer : Result (Unit {0}) PipeFault)
+cleared_by : (pipe left : Option PipeState) (old : World) (answer : Result (Unit {0}) PipeFault)
     (new : World) → ClearedBy pipe old answer left new → PipeKeeps old answer new
 cleared_by None left old answer new x =
     record { worlds = same_spares old new x.2; told = λ fault e. absurd (cc (sym x.0 ∙ e)) }
 cleared_by (Some pipe) None old answer new x = absurd x
-cleared_by (Some pipe) (Some left) old answer new x = clear_keeps pipe old answer left new x.clears
+cleared_by (Some pipe) (Some left) old answer new x =
+    clear_keeps (needs_clear pipe) pipe old answer left new x.clears
 
 -- one that is done made no attempt, or the bus is at work
-done_or_same : (pipe left : Option Bulk) (old : World) (done : Unit {0}) (new : World)
+done_or_same : (pipe left : Option PipeState) (old : World) (done : Unit {0}) (new : World)
     → ClearedBy pipe old (Ok done) left new → (new ≡ old) ⊎ (new.fault ≡ None)
 done_or_same None left old done new x = inl x.2
 done_or_same (Some pipe) None old done new x = absurd x
-done_or_same (Some pipe) (Some left) old done new x = elim (ready_or_not pipe.condition) [
-  | inl ready ↦ inl (x.clears.ready ready).world_kept
-  | inr not ↦ inr (x.clears.sent not).ends.still
+done_or_same (Some pipe) (Some left) old done new x = elim (sent_or_not (needs_clear pipe)) [
+  | inl not ↦ inl (x.clears.ready not).world_kept
+  | inr so ↦ inr (x.clears.sent so).ends.still
 ]
 
 -- what is so of the worlds, and of the fault
@@ -167,8 +217,9 @@ abbrev LeftAndTold : World → Result (Unit {0}) TableFault → World → Type 0
 LeftAndTold old result new = OnlyTransfers old new
     × IfErr result (λ fault. TableFaultAllowed fault new)
 
-cleared_in_order : (first : Result (Unit {0}) PipeFault) (out out_left into into_left : Option Bulk)
-    (old mid : World) (result : Result (Unit {0}) TableFault) (new : World)
+cleared_in_order : (first : Result (Unit {0}) PipeFault)
+    (out out_left into into_left : Option PipeState) (old mid : World)
+    (result : Result (Unit {0}) TableFault) (new : World)
     → ClearedBy out old first out_left mid → ClearedAfter first into mid result into_left new
     → LeftAndTold old result new
 cleared_in_order (Ok done) out out_left into into_left old mid result new x y =
@@ -202,14 +253,25 @@ clears_leave old result new found few below_hub =
     through_both old result new found below_hub
     (λ p l. LeavesTransfer (2 * write_bound) found p old result l new)
     (λ pipes fault. idle_transfer_leaves (2 * write_bound) found pipes old result new fault)
-    (λ device pipes left e out into x.
+    (λ device pipes left e are x.
     let so =
-    cleared_in_order x.first pipes.out left.out pipes.into left.into old x.mid result new x.out
-    x.into in
+    cleared_in_order x.first (first_pipe false pipes) x.rest_out (first_pipe true pipes) x.rest_in
+    old x.mid result new x.out x.into in
     let moves =
-    in_turn_moves (new.fault ≡ None) false device pipes left out into result
-    (no_bus_told result new so.1) (λ e. absurd (cc e)) old x.mid new x.first x.out x.into in
-    record { spends = few; told = so.1; worlds = so.0; moves = inr (device, e, moves) })
+    in_turn_moves (new.fault ≡ None) false device below_hub pipes are result
+    (no_bus_told result new so.1) (λ e. absurd (cc e)) old x.mid new x.rest_out x.rest_in x.first
+    x.out x.into in
+    record {
+      spends = few;
+      told = so.1;
+      worlds = so.0;
+      moves = inr (
+        device,
+        e,
+        subst (λ f. EachMoves device.address (new.fault ≡ None) (Function pipes) (Function f) old
+            new) (sym x.left_is) moves,
+      );
+    })
 
 -- At a path
 
@@ -232,21 +294,33 @@ module _ (path : List ℕ) (old new : Table) (before after : World) (text now : 
     ];
   }
 
-  pub table_sends : (bytes : List ℕ) (result : Result (Unit {0}) TableFault)
-      → PipesSent (pipes_at path old) bytes before result (pipes_at path new) after
-      → TableSends path bytes old before text result new after now
-  table_sends bytes result x =
+  pub table_sends : (choice : EndpointChoice) (bytes : List ℕ)
+      (result : Result (Unit {0}) TableFault)
+      → PipesSent choice (pipes_at path old) bytes before result (pipes_at path new) after
+      → TableSends path choice bytes old before text result new after now
+  table_sends choice bytes result x =
       transferred _ result x
-      (way_leaves false _ (λ p. SentThrough p bytes) before result after _
-      (sends_leave bytes before result after _) (is_below_hub path) _ _ goes.fits x)
+      (pipe_leaves (sends_through choice) _ (λ p. SentThrough p bytes) before result after _
+      (sends_picks choice) (λ p o r l w z. z.same) (is_below_hub path)
+      (sends_leave choice bytes before result after _ (is_below_hub path)) _ _ goes.fits x)
 
-  pub table_receives : (packets : ℕ) (result : Result (Vec ℕ) TableFault)
-      → PipesReceived (pipes_at path old) packets before result (pipes_at path new) after
-      → TableReceives path packets old before text result new after now
-  table_receives packets result x =
+  pub table_receives : (choice : EndpointChoice) (packets : ℕ) (result : Result (Vec ℕ) TableFault)
+      → PipesReceived choice (pipes_at path old) packets before result (pipes_at path new) after
+      → TableReceives path choice packets old before text result new after now
+  table_receives choice packets result x =
       transferred _ result x
-      (way_leaves true _ (λ p. ReceivedThrough p packets) before result after _
-      (receives_leave packets before result after _) (is_below_hub path) _ _ goes.fits x)
+      (pipe_leaves (receives_through choice) _ (λ p. ReceivedThrough p packets) before result after
+      _ (receives_picks choice) (λ p o r l w z. z.same) (is_below_hub path)
+      (receives_leave choice packets before result after _ (is_below_hub path)) _ _ goes.fits x)
+
+  pub table_reports : (endpoint : ℕ) (result : Result (Option (ArrayVec ℕ)) TableFault)
+      → PipesReported endpoint (pipes_at path old) before result (pipes_at path new) after
+      → TableReports path endpoint old before text result new after now
+  table_reports endpoint result x =
+      transferred _ result x
+      (pipe_leaves (polls_through endpoint) _ ReportedThrough before result after _
+      (polls_picks endpoint) (λ p o r l w z. z.same) (is_below_hub path)
+      (reports_leave endpoint before result after _ (is_below_hub path)) _ _ goes.fits x)
 
   pub table_clears : (result : Result (Unit {0}) TableFault)
       → AttemptsWithin (2 * write_bound) before after
@@ -255,3 +329,12 @@ module _ (path : List ℕ) (old new : Table) (before after : World) (text now : 
   table_clears result few x =
       transferred _ result x
       (clears_leave before result after _ few (is_below_hub path) _ _ goes.fits x)
+
+  pub table_clears_of : (endpoint : ℕ) (result : Result (Unit {0}) TableFault)
+      → PipesClearedOf endpoint (pipes_at path old) before result (pipes_at path new) after
+      → TableClearsOf path endpoint old before text result new after now
+  table_clears_of endpoint result x =
+      transferred _ result x
+      (pipe_leaves (pipe_to endpoint) _ ClearedOfThrough before result after _
+      (to_picks endpoint) (λ p o r l w z. z.cleared.same) (is_below_hub path)
+      (clears_of_leave endpoint before result after _ (is_below_hub path)) _ _ goes.fits x)

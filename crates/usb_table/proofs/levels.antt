@@ -6,4 +6,5 @@ pub mod Levels
 pub mod MovedPipes
 pub mod NewPipes
 pub mod PipeCalls
+pub mod StandingPipes
 pub mod Targets

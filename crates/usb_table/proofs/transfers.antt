@@ -10,6 +10,7 @@ pub mod HubPolls
 pub mod PathTransfers
 pub mod PlainRequests
 pub mod PlainTransfers
+pub mod Reports
 pub mod Restarts
 pub mod SparedBulk
 pub mod SparedReads

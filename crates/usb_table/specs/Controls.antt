@@ -1,10 +1,10 @@
 -- What control transfers of a driver's own to the device at a path are (8.5.3).
 use Rattle.std.specs.Prelude.{◌≡◌, ℕ, ◌+◌, ◌*◌, ◌==◌, List, [], Bool, true, false, Option, Some}
 use Rattle.std.specs.Prelude.{None}
-use Rattle.std.specs.Prelude.{is_some, is_ok, if◌then◌else◌, Result, Ok, Err, IfOk, IfErr}
+use Rattle.std.specs.Prelude.{is_some, is_ok, Result, Ok, Err, IfOk, IfErr}
 use Rattle.std.specs.Global.{Vec}
 use Rattle.usb_request.specs.{Setup, is_reserved}
-use Rattle.usb_device.specs.{reach, State, Location}
+use Rattle.usb_device.specs.{reach}
 use Rattle.usb_world.specs.{EachWas, Relation, World}
 use Rattle.usb_bus.specs.{StepRun}
 use Rattle.usb_transaction.specs.{Target}

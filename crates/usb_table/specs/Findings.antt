@@ -92,6 +92,11 @@ abbrev pub in_endpoint : Accepted → Option (ℕ × ℕ)
 in_endpoint device = if is_some device.hub then None else at_full_speed device.low
     (bulk_in_of (configuration_of device))
 
+-- of one direction (true: IN)
+abbrev pub first_endpoint : Bool → Accepted → Option (ℕ × ℕ)
+first_endpoint true device = in_endpoint device
+first_endpoint false device = out_endpoint device
+
 -- the accepted device at a path, if there is one
 abbrev pub accepted_device_at : List ℕ → Entries → Option Accepted
 accepted_device_at path entries = accepted_device_of (lookup (is_at (path_cmp path)) entries)

@@ -11,20 +11,25 @@ use Rattle.usb_device.specs.{state_there}
 use Rattle.usb_world.specs.{EachWas, at_attempt, World}
 use Rattle.usb_bus.specs.{StepRun}
 use Rattle.usb_transaction.specs.{NoThreeDamaged, Listens, transaction_bound}
-use Rattle.usb_pipe.specs.{Bulk, write_bound, Interrupt, OutPipeInSync, InPipeInSync, PollTells}
+use Rattle.usb_pipe.specs.{PipeState, write_bound, Interrupt, OutPipeInSync, InPipeInSync}
+use Rattle.usb_pipe.specs.{PollTells}
 use Rattle.usb_pipe.specs.{PipeFault}
 use Rattle.usb_address.specs.{MapHolds}
 use Rattle.usb_hub.specs.{TouchesNoPort, NoHubFailed}
 use Rattle.usb_enum.specs.{Accepted, target_of}
+use Rattle.usb_table.specs.declared.choice.EndpointChoice.{EndpointChoice}
+use Rattle.usb_table.specs.declared.function_pipes.FunctionPipes.{FunctionPipes}
 use Rattle.usb_table.specs.declared.pipes.Pipes.{Pipes}
 use Rattle.usb_table.specs.declared.pipes.Pipes.TheVariants.{Hub, Function, Absent}
 use Rattle.usb_table.specs.Findings.{accepted_device_at}
 use Rattle.usb_table.specs.KnownPorts.{is_below_hub}
 use Rattle.usb_table.specs.Listing.{entry_address}
+use Rattle.usb_table.specs.PipeRows.{pipe_at}
 use Rattle.usb_table.specs.Tables.{Table, pipes_at}
 use Rattle.usb_table.specs.declared.fault.TableFault.{TableFault}
-use Rattle.usb_table.specs.Transfers.{TableFaultAllowed, OnlyTransfers, PipesCleared, PipesPolled}
-use Rattle.usb_table.specs.Transfers.{PipesReceived, PipesSent, PollTook}
+use Rattle.usb_table.specs.Transfers.{TableFaultAllowed, OnlyTransfers, PipesCleared}
+use Rattle.usb_table.specs.Transfers.{PipesClearedOf, PipesPolled, PipesReceived, PipesReported}
+use Rattle.usb_table.specs.Transfers.{PipesSent, PollTook}
 
 -- The pipes to one device
 
@@ -35,19 +40,24 @@ pub record StatusPipeInSync (pipe : Interrupt) (s : State) : Type 0 where
   pub level : PollAt NeverTold pipe.toggle s
   pub runs : s.changes.halted ≡ false
 
--- a bulk OUT pipe, if there is one
-abbrev pub FitsOut : Option Bulk → State → Type 0
+-- an OUT pipe, if there is one
+abbrev pub FitsOut : Option PipeState → State → Type 0
 FitsOut None s = ⊤
 FitsOut (Some pipe) s = OutPipeInSync pipe s
 
--- a bulk IN pipe, if there is one, that has got what stands before some place
-abbrev pub FitsIn : Option Bulk → State → Type 0
+-- an IN pipe, if there is one, that has got what stands before some place
+abbrev pub FitsIn : Option PipeState → State → Type 0
 FitsIn None s = ⊤
 FitsIn (Some pipe) s = (got : ℕ) × InPipeInSync pipe got s
 
+-- all pipes to a function
+pub record FunctionInSync (pipes : FunctionPipes) (s : State) : Type 0 where
+  pub outs : (e : ℕ) → FitsOut (pipe_at false e pipes) s
+  pub ins : (e : ℕ) → FitsIn (pipe_at true e pipes) s
+
 abbrev pub PipesInSync : Pipes → State → Type 0
 PipesInSync (Hub pipe) s = StatusPipeInSync pipe s
-PipesInSync (Function pipes) s = FitsOut pipes.out s × FitsIn pipes.into s
+PipesInSync (Function pipes) s = FunctionInSync pipes s
 PipesInSync Absent s = ⊤
 
 -- The pipes of a table
@@ -155,16 +165,25 @@ Call A =
     Table → World → Option (List ℕ) → Result A TableFault → Table → World → Option (List ℕ)
     → Type 0
 
-abbrev pub TableSends : List ℕ → List ℕ → Call (Unit {0})
-TableSends path bytes =
-    Transferred (transaction_bound * length bytes) (λ pipes. PipesSent pipes bytes) path
+abbrev pub TableSends : List ℕ → EndpointChoice → List ℕ → Call (Unit {0})
+TableSends path choice bytes =
+    Transferred (transaction_bound * length bytes) (λ pipes. PipesSent choice pipes bytes) path
 
-abbrev pub TableReceives : List ℕ → ℕ → Call (Vec ℕ)
-TableReceives path packets =
-    Transferred (transaction_bound * packets) (λ pipes. PipesReceived pipes packets) path
+abbrev pub TableReceives : List ℕ → EndpointChoice → ℕ → Call (Vec ℕ)
+TableReceives path choice packets =
+    Transferred (transaction_bound * packets) (λ pipes. PipesReceived choice pipes packets) path
 
+-- an endpoint is polled, by its address
+abbrev pub TableReports : List ℕ → ℕ → Call (Option (ArrayVec ℕ))
+TableReports path endpoint = Transferred transaction_bound (PipesReported endpoint) path
+
+-- the halts of both first bulk endpoints are cleared
 abbrev pub TableClears : List ℕ → Call (Unit {0})
 TableClears = Transferred (2 * write_bound) PipesCleared
+
+-- that of an endpoint is, by its address
+abbrev pub TableClearsOf : List ℕ → ℕ → Call (Unit {0})
+TableClearsOf path endpoint = Transferred write_bound (PipesClearedOf endpoint) path
 
 -- a poll of the hub at the path
 pub record TablePolls (path : List ℕ) (old : Table) (before : World) (text : Option (List ℕ))

@@ -1,17 +1,20 @@
 -- The pipes to a device.
-use Rattle.std.specs.Prelude.{◌≡◌, ⊤, ℕ, ◌≤◌, Bool, true, false, Option, Some, None, is_some}
-use Rattle.std.specs.Prelude.{if◌then◌else◌}
-use Rattle.usb_descriptor.specs.{status_endpoint_of}
+use Rattle.std.specs.Prelude.{◌≡◌, ⊤, ℕ, ◌≤◌, Bool, true, false, List, map, Option, Some, None}
+use Rattle.std.specs.Prelude.{is_some, if◌then◌else◌}
+use Rattle.std.specs.Option.{option_map}
+use Rattle.usb_descriptor.specs.{UsableEndpoint, status_endpoint_of, usable_of}
+use Rattle.usb_device.specs.{end_numbers}
 use Rattle.usb_packet.specs.{Zero}
-use Rattle.usb_pipe.specs.{Bulk, bulk_made, packet_target, Interrupt, interrupt_made}
+use Rattle.usb_transaction.specs.{Target}
+use Rattle.usb_pipe.specs.{PipeState, packet_target, Interrupt}
 use Rattle.usb_pipe.specs.declared.condition.Condition.TheVariants.{Ready}
 use Rattle.usb_enum.specs.{Accepted, Finding, target_of, configuration_of}
 use Rattle.usb_enum.specs.declared.finding.Finding.TheVariants.{Device, Refused}
-use Rattle.std.specs.Option.{option_map}
-use Rattle.usb_table.specs.declared.pipes.BulkPipes.{BulkPipes}
+use Rattle.usb_table.specs.declared.function_pipes.FunctionPipes.{FunctionPipes}
 use Rattle.usb_table.specs.declared.pipes.Pipes.{Pipes}
 use Rattle.usb_table.specs.declared.pipes.Pipes.TheVariants.{Hub, Function, Absent}
-use Rattle.usb_table.specs.Findings.{accepted_device_of, out_endpoint, in_endpoint}
+use Rattle.usb_table.specs.Findings.{accepted_device_of, first_endpoint}
+use Rattle.usb_table.specs.PipeRows.{first_number, pipe_at}
 
 -- a pipe to the status endpoint of a hub, which stands below another one or on the root
 pub record IsStatusPipe (device : Accepted) (below_hub : Bool) (pipe : Interrupt) : Type 0 where
@@ -19,29 +22,42 @@ pub record IsStatusPipe (device : Accepted) (below_hub : Bool) (pipe : Interrupt
   pub endpoint : status_endpoint_of (configuration_of device) ≡ Some (pipe.ep, pipe.target.max)
   pub other : 1 ≤ pipe.ep  -- not endpoint 0
 
--- a pipe to a bulk endpoint of a function, which is at full speed
-pub record IsBulkPipe (device : Accepted) (is_in : Bool) (endpoint : ℕ × ℕ) (pipe : Bulk) : Type 0
-  where
-    pub target : pipe.target ≡ target_of device false
-    pub number : pipe.ep ≡ endpoint.0
-    pub other : 1 ≤ endpoint.0  -- not endpoint 0
-    pub max : pipe.max ≡ endpoint.1
-    pub least : 1 ≤ endpoint.1
-    pub way : pipe.is_in ≡ is_in
+-- a pipe to an endpoint of a function
+pub record IsEndPipe (device : Accepted) (below_hub is_in : Bool) (e : ℕ) (end : UsableEndpoint)
+    (pipe : PipeState) : Type 0 where
+  pub target : pipe.target ≡ target_of device below_hub
+  pub number : pipe.ep ≡ e
+  pub kind : pipe.kind ≡ end.kind
+  pub max : pipe.max ≡ end.max
+  pub way : pipe.is_in ≡ is_in
 
 -- a pipe where there is an endpoint
-abbrev pub IsPipe : Accepted → Bool → Option (ℕ × ℕ) → Option Bulk → Type 0
-IsPipe device is_in None None = ⊤
-IsPipe device is_in None (Some pipe) = ⊥
-IsPipe device is_in (Some endpoint) None = ⊥
-IsPipe device is_in (Some endpoint) (Some pipe) = IsBulkPipe device is_in endpoint pipe
+abbrev pub IsPipe : Accepted → Bool → Bool → ℕ → Option UsableEndpoint → Option PipeState → Type 0
+IsPipe device below_hub is_in e None None = ⊤
+IsPipe device below_hub is_in e None (Some pipe) = ⊥
+IsPipe device below_hub is_in e (Some end) None = ⊥
+IsPipe device below_hub is_in e (Some end) (Some pipe) = IsEndPipe device below_hub is_in e end pipe
+
+-- what a pipe can use of a device, by direction and number
+abbrev pub usable_end : Accepted → Bool → ℕ → Option UsableEndpoint
+usable_end device is_in e = usable_of device.low is_in e (configuration_of device)
+
+-- the number of an endpoint
+abbrev pub number_of : Option (ℕ × ℕ) → Option ℕ
+number_of endpoint = option_map (λ end. end.0) endpoint
+
+-- pipes to all endpoints of a function that a pipe can use
+pub record AreFunctionPipes (device : Accepted) (below_hub : Bool) (pipes : FunctionPipes)
+    : Type 0 where
+  pub function : is_some device.hub ≡ false
+  pub each : (is_in : Bool) (e : ℕ)
+      → IsPipe device below_hub is_in e (usable_end device is_in e) (pipe_at is_in e pipes)
+  pub first : (is_in : Bool) → first_number is_in pipes ≡ number_of (first_endpoint is_in device)
 
 abbrev pub ArePipesTo : Accepted → Bool → Pipes → Type 0
 ArePipesTo device below_hub (Hub pipe) = (is_some device.hub ≡ true)
     × IsStatusPipe device below_hub pipe
-ArePipesTo device below_hub (Function pipes) =
-    (is_some device.hub ≡ false) × IsPipe device false (out_endpoint device) pipes.out
-    × IsPipe device true (in_endpoint device) pipes.into
+ArePipesTo device below_hub (Function pipes) = AreFunctionPipes device below_hub pipes
 ArePipesTo device below_hub Absent = ⊥
 
 -- the pipes to an accepted device, and none where there is none
@@ -52,20 +68,6 @@ ArePipesIf (Some device) below_hub pipes = ArePipesTo device below_hub pipes
 -- the pipes to what was found
 abbrev pub ArePipesOf : Finding → Bool → Pipes → Type 0
 ArePipesOf finding = ArePipesIf (accepted_device_of (Some finding))
-
--- Pipes as they were made
-
-abbrev pub both_made : BulkPipes → BulkPipes
-both_made pipes = record {
-  out = option_map bulk_made pipes.out;
-  into =
-      option_map bulk_made pipes.into;
-}
-
-abbrev pub pipes_made : Pipes → Pipes
-pipes_made (Hub pipe) = Hub (interrupt_made pipe)
-pipes_made (Function pipes) = Function (both_made pipes)
-pipes_made Absent = Absent
 
 -- Pipes that were just made: none has moved a packet
 
@@ -79,28 +81,40 @@ new_status device below_hub (Some endpoint) =
       toggle = Zero;
     })
 
-abbrev pub new_bulk : Accepted → Bool → Option (ℕ × ℕ) → Option Bulk
-new_bulk device is_in None = None
-new_bulk device is_in (Some endpoint) =
-    Some (record {
-      target = target_of device false;
-      ep = endpoint.0;
-      max = endpoint.1;
-      is_in =
-          is_in;
-      toggle = Zero;
-      condition = Ready;
-    })
+-- to an endpoint of a function, if there is one
+abbrev pub new_pipe : Target → Bool → ℕ → Option UsableEndpoint → Option PipeState
+new_pipe target is_in e None = None
+new_pipe target is_in e (Some end) = Some (record {
+  target = target;
+  ep = e;
+  kind = end.kind;
+  max = end.max;
+  is_in = is_in;
+  toggle = Zero;
+  condition = Ready;
+})
+
+-- to those of a direction, by their numbers
+abbrev pub row_of_ends : Target → Bool → (ℕ → Option UsableEndpoint) → List (Option PipeState)
+row_of_ends target is_in ends = map (λ e. new_pipe target is_in e (ends e)) end_numbers
+
+abbrev pub new_row : Accepted → Bool → Bool → List (Option PipeState)
+new_row device below_hub is_in =
+    row_of_ends (target_of device below_hub) is_in (usable_end device is_in)
+
+abbrev pub new_function : Accepted → Bool → FunctionPipes
+new_function device below_hub = record {
+  outs = new_row device below_hub false;
+  ins = new_row device below_hub true;
+  first_out = number_of (first_endpoint false device);
+  first_in = number_of (first_endpoint true device);
+}
 
 abbrev pub new_pipes_to : Accepted → Bool → Pipes
 new_pipes_to device below_hub =
     if is_some device.hub
     then new_status device below_hub (status_endpoint_of (configuration_of device))
-    else Function (record {
-      out = new_bulk device false (out_endpoint device);
-      into =
-          new_bulk device true (in_endpoint device);
-    })
+    else Function (new_function device below_hub)
 
 abbrev pub new_pipes : Finding → Bool → Pipes
 new_pipes (Device device) below_hub = new_pipes_to device below_hub

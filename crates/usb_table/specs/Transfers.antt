@@ -1,6 +1,6 @@
 -- What transfers to the devices of the table leave.
 use Rattle.usb_device.specs.{Location, State}
-use Rattle.std.specs.Prelude.{◌≡◌, ⊤, ℕ, ◌*◌, List, length, Bool, true, false, not, ◌||◌, Option}
+use Rattle.std.specs.Prelude.{◌≡◌, ⊤, ℕ, ◌*◌, List, length, Bool, true, false, ◌||◌, Option}
 use Rattle.std.specs.Prelude.{Some, None, is_some, Result, Ok, Err, IfSome, MatchResult}
 use Rattle.std.specs.Global.{Vec}
 use Rattle.std.specs.Int.{div_ceil}
@@ -8,8 +8,8 @@ use Rattle.arrayvec.specs.ArrayVec.{ArrayVec}
 use Rattle.usb_world.specs.{BusFault, EachWas, World, AttemptsWithin, HasFault}
 use Rattle.usb_tree.specs.{IsSettled}
 use Rattle.usb_transaction.specs.{AttemptsMade, transaction_bound}
-use Rattle.usb_pipe.specs.{FaultAfter, write_bound, Bulk, Sends, Receives, Clears, Interrupt, Polls}
-use Rattle.usb_pipe.specs.{PipeFault}
+use Rattle.usb_pipe.specs.{FaultAfter, write_bound, PipeState, pipe_made, Sends, Receives, Clears}
+use Rattle.usb_pipe.specs.{Interrupt, Polls, PipeFault, PipePolls, needs_clear}
 use Rattle.usb_pipe.specs.declared.fault.PipeFault.TheVariants as pipe
 use Rattle.usb_address.specs.{KeepsAddresses}
 use Rattle.usb_backlog.specs.{KeepsAll}
@@ -19,9 +19,12 @@ use Rattle.usb_table.specs.declared.fault.TransferFault.TheVariants.{NoDevice, N
 use Rattle.usb_table.specs.declared.fault.TransferFault.TheVariants.{Busy, NoAnswer, Broken}
 use Rattle.usb_table.specs.declared.fault.TableFault.{TableFault}
 use Rattle.usb_table.specs.declared.fault.TableFault.TheVariants.{Transfer, Bus, Memory}
-use Rattle.usb_table.specs.declared.pipes.BulkPipes.{BulkPipes}
+use Rattle.usb_table.specs.declared.choice.EndpointChoice.{EndpointChoice}
+use Rattle.usb_table.specs.declared.function_pipes.FunctionPipes.{FunctionPipes}
 use Rattle.usb_table.specs.declared.pipes.Pipes.{Pipes}
 use Rattle.usb_table.specs.declared.pipes.Pipes.TheVariants.{Hub, Function, Absent}
+use Rattle.usb_table.specs.PipeRows.{first_pipe, pipe_to, polls_through, receives_through}
+use Rattle.usb_table.specs.PipeRows.{sends_through, with_rest}
 
 -- a pipe's fault as the table's
 abbrev pub of_pipe : PipeFault → TableFault
@@ -63,77 +66,109 @@ PollTook old result new = MatchResult result (λ got. IfSome got (λ packet. Att
 
 -- Through one pipe
 
-pub record SentThrough (pipe : Bulk) (bytes : List ℕ) (old : World)
-    (result : Result (Unit {0}) TableFault) (left : Bulk) (new : World) : Type 0 where
+pub record SentThrough (pipe : PipeState) (bytes : List ℕ) (old : World)
+    (result : Result (Unit {0}) TableFault) (left : PipeState) (new : World) : Type 0 where
   pub answer : Result (Unit {0}) PipeFault
   pub told : result ≡ table_answer answer
   pub count : AttemptsWithin (transaction_bound * div_ceil (length bytes) pipe.max) old new
+  pub same : pipe_made left ≡ pipe_made pipe
   pub sends : Sends bytes pipe old answer left new
 
-pub record ReceivedThrough (pipe : Bulk) (packets : ℕ) (old : World)
-    (result : Result (Vec ℕ) TableFault) (left : Bulk) (new : World) : Type 0 where
+pub record ReceivedThrough (pipe : PipeState) (packets : ℕ) (old : World)
+    (result : Result (Vec ℕ) TableFault) (left : PipeState) (new : World) : Type 0 where
   pub answer : Result (Vec ℕ) PipeFault
   pub told : result ≡ table_answer answer
   pub count : AttemptsWithin (transaction_bound * packets) old new
+  pub same : pipe_made left ≡ pipe_made pipe
   pub receives : Receives packets pipe old answer left new
 
-pub record ClearedThrough (pipe : Bulk) (old : World) (answer : Result (Unit {0}) PipeFault)
-    (left : Bulk) (new : World) : Type 0 where
-  pub count : AttemptsWithin write_bound old new
-  pub clears : Clears pipe old answer left new
+pub record ReportedThrough (pipe : PipeState) (old : World)
+    (result : Result (Option (ArrayVec ℕ)) TableFault) (left : PipeState) (new : World) : Type 0
+  where
+    pub answer : Result (Option (ArrayVec ℕ)) PipeFault
+    pub told : result ≡ table_answer answer
+    pub count : AttemptsWithin transaction_bound old new
+    pub same : pipe_made left ≡ pipe_made pipe
+    pub polls : PipePolls pipe old answer left new
 
--- Through the pipe of one way, if there is one
+-- where the request is sent, and where it is not
+pub record ClearedThrough (is_sent : Bool) (pipe : PipeState) (old : World)
+    (answer : Result (Unit {0}) PipeFault) (left : PipeState) (new : World) : Type 0 where
+  pub count : AttemptsWithin write_bound old new
+  pub same : pipe_made left ≡ pipe_made pipe
+  pub clears : Clears is_sent pipe old answer left new
+
+-- it is sent whatever the pipe saw
+pub record ClearedOfThrough (pipe : PipeState) (old : World) (result : Result (Unit {0}) TableFault)
+    (left : PipeState) (new : World) : Type 0 where
+  pub answer : Result (Unit {0}) PipeFault
+  pub told : result ≡ table_answer answer
+  pub cleared : ClearedThrough true pipe old answer left new
+
+-- Through a pipe, if there is one
 
 -- what a call through one pipe did
 abbrev pub PipeDid : Type 0 → Type 1
-PipeDid A = Bulk → World → Result A TableFault → Bulk → World → Type 0
+PipeDid A = PipeState → World → Result A TableFault → PipeState → World → Type 0
 
-abbrev pub ThroughIf : {A : Type 0} → PipeDid A → Option Bulk → World → Result A TableFault
-    → Option Bulk → World → Type 0
+abbrev pub ThroughIf : {A : Type 0} → PipeDid A → Option PipeState → World → Result A TableFault
+    → Option PipeState → World → Type 0
 ThroughIf So None old result left new = NotTried NoEndpoint None old result left new
 ThroughIf So (Some pipe) old result None new = ⊥
 ThroughIf So (Some pipe) old result (Some left) new = So pipe old result left new
 
-abbrev pub SentBy : Option Bulk → List ℕ → World → Result (Unit {0}) TableFault → Option Bulk
-    → World → Type 0
+abbrev pub SentBy : Option PipeState → List ℕ → World → Result (Unit {0}) TableFault
+    → Option PipeState → World → Type 0
 SentBy pipe bytes = ThroughIf (λ p. SentThrough p bytes) pipe
 
-abbrev pub ReceivedBy : Option Bulk → ℕ → World → Result (Vec ℕ) TableFault → Option Bulk
+abbrev pub ReceivedBy : Option PipeState → ℕ → World → Result (Vec ℕ) TableFault → Option PipeState
     → World → Type 0
 ReceivedBy pipe packets = ThroughIf (λ p. ReceivedThrough p packets) pipe
 
 -- no pipe needs no clearing
-abbrev pub ClearedBy : Option Bulk → World → Result (Unit {0}) PipeFault → Option Bulk → World
-    → Type 0
+abbrev pub ClearedBy : Option PipeState → World → Result (Unit {0}) PipeFault → Option PipeState
+    → World → Type 0
 ClearedBy None old answer left new = (answer ≡ Ok tt) × (left ≡ None) × (new ≡ old)
 ClearedBy (Some pipe) old answer None new = ⊥
-ClearedBy (Some pipe) old answer (Some left) new = ClearedThrough pipe old answer left new
+ClearedBy (Some pipe) old answer (Some left) new =
+    ClearedThrough (needs_clear pipe) pipe old answer left new
+
+-- through the pipe to the first bulk endpoint of a direction
+pub record ClearedFirst (is_in : Bool) (pipes : FunctionPipes) (old : World)
+    (answer : Result (Unit {0}) PipeFault) (left : FunctionPipes) (new : World) : Type 0 where
+  pub rest : Option PipeState
+  pub cleared : ClearedBy (first_pipe is_in pipes) old answer rest new
+  pub left_is : left ≡ with_rest rest pipes
 
 -- the second pipe is cleared where the first one was
-abbrev pub ClearedAfter : Result (Unit {0}) PipeFault → Option Bulk → World
-    → Result (Unit {0}) TableFault → Option Bulk → World → Type 0
+abbrev pub ClearedAfter : Result (Unit {0}) PipeFault → Option PipeState → World
+    → Result (Unit {0}) TableFault → Option PipeState → World → Type 0
 ClearedAfter (Ok done) pipe mid result left new = (answer : Result (Unit {0}) PipeFault)
     × (result ≡ table_answer answer) × ClearedBy pipe mid answer left new
 ClearedAfter (Err fault) pipe mid result left new = (result ≡ Err (of_pipe fault)) × (left ≡ pipe)
     × (new ≡ mid)
 
-pub record ClearedInOrder (pipes : BulkPipes) (old : World)
-    (result : Result (Unit {0}) TableFault) (left : BulkPipes) (new : World) : Type 0 where
+pub record ClearedInOrder (pipes : FunctionPipes) (old : World)
+    (result : Result (Unit {0}) TableFault) (left : FunctionPipes) (new : World) : Type 0 where
   pub first : Result (Unit {0}) PipeFault
   pub mid : World
-  pub out : ClearedBy pipes.out old first left.out mid
-  pub into : ClearedAfter first pipes.into mid result left.into new
+  pub rest_out : Option PipeState
+  pub rest_in : Option PipeState
+  pub out : ClearedBy (first_pipe false pipes) old first rest_out mid
+  pub into : ClearedAfter first (first_pipe true pipes) mid result rest_in new
+  pub left_is : left ≡ with_rest rest_in (with_rest rest_out pipes)
 
-abbrev pub ClearedIf : Bool → BulkPipes → World → Result (Unit {0}) TableFault → BulkPipes
+abbrev pub ClearedIf : Bool → FunctionPipes → World → Result (Unit {0}) TableFault → FunctionPipes
     → World → Type 0
 ClearedIf false pipes old result left new = NotTried NoEndpoint pipes old result left new
 ClearedIf true pipes old result left new = ClearedInOrder pipes old result left new
 
--- the halt of the OUT endpoint, then of the IN endpoint; the first fault ends it
-abbrev pub ClearedInTurn : BulkPipes → World → Result (Unit {0}) TableFault → BulkPipes → World
-    → Type 0
-ClearedInTurn pipes old result left new = ClearedIf (is_some pipes.out || is_some pipes.into) pipes
-    old result left new
+-- the halt of the first bulk OUT endpoint, then of the first bulk IN endpoint; the first fault ends
+-- it
+abbrev pub ClearedInTurn : FunctionPipes → World → Result (Unit {0}) TableFault → FunctionPipes
+    → World → Type 0
+ClearedInTurn pipes old result left new = ClearedIf
+    (is_some (first_pipe false pipes) || is_some (first_pipe true pipes)) pipes old result left new
 
 -- Through the pipes to what stands at a port
 
@@ -156,38 +191,50 @@ PipesPolled (Hub pipe) old result left new = (rest : Interrupt) × (left ≡ Hub
 PipesPolled (Function pipes) old result left new = NotPolled (Function pipes) old result left new
 PipesPolled Absent old result left new = NotPolled Absent old result left new
 
--- the pipe of one way, and with it the one of the other way
-abbrev pub one_side : Bool → BulkPipes → Option Bulk
-one_side false pipes = pipes.out
-one_side true pipes = pipes.into
-
-abbrev pub both_sides : Bool → Option Bulk → Option Bulk → BulkPipes
-both_sides false pipe other = record { out = pipe; into = other }
-both_sides true pipe other = record { out = other; into = pipe }
-
--- a call goes through the pipe of one way to a function
-abbrev pub PipesThrough : {A : Type 0} → Bool → PipeDid A → Pipes → World → Result A TableFault
-    → Pipes → World → Type 0
-PipesThrough is_in So (Hub pipe) old result left new =
+-- a call goes through a pipe to a function, and leaves another one in its place
+abbrev pub PipesThrough : {A : Type 0} → (FunctionPipes → Option PipeState) → PipeDid A → Pipes
+    → World → Result A TableFault → Pipes → World → Type 0
+PipesThrough pick So (Hub pipe) old result left new =
     NotTried NoEndpoint (Hub pipe) old result left new
-PipesThrough is_in So (Function pipes) old result left new =
-    (pipe : Option Bulk) × (left ≡ Function (both_sides is_in pipe (one_side (not is_in) pipes)))
-    × ThroughIf So (one_side is_in pipes) old result pipe new
-PipesThrough is_in So Absent old result left new = NotTried NoDevice Absent old result left new
+PipesThrough pick So (Function pipes) old result left new =
+    (rest : Option PipeState) × (left ≡ Function (with_rest rest pipes))
+    × ThroughIf So (pick pipes) old result rest new
+PipesThrough pick So Absent old result left new = NotTried NoDevice Absent old result left new
 
--- bytes are sent to its bulk OUT endpoint
-abbrev pub PipesSent : Pipes → List ℕ → World → Result (Unit {0}) TableFault → Pipes → World
+-- bytes are sent to an OUT endpoint
+abbrev pub PipesSent : EndpointChoice → Pipes → List ℕ → World → Result (Unit {0}) TableFault
+    → Pipes → World → Type 0
+PipesSent choice pipes bytes =
+    PipesThrough (sends_through choice) (λ p. SentThrough p bytes) pipes
+
+-- packets are received from a bulk IN endpoint
+abbrev pub PipesReceived : EndpointChoice → Pipes → ℕ → World → Result (Vec ℕ) TableFault → Pipes
+    → World → Type 0
+PipesReceived choice pipes packets =
+    PipesThrough (receives_through choice) (λ p. ReceivedThrough p packets) pipes
+
+-- an interrupt IN endpoint is polled
+abbrev pub PipesReported : ℕ → Pipes → World → Result (Option (ArrayVec ℕ)) TableFault → Pipes
+    → World → Type 0
+PipesReported endpoint = PipesThrough (polls_through endpoint) ReportedThrough
+
+-- the halt of an endpoint of either kind and direction is cleared
+abbrev pub PipesClearedOf : ℕ → Pipes → World → Result (Unit {0}) TableFault → Pipes → World
     → Type 0
-PipesSent pipes bytes = PipesThrough false (λ p. SentThrough p bytes) pipes
+PipesClearedOf endpoint = PipesThrough (pipe_to endpoint) ClearedOfThrough
 
--- packets are received from its bulk IN endpoint
-abbrev pub PipesReceived : Pipes → ℕ → World → Result (Vec ℕ) TableFault → Pipes → World → Type 0
-PipesReceived pipes packets = PipesThrough true (λ p. ReceivedThrough p packets) pipes
+-- over any bus: without a pipe this is told, and nothing changes; else the answer is the pipe's own
+abbrev pub MovedOrRefused : {A W : Type 0} → Result PipeState TransferFault → Pipes → W
+    → Result A TableFault → Pipes → W → Type 0
+MovedOrRefused {A} (Ok pipe) pipes old result left new = (answer : Result A PipeFault)
+    × (result ≡ table_answer answer)
+MovedOrRefused (Err fault) pipes old result left new = (result ≡ Err (Transfer fault))
+    × (left ≡ pipes) × (new ≡ old)
 
--- the halts of a function's bulk endpoints are cleared
+-- the halts of a function's first bulk endpoints are cleared
 abbrev pub PipesCleared : Pipes → World → Result (Unit {0}) TableFault → Pipes → World → Type 0
 PipesCleared (Hub pipe) old result left new = NotTried NoEndpoint (Hub pipe) old result left new
-PipesCleared (Function pipes) old result left new = (rest : BulkPipes) × (left ≡ Function rest)
+PipesCleared (Function pipes) old result left new = (rest : FunctionPipes) × (left ≡ Function rest)
     × ClearedInTurn pipes old result rest new
 PipesCleared Absent old result left new = NotTried NoDevice Absent old result left new
 

@@ -1,6 +1,6 @@
 //! Why a call through the pipes to a device ended with no success.
 ghost use Rattle.std.specs.Prelude.{◌≡◌};
-ghost use Rattle.usb_table.specs.Transfers.{of_pipe};
+ghost use Rattle.usb_table.specs.Transfers.{of_pipe, table_answer};
 
 use thiserror::Error;
 use usb_bus::BusFault;
@@ -18,7 +18,7 @@ pub enum TransferFault {
     /// The host alone may send this request.
     #[error("reserved")]
     Reserved,
-    /// The device is a hub, or has no such bulk endpoint.
+    /// The device is a hub, or has no such endpoint that a pipe can use.
     #[error("no endpoint")]
     NoEndpoint,
     /// The endpoint answered STALL.
@@ -62,4 +62,11 @@ impl From<PipeFault> for TableFault {
             PipeFault::Memory => TableFault::Memory,
         }
     }
+}
+
+/// A pipe's answer as the table's.
+pub(crate) fn table_answer<A>(answer: Result<A, PipeFault>) -> Result<A, TableFault>
+    ensures { result ≡ table_answer answer }
+{
+    Ok(answer?)
 }

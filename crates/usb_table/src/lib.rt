@@ -7,7 +7,8 @@
 //!   (`listed_is_what_the_events_left`).
 //! - A call through the pipes at a path moves nothing but at the device there. It changes no
 //!   address, description or port, and leaves all other pipes level (`DeviceTable::send` and the
-//!   others; *KeepsMoved*, `specs/Levels.antt`).
+//!   others; *KeepsMoved*, `specs/Levels.antt`). It leaves the pipes to other endpoints of the
+//!   device as they are (*PipesThrough*, `specs/Transfers.antt`).
 //! - A control write that is done gave the device the data once. If it failed, the device took all
 //!   of them or none (`control_out`; *TableWrites*, `specs/Controls.antt`).
 //!
@@ -15,18 +16,22 @@
 //! the rest.
 #![tactic(auto)]
 
+mod choice;
 mod control;
 mod entry;
 mod fault;
 mod found;
+mod function_pipes;
 mod indexes;
 mod kind;
 mod known;
 mod listing_laws;
 mod pipes;
+mod row;
 mod table;
 mod target;
 
+pub use choice::EndpointChoice;
 pub use fault::{TableFault, TransferFault};
 pub use found::address_of;
 pub use known::KnownPort;
@@ -35,4 +40,5 @@ pub use table::DeviceTable;
 pub use usb_enum::Finding;
 pub use usb_hub::{Bus, HubPort, PipeFault};
 pub use usb_port::PortPath;
+pub use usb_request::EndpointAddress;
 pub use usb_resources::Address;

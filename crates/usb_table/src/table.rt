@@ -1,5 +1,5 @@
 //! What is at each port.
-ghost use Rattle.std.specs.Prelude.{◌≡◌, ℕ, ◌*◌, List, length, false, true, option_copied};
+ghost use Rattle.std.specs.Prelude.{◌≡◌, ℕ, ◌≤◌, ◌*◌, List, length, false, true, option_copied};
 ghost use Rattle.std.specs.Prelude.{IfSome, IfNone, IfOk, IfErr, OnOk, OnErr};
 ghost use Rattle.std.specs.BTreeMap.{is_at};
 ghost use Rattle.std.specs.Map.{lookup};
@@ -11,19 +11,22 @@ ghost use Rattle.usb_table.specs.Kinds.{fits};
 ghost use Rattle.usb_table.specs.KnownPorts.{IsAskable, known_port};
 ghost use Rattle.usb_table.specs.NextEntries.{IsNext, IsLast};
 ghost use Rattle.usb_table.specs.Tables.{ArePipesAt, GoesThrough, TakesOut};
-ghost use Rattle.usb_table.specs.Tables.{empty, entered};
+ghost use Rattle.usb_table.specs.Tables.{empty, entered, pipes_at};
+ghost use Rattle.usb_table.specs.PipeRows.{asked_through, pipe_to, polls_through, receives_through};
+ghost use Rattle.usb_table.specs.PipeRows.{sends_through, through, unless_broken};
 ghost use Rattle.usb_bus.specs.Traces.{Spends};
 ghost use Rattle.usb_pipe.specs.Control.{BusToldIt, write_bound};
 ghost use Rattle.usb_transaction.specs.Transactions.{transaction_bound};
-ghost use Rattle.usb_table.specs.Transfers.{TransferTold};
-ghost use Rattle.usb_table.specs.Levels.{TablePolls, TableSends, TableReceives, TableClears};
+ghost use Rattle.usb_table.specs.Transfers.{MovedOrRefused, TransferTold};
+ghost use Rattle.usb_table.specs.Levels.{TableClears, TableClearsOf, TablePolls, TableReceives};
+ghost use Rattle.usb_table.specs.Levels.{TableReports, TableSends};
 
 use crate::entry::Entry;
 use crate::found::address_number;
 use crate::indexes::Indexes;
 use crate::kind::{Kind, fits, start_after};
 use crate::known::{is_below_hub, port_of_finding, root_port};
-use crate::{KnownPort, TableFault, TransferFault};
+use crate::{EndpointChoice, KnownPort, TableFault, TransferFault};
 use arrayvec::ArrayVec;
 use slab::Slab;
 use std::alloc::{AllocError, Global};
@@ -34,6 +37,7 @@ use usb_bus::Bus;
 use usb_enum::Finding;
 use usb_pipe::PipeFault;
 use usb_port::PortPath;
+use usb_request::EndpointAddress;
 use usb_resources::Address;
 
 /// What is at each port, by the port's path, with the host's pipes to it.
@@ -228,12 +232,13 @@ impl DeviceTable {
         }
     }
 
-    /// Sends bytes to the bulk OUT endpoint of the function at a path.
+    /// Sends bytes to an OUT endpoint of the function at a path.
     ///
     /// # Errors
     ///
     /// - `NoDevice`: no accepted device is at the path.
-    /// - `NoEndpoint`: the device is a hub, is at low speed or has no bulk OUT endpoint.
+    /// - `NoEndpoint`: the device is a hub, or has no such OUT endpoint that a pipe can use; the
+    ///   first bulk one is at full speed.
     /// - `Broken`: the pipe must be cleared first.
     /// - `Stalled`, `Busy`, `NoAnswer`: the transaction of a packet ended so.
     /// - `Bus`: the bus has failed.
@@ -241,28 +246,33 @@ impl DeviceTable {
         &mut self,
         bus: &mut B,
         path: &PortPath,
+        choice: EndpointChoice,
         bytes: &[u8],
     ) -> Result<(), TableFault>
-        ensures any_bus { Spends B.spent B.ports (transaction_bound * length bytes.now) bus.old bus.new
-            × TransferTold result (B.failed bus.new) }
+        ensures any_bus { Spends B.spent B.ports (transaction_bound * length bytes.now)
+            bus.old bus.new
+            × TransferTold result (B.failed bus.new)
+            × MovedOrRefused
+            (unless_broken (asked_through (sends_through choice) (pipes_at path.now self.old)))
+            (pipes_at path.now self.old) bus.old result (pipes_at path.now self.new) bus.new }
         ensures through { GoesThrough path.now self.old self.new }
-        ensures sends { B.modelled ≡ true → TableSends path.now bytes.now
+        ensures sends { B.modelled ≡ true → TableSends path.now choice bytes.now
             self.old (B.world bus.old) (B.trace bus.old) result
             self.new (B.world bus.new) (B.trace bus.new) }
     {
         match self.indexes.by_path.get(path) {
-            Some(key) => self.entries[*key].pipes.send(bus, bytes),
+            Some(key) => self.entries[*key].pipes.send(bus, choice, bytes),
             None => Err(TableFault::Transfer(TransferFault::NoDevice)),
         }
     }
 
-    /// Receives this number of packets from the bulk IN endpoint of the function at a path, or
-    /// fewer if one of them is short.
+    /// Receives this number of packets from a bulk IN endpoint of the function at a path, or fewer
+    /// if one of them is short.
     ///
     /// # Errors
     ///
     /// - `NoDevice`: no accepted device is at the path.
-    /// - `NoEndpoint`: the device is a hub, is at low speed or has no bulk IN endpoint.
+    /// - `NoEndpoint`: the device is a hub, is at low speed or has no such bulk IN endpoint.
     /// - `Broken`: the pipe must be cleared first.
     /// - `Stalled`, `Busy`, `NoAnswer`: the transaction of a packet ended so.
     /// - `Memory`: the bytes find no room.
@@ -272,23 +282,64 @@ impl DeviceTable {
         alloc: Global,
         bus: &mut B,
         path: &PortPath,
+        choice: EndpointChoice,
         packets: u16,
     ) -> Result<Vec<u8>, TableFault>
         ensures any_bus { Spends B.spent B.ports (transaction_bound * packets) bus.old bus.new
-            × TransferTold result (B.failed bus.new) }
+            × TransferTold result (B.failed bus.new)
+            × MovedOrRefused
+            (unless_broken (asked_through (receives_through choice) (pipes_at path.now self.old)))
+            (pipes_at path.now self.old) bus.old result (pipes_at path.now self.new) bus.new }
         ensures through { GoesThrough path.now self.old self.new }
-        ensures receives { B.modelled ≡ true → TableReceives path.now packets
+        ensures receives { B.modelled ≡ true → TableReceives path.now choice packets
             self.old (B.world bus.old) (B.trace bus.old) result
             self.new (B.world bus.new) (B.trace bus.new) }
     {
         match self.indexes.by_path.get(path) {
-            Some(key) => self.entries[*key].pipes.receive(alloc, bus, packets),
+            Some(key) => self.entries[*key]
+                .pipes
+                .receive(alloc, bus, choice, packets),
             None => Err(TableFault::Transfer(TransferFault::NoDevice)),
         }
     }
 
-    /// Clears the halts of the bulk endpoints of the function at a path: of the OUT endpoint, then
-    /// of the IN endpoint. The first fault ends it.
+    /// Asks an interrupt IN endpoint of the function at a path once (5.7): its packet, of 0 to 64
+    /// bytes, or None where it has nothing.
+    ///
+    /// # Errors
+    ///
+    /// - `NoDevice`: no accepted device is at the path.
+    /// - `NoEndpoint`: the device is a hub or has no such interrupt IN endpoint.
+    /// - `Broken`: the pipe must be cleared first.
+    /// - `Stalled`, `Busy`, `NoAnswer`: the transaction ended so.
+    /// - `Bus`: the bus has failed.
+    pub fn poll_of<B: Bus>(
+        &mut self,
+        bus: &mut B,
+        path: &PortPath,
+        endpoint: EndpointAddress,
+    ) -> Result<Option<ArrayVec<u8, 64>>, TableFault>
+        ensures any_bus { Spends B.spent B.ports transaction_bound bus.old bus.new
+            × TransferTold result (B.failed bus.new)
+            × MovedOrRefused
+            (unless_broken (asked_through (polls_through endpoint) (pipes_at path.now self.old)))
+            (pipes_at path.now self.old) bus.old result (pipes_at path.now self.new) bus.new }
+        ensures most { IfOk result (λ got. IfSome got (λ packet.
+            IfSome (through (polls_through endpoint) (pipes_at path.now self.old))
+            (λ pipe. length packet.items ≤ pipe.max))) }
+        ensures through { GoesThrough path.now self.old self.new }
+        ensures reports { B.modelled ≡ true → TableReports path.now endpoint
+            self.old (B.world bus.old) (B.trace bus.old) result
+            self.new (B.world bus.new) (B.trace bus.new) }
+    {
+        match self.indexes.by_path.get(path) {
+            Some(key) => self.entries[*key].pipes.poll_of(bus, endpoint),
+            None => Err(TableFault::Transfer(TransferFault::NoDevice)),
+        }
+    }
+
+    /// Clears the halts of the first bulk endpoints of the function at a path, where their pipes
+    /// need it: of the OUT endpoint, then of the IN endpoint. The first fault ends it.
     ///
     /// # Errors
     ///
@@ -307,6 +358,37 @@ impl DeviceTable {
     {
         match self.indexes.by_path.get(path) {
             Some(key) => self.entries[*key].pipes.clear_halt(bus),
+            None => Err(TableFault::Transfer(TransferFault::NoDevice)),
+        }
+    }
+
+    /// Clears the halt of an endpoint of the function at a path, of either kind and direction,
+    /// whatever its pipe saw (9.4.5).
+    ///
+    /// # Errors
+    ///
+    /// - `NoDevice`: no accepted device is at the path.
+    /// - `NoEndpoint`: the device is a hub or has no such endpoint that a pipe can use.
+    /// - `Stalled`: the device refused the request.
+    /// - `Busy`, `NoAnswer`: a transaction ended so.
+    /// - `Bus`: the bus has failed.
+    pub fn clear_halt_of<B: Bus>(
+        &mut self,
+        bus: &mut B,
+        path: &PortPath,
+        endpoint: EndpointAddress,
+    ) -> Result<(), TableFault>
+        ensures any_bus { Spends B.spent B.ports write_bound bus.old bus.new
+            × TransferTold result (B.failed bus.new)
+            × MovedOrRefused (asked_through (pipe_to endpoint) (pipes_at path.now self.old))
+            (pipes_at path.now self.old) bus.old result (pipes_at path.now self.new) bus.new }
+        ensures through { GoesThrough path.now self.old self.new }
+        ensures clears { B.modelled ≡ true → TableClearsOf path.now endpoint
+            self.old (B.world bus.old) (B.trace bus.old) result
+            self.new (B.world bus.new) (B.trace bus.new) }
+    {
+        match self.indexes.by_path.get(path) {
+            Some(key) => self.entries[*key].pipes.clear_halt_of(bus, endpoint),
             None => Err(TableFault::Transfer(TransferFault::NoDevice)),
         }
     }

@@ -12,7 +12,7 @@ use Rattle.usb_port.specs.{path_cmp, is_below, parent_of, port_on_hub}
 use Rattle.usb_port.proofs.Interface.{is_below-extension, rejoined}
 use Rattle.usb_hub.specs.{External}
 use Rattle.usb_enum.specs.{Accepted, Finding, HubFacts, target_of}
-use Rattle.usb_enum.specs.declared.finding.Finding.TheVariants.{Device, Refused}
+use Rattle.usb_enum.specs.declared.finding.Finding.TheVariants.{Device}
 use Rattle.usb_table.proofs.entries.Paths.{path_tied}
 use Rattle.usb_table.specs.{Entries, is_at_or_below, without, known_port, port_below, port_found}
 use Rattle.usb_table.specs.{is_below_hub, port_of_hub, KnownPort}

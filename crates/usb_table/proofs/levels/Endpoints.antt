@@ -1,14 +1,12 @@
 -- What is so of the endpoints that a host picks in a configuration text.
-use Rattle.std.proofs.Common.{◌≡◌, refl, arith, Bool, true, false, ℕ, ◌≤◌, ◌==◌, if◌then◌else◌}
+use Rattle.std.proofs.Common.{◌≡◌, refl, arith, Bool, true, false, ℕ, ◌≤◌, if◌then◌else◌}
 use Rattle.std.proofs.Common.{List, [], ◌∷◌, Option, None, Some, Result, Ok, Err, nat_le, IfSome}
 use Rattle.std.specs.Option.{option_or}
 use Rattle.std.proofs.lemmas.Bool.{and_parts}
 use Rattle.std.proofs.lemmas.Bool.Decides.{nat_tests}
 use Rattle.usb_descriptor.specs.{DescriptorFault, Interface, Endpoint, Other, counts_after, picked}
-use Rattle.usb_descriptor.specs.{first_from, first_counting, bulk_described, bulk_out_at}
-use Rattle.usb_descriptor.specs.{bulk_in_at, packet_size, status_at, in_config, bulk_out_of}
-use Rattle.usb_descriptor.specs.{bulk_in_of, status_endpoint_of, config_of, items_of}
-use Rattle.usb_descriptor.specs.{endpoint_number, max_packet_size}
+use Rattle.usb_descriptor.specs.{first_from, first_counting, packet_size, status_at, in_config}
+use Rattle.usb_descriptor.specs.{status_endpoint_of, config_of, items_of}
 use Rattle.usb_descriptor.specs.declared.item.Item.{Item}
 
 -- what is so of each that is picked, is so of the first that counts
@@ -59,33 +57,3 @@ status_each endpoint =
 pub status_end : (bytes : List ℕ) → IfSome (status_endpoint_of bytes) (λ e. (e.0 ≡ 1) × (1 ≤ e.1))
 unfolding status_endpoint_of
 status_end bytes = of_config IsStatusEnd status_at status_each (config_of bytes)
-
--- A bulk endpoint is not endpoint 0
-
-abbrev IsNumbered : ℕ × ℕ → Type 0
-IsNumbered e = (e.0 == 0) ≡ false
-
-bulk_each : (endpoint : List ℕ) → IfSome (bulk_described endpoint) IsNumbered
-unfolding bulk_described
-bulk_each endpoint =
-    of_if IsNumbered _ (Some (endpoint_number endpoint, max_packet_size endpoint)) None
-    (λ h. least (endpoint_number endpoint) (and_parts _ _ (and_parts _ _ h).0).1) tt
-  where
-    least : (n : ℕ) → nat_le 1 n ≡ true → (n == 0) ≡ false
-    least n h = grind (arith, nat_tests, h)
-
-out_each : (endpoint : List ℕ) → IfSome (bulk_out_at endpoint) IsNumbered
-unfolding bulk_out_at
-out_each endpoint = of_if IsNumbered _ None (bulk_described endpoint) (λ h. tt) (bulk_each endpoint)
-
-in_each : (endpoint : List ℕ) → IfSome (bulk_in_at endpoint) IsNumbered
-unfolding bulk_in_at
-in_each endpoint = of_if IsNumbered _ (bulk_described endpoint) None (λ h. bulk_each endpoint) tt
-
-pub bulk_out_end : (bytes : List ℕ) → IfSome (bulk_out_of bytes) (λ e. (e.0 == 0) ≡ false)
-unfolding bulk_out_of
-bulk_out_end bytes = of_config IsNumbered bulk_out_at out_each (config_of bytes)
-
-pub bulk_in_end : (bytes : List ℕ) → IfSome (bulk_in_of bytes) (λ e. (e.0 == 0) ≡ false)
-unfolding bulk_in_of
-bulk_in_end bytes = of_config IsNumbered bulk_in_at in_each (config_of bytes)

@@ -2,21 +2,26 @@
 use Rattle.usb_device.specs.{Location, EndpointData, EndpointState, Registers, bulk_at, data_by}
 use Rattle.usb_device.specs.{SourceAt, PollAt, NeverTold, OnlyStage, OnlySink, OnlySource}
 use Rattle.usb_device.specs.{OnlyWrite, Spec, State, OutEnd, InEnd, endpoint_row, in_data, in_end}
-use Rattle.usb_device.specs.{in_max, is_numbered, out_end, out_max, packet_in, place_behind}
+use Rattle.usb_device.specs.{IsSource, in_max, is_numbered, out_end, out_max, packet_in}
+use Rattle.usb_device.specs.{place_behind}
 use Rattle.usb_device.specs.{served_at, tells_changes}
 use Rattle.usb_descriptor.specs.{max_of_usable}
 use Rattle.usb_request.specs.{DIRECTION_IN}
 use Rattle.std.proofs.Common.{◌≡◌, ◌∙◌, refl, sym, ap, subst, true, false, ℕ, ◌+◌, ◌==◌}
 use Rattle.std.proofs.Common.{◌&&◌, List, [], Option, None, Some, Result, Ok, Err, IsOk, is_some}
+use Rattle.std.proofs.Common.{Bool, IfSome, eqb-true}
 use Rattle.std.specs.Global.{Vec}
 use Rattle.arrayvec.specs.ArrayVec.{ArrayVec}
 use Rattle.usb_packet.specs.{Toggle}
 use Rattle.usb_tree.specs.{address_of}
 use Rattle.usb_world.specs.{World}
-use Rattle.usb_pipe.specs.{PipeFault, Bulk, Interrupt, OutPipeInSync, InPipeInSync, pipe_known}
-use Rattle.usb_pipe.specs.{got_after, SendLeaves, ReceiveLeaves, ClearLeaves, PollLeaves}
+use Rattle.usb_pipe.specs.{PipeFault, PipeState, Interrupt, OutPipeInSync, InPipeInSync, pipe_known}
+use Rattle.usb_pipe.specs.{got_after, SendLeaves, ReceiveLeaves, PacketLeaves, ClearLeaves}
+use Rattle.usb_pipe.specs.{PollLeaves, pipe_made}
+use Rattle.usb_table.specs.{AreInPlace, FunctionInSync, FunctionPipes, pipe_at, with_pipe}
 use Rattle.usb_table.specs.{Pipes, Hub, Function, Absent, StatusPipeInSync, FitsOut, FitsIn}
 use Rattle.usb_table.specs.{PipesInSync, SameSettings}
+use Rattle.usb_table.proofs.levels.StandingPipes.{at_elsewhere, at_with, same_number, same_way}
 use Rattle.usb_table.proofs.transfers.HaltClears.{in_cleared, out_cleared}
 use Rattle.usb_table.proofs.transfers.DevicesKept.{RanAs}
 
@@ -45,7 +50,7 @@ pub same_in_data : (e : ℕ) (s v : State) → SameSettings root s v → in_data
 same_in_data e = same_seen (λ x g. data_by (endpoint_row x.endpoints (DIRECTION_IN + e)) x.source
     (is_numbered e (bulk_at x g true)))
 
-still_sink : (pipe : Bulk) (s v : State) → SameSettings root s v
+still_sink : (pipe : PipeState) (s v : State) → SameSettings root s v
     → (out_end v pipe.ep).state ≡ (out_end s pipe.ep).state → OutPipeInSync pipe s
     → OutPipeInSync pipe v
 still_sink pipe s v k e f = record {
@@ -76,8 +81,8 @@ still_source_at ep most got t s v k place e (SourceAt.ahead a b c) =
     (a ∙ sym (same_next (λ content n. place_behind content most n) ep s v k place))
     (same_next (λ content n. is_some (packet_in content most n)) ep s v k place ∙ b) (e ∙ c)
 
--- the endpoint of a bulk IN pipe is as far as it was
-pub still_source : (pipe : Bulk) (got : ℕ) (s v : State) → SameSettings root s v
+-- the endpoint of an IN pipe is as far as it was
+pub still_source : (pipe : PipeState) (got : ℕ) (s v : State) → SameSettings root s v
     → (in_end v pipe.ep).place ≡ (in_end s pipe.ep).place
     → (in_end v pipe.ep).state ≡ (in_end s pipe.ep).state → InPipeInSync pipe got s
     → InPipeInSync pipe got v
@@ -92,12 +97,12 @@ still_source pipe got s v k place e f = record {
   halted = λ halts. ap (λ (x : EndpointState). x.halted) e ∙ f.halted halts;
 }
 
-still_out : (out : Option Bulk) (s v : State) → SameSettings root s v
+still_out : (out : Option PipeState) (s v : State) → SameSettings root s v
     → ((e : ℕ) → out_end v e ≡ out_end s e) → FitsOut out s → FitsOut out v
 still_out None s v k e f = tt
 still_out (Some pipe) s v k e f = still_sink pipe s v k (ap (λ (x : OutEnd). x.state) (e pipe.ep)) f
 
-fits_in-same : (into : Option Bulk) (s v : State) → SameSettings root s v
+fits_in-same : (into : Option PipeState) (s v : State) → SameSettings root s v
     → ((e : ℕ) → in_end v e ≡ in_end s e) → FitsIn into s → FitsIn into v
 fits_in-same None s v k e f = tt
 fits_in-same (Some pipe) s v k e f = (
@@ -133,10 +138,10 @@ record StillEnds (s v : State) : Type 0 where
 still_ends : (pipes : Pipes) (s v : State) → StillEnds s v → PipesInSync pipes s
     → PipesInSync pipes v
 still_ends (Hub pipe) s v x f = still_status pipe s v x.settings x.changes x.held f
-still_ends (Function pipes) s v x f = (
-  still_out pipes.out s v x.settings x.outs f.0,
-  fits_in-same pipes.into s v x.settings x.ins f.1,
-)
+still_ends (Function pipes) s v x f = record {
+  outs = λ e. still_out (pipe_at false e pipes) s v x.settings x.outs (f.outs e);
+  ins = λ e. fits_in-same (pipe_at true e pipes) s v x.settings x.ins (f.ins e);
+}
 still_ends Absent s v x f = tt
 
 -- where nothing changed but where the device's transfer stands
@@ -161,6 +166,72 @@ written_level pipes s v frame = still_ends pipes s v (record {
   ins = λ e. ap (λ (d : State). in_end d e) frame;
 })
 
+-- The pipes to a function, of which a call went through one
+
+-- another one at its own endpoint, where nothing moved
+out_beside : (e : ℕ) (out : Option PipeState) (s v : State)
+    → IfSome out (λ (p : PipeState). (p.is_in ≡ false) × (p.ep ≡ e)) → SameSettings root s v
+    → out_end v e ≡ out_end s e → FitsOut out s → FitsOut out v
+out_beside e None s v place k same f = tt
+out_beside e (Some pipe) s v place k same f = still_sink pipe s v k
+    (ap (λ n. (out_end v n).state) place.1 ∙ ap (λ (x : OutEnd). x.state) same
+    ∙ ap (λ n. (out_end s n).state) (sym place.1)) f
+
+in_beside : (e : ℕ) (into : Option PipeState) (s v : State)
+    → IfSome into (λ (p : PipeState). (p.is_in ≡ true) × (p.ep ≡ e)) → SameSettings root s v
+    → in_end v e ≡ in_end s e → FitsIn into s → FitsIn into v
+in_beside e None s v place k same f = tt
+in_beside e (Some pipe) s v place k same f = (
+  f.0,
+  still_source pipe f.0 s v k
+      (ap (λ n. (in_end v n).place) place.1 ∙ ap (λ (x : InEnd). x.place) same
+      ∙ ap (λ n. (in_end s n).place) (sym place.1))
+      (ap (λ n. (in_end v n).state) place.1 ∙ ap (λ (x : InEnd). x.state) same
+      ∙ ap (λ n. (in_end s n).state) (sym place.1)) f.1,
+)
+
+module _ (pipes : FunctionPipes) (placed : AreInPlace pipes) (left : PipeState) (s v : State)
+    (k : SameSettings root s v) (f : FunctionInSync pipes s) where
+  pub out_fits : left.is_in ≡ false → OutPipeInSync left v
+      → ((e : ℕ) → (e == left.ep) ≡ false → out_end v e ≡ out_end s e)
+      → ((e : ℕ) → in_end v e ≡ in_end s e) → FunctionInSync (with_pipe left pipes) v
+  out_fits way fits outs ins = record {
+    outs = λ e. by_number e (e == left.ep) refl;
+    ins = λ e. subst (λ o. FitsIn o v)
+        (sym (at_elsewhere left pipes true e (λ same. cc (sym way ∙ same))))
+        (fits_in-same (pipe_at true e pipes) s v k ins (f.ins e));
+  }
+    where
+      by_number : (e : ℕ) (b : Bool) → (e == left.ep) ≡ b
+          → FitsOut (pipe_at false e (with_pipe left pipes)) v
+      by_number e true at = subst (λ o. FitsOut o v)
+          (sym (ap (λ n. pipe_at false n (with_pipe left pipes)) (eqb-true e left.ep at)
+          ∙ ap (λ b. pipe_at b left.ep (with_pipe left pipes)) (sym way) ∙ at_with left pipes))
+          fits
+      by_number e false apart = subst (λ o. FitsOut o v)
+          (sym (at_elsewhere left pipes false e (λ same. apart)))
+          (out_beside e (pipe_at false e pipes) s v (placed false e) k (outs e apart) (f.outs e))
+
+  pub in_fits : left.is_in ≡ true → FitsIn (Some left) v → ((e : ℕ) → out_end v e ≡ out_end s e)
+      → ((e : ℕ) → (e == left.ep) ≡ false → in_end v e ≡ in_end s e)
+      → FunctionInSync (with_pipe left pipes) v
+  in_fits way fits outs ins = record {
+    outs = λ e. subst (λ o. FitsOut o v)
+        (sym (at_elsewhere left pipes false e (λ same. cc (sym way ∙ same))))
+        (still_out (pipe_at false e pipes) s v k outs (f.outs e));
+    ins = λ e. by_number e (e == left.ep) refl;
+  }
+    where
+      by_number : (e : ℕ) (b : Bool) → (e == left.ep) ≡ b
+          → FitsIn (pipe_at true e (with_pipe left pipes)) v
+      by_number e true at = subst (λ o. FitsIn o v)
+          (sym (ap (λ n. pipe_at true n (with_pipe left pipes)) (eqb-true e left.ep at)
+          ∙ ap (λ b. pipe_at b left.ep (with_pipe left pipes)) (sym way) ∙ at_with left pipes))
+          fits
+      by_number e false apart = subst (λ o. FitsIn o v)
+          (sym (at_elsewhere left pipes true e (λ same. apart)))
+          (in_beside e (pipe_at true e pipes) s v (placed true e) k (ins e apart) (f.ins e))
+
 -- A call through the pipes to the device of an address
 
 -- another device is as it was; where the call ends so, this one is as far as the pipes that are
@@ -172,10 +243,10 @@ pub record PipesMove (address : ℕ) (ends : Type 0) (pipes left : Pipes) (j : L
   pub itself : ends → (address_of s == address) ≡ true → PipesInSync pipes s → PipesInSync left v
 
 -- where the answer is not the bus's own
-known_itself : {A : Type 0} (ends : Type 0) (answer : Result A PipeFault) (left : Bulk) (s : State)
-    (Fits : Bulk → State → Type 0) → (ends → pipe_known answer left ≡ left) → ends
+known_itself : {A : Type 0} (ends : Type 0) (answer : Result A PipeFault) (left : PipeState)
+    (s : State) (Fits : PipeState → State → Type 0) → (ends → pipe_known answer left ≡ left) → ends
     → Fits (pipe_known answer left) s → Fits left s
-known_itself ends answer left s Fits is e f = subst (λ (b : Bulk). Fits b s) (is e) f
+known_itself ends answer left s Fits is e f = subst (λ (b : PipeState). Fits b s) (is e) f
 
 pub poll_moves : (pipe left : Interrupt) (old new : World)
     (result : Result (Option (ArrayVec ℕ)) PipeFault) (j : Location) (s v : State)
@@ -197,67 +268,104 @@ poll_moves pipe left old new (Err why) j s v x ran =
       itself = λ e at f. absurd (cc e);
     }
 
-pub send_moves : (ends : Type 0) (bytes : List ℕ) (pipe left : Bulk) (into : Option Bulk)
-    (answer : Result (Unit {0}) PipeFault) (j : Location) (s v : State)
-    → (ends → pipe_known answer left ≡ left)
-    → SendLeaves bytes pipe answer left j s v → SameSettings j s v
-    → PipesMove pipe.target.addr ends (Function (record { out = Some pipe; into = into }))
-    (Function (record { out = Some left; into = into })) j s v
-send_moves ends bytes pipe left into answer j s v is x k = record {
-  others = x.others;
-  same = ap (λ (g : Registers). g.address) k.1;
-  itself = λ e at f.
-      let frame : OnlySink pipe.ep s v = x.frame f.0.endpoint in (
-        known_itself ends answer left v OutPipeInSync is e (x.fits at f.0),
-        fits_in-same into s v k (λ e. ap (λ (d : State). in_end d e) frame.rest) f.1,
-      );
-}
+-- through a pipe of a function
 
-pub receive_moves : (ends : Type 0) (pipe left : Bulk) (out : Option Bulk)
-    (answer : Result (Vec ℕ) PipeFault) (j : Location) (s v : State)
-    → (ends → pipe_known answer left ≡ left)
-    → ReceiveLeaves pipe answer left j s v → SameSettings j s v
-    → PipesMove pipe.target.addr ends (Function (record { out = out; into = Some pipe }))
-    (Function (record { out = out; into = Some left })) j s v
-receive_moves ends pipe left out answer j s v is x k = record {
-  others = x.others;
-  same = ap (λ (g : Registers). g.address) k.1;
-  itself = λ e at f.
-      let frame : OnlySource pipe.ep s v = x.frame f.1.1.endpoint in
-      let gave = x.gave at f.1.0 f.1.1 in (
-        still_out out s v k (λ e. ap (λ (d : State). out_end d e) frame.rest) f.0,
-        (
-          gave.behind,
-          known_itself ends answer left v (λ b. InPipeInSync b gave.behind) is e gave.level,
-        ),
-      );
-}
+module _ (ends : Type 0) (pipes : FunctionPipes) (placed : AreInPlace pipes)
+    (pipe left : PipeState) (at : pipe_at pipe.is_in pipe.ep pipes ≡ Some pipe)
+    (made : pipe_made left ≡ pipe_made pipe) where
+  way : left.is_in ≡ pipe.is_in
+  way = same_way pipe left made
 
-module _ (ends : Type 0) (pipe left : Bulk) (answer : Result (Unit {0}) PipeFault) (j : Location)
-    (s v : State) (is : ends → pipe_known answer left ≡ left)
-    (x : ClearLeaves pipe answer left j s v) (k : SameSettings j s v) where
-  pub clear_out_moves : (into : Option Bulk) → pipe.is_in ≡ false
-      → PipesMove pipe.target.addr ends (Function (record { out = Some pipe; into = into }))
-      (Function (record { out = Some left; into = into })) j s v
-  clear_out_moves into way = record {
+  number : left.ep ≡ pipe.ep
+  number = same_number pipe left made
+
+  apart_of : (e : ℕ) → (e == left.ep) ≡ false → (e == pipe.ep) ≡ false
+  apart_of e apart = ap (λ n. e == n) (sym number) ∙ apart
+
+  pub out_of : (s : State) → pipe.is_in ≡ false → FunctionInSync pipes s → OutPipeInSync pipe s
+  out_of s out f = subst (λ o. FitsOut o s) (ap (λ b. pipe_at b pipe.ep pipes) (sym out) ∙ at)
+      (f.outs pipe.ep)
+
+  pub in_of : (s : State) → pipe.is_in ≡ true → FunctionInSync pipes s → FitsIn (Some pipe) s
+  in_of s into f = subst (λ o. FitsIn o s) (ap (λ b. pipe_at b pipe.ep pipes) (sym into) ∙ at)
+      (f.ins pipe.ep)
+
+  pub send_moves : (bytes : List ℕ) (answer : Result (Unit {0}) PipeFault) (j : Location)
+      (s v : State) → (ends → pipe_known answer left ≡ left) → pipe.is_in ≡ false
+      → SendLeaves bytes pipe answer left j s v → SameSettings j s v
+      → PipesMove pipe.target.addr ends (Function pipes) (Function (with_pipe left pipes)) j s v
+  send_moves bytes answer j s v is out x k = record {
     others = x.others;
     same = ap (λ (g : Registers). g.address) k.1;
-    itself = λ e at f. (
-      known_itself ends answer left v OutPipeInSync is e (x.sink at way f.0).0,
-      fits_in-same into s v k (out_cleared pipe.ep s v (x.only_sink way f.0.endpoint)).ins f.1,
-    );
+    itself = λ e there f.
+        let level = out_of s out f in
+        let frame : OnlySink pipe.ep s v = x.frame level.endpoint in
+        out_fits pipes placed left s v k f (way ∙ out)
+        (known_itself ends answer left v OutPipeInSync is e (x.fits there level))
+        (λ a apart. frame.others a (apart_of a apart))
+        (λ a. ap (λ (d : State). in_end d a) frame.rest);
   }
 
-  pub clear_in_moves : (out : Option Bulk) → pipe.is_in ≡ true
-      → PipesMove pipe.target.addr ends (Function (record { out = out; into = Some pipe }))
-      (Function (record { out = out; into = Some left })) j s v
-  clear_in_moves out way = record {
+  -- an IN pipe, by what it got then
+  given_moves : {A : Type 0} (answer : Result A PipeFault) (j : Location) (s v : State)
+      → (ends → pipe_known answer left ≡ left) → pipe.is_in ≡ true
+      → ((address_of s == pipe.target.addr) ≡ false → v ≡ s)
+      → (IsSource pipe.ep pipe.max s → OnlySource pipe.ep s v)
+      → ((address_of s == pipe.target.addr) ≡ true → (got : ℕ) → InPipeInSync pipe got s
+      → FitsIn (Some (pipe_known answer left)) v) → SameSettings j s v
+      → PipesMove pipe.target.addr ends (Function pipes) (Function (with_pipe left pipes)) j s v
+  given_moves answer j s v is into others frame gave k = record {
+    others = others;
+    same = ap (λ (g : Registers). g.address) k.1;
+    itself = λ e there f.
+        let level = in_of s into f in
+        let only : OnlySource pipe.ep s v = frame level.1.endpoint in
+        in_fits pipes placed left s v k f (way ∙ into)
+        (known_itself ends answer left v (λ b w. FitsIn (Some b) w) is e
+        (gave there level.0 level.1))
+        (λ a. ap (λ (d : State). out_end d a) only.rest)
+        (λ a apart. only.others a (apart_of a apart));
+  }
+
+  pub receive_moves : (answer : Result (Vec ℕ) PipeFault) (j : Location) (s v : State)
+      → (ends → pipe_known answer left ≡ left) → pipe.is_in ≡ true
+      → ReceiveLeaves pipe answer left j s v → SameSettings j s v
+      → PipesMove pipe.target.addr ends (Function pipes) (Function (with_pipe left pipes)) j s v
+  receive_moves answer j s v is into x k = given_moves answer j s v is into x.others x.frame
+      (λ there got f. let g = x.gave there got f in (g.behind, g.level)) k
+
+  pub packet_moves : (answer : Result (Option (ArrayVec ℕ)) PipeFault) (j : Location)
+      (s v : State) → (ends → pipe_known answer left ≡ left) → pipe.is_in ≡ true
+      → PacketLeaves pipe answer left j s v → SameSettings j s v
+      → PipesMove pipe.target.addr ends (Function pipes) (Function (with_pipe left pipes)) j s v
+  packet_moves answer j s v is into x k = given_moves answer j s v is into x.others x.frame
+      (λ there got f. let g = x.gave there got f in (g.behind, g.level)) k
+
+  pub clear_moves : (is_sent : Bool) (answer : Result (Unit {0}) PipeFault) (j : Location)
+      (s v : State) → (ends → pipe_known answer left ≡ left)
+      → ClearLeaves is_sent pipe answer left j s v → SameSettings j s v
+      → PipesMove pipe.target.addr ends (Function pipes) (Function (with_pipe left pipes)) j s v
+  clear_moves is_sent answer j s v is x k = record {
     others = x.others;
     same = ap (λ (g : Registers). g.address) k.1;
-    itself = λ e at f.
-        let fits = x.source at way f.1.0 f.1.1 in
-        let got : ℕ = got_after pipe f.1.0 answer s in (
-          still_out out s v k (in_cleared pipe.ep s v (x.only_source way f.1.1.endpoint)).outs f.0,
-          (got, known_itself ends answer left v (λ b. InPipeInSync b got) is e fits.0),
-        );
+    itself = by_way pipe.is_in refl;
   }
+    where
+      by_way : (b : Bool) → pipe.is_in ≡ b → ends → (address_of s == pipe.target.addr) ≡ true
+          → FunctionInSync pipes s → FunctionInSync (with_pipe left pipes) v
+      by_way false out e there f =
+          let level = out_of s out f in
+          let only = out_cleared pipe.ep s v (x.only_sink out level.endpoint) in
+          out_fits pipes placed left s v k f (way ∙ out)
+          (known_itself ends answer left v OutPipeInSync is e (x.sink there out level).0)
+          (λ a apart. only.others a (apart_of a apart)) only.ins
+      by_way true into e there f =
+          let level = in_of s into f in
+          let got : ℕ = got_after is_sent level.0 answer (in_end s pipe.ep).place in
+          let only = in_cleared pipe.ep s v (x.only_source into level.1.endpoint) in
+          in_fits pipes placed left s v k f (way ∙ into) (
+            got,
+            known_itself ends answer left v (λ b w. InPipeInSync b got w) is e
+                (x.source there into level.0 level.1).0,
+          )
+          only.outs (λ a apart. only.others a (apart_of a apart))

@@ -2,12 +2,15 @@
 use Rattle.std.proofs.Common.{◌≡◌, ◌≢◌, refl, sym, inl, inr, ap, subst, ◌∙◌, ◌⊎◌, ℕ, List, [], ◌∷◌}
 use Rattle.std.proofs.Common.{Bool, true, false, Option, Some, None}
 use Rattle.std.specs.Option.{option_map}
-use Rattle.usb_pipe.specs.{Bulk, bulk_made, Interrupt, interrupt_made, Condition}
-use Rattle.usb_pipe.specs.declared.condition.Condition.TheVariants.{Ready, Halted, Broken}
+use Rattle.usb_descriptor.specs.{UsableEndpoint}
+use Rattle.usb_pipe.specs.{PipeState, pipe_made, Interrupt, interrupt_made, Condition}
+use Rattle.usb_pipe.specs.declared.condition.Condition.TheVariants.{Ready, Broken}
 use Rattle.usb_enum.specs.{Accepted, Finding}
 use Rattle.usb_enum.specs.declared.finding.Finding.TheVariants.{Device, Refused}
-use Rattle.usb_table.specs.{BulkPipes, Pipes, Hub, Function, Absent, out_endpoint, in_endpoint}
-use Rattle.usb_table.specs.{IsStatusPipe, IsPipe, ArePipesTo, ArePipesOf, both_made, pipes_made}
+use Rattle.usb_table.specs.{FunctionPipes, Pipes, Hub, Function, Absent, AreFunctionPipes}
+use Rattle.usb_table.specs.{IsStatusPipe, IsPipe, ArePipesTo, ArePipesOf, first_number}
+use Rattle.usb_table.specs.{function_made, pipes_made}
+use Rattle.usb_table.proofs.levels.StandingPipes.{at_made}
 
 pub broken_or_not : (c : Condition) → (c ≡ Broken) ⊎ (c ≢ Broken)
 broken_or_not Broken = inl refl
@@ -23,23 +26,38 @@ empty_or_not (x ∷ xs) = inr (λ h. cc)
 
 -- Pipes are to a device just where they are as they were made
 
-bulk_to : (device : Accepted) (is_in : Bool) (endpoint : Option (ℕ × ℕ)) (pipe left : Option Bulk)
-    → option_map bulk_made left ≡ option_map bulk_made pipe → IsPipe device is_in endpoint pipe
-    → IsPipe device is_in endpoint left
-bulk_to device is_in None None None same to = tt
-bulk_to device is_in None (Some pipe) left same to = absurd to
-bulk_to device is_in (Some endpoint) None left same to = absurd to
-bulk_to device is_in (Some endpoint) (Some pipe) (Some left) same to =
-    let made : bulk_made left ≡ bulk_made pipe = cc same in
+end_to : (device : Accepted) (below_hub is_in : Bool) (e : ℕ) (end : Option UsableEndpoint)
+    (pipe left : Option PipeState) → option_map pipe_made left ≡ option_map pipe_made pipe
+    → IsPipe device below_hub is_in e end pipe → IsPipe device below_hub is_in e end left
+end_to device below_hub is_in e None None None same to = tt
+end_to device below_hub is_in e None (Some pipe) left same to = absurd to
+end_to device below_hub is_in e (Some end) None left same to = absurd to
+end_to device below_hub is_in e (Some end) (Some pipe) (Some left) same to =
+    let made : pipe_made left ≡ pipe_made pipe = cc same in
     record {
-      target = ap (λ (p : Bulk). p.target) made ∙ to.target;
-      number = ap (λ (p : Bulk). p.ep) made ∙ to.number;
-      other = to.other;
-      max = ap (λ (p : Bulk). p.max) made ∙ to.max;
-      least = to.least;
-      way = ap (λ (p : Bulk). p.is_in) made ∙ to.way;
+      target = ap (λ (p : PipeState). p.target) made ∙ to.target;
+      number = ap (λ (p : PipeState). p.ep) made ∙ to.number;
+      kind = ap (λ (p : PipeState). p.kind) made ∙ to.kind;
+      max = ap (λ (p : PipeState). p.max) made ∙ to.max;
+      way = ap (λ (p : PipeState). p.is_in) made ∙ to.way;
     }
-bulk_to device is_in _ _ _ same to = absurd (cc same)
+end_to device below_hub is_in e _ _ _ same to = absurd (cc same)
+
+same_first : (is_in : Bool) (pipes left : FunctionPipes)
+    → function_made left ≡ function_made pipes
+    → first_number is_in left ≡ first_number is_in pipes
+same_first true pipes left same = ap (first_number true) same
+same_first false pipes left same = ap (first_number false) same
+
+pub function_to : (device : Accepted) (below_hub : Bool) (pipes left : FunctionPipes)
+    → function_made left ≡ function_made pipes → AreFunctionPipes device below_hub pipes
+    → AreFunctionPipes device below_hub left
+function_to device below_hub pipes left same are = record {
+  function = are.function;
+  each = λ is_in e. end_to device below_hub is_in e _ _ _ (at_made is_in e pipes left same)
+      (are.each is_in e);
+  first = λ is_in. same_first is_in pipes left same ∙ are.first is_in;
+}
 
 status_to : (device : Accepted) (below_hub : Bool) (pipe left : Interrupt)
     → interrupt_made left ≡ interrupt_made pipe → IsStatusPipe device below_hub pipe
@@ -57,13 +75,7 @@ pipes_to : (device : Accepted) (below_hub : Bool) (pipes left : Pipes)
 pipes_to device below_hub (Hub pipe) (Hub left) same are =
     (are.0, status_to device below_hub pipe left (cc same) are.1)
 pipes_to device below_hub (Function pipes) (Function left) same are =
-    let both : both_made left ≡ both_made pipes = cc same in (
-      are.0,
-      bulk_to device false (out_endpoint device) pipes.out left.out
-          (ap (λ (p : BulkPipes). p.out) both) are.1,
-      bulk_to device true (in_endpoint device) pipes.into left.into
-          (ap (λ (p : BulkPipes). p.into) both) are.2,
-    )
+    function_to device below_hub pipes left (cc same) are
 pipes_to device below_hub Absent left same are = absurd are
 pipes_to device below_hub _ _ same are = absurd (cc same)
 

@@ -1,6 +1,6 @@
 -- Calls through the pipes at a path leave the pipes of the table level.
-use Rattle.std.proofs.Common.{◌≡◌, ◌≢◌, ◌∙◌, refl, sym, ap, subst, Bool, true, false, zero, suc, ℕ}
-use Rattle.std.proofs.Common.{◌==◌, eq-eqb, List, [], ◌∷◌, Option, Some, None, option_map}
+use Rattle.std.proofs.Common.{◌≡◌, ◌≢◌, ◌∙◌, refl, sym, ap, subst, Bool, true, false, suc, ℕ}
+use Rattle.std.proofs.Common.{◌==◌, eq-eqb, List, ◌∷◌, Option, Some, option_map}
 use Rattle.std.proofs.lemmas.Bool.{false_from_ne_true}
 use Rattle.std.proofs.lemmas.Option.{same_Some}
 use Rattle.std.specs.BTreeMap.{is_at}
@@ -12,7 +12,7 @@ use Rattle.usb_world.proofs.Interface.{same_is}
 use Rattle.usb_tree.proofs.Interface.{equal_same, false_true}
 use Rattle.usb_hub.specs.{StaysAs, EachElsewhere}
 use Rattle.usb_enum.specs.{Accepted, Finding}
-use Rattle.usb_enum.specs.declared.finding.Finding.TheVariants.{Device, Refused}
+use Rattle.usb_enum.specs.declared.finding.Finding.TheVariants.{Device}
 use Rattle.usb_table.specs.{Pipes, Entries, accepted_device_of, accepted_device_at, address_in}
 use Rattle.usb_table.specs.{PipesInSync, InSyncAt, AllInSync, IsHeld, KeepsInSync, finding_at}
 use Rattle.usb_table.specs.{entry_address, Table, pipes_at, GoesThrough, OnlyTransfers}

@@ -1,24 +1,99 @@
 -- New pipes to a device that was just configured are level.
-use Rattle.std.proofs.Common.{◌≡◌, ◌∙◌, refl, sym, ap, subst, Bool, true, false, ℕ, ◌==◌, ◌&&◌, not}
-use Rattle.std.proofs.Common.{if◌then◌else◌, [], length, Option, None, Some, nat_lt, slice_index}
-use Rattle.std.proofs.Common.{slice_index_or, is_some, IfSome}
+use Rattle.std.proofs.Common.{◌≡◌, ◌∙◌, refl, sym, ap, subst, arith, Bool, true, false, ℕ, ◌==◌}
+use Rattle.std.proofs.Common.{◌≤◌, ◌<◌, ◌&&◌, not, if◌then◌else◌, List, [], length, Option, None}
+use Rattle.std.proofs.Common.{Some, map, min, take, get_or, nat_lt, slice_index, slice_index_or}
+use Rattle.std.proofs.Common.{is_some}
 use Rattle.std.proofs.lemmas.Bool.{and_parts}
+use Rattle.std.proofs.lemmas.Bool.Decides.{nat_tests}
+use Rattle.std.proofs.lemmas.List.{get_or-map, get_or_past}
+use Rattle.std.proofs.lemmas.List.FromFn.{get_or-range_with_len}
 use Rattle.usb_request.specs.{HUB_CLASS}
-use Rattle.usb_descriptor.specs.{bulk_out_of, bulk_in_of, status_endpoint_of}
-use Rattle.usb_device.specs.{EndpointState, tells_changes, bulk_in as bulk_of_text, PollAt}
-use Rattle.usb_device.specs.{SourceAt, State, bulk_of, Hub as HubSpec, IsSpec, has_hub_class}
+use Rattle.usb_descriptor.specs.{UsableEndpoint, max_of_usable, status_endpoint_of, usable_of}
+use Rattle.usb_descriptor.proofs.Interface.{usable_of-small}
+use Rattle.usb_device.specs.{EndpointState, end_numbers, served_at, tells_changes, text_of}
+use Rattle.usb_device.specs.{text_with}
+use Rattle.usb_device.specs.{total_of, PollAt}
+use Rattle.usb_device.specs.{SourceAt, State, Hub as HubSpec, IsSpec, has_hub_class}
 use Rattle.usb_device.specs.{hub_fits, in_end}
-use Rattle.usb_device.proofs.Interface.{in_max-is, out_max-is}
 use Rattle.usb_tree.proofs.Interface.{and_false}
+use Rattle.usb_transaction.specs.{Target}
+use Rattle.usb_pipe.specs.{PipeState}
 use Rattle.usb_hub.specs.{IsFresh}
-use Rattle.usb_enum.specs.{Accepted, HubFacts, IsAs, texts_of, is_good_hub, gives_hub}
+use Rattle.usb_enum.specs.{Accepted, HubFacts, IsAs, texts_of, is_good_hub, gives_hub, target_of}
 use Rattle.usb_enum.specs.{configuration_of, is_hub_device, IsOwn}
 use Rattle.usb_enum.specs.declared.finding.Finding.TheVariants.{Device}
-use Rattle.usb_table.specs.{Function, at_full_speed, FitsOut, FitsIn, PipesInSync, new_status}
-use Rattle.usb_table.specs.{new_bulk, new_pipes}
-use Rattle.usb_enum.proofs.Interface.{AcceptsChosen, HasChosen, accepts, chosen_bulk, has_chosen}
-use Rattle.usb_table.proofs.levels.Endpoints.{bulk_out_end, bulk_in_end}
+use Rattle.usb_table.specs.{Function, FitsOut, FitsIn, PipesInSync, new_status, pipe_at}
+use Rattle.usb_table.specs.{AreFunctionPipes, IsPipe, first_endpoint, first_number, new_function}
+use Rattle.usb_table.specs.{new_pipe, new_pipes, number_of, row_of_ends, usable_end}
+use Rattle.usb_enum.proofs.Interface.{AcceptsChosen, HasChosen, accepts, has_chosen}
 use Rattle.usb_pipe.proofs.Interface.{is_some_byte}
+
+-- New pipes stand at the endpoints that a pipe can use
+
+abbrev made_end : Target → Bool → (ℕ → Option UsableEndpoint) → ℕ → Option PipeState
+made_end target is_in ends n = new_pipe target is_in n (ends n)
+
+row_of_ends-at : (target : Target) (is_in : Bool) (ends : ℕ → Option UsableEndpoint)
+    → ((e : ℕ) → 16 ≤ e → ends e ≡ None) → (e : ℕ)
+    → get_or (row_of_ends target is_in ends) e None ≡ new_pipe target is_in e (ends e)
+row_of_ends-at target is_in ends none e = by_size (nat_lt e 16) refl
+  where
+    by_size : (b : Bool) → nat_lt e 16 ≡ b
+        → get_or (row_of_ends target is_in ends) e None ≡ new_pipe target is_in e (ends e)
+    by_size true h =
+        let below : e < 16 = grind (arith, nat_tests, h) in
+        let same : get_or end_numbers e 0 ≡ e =
+        omega (arith, get_or-range_with_len 0 16 e 0 below) in
+        get_or-map (made_end target is_in ends) end_numbers e 0 None below
+        ∙ ap (made_end target is_in ends) same
+    by_size false h =
+        let beyond : 16 ≤ e = grind (arith, nat_tests, h) in
+        get_or_past (map (made_end target is_in ends) end_numbers) e None beyond
+        ∙ sym (ap (new_pipe target is_in e) (none e beyond))
+
+none_beyond : (device : Accepted) (is_in : Bool) (e : ℕ) → 16 ≤ e
+    → usable_end device is_in e ≡ None
+none_beyond device is_in e beyond = by_end (usable_end device is_in e) refl
+  where
+    by_end : (o : Option UsableEndpoint) → usable_end device is_in e ≡ o
+        → usable_end device is_in e ≡ None
+    by_end None is = is
+    by_end (Some end) is =
+        let small = (usable_of-small device.low is_in e (configuration_of device) end is).1 in
+        absurd (omega (arith, small, beyond))
+
+pub new_at : (device : Accepted) (below_hub is_in : Bool) (e : ℕ)
+    → pipe_at is_in e (new_function device below_hub)
+    ≡ new_pipe (target_of device below_hub) is_in e (usable_end device is_in e)
+new_at device below_hub true e = row_of_ends-at (target_of device below_hub) true
+    (usable_end device true) (none_beyond device true) e
+new_at device below_hub false e = row_of_ends-at (target_of device below_hub) false
+    (usable_end device false) (none_beyond device false) e
+
+pub new_function_fits : (device : Accepted) (below_hub : Bool) → is_some device.hub ≡ false
+    → AreFunctionPipes device below_hub (new_function device below_hub)
+new_function_fits device below_hub function = record {
+  function = function;
+  each = λ is_in e. subst (IsPipe device below_hub is_in e (usable_end device is_in e))
+      (sym (new_at device below_hub is_in e)) (by_end is_in e (usable_end device is_in e));
+  first = by_way;
+}
+  where
+    by_end : (is_in : Bool) (e : ℕ) (end : Option UsableEndpoint)
+        → IsPipe device below_hub is_in e end
+        (new_pipe (target_of device below_hub) is_in e end)
+    by_end is_in e None = tt
+    by_end is_in e (Some end) =
+        record { target = refl; number = refl; kind = refl; max = refl; way = refl }
+
+    by_way : (is_in : Bool) → first_number is_in (new_function device below_hub)
+        ≡ number_of (first_endpoint is_in device)
+    by_way true = refl
+    by_way false = refl
+
+-- where its configuration ends, or where what is kept of it does
+abbrev cut_text : List ℕ → List ℕ
+cut_text text = take (min (total_of text) (length text)) text
 
 module _ (tier supply : ℕ) (device : Accepted) (below_hub : Bool) (s : State)
     (ruled : IsSpec s.spec) (own : IsOwn tier supply device s) where
@@ -107,58 +182,73 @@ module _ (tier supply : ℕ) (device : Accepted) (below_hub : Bool) (s : State)
     quiet : tells_changes s.spec s.registers ≡ false
     quiet = ap (λ b. b && not (s.registers.configuration == 0)) no_ports
 
-    bulk_is : (way : Bool) → device.low ≡ false
-        → bulk_of s way ≡ bulk_of_text way (configuration_of device)
-    bulk_is way fast = chosen_bulk s.spec device.chosen s.registers way chosen (sym listed.low
-        ∙ fast) configured ∙ ap (bulk_of_text way) (sym text_is)
+    zero_not : (s.registers.configuration == 0) ≡ false
+    zero_not = ap (λ n. n == 0) configured
+        ∙ is_some_byte (slice_index chosen.text 5) chosen.read.some
 
-    out_level : (low : Bool) (o : Option (ℕ × ℕ)) → device.low ≡ low
-        → bulk_out_of (configuration_of device) ≡ o
-        → FitsOut (new_bulk device false (at_full_speed low o)) s
-    out_level false (Some endpoint) fast e = record {
-      endpoint = record {
-        endpoint = out_max-is endpoint.0 endpoint.1 s (bulk_is false fast ∙ e);
-        not_zero =
-            subst (λ x. IfSome x (λ n. (n.0 == 0) ≡ false)) e
-            (bulk_out_end (configuration_of device));
-      };
-      level = λ ready. ap (λ (p : EndpointState). p.toggle) (fresh.outs endpoint.0);
-      halted = λ halts. cc halts;
-    }
-    out_level _ _ fast e = tt
+    -- the endpoints that it serves are those of the text that the host has
+    text_same : text_of s.spec s.registers ≡ configuration_of device
+    text_same =
+        ap (λ v. cut_text (text_with v s.spec.configs))
+        (own.1.configuration ∙ ap (λ t. slice_index t 5) (text_is ∙ chosen.is) ∙ chosen.read.value)
+        ∙ ap cut_text chosen.found ∙ chosen.read.read ∙ sym chosen.is ∙ sym text_is
 
-    in_level : (low : Bool) (o : Option (ℕ × ℕ)) → device.low ≡ low
-        → bulk_in_of (configuration_of device) ≡ o
-        → FitsIn (new_bulk device true (at_full_speed low o)) s
-    in_level false (Some endpoint) fast e = (
-      (in_end s endpoint.0).place,
-      record {
-        endpoint = record {
-          endpoint = in_max-is endpoint.0 endpoint.1 s (bulk_is true fast ∙ e);
-          not_zero = subst (λ x. IfSome x (λ n. (n.0 == 0) ≡ false)) e
-              (bulk_in_end (configuration_of device));
-          alone = ap (λ b. endpoint.0 == 1 && b) quiet ∙ and_false (endpoint.0 == 1);
-        };
-        level = λ ready. SourceAt.level refl
-            (ap (λ (p : EndpointState). p.toggle) (fresh.ins endpoint.0));
-        halted = λ halts. cc halts;
-      },
-    )
-    in_level _ _ fast e = tt
+    served_is : (is_in : Bool) (e : ℕ)
+        → served_at s.spec s.registers is_in e ≡ usable_end device is_in e
+    served_is is_in e =
+        ap (λ b. if b then None else usable_of s.spec.low is_in e (text_of s.spec s.registers))
+        zero_not
+        ∙ ap (λ low. usable_of low is_in e (text_of s.spec s.registers)) (sym listed.low)
+        ∙ ap (usable_of device.low is_in e) text_same
+
+    not_zero : (is_in : Bool) (e : ℕ) (end : UsableEndpoint)
+        → usable_end device is_in e ≡ Some end → (e == 0) ≡ false
+    not_zero is_in e end usable =
+        let small = (usable_of-small device.low is_in e (configuration_of device) end usable).0 in
+        grind (arith, nat_tests, small)
+
+    out_level : (e : ℕ) → FitsOut (pipe_at false e (new_function device below_hub)) s
+    out_level e = subst (λ o. FitsOut o s) (sym (new_at device below_hub false e))
+        (by_end (usable_end device false e) refl)
+      where
+        by_end : (o : Option UsableEndpoint) → usable_end device false e ≡ o
+            → FitsOut (new_pipe (target_of device below_hub) false e o) s
+        by_end None usable = tt
+        by_end (Some end) usable = record {
+          endpoint = record {
+            endpoint = ap max_of_usable (served_is false e ∙ usable);
+            not_zero = not_zero false e end usable;
+          };
+          level = λ ready. ap (λ (p : EndpointState). p.toggle) (fresh.outs e);
+          halted = λ halts. cc halts;
+        }
+
+    in_level : (e : ℕ) → FitsIn (pipe_at true e (new_function device below_hub)) s
+    in_level e = subst (λ o. FitsIn o s) (sym (new_at device below_hub true e))
+        (by_end (usable_end device true e) refl)
+      where
+        by_end : (o : Option UsableEndpoint) → usable_end device true e ≡ o
+            → FitsIn (new_pipe (target_of device below_hub) true e o) s
+        by_end None usable = tt
+        by_end (Some end) usable = (
+          (in_end s e).place,
+          record {
+            endpoint = record {
+              endpoint = ap max_of_usable (served_is true e ∙ usable);
+              not_zero = not_zero true e end usable;
+              alone = ap (λ b. e == 1 && b) quiet ∙ and_false (e == 1);
+            };
+            level = λ ready. SourceAt.level refl
+                (ap (λ (p : EndpointState). p.toggle) (fresh.ins e));
+            halted = λ halts. cc halts;
+          },
+        )
 
   by_kind : (b : Bool) → is_some device.hub ≡ b → PipesInSync (if b then new_status device below_hub
       (status_endpoint_of (configuration_of device))
-      else Function (record {
-        out = new_bulk device false (if b then None else at_full_speed device.low
-            (bulk_out_of (configuration_of device)));
-        into = new_bulk device true (if b then None else at_full_speed device.low
-            (bulk_in_of (configuration_of device)));
-      })) s
+      else Function (new_function device below_hub)) s
   by_kind true e = status_level e (status_endpoint_of (configuration_of device))
-  by_kind false e = (
-    out_level e device.low (bulk_out_of (configuration_of device)) refl refl,
-    in_level e device.low (bulk_in_of (configuration_of device)) refl refl,
-  )
+  by_kind false e = record { outs = out_level e; ins = in_level e }
 
   -- of a device whose finding is its own, and that keeps the rules of devices
   pub new_level : PipesInSync (new_pipes (Device device) below_hub) s

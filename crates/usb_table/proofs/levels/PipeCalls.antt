@@ -1,6 +1,6 @@
 -- Calls through the pipes at a path, as the keys show them.
 use Rattle.std.proofs.Common.{◌≡◌, ◌≢◌, ◌∙◌, refl, sym, ap, subst, inl, inr, true, false, ℕ, List}
-use Rattle.std.proofs.Common.{Option, Some, None, IfSome, is_some, option_map}
+use Rattle.std.proofs.Common.{Option, Some, None, is_some, option_map}
 use Rattle.std.proofs.Math.Path.{fun_ext}
 use Rattle.std.proofs.lemmas.Option.{same_Some}
 use Rattle.std.specs.Prelude.{unwrap_or}
@@ -12,10 +12,10 @@ use Rattle.usb_port.specs.{path_cmp}
 use Rattle.usb_enum.specs.{Finding}
 use Rattle.usb_table.specs.{Pipes, Absent, accepted_device_of, Entry, IsPiped, TableSlots, PathKeys}
 use Rattle.usb_table.specs.{AddressKeys, key_of_path, under, entries_of, findings, pipings}
-use Rattle.usb_table.specs.{table_of, AreIndexes, ArePiped, is_below_hub, finding_at, pipe_in}
-use Rattle.usb_table.specs.{pipe_out, ArePipesIf, pipes_made, pipes_at, ArePipesAt, GoesThrough}
+use Rattle.usb_table.specs.{table_of, AreIndexes, ArePiped, ArePlaced, is_below_hub, finding_at}
+use Rattle.usb_table.specs.{ArePipesIf, pipes_made, pipes_at, ArePipesAt, GoesThrough}
 use Rattle.usb_table.proofs.levels.KeptPipes.{same_keep}
-use Rattle.usb_table.proofs.ThroughPipes.{faces}
+use Rattle.usb_table.proofs.ThroughPipes.{placed_of}
 use Rattle.usb_table.proofs.entries.Keys.{entries_of-key, entries_of-no_key, findings-standing}
 use Rattle.usb_table.proofs.entries.Keys.{values_by_path-lookup}
 use Rattle.usb_table.proofs.entries.Paths.{path_itself}
@@ -166,10 +166,9 @@ through_none path standings paths addresses are none = record {
   is = pipes_none standings path paths none;
 }
 
--- the pipes of an entry move packets their ways
-pub faces_at : (path : List ℕ) (slab : Slab Entry) (paths : PathKeys) (key : ℕ) (s : Entry)
+-- the pipes of an entry stand in their places
+pub placed_at : (path : List ℕ) (slab : Slab Entry) (paths : PathKeys) (key : ℕ) (s : Entry)
     → ArePiped (get slab) paths → key_of_path paths path ≡ Some key → get slab key ≡ Some s
-    → IfSome (pipe_out s.pipes) (λ p. p.is_in ≡ false)
-    × IfSome (pipe_in s.pipes) (λ p. p.is_in ≡ true)
-faces_at path slab paths key s piped at held =
-    faces s.finding (is_below_hub path) s.pipes (piped path key s at held).1
+    → ArePlaced s.pipes
+placed_at path slab paths key s piped at held =
+    placed_of s.finding (is_below_hub path) s.pipes (piped path key s at held).1

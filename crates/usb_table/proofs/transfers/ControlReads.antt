@@ -1,6 +1,6 @@
 -- What a read of the device at a path tells of the table.
 use Rattle.std.specs.Result.{IsErr, IsErrAnd}
-use Rattle.std.proofs.Common.{◌≡◌, ◌==◌, subst, ap, ℕ, List, Bool, true, false, Option, Some}
+use Rattle.std.proofs.Common.{◌≡◌, ◌==◌, subst, ap, ℕ, List, Bool, true, false, Option}
 use Rattle.std.proofs.Common.{Result, Ok}
 use Rattle.std.proofs.Common.{Err, is_some}
 use Rattle.std.specs.Global.{Vec}

@@ -1,7 +1,7 @@
 -- Transfers through pipes leave each device with its description and registers, ask nothing of
 -- ports, and add nothing to what is left to do.
 use Rattle.std.proofs.Common.{◌≡◌, ◌≢◌, ◌⊎◌, inl, inr, ℕ, ◌==◌, true, false, List, Option, None}
-use Rattle.std.proofs.Common.{Some, Result, Ok, Err, refl, ap, sym, subst, ◌∙◌}
+use Rattle.std.proofs.Common.{Some, Result, Ok, Err, refl, ap, sym, subst, ◌∙◌, Bool, MatchResult}
 use Rattle.std.specs.Global.{Vec}
 use Rattle.std.proofs.lemmas.Bool.{cases_eq}
 use Rattle.arrayvec.specs.ArrayVec.{ArrayVec}
@@ -9,7 +9,7 @@ use Rattle.usb_packet.specs.{Toggle, One}
 use Rattle.usb_port.specs.{PortState}
 use Rattle.usb_request.specs.{PORT_OUT, SET_FEATURE, bytes_of, clear_endpoint_halt, Setup}
 use Rattle.usb_device.specs.{ServedEndpoint, BulkOut, BulkIn, Changes}
-use Rattle.usb_device.specs.{OnlyControl, Is, Outcome, stalled, halts, unhalts, on_endpoint}
+use Rattle.usb_device.specs.{OnlyControl, Is, Outcome, stalled, unhalts, on_endpoint}
 use Rattle.usb_device.specs.{outcome, State, begun_again, begun, accepted, Spec, Registers}
 use Rattle.usb_device.specs.{first_stage, ending, Location, reach_on, state_on}
 use Rattle.usb_world.specs.{Attempt, BusFault, is_setup, EachWas, DidIn, DidOut, IsMade, IsIn}
@@ -24,10 +24,12 @@ use Rattle.usb_tree.proofs.Interface.{neither, unequal}
 use Rattle.usb_backlog.specs.{Few, KeepsAll, PortMark}
 use Rattle.usb_backlog.proofs.Interface.{KeepsStep, all_none, data_allows, keeps-attempt}
 use Rattle.usb_backlog.proofs.Interface.{keeps-chain}
-use Rattle.usb_transaction.specs.{IsOnly, GivenUp, heard_as, set_up_as, in_attempt, setup_attempt}
+use Rattle.usb_transaction.specs.{AttemptsMade, IsOnly, GivenUp, heard_as, set_up_as, in_attempt}
+use Rattle.usb_transaction.specs.{setup_attempt}
 use Rattle.usb_transaction.specs.{Target}
 use Rattle.usb_transaction.proofs.Interface.{trail_settled, trail_unshared, transacted_unshared}
-use Rattle.usb_pipe.specs.{PipeFault, TransferAttempts, Bulk, Sends, Receives, Clears, Cleared}
+use Rattle.usb_pipe.specs.{PipeFault, PipePolls, PollsOnce, TransferAttempts, PipeState, Sends}
+use Rattle.usb_pipe.specs.{Receives, Clears, Cleared, polled_pipe}
 use Rattle.usb_pipe.specs.{halt_address, FaultAfter, packet_target, Interrupt, Polls, SendsAt}
 use Rattle.usb_pipe.specs.{WriteLeaves, Writes}
 use Rattle.usb_pipe.specs.declared.fault.PipeFault.TheVariants as pipe_fault
@@ -41,7 +43,7 @@ use Rattle.usb_hub.proofs.Interface.{each_leaves, order_elsewhere, write_backlog
 use Rattle.usb_hub.proofs.Interface.{write_so}
 use Rattle.usb_enum.proofs.Interface.{ends_without_fault}
 use Rattle.usb_table.specs.{SameSettings, KeepsSettings, OnlyTransfers}
-use Rattle.usb_table.proofs.levels.KeptPipes.{broken_or_not, ready_or_not, empty_or_not}
+use Rattle.usb_table.proofs.levels.KeptPipes.{broken_or_not, empty_or_not}
 
 -- Each device over such an attempt
 
@@ -258,14 +260,14 @@ polls_only pipe far old result left new settled x =
     only_transfers old new (polls_keep pipe far old result left new x)
     (polls_spare pipe far old result left new settled x)
 
--- what a call through a bulk pipe leaves of all devices and ports; the bus tells its own fault
+-- what a call through a pipe leaves of all devices and ports; the bus tells its own fault
 pub record PipeKeeps {A : Type 0} (old : World) (answer : Result A PipeFault) (new : World)
     : Type 0 where
   pub worlds : OnlyTransfers old new
   pub told : (fault : BusFault) → answer ≡ Err (pipe_fault.Bus fault) → HasFault fault new
 
-module _ (bytes : List ℕ) (pipe : Bulk) (far : pipe.ep ≢ 0) (old : World)
-    (answer : Result (Unit {0}) PipeFault) (left : Bulk) (new : World)
+module _ (bytes : List ℕ) (pipe : PipeState) (far : pipe.ep ≢ 0) (old : World)
+    (answer : Result (Unit {0}) PipeFault) (left : PipeState) (new : World)
     (x : Sends bytes pipe old answer left new) where
   -- a call that makes no attempt changes nothing; for another the ports are settled
   moved_or_same : IsSettled old.roots ⊎ (new ≡ old)
@@ -289,8 +291,8 @@ module _ (bytes : List ℕ) (pipe : Bulk) (far : pipe.ep ≢ 0) (old : World)
         told = λ fault e. (a.cut fault e).refused.ends;
       }
 
-module _ (wanted : ℕ) (pipe : Bulk) (far : pipe.ep ≢ 0) (old : World)
-    (answer : Result (Vec ℕ) PipeFault) (left : Bulk) (new : World)
+module _ (wanted : ℕ) (pipe : PipeState) (far : pipe.ep ≢ 0) (old : World)
+    (answer : Result (Vec ℕ) PipeFault) (left : PipeState) (new : World)
     (x : Receives wanted pipe old answer left new) where
   came_or_same : IsSettled old.roots ⊎ (new ≡ old)
   came_or_same = elim (broken_or_not pipe.condition) [
@@ -312,6 +314,33 @@ module _ (wanted : ℕ) (pipe : Bulk) (far : pipe.ep ≢ 0) (old : World)
             answer new settled a));
         told = λ fault e. (a.cut fault e).refused.ends;
       }
+
+-- a poll of any endpoint besides endpoint 0
+module _ (pipe : PipeState) (far : pipe.ep ≢ 0) (old : World)
+    (answer : Result (Option (ArrayVec ℕ)) PipeFault) (left : PipeState) (new : World)
+    (x : PipePolls pipe old answer left new) where
+  polled_only : PollsOnce pipe old answer left new → OnlyTransfers old new
+  polled_only y = polls_only (polled_pipe pipe) far old answer (polled_pipe left) new y.settled
+      y.polls
+
+  polled_told : PollsOnce pipe old answer left new → (fault : BusFault)
+      → answer ≡ Err (pipe_fault.Bus fault) → HasFault fault new
+  polled_told y fault e = ((poll_attempts (polled_pipe pipe) answer (polled_pipe left) old new
+      y.polls).cut fault e).refused.ends
+
+  pub packet_keeps : PipeKeeps old answer new
+  packet_keeps = elim (broken_or_not pipe.condition) [
+    | inl broken ↦
+        let idle = x.broken broken in
+        record {
+          worlds = same_spares old new idle.world_kept;
+          told = λ fault e. absurd (cc (sym idle.answer ∙ e));
+        }
+    | inr works ↦ record {
+      worlds = polled_only (x.asked works);
+      told = polled_told (x.asked works);
+    }
+  ]
 
 -- CLEAR_FEATURE(ENDPOINT_HALT)
 
@@ -374,8 +403,8 @@ module _ (endpoint : ℕ) where
   unfolding clear_endpoint_halt
   clear_length = refl
 
-pub cleared_ordered : (pipe : Bulk) (old : World) (result : Result (Unit {0}) PipeFault)
-    (left : Bulk) (new : World) → Cleared pipe old result left new
+pub cleared_ordered : (pipe : PipeState) (old : World) (result : Result (Unit {0}) PipeFault)
+    (left : PipeState) (new : World) → Cleared pipe old result left new
     → Commanded pipe.target (clear_endpoint_halt (halt_address pipe.ep pipe.is_in)) old result new
 cleared_ordered pipe old result left new x = record {
   settled = x.settled;
@@ -392,8 +421,8 @@ cleared_ordered pipe old result left new x = record {
       result old new x.stages;
 }
 
-cleared_keeps_settings : (pipe : Bulk) (old : World) (result : Result (Unit {0}) PipeFault)
-    (left : Bulk) (new : World) → Cleared pipe old result left new → KeepsSettings old new
+cleared_keeps_settings : (pipe : PipeState) (old : World) (result : Result (Unit {0}) PipeFault)
+    (left : PipeState) (new : World) → Cleared pipe old result left new → KeepsSettings old new
 cleared_keeps_settings pipe old result left new x = record {
   same = λ single.
       let request : Setup = clear_endpoint_halt (halt_address pipe.ep pipe.is_in) in
@@ -405,43 +434,41 @@ cleared_keeps_settings pipe old result left new x = record {
       (cleared_ordered pipe old result left new x) single);
 }
 
-clears_told : (pipe : Bulk) (old : World) (answer : Result (Unit {0}) PipeFault) (left : Bulk)
-    (new : World) → Clears pipe old answer left new → (fault : BusFault)
-    → answer ≡ Err (pipe_fault.Bus fault) → HasFault fault new
-clears_told pipe old (Ok done) left new x fault e = absurd (cc e)
-clears_told pipe old (Err why) left new x fault e = elim (ready_or_not pipe.condition) [
-  | inl ready ↦ let is = (x.ready ready).answer in absurd (cc is)
-  | inr not ↦
-      let is : why ≡ pipe_fault.Bus fault = cc e in
-      subst (λ y. FaultAfter 1 old y new) is (x.sent not).ends
-]
+pub sent_or_not : (b : Bool) → (b ≡ false) ⊎ (b ≡ true)
+sent_or_not false = inl refl
+sent_or_not true = inr refl
 
-clears_only : (pipe : Bulk) (old : World) (answer : Result (Unit {0}) PipeFault) (left : Bulk)
-    (new : World) → Clears pipe old answer left new → OnlyTransfers old new
-clears_only pipe old answer left new x = elim (ready_or_not pipe.condition) [
-  | inl ready ↦ same_spares old new (x.ready ready).world_kept
-  | inr not ↦
-      let sent = x.sent not in
-      let ordered = cleared_ordered pipe old answer left new sent in
-      let which = halt_address pipe.ep pipe.is_in in
-      record {
-        addresses = clears_keep pipe old answer left new x;
-        devices = cleared_keeps_settings pipe old answer left new sent;
-        rests = λ sound.
-            ordered.rests (clear_asks_no_port which)
-            (ends_without_fault 2 answer old new sent.ends sound);
-        backlog = λ sound.
-            ordered.backlog (clear_sets_none which)
-            (ends_without_fault 2 answer old new sent.ends sound);
-      }
-]
+module _ (is_sent : Bool) (pipe : PipeState) (old : World)
+    (answer : Result (Unit {0}) PipeFault) (left : PipeState) (new : World)
+    (x : Clears is_sent pipe old answer left new) where
+  clears_told : (fault : BusFault) → answer ≡ Err (pipe_fault.Bus fault) → HasFault fault new
+  clears_told fault e = elim (sent_or_not is_sent) [
+    | inl not ↦ let is = (x.ready not).answer in absurd (cc (sym is ∙ e))
+    | inr sent ↦ subst (λ (r : Result (Unit {0}) PipeFault). MatchResult r
+        (λ done. AttemptsMade 2 old new) (λ why. FaultAfter 1 old why new)) e (x.sent sent).ends
+  ]
 
-pub clear_keeps : (pipe : Bulk) (old : World) (answer : Result (Unit {0}) PipeFault) (left : Bulk)
-    (new : World) → Clears pipe old answer left new → PipeKeeps old answer new
-clear_keeps pipe old answer left new x = record {
-  worlds = clears_only pipe old answer left new x;
-  told = clears_told pipe old answer left new x;
-}
+  clears_only : OnlyTransfers old new
+  clears_only = elim (sent_or_not is_sent) [
+    | inl not ↦ same_spares old new (x.ready not).world_kept
+    | inr so ↦
+        let sent = x.sent so in
+        let ordered = cleared_ordered pipe old answer left new sent in
+        let which = halt_address pipe.ep pipe.is_in in
+        record {
+          addresses = clears_keep is_sent pipe old answer left new x;
+          devices = cleared_keeps_settings pipe old answer left new sent;
+          rests = λ sound.
+              ordered.rests (clear_asks_no_port which)
+              (ends_without_fault 2 answer old new sent.ends sound);
+          backlog = λ sound.
+              ordered.backlog (clear_sets_none which)
+              (ends_without_fault 2 answer old new sent.ends sound);
+        }
+  ]
+
+  pub clear_keeps : PipeKeeps old answer new
+  clear_keeps = record { worlds = clears_only; told = clears_told }
 
 -- no address was held twice before
 write_single : (t : Target) (request : Setup) (result : Result (Unit {0}) PipeFault)
@@ -457,10 +484,11 @@ write_single t request (Err why) old new settled (inr x) single =
     (transacted_unshared (heard_as One) (in_attempt t 0) x.mid new (Err x.fault) x.status
     (trail_settled x.set_up.trail settled) single)
 
-pub clears_single : (pipe : Bulk) (old : World) (result : Result (Unit {0}) PipeFault) (left : Bulk)
-    (new : World) → Clears pipe old result left new → new.shared ≡ false → old.shared ≡ false
-clears_single pipe old result left new x single = elim (ready_or_not pipe.condition) [
-  | inl ready ↦ ap (λ w. w.shared) (sym (x.ready ready).world_kept) ∙ single
-  | inr not ↦ write_single pipe.target (clear_endpoint_halt (halt_address pipe.ep pipe.is_in))
-      result old new (x.sent not).settled (x.sent not).stages single
+pub clears_single : (is_sent : Bool) (pipe : PipeState) (old : World)
+    (result : Result (Unit {0}) PipeFault) (left : PipeState) (new : World)
+    → Clears is_sent pipe old result left new → new.shared ≡ false → old.shared ≡ false
+clears_single is_sent pipe old result left new x single = elim (sent_or_not is_sent) [
+  | inl not ↦ ap (λ w. w.shared) (sym (x.ready not).world_kept) ∙ single
+  | inr so ↦ write_single pipe.target (clear_endpoint_halt (halt_address pipe.ep pipe.is_in))
+      result old new (x.sent so).settled (x.sent so).stages single
 ]

@@ -1,9 +1,8 @@
 -- What a request asks of a device that changes no address, no configuration, no toggle and no port.
 use Rattle.std.proofs.Common.{◌≡◌, ◌⊎◌, inl, inr, refl, ◌∙◌, ap, ℕ, ◌/◌, ◌==◌, ◌≤◌, nat_lt, Bool}
 use Rattle.std.proofs.Common.{true}
-use Rattle.std.proofs.Common.{sym, false, arith, not, ◌&&◌, ◌||◌, if◌then◌else◌, List, Option, None}
+use Rattle.std.proofs.Common.{sym, false, arith, ◌&&◌, ◌||◌, if◌then◌else◌, List, Option, None}
 use Rattle.std.proofs.Common.{Some}
-use Rattle.std.proofs.Common.{slice_get}
 use Rattle.std.proofs.lemmas.Bool.{lt-ltb}
 use Rattle.std.proofs.lemmas.Bool.Decides.{nat_tests}
 use Rattle.usb_tree.proofs.Interface.{neither}
@@ -13,11 +12,10 @@ use Rattle.usb_request.specs.{ENDPOINT_HALT, DEVICE_IN, HUB_IN, PORT_IN, GET_DES
 use Rattle.usb_request.specs.{GET_CONFIGURATION, CONFIGURATION, DEVICE, STRING, HUB}
 use Rattle.usb_request.specs.{IsToDevice, IsToHost, Setup, changes_kept, descriptor_value}
 use Rattle.usb_request.specs.{DIRECTION_IN, INTERFACE_OUT, SET_INTERFACE, is_coded, is_reserved}
-use Rattle.usb_port.specs.{PortState}
 use Rattle.usb_device.specs.{Is, Outcome, Registers, Spec, stalled, halts, unhalts, tells_port}
 use Rattle.usb_device.specs.Request.{answers}
 use Rattle.usb_device.specs.{outcome, on_endpoint, endpoint_of, ServedEndpoint, told_port}
-use Rattle.usb_device.specs.{asked_descriptor, asked_hub_descriptor, port_named, answers_taken}
+use Rattle.usb_device.specs.{asked_descriptor, asked_hub_descriptor, answers_taken}
 use Rattle.usb_device.specs.{takes}
 use Rattle.usb_device.proofs.Interface.{asked_own-any}
 use Rattle.usb_world.specs.{asks_no_port, is_harmless}

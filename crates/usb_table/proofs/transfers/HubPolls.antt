@@ -270,7 +270,7 @@ module _ (path : List ℕ) (old new : Table) (before after : World)
   polled_to device (Hub pipe) left e was is are x =
       hub_polled path device pipe x.0 old new before after result goes e was (is ∙ x.1) are.1 x.2
   polled_to device (Function pipes) left e was is are x =
-      none_polled (λ d f hub. absurd (cc (same_Some device d (sym e ∙ f), hub, are.0)))
+      none_polled (λ d f hub. absurd (cc (same_Some device d (sym e ∙ f), hub, are.function)))
       (x.0, is ∙ x.1 ∙ sym was, x.2)
   polled_to device Absent left e was is are x = absurd are
 

@@ -18,7 +18,8 @@ use Rattle.usb_world.specs.{BusFault, HasFault, is_harmless, World}
 use Rattle.usb_transaction.specs.{Answerer, Target}
 use Rattle.usb_transaction.proofs.Interface.{spared_all}
 use Rattle.usb_pipe.specs.{DataWrite, DataWriteLeaves}
-use Rattle.usb_pipe.specs.{Bulk, ControlRead, ControlWrite, FaultAfter, InPipeInSync, IsNoBusFault}
+use Rattle.usb_pipe.specs.{PipeState, ControlRead, ControlWrite, FaultAfter, InPipeInSync}
+use Rattle.usb_pipe.specs.{IsNoBusFault}
 use Rattle.usb_pipe.specs.{PipeFault}
 use Rattle.usb_pipe.specs.{ReadLeaves, WriteLeaves}
 use Rattle.usb_pipe.specs.declared.fault.PipeFault.TheVariants as pipe_fault
@@ -32,7 +33,8 @@ use Rattle.usb_hub.proofs.Interface.{write_so}
 use Rattle.usb_enum.specs.{Accepted}
 use Rattle.usb_enum.proofs.Interface.{ends_without_fault}
 use Rattle.usb_table.specs.{Absent, ArePipesTo, FitsIn, FitsOut, Function, Hub, is_below_hub}
-use Rattle.usb_table.specs.{Pipes, pipes_at, PipesInSync, SameSettings, Table, without_bytes}
+use Rattle.usb_table.specs.{pipe_at, Pipes, pipes_at, PipesInSync, SameSettings, Table}
+use Rattle.usb_table.specs.{without_bytes}
 use Rattle.usb_table.proofs.levels.FittingPipes.{root, same_in_max, same_out_max, same_tells}
 use Rattle.usb_table.proofs.levels.FittingPipes.{still_level, still_source_at, still_status}
 use Rattle.usb_table.proofs.levels.FittingPipes.{written_level}
@@ -176,7 +178,7 @@ changes_on s u v x frame = record {
 
 -- The pipes to it
 
-out_kept : (out : Option Bulk) (s v : State) → KeepsEnds s v → FitsOut out s → FitsOut out v
+out_kept : (out : Option PipeState) (s v : State) → KeepsEnds s v → FitsOut out s → FitsOut out v
 out_kept None s v x f = tt
 out_kept (Some pipe) s v x f = record {
   endpoint = record {
@@ -187,7 +189,7 @@ out_kept (Some pipe) s v x f = record {
   halted = λ halts. (x.out pipe.ep).1 (f.halted halts);
 }
 
-pub into_kept : (pipe : Bulk) (got : ℕ) (s v : State) → KeepsEnds s v → InPipeInSync pipe got s
+pub into_kept : (pipe : PipeState) (got : ℕ) (s v : State) → KeepsEnds s v → InPipeInSync pipe got s
     → InPipeInSync pipe got v
 into_kept pipe got s v x f = record {
   endpoint = record {
@@ -200,7 +202,7 @@ into_kept pipe got s v x f = record {
   halted = λ halts. (x.into pipe.ep).1 (f.halted halts);
 }
 
-in_kept : (into : Option Bulk) (s v : State) → KeepsEnds s v → FitsIn into s → FitsIn into v
+in_kept : (into : Option PipeState) (s v : State) → KeepsEnds s v → FitsIn into s → FitsIn into v
 in_kept None s v x f = tt
 in_kept (Some pipe) s v x (got, f) = (got, into_kept pipe got s v x f)
 
@@ -217,7 +219,10 @@ allowed_level device below_hub (Hub pipe) are s row n o fine v frame same f =
 allowed_level device below_hub (Function pipes) are s row n o fine v frame same f =
     let ends = ends_on s (begun s row n o) v (began_ends s row n (is_some device.hub) o fine) frame
     same in
-    (out_kept pipes.out s v ends f.0, in_kept pipes.into s v ends f.1)
+    record {
+      outs = λ e. out_kept (pipe_at false e pipes) s v ends (f.outs e);
+      ins = λ e. in_kept (pipe_at true e pipes) s v ends (f.ins e);
+    }
 allowed_level device below_hub Absent are s row n o fine v frame same f = absurd are
 
 -- What has no data

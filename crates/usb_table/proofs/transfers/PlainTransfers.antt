@@ -2,7 +2,7 @@
 -- toggle: what it leaves of all devices and pipes.
 use Rattle.std.proofs.Common.{◌≡◌, ◌∙◌, refl, sym, ap, subst, arith, true, false, ℕ, ◌==◌, List}
 use Rattle.std.proofs.Common.{None}
-use Rattle.std.proofs.Common.{Option, Some, Result, Ok, Err, is_ok, is_some, Bool, if◌then◌else◌}
+use Rattle.std.proofs.Common.{Option, Some, Result, Ok, Err, is_ok, Bool}
 use Rattle.usb_request.specs.{Setup}
 use Rattle.usb_device.specs.{Location, Registers, State}
 use Rattle.usb_world.specs.{BusFault, EachWas, HasFault, Relation, World}
@@ -18,7 +18,6 @@ use Rattle.usb_backlog.specs.{KeepsAll}
 use Rattle.usb_hub.specs.{TouchesNoPort}
 use Rattle.usb_enum.specs.{Accepted, target_of}
 use Rattle.usb_table.specs.{accepted_device_at, ArePipesAt, ControlledAt, control_most}
-use Rattle.usb_table.specs.{control_target}
 use Rattle.usb_table.specs.{GoesThrough, is_below_hub, KeepsMoved, OnlyTransfers, pipes_at}
 use Rattle.usb_table.specs.{PipesInSync, SameSettings, Table, TableFault, target_asked, Transfer}
 use Rattle.usb_table.specs.{TransferFault, TransferIf, TransferIs, TransferLeaves, TransferMade}

@@ -6,7 +6,7 @@ use Rattle.usb_port.specs.{PortState}
 use Rattle.usb_device.specs.{accepted, Location, OnlyControl, out_end, outcome, State}
 use Rattle.usb_world.specs.{World}
 use Rattle.usb_transaction.specs.{Target}
-use Rattle.usb_pipe.specs.{Bulk, InPipeInSync, PipeFault}
+use Rattle.usb_pipe.specs.{PipeState, InPipeInSync, PipeFault}
 use Rattle.usb_pipe.proofs.Interface.{given_registers}
 use Rattle.usb_hub.proofs.Interface.{write_so}
 use Rattle.usb_table.specs.{accepted_device_at, is_below_hub, SameSettings, Table, WriteLeft}
@@ -23,7 +23,7 @@ use Rattle.usb_table.proofs.transfers.PlainRequests.{allowed_address, same_rows-
 pub record StillEnds (s v : State) : Type 0 where
   pub sink : (e : ℕ) → (out_end v e).sink ≡ (out_end s e).sink
   pub settings : SameSettings root s v
-  pub into : (pipe : Bulk) (got : ℕ) → InPipeInSync pipe got s → InPipeInSync pipe got v
+  pub into : (pipe : PipeState) (got : ℕ) → InPipeInSync pipe got s → InPipeInSync pipe got v
 
 still_ends : (s v : State) → KeepsEnds s v → StillEnds s v
 still_ends s v kept = record {

@@ -3,7 +3,8 @@ use Rattle.slab.specs.Slab.{get, with_value}
 use Rattle.usb_bus.specs.{still}
 use Rattle.usb_world.proofs.Interface.{spends_none, spends_wider}
 use Rattle.usb_table.specs.{Transfer, NoDevice}
-use Rattle.usb_table.proofs.levels.PipeCalls.{CallThrough, through_none, through_slot}
+use Rattle.usb_table.proofs.levels.PipeCalls.{CallThrough, placed_at, through_none}
+use Rattle.usb_table.proofs.levels.PipeCalls.{through_slot}
 use Rattle.usb_table.proofs.TransferLeaves.{table_clears}
 use Rattle.usb_table.proofs.table.DeviceTable.clear_halt.Goals as goal
 
@@ -17,6 +18,11 @@ passed g c =
     through_slot c.args.path.now c.self.inside.entries _ _ c.in-Some.key.now
     c.index_mut.result.now c.clear_halt.new.self c.self.invariant (sym c.in-Some.ensures.value)
     c.index_mut.ensures.value c.clear_halt.ensures.made
+
+pub clear_halt-requires : goal.clear_halt-requires
+clear_halt-requires g c =
+    placed_at c.args.path.now c.self.inside.entries _ c.in-Some.key.now c.index_mut.result.now
+    c.self.invariant.1 (sym c.in-Some.ensures.value) c.index_mut.ensures.value
 
 pub invariant_of-self : goal.invariant_of-self
 invariant_of-self g c = ((passed g c).indexes, (passed g c).piped)

@@ -24,6 +24,10 @@ insert-requires c =
 pub invariant_of-self : goal.invariant_of-self
 invariant_of-self c = rw c.reserve.ensures.rest_kept c.self.invariant
 
+pub returns-in_err-reserve-clause-err : goal.returns-in_err-reserve-clause-err
+returns-in_err-reserve-clause-err c = on_err c.from_residual.result _
+    (rw c.reserve.ensures.rest_kept c.self.view_is)
+
 pub invariant_of-self-in_err-insert : goal.invariant_of-self-in_err-insert
 invariant_of-self-in_err-insert c =
     rw (

@@ -1,8 +1,8 @@
-use Rattle.std.proofs.Common.{sym, refl, Err}
+use Rattle.std.proofs.Common.{sym, refl, arith, Err}
 use Rattle.slab.specs.Slab.{get, with_value}
 use Rattle.usb_bus.specs.{still}
 use Rattle.usb_table.specs.{Transfer, NoDevice}
-use Rattle.usb_table.proofs.levels.PipeCalls.{CallThrough, faces_at, through_none, through_slot}
+use Rattle.usb_table.proofs.levels.PipeCalls.{CallThrough, placed_at, through_none, through_slot}
 use Rattle.usb_table.proofs.TransferLeaves.{table_receives}
 use Rattle.usb_table.proofs.table.DeviceTable.receive.Goals as goal
 
@@ -19,11 +19,18 @@ passed g c =
 
 pub receive-requires : goal.receive-requires
 receive-requires g c =
-    (faces_at c.args.path.now c.self.inside.entries _ c.in-Some.key.now c.index_mut.result.now
-    c.self.invariant.1 (sym c.in-Some.ensures.value) c.index_mut.ensures.value).1
+    placed_at c.args.path.now c.self.inside.entries _ c.in-Some.key.now c.index_mut.result.now
+    c.self.invariant.1 (sym c.in-Some.ensures.value) c.index_mut.ensures.value
 
 pub invariant_of-self : goal.invariant_of-self
 invariant_of-self g c = ((passed g c).indexes, (passed g c).piped)
+
+pub returns-in-Some-clause-any_bus : goal.returns-in-Some-clause-any_bus
+returns-in-Some-clause-any_bus g c = rw (← c.self.view_is) (
+  c.receive.ensures.any_bus.0,
+  c.receive.ensures.any_bus.1,
+  rw ((passed g c).was, (passed g c).is) c.receive.ensures.any_bus.2,
+)
 
 pub returns-in-Some-clause-through : goal.returns-in-Some-clause-through
 returns-in-Some-clause-through g c = rw (← c.self.view_is) (passed g c).goes
@@ -32,8 +39,15 @@ pub returns-in-Some-clause-receives : goal.returns-in-Some-clause-receives
 returns-in-Some-clause-receives g c known =
     rw (← c.self.view_is)
     (table_receives c.args.path.now _ _ _ _ _ _ (passed g c).goes
-    (c.receive.ensures.traced known) c.args.packets c.receive.result
+    (c.receive.ensures.traced known) c.args.choice c.args.packets c.receive.result
     (rw ((passed g c).was, (passed g c).is) (c.receive.ensures.received known)))
+
+pub returns-in-None-clause-any_bus : goal.returns-in-None-clause-any_bus
+returns-in-None-clause-any_bus g c =
+    let none =
+    through_none c.args.path.now (get c.self.inside.entries) c.self.inside.indexes.by_path.entries
+    c.self.inside.indexes.by_address.entries c.self.invariant (sym c.in-None.ensures.value) in
+    rw (← c.self.view_is) ((omega arith, refl), tt, rw none.was (refl, refl, refl))
 
 pub returns-in-None-clause-through : goal.returns-in-None-clause-through
 returns-in-None-clause-through g c =
@@ -46,4 +60,4 @@ returns-in-None-clause-receives g c known =
     through_none c.args.path.now (get c.self.inside.entries) c.self.inside.indexes.by_path.entries
     c.self.inside.indexes.by_address.entries c.self.invariant (sym c.in-None.ensures.value) in
     rw (← c.self.view_is) (table_receives c.args.path.now _ _ _ _ _ _ none.goes still
-    c.args.packets (Err (Transfer NoDevice)) (rw none.was (refl, refl, refl)))
+    c.args.choice c.args.packets (Err (Transfer NoDevice)) (rw none.was (refl, refl, refl)))

@@ -1,0 +1,142 @@
+-- Calls through one pipe of a function.
+use Rattle.std.proofs.Common.{◌≡◌, ◌∙◌, sym, ap, subst, refl, Bool, true, false, Option, Some}
+use Rattle.std.proofs.Common.{Result, Ok, Err, is_some, ◌||◌}
+use Rattle.usb_world.specs.{BusFault, World}
+use Rattle.usb_pipe.specs.{BusToldIt, PipeFault, PipeState, is_broken, needs_clear, pipe_made}
+use Rattle.usb_pipe.specs.declared.fault.PipeFault.TheVariants as pipe_fault
+use Rattle.usb_table.specs.{AreInPlace, ClearedBy, ClearedFirst, ClearedIf, ClearedInOrder}
+use Rattle.usb_table.specs.{ClearedInTurn, ClearedThrough, Function}
+use Rattle.usb_table.specs.{FunctionPipes, MovedOrRefused, PipeDid, first_pipe, of_pipe, with_rest}
+use Rattle.usb_table.specs.{PipesThrough, TableFault, ThroughIf, TransferTold}
+use Rattle.usb_table.specs.{function_made, pipe_asked, table_answer, unless_broken, with_pipe}
+use Rattle.usb_table.proofs.levels.StandingPipes.{IsRest, Picks, first_beside, first_picks}
+use Rattle.usb_table.proofs.levels.StandingPipes.{first_ways, made_with, placed_made, rest_made}
+use Rattle.usb_table.proofs.levels.StandingPipes.{rest_same, rest_way, with_same}
+use Rattle.usb_table.proofs.transfers.Restarts.{cleared_rest}
+
+-- a fault of the bus is told
+
+told_answer : {A : Type 0} (answer : Result A PipeFault) (last : Option BusFault)
+    → BusToldIt answer last → TransferTold (table_answer answer) last
+told_answer (Ok done) last x = tt
+told_answer (Err (pipe_fault.Bus why)) last x = x
+told_answer (Err pipe_fault.Stalled) last x = tt
+told_answer (Err pipe_fault.Busy) last x = tt
+told_answer (Err pipe_fault.NoAnswer) last x = tt
+told_answer (Err pipe_fault.Broken) last x = tt
+told_answer (Err pipe_fault.Memory) last x = tt
+
+pub told_bus : {A : Type 0} (answer : Result A PipeFault) (result : Result A TableFault)
+    (last : Option BusFault) → result ≡ table_answer answer → BusToldIt answer last
+    → TransferTold result last
+told_bus answer result last told x =
+    subst (λ r. TransferTold r last) (sym told) (told_answer answer last x)
+
+-- a pipe was picked, and another one to the same endpoint put in its place
+
+module _ (pick : FunctionPipes → Option PipeState) (picks : Picks pick)
+    (pipes left : FunctionPipes) (placed : AreInPlace pipes) (pipe rest : PipeState)
+    (picked : pick pipes ≡ Some pipe) (put : left ≡ with_pipe rest pipes)
+    (same : pipe_made rest ≡ pipe_made pipe) where
+  pub call_made : function_made left ≡ function_made pipes
+  call_made = ap function_made put
+      ∙ made_with pipe rest pipes (picks pipes pipe placed picked).at same
+
+  pub call_through : {A : Type 0} (So : PipeDid A) (old : World) (result : Result A TableFault)
+      (new : World) → So pipe old result rest new
+      → PipesThrough pick So (Function pipes) old result (Function left) new
+  call_through So old result new x = (
+    Some rest,
+    ap Function put,
+    subst (λ o. ThroughIf So o old result (Some rest) new) (sym picked) x,
+  )
+
+  module _ {A W : Type 0} (old new : W) (answer : Result A PipeFault)
+      (result : Result A TableFault) (told : result ≡ table_answer answer) where
+    pub call_asked : MovedOrRefused (pipe_asked (pick pipes)) (Function pipes) old result
+        (Function left) new
+    call_asked = subst (λ o. MovedOrRefused (pipe_asked o) (Function pipes) old result
+        (Function left) new) (sym picked) (answer, told)
+
+    pub call_refused : (is_broken pipe.condition ≡ true → (answer ≡ Err pipe_fault.Broken)
+        × (rest ≡ pipe) × (new ≡ old))
+        → MovedOrRefused (unless_broken (pipe_asked (pick pipes))) (Function pipes) old result
+        (Function left) new
+    call_refused broken = subst (λ o. MovedOrRefused (unless_broken (pipe_asked o))
+        (Function pipes) old result (Function left) new) (sym picked)
+        (by_condition (is_broken pipe.condition) refl)
+      where
+        by_condition : (b : Bool) → is_broken pipe.condition ≡ b
+            → MovedOrRefused (unless_broken (Ok pipe)) (Function pipes) old result (Function left)
+            new
+        by_condition true is =
+            let x = broken is in
+            let back : left ≡ pipes =
+            put ∙ ap (λ p. with_pipe p pipes) x.1
+            ∙ with_same pipe pipes (picks pipes pipe placed picked).at in
+            rw is (told ∙ ap table_answer x.0, ap Function back, x.2)
+        by_condition false is = rw is (answer, told)
+
+-- The first bulk endpoints, one and then the other
+
+pub call_first : (is_in : Bool) (pipes left : FunctionPipes) (pipe rest : PipeState)
+    → first_pipe is_in pipes ≡ Some pipe → left ≡ with_pipe rest pipes → (old : World)
+    (answer : Result (Unit {0}) PipeFault) (new : World)
+    → ClearedThrough (needs_clear pipe) pipe old answer rest new
+    → ClearedFirst is_in pipes old answer left new
+call_first is_in pipes left pipe rest picked put old answer new x = record {
+  rest = Some rest;
+  cleared = subst (λ o. ClearedBy o old answer (Some rest) new) (sym picked) x;
+  left_is = put;
+}
+
+pub in_turn_of : (pipes : FunctionPipes) (old : World) (result : Result (Unit {0}) TableFault)
+    (left : FunctionPipes) (new : World) (has : Bool)
+    → has ≡ (is_some (first_pipe false pipes) || is_some (first_pipe true pipes))
+    → has ≡ true → ClearedInOrder pipes old result left new
+    → ClearedInTurn pipes old result left new
+in_turn_of pipes old result left new has is some x = subst
+    (λ b. ClearedIf b pipes old result left new) (sym some ∙ is) x
+
+module _ (pipes mid_pipes : FunctionPipes) (placed : AreInPlace pipes) (old : World)
+    (first : Result (Unit {0}) PipeFault) (mid : World)
+    (x : ClearedFirst false pipes old first mid_pipes mid) where
+  is_rest : IsRest (first_pipe false pipes) x.rest
+  is_rest = cleared_rest (first_pipe false pipes) x.rest old first mid x.cleared
+
+  made : function_made mid_pipes ≡ function_made pipes
+  made = ap function_made x.left_is ∙ rest_made (first_pipe false) (first_picks false) pipes placed
+      (first_pipe false pipes) x.rest refl is_rest
+
+  same_in : first_pipe true mid_pipes ≡ first_pipe true pipes
+  same_in = ap (first_pipe true) x.left_is ∙ first_beside true false x.rest pipes
+      (rest_way false (first_pipe false pipes) x.rest (first_ways false pipes placed) is_rest)
+      (λ e. cc e)
+
+  pub first_failed : (why : PipeFault) → first ≡ Err why
+      → ClearedInOrder pipes old (Err (of_pipe why)) mid_pipes mid
+  first_failed why failed = record {
+    first = Err why;
+    mid = mid;
+    rest_out = x.rest;
+    rest_in = first_pipe true pipes;
+    out = subst (λ r. ClearedBy (first_pipe false pipes) old r x.rest mid) failed x.cleared;
+    into = (refl, refl, refl);
+    left_is = sym (rest_same (first_pipe true) (first_picks true) mid_pipes
+        (placed_made pipes mid_pipes made placed) (first_pipe true pipes) same_in)
+        ∙ ap (with_rest (first_pipe true pipes)) x.left_is;
+  }
+
+  pub both_cleared : (u : Unit {0}) → first ≡ Ok u → (answer : Result (Unit {0}) PipeFault)
+      (result : Result (Unit {0}) TableFault) → result ≡ table_answer answer
+      → (left : FunctionPipes) (new : World) → ClearedFirst true mid_pipes mid answer left new
+      → ClearedInOrder pipes old result left new
+  both_cleared u done answer result told left new y = record {
+    first = Ok u;
+    mid = mid;
+    rest_out = x.rest;
+    rest_in = y.rest;
+    out = subst (λ r. ClearedBy (first_pipe false pipes) old r x.rest mid) done x.cleared;
+    into = (answer, told, subst (λ o. ClearedBy o mid answer y.rest new) same_in y.cleared);
+    left_is = y.left_is ∙ ap (with_rest y.rest) x.left_is;
+  }

@@ -1,0 +1,439 @@
+-- Pipes of a function that stand in their places, and those that are picked among them.
+use Rattle.std.proofs.Common.{◌≡◌, ◌≢◌, ◌∙◌, refl, sym, ap, subst, arith, Bool, true, false, ℕ}
+use Rattle.std.proofs.Common.{zero}
+use Rattle.std.proofs.Common.{suc, ◌==◌, ◌≤◌, ◌<◌, ◌%◌, ◌&&◌, not, nat_le, List, [], ◌∷◌, length}
+use Rattle.std.proofs.Common.{get_or}
+use Rattle.std.proofs.Common.{slice_set, Option, Some, None, IfSome, if◌then◌else◌}
+use Rattle.std.specs.Option.{option_map}
+use Rattle.usb_request.specs.{DIRECTION_IN}
+use Rattle.usb_descriptor.specs.{UsableEndpoint}
+use Rattle.usb_descriptor.proofs.Interface.{usable_of-small}
+use Rattle.usb_device.specs.{with_at}
+use Rattle.usb_device.proofs.Interface.{at_mapped, at_other, at_same}
+use Rattle.usb_transaction.specs.{Target}
+use Rattle.usb_pipe.specs.{PipeState, pipe_made}
+use Rattle.usb_enum.specs.{Accepted, configuration_of}
+use Rattle.usb_table.specs.{AreFunctionPipes, AreInPlace, At, EndpointChoice, FirstBulk}
+use Rattle.usb_table.specs.{FunctionPipes}
+use Rattle.usb_table.specs.{IsEndPipe, IsPipe, first_number, first_pipe, function_made, gives_bytes}
+use Rattle.usb_table.specs.{is_bulk_kind}
+use Rattle.usb_table.specs.{gives_reports, only_if, pipe_at, pipe_if, pipe_to, polls_through}
+use Rattle.usb_table.specs.{receives_through, row_made, sends_through, takes_bytes, usable_end}
+use Rattle.usb_table.specs.{way_to}
+use Rattle.usb_table.specs.{with_pipe, with_rest}
+
+-- Rows
+
+none_less : {P : Type 0} (n : ℕ) → n < 0 → P
+none_less n h = absurd (lt_zero n h)
+  where
+    lt_zero : (n : ℕ) → n < 0 → ⊥
+    lt_zero n h = omega (arith, h)
+
+module _ {A : Type 0} (none : A) where
+  pub slice_set-row : (n : ℕ) (x : A) (row : List A) → n < length row
+      → slice_set row n x ≡ with_at none n x row
+  unfolding with_at
+  slice_set-row n x [] h = none_less n h
+  slice_set-row zero x (y ∷ row) h = refl
+  slice_set-row (suc n) x (y ∷ row) h =
+      ap (λ more. y ∷ more) (slice_set-row n x row (omega (arith, h)))
+
+row_same : (n : ℕ) (pipe : PipeState) (row : List (Option PipeState))
+    → get_or row n None ≡ Some pipe → with_at None n (Some pipe) row ≡ row
+unfolding with_at
+row_same zero pipe [] e = absurd (cc e)
+row_same zero pipe (y ∷ row) e = ap (λ x. x ∷ row) (sym e)
+row_same (suc n) pipe [] e = absurd (cc e)
+row_same (suc n) pipe (y ∷ row) e = ap (λ more. y ∷ more) (row_same n pipe row e)
+
+row_made-with : (n : ℕ) (pipe left : PipeState) (row : List (Option PipeState))
+    → get_or row n None ≡ Some pipe → pipe_made left ≡ pipe_made pipe
+    → row_made (with_at None n (Some left) row) ≡ row_made row
+unfolding with_at
+row_made-with zero pipe left [] e same = absurd (cc e)
+row_made-with zero pipe left (y ∷ row) e same =
+    ap (λ x. x ∷ row_made row) (ap Some same ∙ sym (ap (option_map pipe_made) e))
+row_made-with (suc n) pipe left [] e same = absurd (cc e)
+row_made-with (suc n) pipe left (y ∷ row) e same =
+    ap (λ more. option_map pipe_made y ∷ more) (row_made-with n pipe left row e same)
+
+-- The pipes with another one
+
+module _ (pipe : PipeState) (pipes : FunctionPipes) where
+  abbrev with_way : Bool → FunctionPipes
+  with_way is_in =
+      if is_in then record pipes { ins = with_at None pipe.ep (Some pipe) pipes.ins }
+      else record pipes { outs = with_at None pipe.ep (Some pipe) pipes.outs }
+
+  -- it stands there
+  pub at_with : pipe_at pipe.is_in pipe.ep (with_pipe pipe pipes) ≡ Some pipe
+  at_with = by_way pipe.is_in
+    where
+      by_way : (b : Bool) → pipe_at b pipe.ep (with_way b) ≡ Some pipe
+      by_way true = at_same None pipe.ep (Some pipe) pipes.ins
+      by_way false = at_same None pipe.ep (Some pipe) pipes.outs
+
+  -- all others stay
+  pub at_elsewhere : (is_in : Bool) (e : ℕ) → (pipe.is_in ≡ is_in → (e == pipe.ep) ≡ false)
+      → pipe_at is_in e (with_pipe pipe pipes) ≡ pipe_at is_in e pipes
+  at_elsewhere is_in e = by_ways pipe.is_in is_in
+    where
+      by_ways : (b c : Bool) → (b ≡ c → (e == pipe.ep) ≡ false)
+          → pipe_at c e (with_way b) ≡ pipe_at c e pipes
+      by_ways true true apart = at_other None pipe.ep e (Some pipe) pipes.ins (apart refl)
+      by_ways true false apart = refl
+      by_ways false true apart = refl
+      by_ways false false apart = at_other None pipe.ep e (Some pipe) pipes.outs (apart refl)
+
+  pub first_with : (is_in : Bool)
+      → first_number is_in (with_pipe pipe pipes) ≡ first_number is_in pipes
+  first_with is_in = by_ways pipe.is_in is_in
+    where
+      by_ways : (b c : Bool) → first_number c (with_way b) ≡ first_number c pipes
+      by_ways true true = refl
+      by_ways true false = refl
+      by_ways false true = refl
+      by_ways false false = refl
+
+  -- if it stood there, nothing changes
+  pub with_same : pipe_at pipe.is_in pipe.ep pipes ≡ Some pipe → with_pipe pipe pipes ≡ pipes
+  with_same = by_way pipe.is_in
+    where
+      by_way : (b : Bool) → pipe_at b pipe.ep pipes ≡ Some pipe → with_way b ≡ pipes
+      by_way true at = ap (λ row. record pipes { ins = row }) (row_same pipe.ep pipe pipes.ins at)
+      by_way false at =
+          ap (λ row. record pipes { outs = row }) (row_same pipe.ep pipe pipes.outs at)
+
+  with_made : (was : PipeState) → pipe_at pipe.is_in pipe.ep pipes ≡ Some was
+      → pipe_made pipe ≡ pipe_made was → function_made (with_pipe pipe pipes) ≡ function_made pipes
+  with_made was at same = by_way pipe.is_in at
+    where
+      by_way : (b : Bool) → pipe_at b pipe.ep pipes ≡ Some was
+          → function_made (with_way b) ≡ function_made pipes
+      by_way true at = ap (λ row. record (function_made pipes) { ins = row })
+          (row_made-with pipe.ep was pipe pipes.ins at same)
+      by_way false at = ap (λ row. record (function_made pipes) { outs = row })
+          (row_made-with pipe.ep was pipe pipes.outs at same)
+
+-- what a call leaves of a pipe is to the same endpoint
+
+pub same_way : (pipe left : PipeState) → pipe_made left ≡ pipe_made pipe → left.is_in ≡ pipe.is_in
+same_way pipe left same = ap (λ (p : PipeState). p.is_in) same
+
+pub same_number : (pipe left : PipeState) → pipe_made left ≡ pipe_made pipe → left.ep ≡ pipe.ep
+same_number pipe left same = ap (λ (p : PipeState). p.ep) same
+
+pub made_with : (pipe left : PipeState) (pipes : FunctionPipes)
+    → pipe_at pipe.is_in pipe.ep pipes ≡ Some pipe → pipe_made left ≡ pipe_made pipe
+    → function_made (with_pipe left pipes) ≡ function_made pipes
+made_with pipe left pipes at same =
+    with_made left pipes pipe (ap (λ b. pipe_at b left.ep pipes) (same_way pipe left same)
+    ∙ ap (λ n. pipe_at pipe.is_in n pipes) (same_number pipe left same) ∙ at) same
+
+-- of pipes as they were made each is as it was made
+at_row : (is_in : Bool) (e : ℕ) (pipes : FunctionPipes)
+    → pipe_at is_in e (function_made pipes) ≡ option_map pipe_made (pipe_at is_in e pipes)
+at_row true e pipes = at_mapped None (option_map pipe_made) refl e pipes.ins
+at_row false e pipes = at_mapped None (option_map pipe_made) refl e pipes.outs
+
+pub at_made : (is_in : Bool) (e : ℕ) (pipes left : FunctionPipes)
+    → function_made left ≡ function_made pipes
+    → option_map pipe_made (pipe_at is_in e left) ≡ option_map pipe_made (pipe_at is_in e pipes)
+at_made is_in e pipes left same =
+    sym (at_row is_in e left) ∙ ap (pipe_at is_in e) same ∙ at_row is_in e pipes
+
+-- Pipes that are picked
+
+pub place_of : (pipes : FunctionPipes) → AreInPlace pipes → (is_in : Bool) (e : ℕ)
+    (pipe : PipeState) → pipe_at is_in e pipes ≡ Some pipe → (pipe.is_in ≡ is_in) × (pipe.ep ≡ e)
+place_of pipes placed is_in e pipe at =
+    subst (λ o. IfSome o (λ (p : PipeState). (p.is_in ≡ is_in) × (p.ep ≡ e))) at (placed is_in e)
+
+-- pipes to the same endpoints stand so, too
+pub placed_made : (pipes left : FunctionPipes) → function_made left ≡ function_made pipes
+    → AreInPlace pipes → AreInPlace left
+placed_made pipes left same placed is_in e =
+    by_pipe (pipe_at is_in e pipes) (pipe_at is_in e left) (at_made is_in e pipes left same)
+    (placed is_in e)
+  where
+    by_pipe : (was now : Option PipeState)
+        → option_map pipe_made now ≡ option_map pipe_made was
+        → IfSome was (λ (p : PipeState). (p.is_in ≡ is_in) × (p.ep ≡ e))
+        → IfSome now (λ (p : PipeState). (p.is_in ≡ is_in) × (p.ep ≡ e))
+    by_pipe was None made place = tt
+    by_pipe None (Some left) made place = absurd (cc made)
+    by_pipe (Some pipe) (Some left) made place =
+        let made_same : pipe_made left ≡ pipe_made pipe = cc made in
+        (same_way pipe left made_same ∙ place.0, same_number pipe left made_same ∙ place.1)
+
+-- one stands in its place, and what is left of it is picked again
+pub record PickedAt (pick : FunctionPipes → Option PipeState) (pipes : FunctionPipes)
+    (pipe : PipeState) : Type 0 where
+  pub at : pipe_at pipe.is_in pipe.ep pipes ≡ Some pipe
+  pub again : (left : PipeState) → pipe_made left ≡ pipe_made pipe
+      → pick (with_pipe left pipes) ≡ Some left
+
+abbrev pub Picks : (FunctionPipes → Option PipeState) → Type 0
+Picks pick = (pipes : FunctionPipes) (pipe : PipeState) → AreInPlace pipes
+    → pick pipes ≡ Some pipe → PickedAt pick pipes pipe
+
+pub at_picks : (is_in : Bool) (e : ℕ) → Picks (pipe_at is_in e)
+at_picks is_in e pipes pipe placed at =
+    let place = place_of pipes placed is_in e pipe at in
+    record {
+      at = ap (λ b. pipe_at b pipe.ep pipes) place.0 ∙ ap (λ n. pipe_at is_in n pipes) place.1 ∙ at;
+      again = λ left same.
+          let way = same_way pipe left same ∙ place.0 in
+          let number = same_number pipe left same ∙ place.1 in
+          sym (ap (λ b. pipe_at b left.ep (with_pipe left pipes)) way
+          ∙ ap (λ n. pipe_at is_in n (with_pipe left pipes)) number) ∙ at_with left pipes;
+    }
+
+pub to_picks : (a : ℕ) → Picks (pipe_to a)
+to_picks a = at_picks (nat_le DIRECTION_IN a) (a % DIRECTION_IN)
+
+pub first_picks : (is_in : Bool) → Picks (first_pipe is_in)
+first_picks is_in pipes pipe placed h = by_number (first_number is_in pipes) refl h
+  where
+    by_number : (o : Option ℕ) → first_number is_in pipes ≡ o → pipe_if is_in o pipes ≡ Some pipe
+        → PickedAt (first_pipe is_in) pipes pipe
+    by_number None is at = absurd (cc at)
+    by_number (Some e) is at =
+        let x = at_picks is_in e pipes pipe placed at in
+        record {
+          at = x.at;
+          again = λ left same.
+              ap (λ o. pipe_if is_in o (with_pipe left pipes)) (first_with left pipes is_in ∙ is)
+              ∙ x.again left same;
+        }
+
+pub only_some : (test : PipeState → Bool) (o : Option PipeState) (pipe : PipeState)
+    → only_if test o ≡ Some pipe → (o ≡ Some pipe) × (test pipe ≡ true)
+only_some test None pipe h = absurd (cc h)
+only_some test (Some p) pipe h = by_test (test p) refl h
+  where
+    by_test : (b : Bool) → test p ≡ b → (if b then Some p else None) ≡ Some pipe
+        → (Some p ≡ Some pipe) × (test pipe ≡ true)
+    by_test false is e = absurd (cc e)
+    by_test true is e = let same : p ≡ pipe = cc e in (e, ap test (sym same) ∙ is)
+
+only_picks : (test : PipeState → Bool) → ((pipe left : PipeState)
+    → pipe_made left ≡ pipe_made pipe → test left ≡ test pipe)
+    → (pick : FunctionPipes → Option PipeState) → Picks pick
+    → Picks (λ pipes. only_if test (pick pipes))
+only_picks test still pick picks pipes pipe placed h =
+    let one = only_some test (pick pipes) pipe h in
+    let x = picks pipes pipe placed one.0 in
+    record {
+      at = x.at;
+      again = λ left same. ap (only_if test) (x.again left same)
+          ∙ ap (λ b. if b then Some left else None) (still pipe left same ∙ one.1);
+    }
+
+takes_still : (pipe left : PipeState) → pipe_made left ≡ pipe_made pipe
+    → takes_bytes left ≡ takes_bytes pipe
+takes_still pipe left same = ap takes_bytes same
+
+gives_still : (pipe left : PipeState) → pipe_made left ≡ pipe_made pipe
+    → gives_bytes left ≡ gives_bytes pipe
+gives_still pipe left same = ap gives_bytes same
+
+pub way_picks : (is_in : Bool) (a : ℕ) → Picks (way_to is_in a)
+way_picks true a = only_picks (λ pipe. pipe.is_in) same_way (pipe_to a) (to_picks a)
+way_picks false a = only_picks takes_bytes takes_still (pipe_to a) (to_picks a)
+
+pub sends_picks : (choice : EndpointChoice) → Picks (sends_through choice)
+sends_picks FirstBulk = first_picks false
+sends_picks (At a) = only_picks takes_bytes takes_still (pipe_to a) (to_picks a)
+
+pub receives_picks : (choice : EndpointChoice) → Picks (receives_through choice)
+receives_picks FirstBulk = first_picks true
+receives_picks (At a) = only_picks gives_bytes gives_still (pipe_to a) (to_picks a)
+
+pub polls_picks : (a : ℕ) → Picks (polls_through a)
+polls_picks a = only_picks gives_reports (λ pipe left same. ap gives_reports same) (pipe_to a)
+    (to_picks a)
+
+-- Their directions
+
+pub first_way : (is_in : Bool) (pipes : FunctionPipes) (pipe : PipeState) → AreInPlace pipes
+    → first_pipe is_in pipes ≡ Some pipe → pipe.is_in ≡ is_in
+first_way is_in pipes pipe placed h = by_number (first_number is_in pipes) h
+  where
+    by_number : (o : Option ℕ) → pipe_if is_in o pipes ≡ Some pipe → pipe.is_in ≡ is_in
+    by_number None at = absurd (cc at)
+    by_number (Some e) at = (place_of pipes placed is_in e pipe at).0
+
+takes_way : (b : Bool) → not b ≡ true → b ≡ false
+takes_way true h = absurd (cc h)
+takes_way false h = refl
+
+gives_way : (b c : Bool) → (b && c) ≡ true → b ≡ true
+gives_way true c h = refl
+gives_way false c h = absurd (cc h)
+
+pub sends_way : (choice : EndpointChoice) (pipes : FunctionPipes) (pipe : PipeState)
+    → AreInPlace pipes → sends_through choice pipes ≡ Some pipe → pipe.is_in ≡ false
+sends_way FirstBulk pipes pipe placed h = first_way false pipes pipe placed h
+sends_way (At a) pipes pipe placed h =
+    takes_way pipe.is_in (only_some takes_bytes (pipe_to a pipes) pipe h).1
+
+pub receives_way : (choice : EndpointChoice) (pipes : FunctionPipes) (pipe : PipeState)
+    → AreInPlace pipes → receives_through choice pipes ≡ Some pipe → pipe.is_in ≡ true
+receives_way FirstBulk pipes pipe placed h = first_way true pipes pipe placed h
+receives_way (At a) pipes pipe placed h =
+    gives_way pipe.is_in (is_bulk_kind pipe.kind) (only_some gives_bytes (pipe_to a pipes) pipe h).1
+
+pub polls_way : (a : ℕ) (pipes : FunctionPipes) (pipe : PipeState)
+    → polls_through a pipes ≡ Some pipe → pipe.is_in ≡ true
+polls_way a pipes pipe h =
+    gives_way pipe.is_in (not (is_bulk_kind pipe.kind))
+    (only_some gives_reports (pipe_to a pipes) pipe h).1
+
+-- Pipes to a function that was found
+
+pub in_place : (device : Accepted) (below_hub : Bool) (pipes : FunctionPipes)
+    → AreFunctionPipes device below_hub pipes → AreInPlace pipes
+in_place device below_hub pipes are is_in e =
+    by_pipe (usable_end device is_in e) (pipe_at is_in e pipes) (are.each is_in e)
+  where
+    by_pipe : (end : Option UsableEndpoint) (o : Option PipeState)
+        → IsPipe device below_hub is_in e end o
+        → IfSome o (λ p. (p.is_in ≡ is_in) × (p.ep ≡ e))
+    by_pipe end None is = tt
+    by_pipe None (Some pipe) is = absurd is
+    by_pipe (Some end) (Some pipe) is = (is.way, is.number)
+
+-- one of them
+pub record IsPipeOf (device : Accepted) (below_hub : Bool) (pipes : FunctionPipes)
+    (pipe : PipeState) : Type 0 where
+  pub are : AreFunctionPipes device below_hub pipes
+  pub at : pipe_at pipe.is_in pipe.ep pipes ≡ Some pipe
+  pub end : UsableEndpoint
+  pub usable : usable_end device pipe.is_in pipe.ep ≡ Some end
+  pub is : IsEndPipe device below_hub pipe.is_in pipe.ep end pipe
+
+pub pipe_of : (device : Accepted) (below_hub : Bool) (pipes : FunctionPipes) (pipe : PipeState)
+    → AreFunctionPipes device below_hub pipes → pipe_at pipe.is_in pipe.ep pipes ≡ Some pipe
+    → IsPipeOf device below_hub pipes pipe
+pipe_of device below_hub pipes pipe are at = by_end (usable_end device pipe.is_in pipe.ep) refl
+    (subst (IsPipe device below_hub pipe.is_in pipe.ep (usable_end device pipe.is_in pipe.ep)) at
+    (are.each pipe.is_in pipe.ep))
+  where
+    by_end : (o : Option UsableEndpoint) → usable_end device pipe.is_in pipe.ep ≡ o
+        → IsPipe device below_hub pipe.is_in pipe.ep o (Some pipe)
+        → IsPipeOf device below_hub pipes pipe
+    by_end None usable is = absurd is
+    by_end (Some end) usable is =
+        record { are = are; at = at; end = end; usable = usable; is = is }
+
+module _ {device : Accepted} {below_hub : Bool} {pipes : FunctionPipes} (pipe : PipeState)
+    (of : IsPipeOf device below_hub pipes pipe) where
+  pub addressed : pipe.target.addr ≡ device.address
+  addressed = ap (λ (t : Target). t.addr) of.is.target
+
+  pub far_end : pipe.ep ≢ 0
+  far_end =
+      let small = (usable_of-small device.low pipe.is_in pipe.ep (configuration_of device) of.end
+      of.usable).0 in omega (arith, small)
+
+  pub some_bytes : 1 ≤ pipe.max
+  some_bytes = subst (λ n. 1 ≤ n) (sym of.is.max)
+      (usable_of-small device.low pipe.is_in pipe.ep (configuration_of device) of.end of.usable).2
+
+-- What is left of a pipe, if there is one
+
+abbrev pub IsRest : Option PipeState → Option PipeState → Type 0
+IsRest None rest = rest ≡ None
+IsRest (Some pipe) None = ⊥
+IsRest (Some pipe) (Some left) = pipe_made left ≡ pipe_made pipe
+
+pub same_rest : (pipe : Option PipeState) → IsRest pipe pipe
+same_rest None = refl
+same_rest (Some pipe) = refl
+
+-- it goes the same way
+pub rest_way : (is_in : Bool) (o rest : Option PipeState)
+    → IfSome o (λ (pipe : PipeState). pipe.is_in ≡ is_in) → IsRest o rest
+    → IfSome rest (λ (pipe : PipeState). pipe.is_in ≡ is_in)
+rest_way is_in o None way is = tt
+rest_way is_in None (Some left) way is = absurd (cc is)
+rest_way is_in (Some pipe) (Some left) way is = same_way pipe left is ∙ way
+
+pub first_ways : (is_in : Bool) (pipes : FunctionPipes) → AreInPlace pipes
+    → IfSome (first_pipe is_in pipes) (λ (pipe : PipeState). pipe.is_in ≡ is_in)
+first_ways is_in pipes placed = by_pipe (first_pipe is_in pipes) refl
+  where
+    by_pipe : (o : Option PipeState) → first_pipe is_in pipes ≡ o
+        → IfSome o (λ (pipe : PipeState). pipe.is_in ≡ is_in)
+    by_pipe None h = tt
+    by_pipe (Some pipe) h = first_way is_in pipes pipe placed h
+
+-- put back it is picked again, and the pipes are to the same endpoints
+pub rest_again : (pick : FunctionPipes → Option PipeState) → Picks pick → (pipes : FunctionPipes)
+    → AreInPlace pipes → (o rest : Option PipeState) → pick pipes ≡ o → IsRest o rest
+    → pick (with_rest rest pipes) ≡ rest
+rest_again pick picks pipes placed None rest at is =
+    subst (λ r. pick (with_rest r pipes) ≡ r) (sym is) at
+rest_again pick picks pipes placed (Some pipe) None at is = absurd is
+rest_again pick picks pipes placed (Some pipe) (Some left) at is =
+    (picks pipes pipe placed at).again left is
+
+pub rest_made : (pick : FunctionPipes → Option PipeState) → Picks pick → (pipes : FunctionPipes)
+    → AreInPlace pipes → (o rest : Option PipeState) → pick pipes ≡ o → IsRest o rest
+    → function_made (with_rest rest pipes) ≡ function_made pipes
+rest_made pick picks pipes placed None rest at is =
+    ap (λ r. function_made (with_rest r pipes)) is
+rest_made pick picks pipes placed (Some pipe) None at is = absurd is
+rest_made pick picks pipes placed (Some pipe) (Some left) at is =
+    made_with pipe left pipes (picks pipes pipe placed at).at is
+
+-- where a pipe is put back as it was, nothing changes
+pub rest_same : (pick : FunctionPipes → Option PipeState) → Picks pick → (pipes : FunctionPipes)
+    → AreInPlace pipes → (o : Option PipeState) → pick pipes ≡ o → with_rest o pipes ≡ pipes
+rest_same pick picks pipes placed None at = refl
+rest_same pick picks pipes placed (Some pipe) at =
+    with_same pipe pipes (picks pipes pipe placed at).at
+
+-- a pipe of the other direction is not the first bulk one of this one
+first_apart : (is_in : Bool) (left : PipeState) (pipes : FunctionPipes)
+    → (left.is_in ≡ is_in → ⊥) → first_pipe is_in (with_pipe left pipes) ≡ first_pipe is_in pipes
+first_apart is_in left pipes apart =
+    ap (λ o. pipe_if is_in o (with_pipe left pipes)) (first_with left pipes is_in)
+    ∙ by_number (first_number is_in pipes)
+  where
+    by_number : (o : Option ℕ) → pipe_if is_in o (with_pipe left pipes) ≡ pipe_if is_in o pipes
+    by_number None = refl
+    by_number (Some e) = at_elsewhere left pipes is_in e (λ same. absurd (apart same))
+
+pub first_beside : (is_in other : Bool) (rest : Option PipeState) (pipes : FunctionPipes)
+    → IfSome rest (λ (pipe : PipeState). pipe.is_in ≡ other) → (other ≡ is_in → ⊥)
+    → first_pipe is_in (with_rest rest pipes) ≡ first_pipe is_in pipes
+first_beside is_in other None pipes way apart = refl
+first_beside is_in other (Some left) pipes way apart =
+    first_apart is_in left pipes (λ same. apart (sym way ∙ same))
+
+-- The pipe to an address, by its direction
+
+pub way_is : (is_in : Bool) (a : ℕ) (pipes : FunctionPipes) (pipe : PipeState)
+    → pipe_to a pipes ≡ Some pipe → pipe.is_in ≡ is_in → way_to is_in a pipes ≡ Some pipe
+way_is true a pipes pipe at way =
+    ap (only_if (λ (p : PipeState). p.is_in)) at ∙ ap (λ b. if b then Some pipe else None) way
+way_is false a pipes pipe at way = ap (only_if takes_bytes) at
+    ∙ ap (λ b. if not b then Some pipe else None) way
+
+pub way_not : (is_in : Bool) (a : ℕ) (pipes : FunctionPipes) (pipe : PipeState)
+    → pipe_to a pipes ≡ Some pipe → (pipe.is_in ≡ is_in → ⊥) → way_to is_in a pipes ≡ None
+way_not true a pipes pipe at apart = by_way pipe.is_in refl
+  where
+    by_way : (b : Bool) → pipe.is_in ≡ b → way_to true a pipes ≡ None
+    by_way true way = absurd (apart way)
+    by_way false way =
+        ap (only_if (λ (p : PipeState). p.is_in)) at ∙ ap (λ b. if b then Some pipe else None) way
+way_not false a pipes pipe at apart = by_way pipe.is_in refl
+  where
+    by_way : (b : Bool) → pipe.is_in ≡ b → way_to false a pipes ≡ None
+    by_way false way = absurd (apart way)
+    by_way true way = ap (only_if takes_bytes) at
+        ∙ ap (λ b. if not b then Some pipe else None) way

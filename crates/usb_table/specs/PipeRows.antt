@@ -1,0 +1,155 @@
+-- The pipes to a function: one to each endpoint that a pipe can use, by its direction and number;
+-- and which of them a transfer goes through.
+use Rattle.std.specs.Prelude.{◌≡◌, ℕ, ◌%◌, nat_le, ◌&&◌, not, Bool, true, false, if◌then◌else◌}
+use Rattle.std.specs.Prelude.{List, map, Option, Some, None, Result, Ok, Err, get_or, IfSome}
+use Rattle.std.specs.Option.{option_map}
+use Rattle.usb_request.specs.{DIRECTION_IN}
+use Rattle.usb_descriptor.specs.{EndpointKind}
+use Rattle.usb_descriptor.specs.declared.usable.EndpointKind.TheVariants.{Bulk, Interrupt}
+use Rattle.usb_device.specs.{with_at}
+use Rattle.usb_pipe.specs.{PipeState, is_broken, pipe_made, interrupt_made}
+use Rattle.usb_table.specs.declared.choice.EndpointChoice.{EndpointChoice}
+use Rattle.usb_table.specs.declared.choice.EndpointChoice.TheVariants.{FirstBulk, At}
+use Rattle.usb_table.specs.declared.fault.TransferFault.{TransferFault}
+use Rattle.usb_table.specs.declared.fault.TransferFault.TheVariants.{Broken, NoDevice, NoEndpoint}
+use Rattle.usb_table.specs.declared.function_pipes.FunctionPipes.{FunctionPipes}
+use Rattle.usb_table.specs.declared.pipes.Pipes.{Pipes}
+use Rattle.usb_table.specs.declared.pipes.Pipes.TheVariants.{Hub, Function, Absent}
+
+-- The pipes of a direction, by the numbers of their endpoints
+
+abbrev pub row_at : Bool → FunctionPipes → List (Option PipeState)
+row_at true pipes = pipes.ins
+row_at false pipes = pipes.outs
+
+-- the pipe to the endpoint of a direction (true: IN) with a number
+abbrev pub pipe_at : Bool → ℕ → FunctionPipes → Option PipeState
+pipe_at is_in e pipes = get_or (row_at is_in pipes) e None
+
+-- the number of the first bulk endpoint of a direction
+abbrev pub first_number : Bool → FunctionPipes → Option ℕ
+first_number true pipes = pipes.first_in
+first_number false pipes = pipes.first_out
+
+abbrev pub pipe_if : Bool → Option ℕ → FunctionPipes → Option PipeState
+pipe_if is_in None pipes = None
+pipe_if is_in (Some e) pipes = pipe_at is_in e pipes
+
+-- the pipe to it
+abbrev pub first_pipe : Bool → FunctionPipes → Option PipeState
+first_pipe is_in pipes = pipe_if is_in (first_number is_in pipes) pipes
+
+-- the pipe to the endpoint with an address: bit 7 is its direction, and what is left its number
+abbrev pub pipe_to : ℕ → FunctionPipes → Option PipeState
+pipe_to a pipes = pipe_at (nat_le DIRECTION_IN a) (a % DIRECTION_IN) pipes
+
+-- each pipe stands at its own direction and number
+abbrev pub AreInPlace : FunctionPipes → Type 0
+AreInPlace pipes = (is_in : Bool) (e : ℕ)
+    → IfSome (pipe_at is_in e pipes) (λ pipe. (pipe.is_in ≡ is_in) × (pipe.ep ≡ e))
+
+-- Which pipe a transfer goes through
+
+-- a pipe, if it is one of these
+abbrev pub only_if : (PipeState → Bool) → Option PipeState → Option PipeState
+only_if test None = None
+only_if test (Some pipe) = if test pipe then Some pipe else None
+
+abbrev pub is_bulk_kind : EndpointKind → Bool
+is_bulk_kind Bulk = true
+is_bulk_kind Interrupt = false
+
+abbrev pub takes_bytes : PipeState → Bool
+takes_bytes pipe = not pipe.is_in
+
+abbrev pub gives_bytes : PipeState → Bool
+gives_bytes pipe = pipe.is_in && is_bulk_kind pipe.kind
+
+abbrev pub gives_reports : PipeState → Bool
+gives_reports pipe = pipe.is_in && not (is_bulk_kind pipe.kind)
+
+-- the pipe to the endpoint with an address, if that has this direction
+abbrev pub way_to : Bool → ℕ → FunctionPipes → Option PipeState
+way_to true a pipes = only_if (λ pipe. pipe.is_in) (pipe_to a pipes)
+way_to false a pipes = only_if takes_bytes (pipe_to a pipes)
+
+-- bytes are sent to an OUT endpoint of either kind
+abbrev pub sends_through : EndpointChoice → FunctionPipes → Option PipeState
+sends_through FirstBulk pipes = first_pipe false pipes
+sends_through (At a) pipes = only_if takes_bytes (pipe_to a pipes)
+
+-- packets are received from a bulk IN endpoint
+abbrev pub receives_through : EndpointChoice → FunctionPipes → Option PipeState
+receives_through FirstBulk pipes = first_pipe true pipes
+receives_through (At a) pipes = only_if gives_bytes (pipe_to a pipes)
+
+-- an interrupt IN endpoint is polled
+abbrev pub polls_through : ℕ → FunctionPipes → Option PipeState
+polls_through a pipes = only_if gives_reports (pipe_to a pipes)
+
+-- The pipes with another one
+
+-- at its own direction and number
+abbrev pub with_pipe : PipeState → FunctionPipes → FunctionPipes
+with_pipe pipe pipes =
+    if pipe.is_in then record pipes { ins = with_at None pipe.ep (Some pipe) pipes.ins }
+    else record pipes { outs = with_at None pipe.ep (Some pipe) pipes.outs }
+
+-- with what is left of a pipe, if a call went through one
+abbrev pub with_rest : Option PipeState → FunctionPipes → FunctionPipes
+with_rest None pipes = pipes
+with_rest (Some pipe) pipes = with_pipe pipe pipes
+
+-- The pipes to what stands at a port
+
+-- those to a function
+abbrev pub function_of : Pipes → Option FunctionPipes
+function_of (Hub pipe) = None
+function_of (Function pipes) = Some pipes
+function_of Absent = None
+
+-- each of them stands in its place
+abbrev pub ArePlaced : Pipes → Type 0
+ArePlaced pipes = IfSome (function_of pipes) AreInPlace
+
+-- the one that is picked among them
+abbrev pub through : (FunctionPipes → Option PipeState) → Pipes → Option PipeState
+through pick (Hub pipe) = None
+through pick (Function pipes) = pick pipes
+through pick Absent = None
+
+-- the pipes to its first bulk endpoints
+abbrev pub pipe_out : Pipes → Option PipeState
+pipe_out pipes = through (first_pipe false) pipes
+
+abbrev pub pipe_in : Pipes → Option PipeState
+pipe_in pipes = through (first_pipe true) pipes
+
+-- the pipe that a call goes through, or why there is none
+abbrev pub pipe_asked : Option PipeState → Result PipeState TransferFault
+pipe_asked None = Err NoEndpoint
+pipe_asked (Some pipe) = Ok pipe
+
+abbrev pub asked_through : (FunctionPipes → Option PipeState) → Pipes
+    → Result PipeState TransferFault
+asked_through pick (Hub pipe) = Err NoEndpoint
+asked_through pick (Function pipes) = pipe_asked (pick pipes)
+asked_through pick Absent = Err NoDevice
+
+-- nor does a broken one do more than tell so
+abbrev pub unless_broken : Result PipeState TransferFault → Result PipeState TransferFault
+unless_broken (Ok pipe) = if is_broken pipe.condition then Err Broken else Ok pipe
+unless_broken (Err fault) = Err fault
+
+-- Pipes as they were made
+
+abbrev pub row_made : List (Option PipeState) → List (Option PipeState)
+row_made row = map (option_map pipe_made) row
+
+abbrev pub function_made : FunctionPipes → FunctionPipes
+function_made pipes = record pipes { outs = row_made pipes.outs; ins = row_made pipes.ins }
+
+abbrev pub pipes_made : Pipes → Pipes
+pipes_made (Hub pipe) = Hub (interrupt_made pipe)
+pipes_made (Function pipes) = Function (function_made pipes)
+pipes_made Absent = Absent
