@@ -26,3 +26,4 @@ pub mod RoundLoops
 pub mod HubPolls
 pub mod WorkingBuses
 pub mod ControlWorks
+pub mod Refusals

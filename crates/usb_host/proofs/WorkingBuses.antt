@@ -7,16 +7,20 @@ use Rattle.std.specs.Int.{div_ceil}
 use Rattle.arrayvec.specs.ArrayVec.{ArrayVec}
 use Rattle.usb_world.specs.{BusFault, World}
 use Rattle.usb_transaction.specs.{AttemptsMade}
-use Rattle.usb_pipe.specs.{PipeFault, FaultAfter, Bulk, Sends, Receives, Clears, packets_of}
-use Rattle.usb_pipe.specs.{IsNoBusFault}
+use Rattle.usb_pipe.specs.{PipeFault, FaultAfter, PipeState, Sends, Receives, Clears, packets_of}
+use Rattle.usb_pipe.specs.{IsNoBusFault, PipePolls, Condition}
+use Rattle.usb_pipe.specs.declared.condition.Condition.TheVariants.{Ready, Halted, Broken}
 use Rattle.usb_pipe.specs.declared.fault.PipeFault.TheVariants as pipe
-use Rattle.usb_pipe.proofs.Interface.{clear_by, receive_by, send_by}
+use Rattle.usb_pipe.proofs.Interface.{receive_by, send_by}
 use Rattle.usb_hub.specs.{StillWorks, WorksAfter}
 use Rattle.usb_hub.proofs.Interface.{failed_works}
 use Rattle.usb_table.specs.{TableFault, TransferFault, Pipes, Hub, Function, Absent, PipesPolled}
-use Rattle.usb_table.specs.{PipesThrough, PipesSent, PipesReceived, PipesCleared, PipeDid, NotTried}
-use Rattle.usb_table.specs.{ThroughIf, SentThrough, ReceivedThrough, ClearedBy, ClearedAfter}
-use Rattle.usb_table.specs.{ClearedIf, BulkPipes, table_answer, one_side, NoDevice, NoEndpoint}
+use Rattle.usb_table.specs.{EndpointChoice, FunctionPipes, PipesThrough, PipesSent, PipesReceived}
+use Rattle.usb_table.specs.{PipesReported, PipesCleared, PipesClearedOf, PipeDid, NotTried}
+use Rattle.usb_table.specs.{ThroughIf, SentThrough, ReceivedThrough, ReportedThrough}
+use Rattle.usb_table.specs.{ClearedOfThrough, ClearedBy, ClearedAfter, ClearedIf, first_pipe}
+use Rattle.usb_table.specs.{pipe_to, polls_through, receives_through, sends_through, table_answer}
+use Rattle.usb_table.specs.{NoDevice, NoEndpoint}
 use Rattle.usb_table.specs.declared.fault.TableFault.TheVariants as table
 use Rattle.usb_enum.specs.{EnumFault, EnumWorks, ParentLost, Bus, Memory}
 use Rattle.usb_host.specs.{EndsAs, HostFault, HostNotOfBus, HostState, HostWorks, host_told}
@@ -43,16 +47,16 @@ polled_works Absent left answer old new x sound = same_works old new x.2
 
 -- Through one pipe
 
-sends_work : {bytes : List ℕ} {pipe : Bulk} (old : World) (answer : Result (Unit {0}) PipeFault)
-    {left : Bulk} (new : World) → Sends bytes pipe old answer left new
+sends_work : {bytes : List ℕ} {pipe : PipeState} (old : World) (answer : Result (Unit {0}) PipeFault)
+    {left : PipeState} (new : World) → Sends bytes pipe old answer left new
     → WorksAfter answer old new
 sends_work {bytes} {pipe} old answer new =
     send_by (WorksAfter answer old new) (λ idle sound. same_works old new idle.world_kept)
     (λ none idle sound. same_works old new idle.world_kept)
     (λ works some moved. made_works (div_ceil (length bytes) pipe.max) 0 answer old new moved.ends)
 
-receives_work : {wanted : ℕ} {pipe : Bulk} (old : World) (answer : Result (Vec ℕ) PipeFault)
-    {left : Bulk} (new : World) → Receives wanted pipe old answer left new
+receives_work : {wanted : ℕ} {pipe : PipeState} (old : World) (answer : Result (Vec ℕ) PipeFault)
+    {left : PipeState} (new : World) → Receives wanted pipe old answer left new
     → WorksAfter answer old new
 receives_work {wanted} {pipe} old answer new =
     receive_by (WorksAfter answer old new) (λ is kept same sound. same_works old new same)
@@ -65,11 +69,22 @@ receives_work {wanted} {pipe} old answer new =
     received (Ok bytes) ends sound none = ends.still
     received (Err why) ends sound none = failed_works (Vec ℕ) 0 why old new ends sound none
 
-clears_work : {pipe : Bulk} (old : World) (answer : Result (Unit {0}) PipeFault) {left : Bulk}
-    (new : World) → Clears pipe old answer left new → WorksAfter answer old new
-clears_work old answer new =
-    clear_by (WorksAfter answer old new) (λ ready idle sound. same_works old new idle.world_kept)
-    (λ unready cleared. made_works 2 1 answer old new cleared.ends)
+-- the endpoint of a broken pipe is not asked
+asks_work : {pipe left : PipeState} (condition : Condition) (old : World)
+    (answer : Result (Option (ArrayVec ℕ)) PipeFault) (new : World) → pipe.condition ≡ condition
+    → PipePolls pipe old answer left new → WorksAfter answer old new
+asks_work Broken old answer new is x = λ sound. same_works old new (x.broken is).world_kept
+asks_work Ready old answer new is x =
+    made_works 1 0 answer old new (x.asked (λ broken. cc (is, broken))).polls.ends
+asks_work Halted old answer new is x =
+    made_works 1 0 answer old new (x.asked (λ broken. cc (is, broken))).polls.ends
+
+clears_work : {sent : Bool} {pipe : PipeState} (old : World) (answer : Result (Unit {0}) PipeFault)
+    {left : PipeState} (new : World) → Clears sent pipe old answer left new
+    → WorksAfter answer old new
+clears_work {sent = true} old answer new x = made_works 2 1 answer old new (x.sent refl).ends
+clears_work {sent = false} old answer new x =
+    λ sound. same_works old new (x.ready refl).world_kept
 
 -- As the table tells it
 
@@ -102,35 +117,35 @@ untried_works : {A P : Type 0} (why : TransferFault) (pipes : P) (old : World)
     → NotTried why pipes old result left new → TableWorks old result new
 untried_works why pipes old result left new x = rw x.0 (λ sound. same_works old new x.2)
 
-if_works : {A : Type 0} (So : PipeDid A) → ((pipe : Bulk) (old : World) (result : Result A
+if_works : {A : Type 0} (So : PipeDid A) → ((pipe : PipeState) (old : World) (result : Result A
     TableFault)
-    (left : Bulk) (new : World) → So pipe old result left new → TableWorks old result new)
-    → (pipe : Option Bulk) (old : World) (result : Result A TableFault) (left : Option Bulk)
+    (left : PipeState) (new : World) → So pipe old result left new → TableWorks old result new)
+    → (pipe : Option PipeState) (old : World) (result : Result A TableFault) (left : Option PipeState)
     (new : World) → ThroughIf So pipe old result left new → TableWorks old result new
 if_works So each None old result left new x =
     untried_works NoEndpoint None old result left new x
 if_works So each (Some pipe) old result None new x = absurd x
 if_works So each (Some pipe) old result (Some left) new x = each pipe old result left new x
 
-through_works : {A : Type 0} (is_in : Bool) (So : PipeDid A) → ((pipe : Bulk) (old : World)
-    (result : Result A TableFault) (left : Bulk) (new : World) → So pipe old result left new
-    → TableWorks old result new) → (pipes : Pipes) (old : World) (result : Result A TableFault)
-    (left : Pipes) (new : World) → PipesThrough is_in So pipes old result left new
-    → TableWorks old result new
-through_works is_in So each (Hub pipe) old result left new x =
+through_works : {A : Type 0} (pick : FunctionPipes → Option PipeState) (So : PipeDid A)
+    → ((pipe : PipeState) (old : World) (result : Result A TableFault) (left : PipeState)
+    (new : World) → So pipe old result left new → TableWorks old result new) → (pipes : Pipes)
+    (old : World) (result : Result A TableFault) (left : Pipes) (new : World)
+    → PipesThrough pick So pipes old result left new → TableWorks old result new
+through_works pick So each (Hub pipe) old result left new x =
     untried_works NoEndpoint (Hub pipe) old result left new x
-through_works is_in So each (Function pipes) old result left new x =
-    if_works So each (one_side is_in pipes) old result x.0 new x.2
-through_works is_in So each Absent old result left new x =
+through_works pick So each (Function pipes) old result left new x =
+    if_works So each (pick pipes) old result x.0 new x.2
+through_works pick So each Absent old result left new x =
     untried_works NoDevice Absent old result left new x
 
-halt_works : (pipe left : Option Bulk) (old : World) (answer : Result (Unit {0}) PipeFault)
+halt_works : (pipe left : Option PipeState) (old : World) (answer : Result (Unit {0}) PipeFault)
     (new : World) → ClearedBy pipe old answer left new → WorksAfter answer old new
 halt_works None left old answer new x = λ sound. same_works old new x.2
 halt_works (Some pipe) None old answer new x = absurd x
 halt_works (Some pipe) (Some left) old answer new x = clears_work old answer new x.clears
 
-second_works : (first : Result (Unit {0}) PipeFault) (pipe left : Option Bulk) (old mid : World)
+second_works : (first : Result (Unit {0}) PipeFault) (pipe left : Option PipeState) (old mid : World)
     (result : Result (Unit {0}) TableFault) (new : World) → WorksAfter first old mid
     → ClearedAfter first pipe mid result left new → TableWorks old result new
 second_works (Ok done) pipe left old mid result new works x =
@@ -140,21 +155,22 @@ second_works (Err fault) pipe left old mid result new works x =
     table_works result (Err fault) old new x.0
     (λ sound none. same_works mid new x.2 (works sound none))
 
-both_work : (any : Bool) (pipes left : BulkPipes) (old : World)
+both_work : (any : Bool) (pipes left : FunctionPipes) (old : World)
     (result : Result (Unit {0}) TableFault) (new : World) → ClearedIf any pipes old result left new
     → TableWorks old result new
 both_work false pipes left old result new x =
     untried_works NoEndpoint pipes old result left new x
 both_work true pipes left old result new x =
-    second_works x.first pipes.into left.into old x.mid result new
-    (halt_works pipes.out left.out old x.first x.mid x.out) x.into
+    second_works x.first (first_pipe true pipes) x.rest_in old x.mid result new
+    (halt_works (first_pipe false pipes) x.rest_out old x.first x.mid x.out) x.into
 
 halts_work : (pipes : Pipes) (old : World) (result : Result (Unit {0}) TableFault) (left : Pipes)
     (new : World) → PipesCleared pipes old result left new → TableWorks old result new
 halts_work (Hub pipe) old result left new x =
     untried_works NoEndpoint (Hub pipe) old result left new x
 halts_work (Function pipes) old result left new x =
-    both_work (is_some pipes.out || is_some pipes.into) pipes x.0 old result new x.2
+    both_work (is_some (first_pipe false pipes) || is_some (first_pipe true pipes)) pipes x.0 old
+    result new x.2
 halts_work Absent old result left new x = untried_works NoDevice Absent old result left new x
 
 -- As the host tells it
@@ -176,29 +192,57 @@ host_works {A} result answer old new is works = rw is (by_answer answer works)
     by_answer (Err (table.Bus fault)) works = λ sound. absurd sound
     by_answer (Err table.Memory) works = λ sound. works tt
 
-pub sent_works : (pipes left : Pipes) (bytes : List ℕ) (old new : World)
-    (answer : Result (Unit {0}) TableFault) (result : Result (Unit {0}) HostFault)
-    → result ≡ host_told answer → PipesSent pipes bytes old answer left new
+-- a call through one pipe
+pipe_works : {A : Type 0} (pick : FunctionPipes → Option PipeState) (So : PipeDid A)
+    → ((pipe : PipeState) (old : World) (result : Result A TableFault) (left : PipeState)
+    (new : World) → So pipe old result left new → TableWorks old result new) → (pipes left : Pipes)
+    (old new : World) (answer : Result A TableFault) (result : Result A HostFault)
+    → result ≡ host_told answer → PipesThrough pick So pipes old answer left new
     → ToldWorks old result new
-sent_works pipes left bytes old new answer result is moves =
-    host_works result answer old new is (through_works false (λ p. SentThrough p bytes)
-    (λ p old r left new y. table_works r y.answer old new y.told
-    (sends_work old y.answer new y.sends)) pipes old answer left new moves)
+pipe_works pick So each pipes left old new answer result is moves =
+    host_works result answer old new is (through_works pick So each pipes old answer left new moves)
 
-pub received_works : (pipes left : Pipes) (packets : ℕ) (old new : World)
-    (answer : Result (Vec ℕ) TableFault) (result : Result (Vec ℕ) HostFault)
-    → result ≡ host_told answer → PipesReceived pipes packets old answer left new
+pub sent_works : (choice : EndpointChoice) (pipes left : Pipes) (bytes : List ℕ) (old new : World)
+    (answer : Result (Unit {0}) TableFault) (result : Result (Unit {0}) HostFault)
+    → result ≡ host_told answer → PipesSent choice pipes bytes old answer left new
     → ToldWorks old result new
-received_works pipes left packets old new answer result is moves =
-    host_works result answer old new is (through_works true (λ p. ReceivedThrough p packets)
+sent_works choice pipes left bytes =
+    pipe_works (sends_through choice) (λ p. SentThrough p bytes)
     (λ p old r left new y. table_works r y.answer old new y.told
-    (receives_work old y.answer new y.receives)) pipes old answer left new moves)
+    (sends_work old y.answer new y.sends)) pipes left
+
+pub received_works : (choice : EndpointChoice) (pipes left : Pipes) (packets : ℕ) (old new : World)
+    (answer : Result (Vec ℕ) TableFault) (result : Result (Vec ℕ) HostFault)
+    → result ≡ host_told answer → PipesReceived choice pipes packets old answer left new
+    → ToldWorks old result new
+received_works choice pipes left packets =
+    pipe_works (receives_through choice) (λ p. ReceivedThrough p packets)
+    (λ p old r left new y. table_works r y.answer old new y.told
+    (receives_work old y.answer new y.receives)) pipes left
+
+pub reported_works : (endpoint : ℕ) (pipes left : Pipes) (old new : World)
+    (answer : Result (Option (ArrayVec ℕ)) TableFault)
+    (result : Result (Option (ArrayVec ℕ)) HostFault) → result ≡ host_told answer
+    → PipesReported endpoint pipes old answer left new → ToldWorks old result new
+reported_works endpoint =
+    pipe_works (polls_through endpoint) ReportedThrough
+    (λ p old r left new y. table_works r y.answer old new y.told
+    (asks_work p.condition old y.answer new refl y.polls))
 
 pub cleared_works : (pipes left : Pipes) (old new : World) (answer : Result (Unit {0}) TableFault)
     (result : Result (Unit {0}) HostFault) → result ≡ host_told answer
     → PipesCleared pipes old answer left new → ToldWorks old result new
 cleared_works pipes left old new answer result is moves =
     host_works result answer old new is (halts_work pipes old answer left new moves)
+
+pub cleared_of_works : (endpoint : ℕ) (pipes left : Pipes) (old new : World)
+    (answer : Result (Unit {0}) TableFault) (result : Result (Unit {0}) HostFault)
+    → result ≡ host_told answer → PipesClearedOf endpoint pipes old answer left new
+    → ToldWorks old result new
+cleared_of_works endpoint =
+    pipe_works (pipe_to endpoint) ClearedOfThrough
+    (λ p old r left new y. table_works r y.answer old new y.told
+    (clears_work old y.answer new y.cleared.clears))
 
 -- One part after another
 

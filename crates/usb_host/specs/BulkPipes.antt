@@ -1,4 +1,5 @@
--- What the parts of a round leave of bulk pipes, and of the bulk endpoints at their other ends.
+-- What the parts of a round leave of the pipes to functions, and of the endpoints at their other
+-- ends: all but endpoint 0 and the status endpoints of hubs.
 use Rattle.std.specs.Prelude.{◌≡◌, ◌≢◌, ◌⊎◌, ℕ, List, true, false, Some}
 use Rattle.usb_device.specs.{rested, State, Location, path_to, reach, reach_on, state_on, in_end}
 use Rattle.usb_device.specs.{out_end}
@@ -6,15 +7,14 @@ use Rattle.usb_tree.specs.{address_of}
 use Rattle.usb_world.specs.{EachWas, Was, AnyStep, Course, World}
 use Rattle.usb_hub.specs.{ControlCourse, TouchesNoPort}
 use Rattle.usb_enum.specs.{Accepted}
-use Rattle.usb_table.specs.{Pipes, pipe_out, pipe_in, accepted_device_at, is_below_hub, SparesBulk}
+use Rattle.usb_table.specs.{Pipes, function_of, accepted_device_at, is_below_hub, SparesBulk}
 use Rattle.usb_table.specs.{new_pipes_to, pipes_at}
 use Rattle.usb_host.specs.HostStates.{HostState}
 use Rattle.usb_host.specs.Transfers.{table_in}
 
--- of the pipes to a device the bulk ones are the same
-pub record SameBulk (pipes others : Pipes) : Type 0 where
-  pub out : pipe_out others ≡ pipe_out pipes
-  pub into : pipe_in others ≡ pipe_in pipes
+-- of the pipes to a device all those to a function are the same
+pub record SameFunction (pipes others : Pipes) : Type 0 where
+  pub same : function_of others ≡ function_of pipes
 
 -- The endpoints of the device that is reached at a path
 
@@ -36,10 +36,10 @@ EndpointsBegan path w = (x : Location) (s : State) → path ≡ path_to x → re
     → state_on w.roots x ≡ Some s
     → (e : ℕ) → ((out_end s e).state ≡ rested) × ((in_end s e).state ≡ rested)
 
--- Steps that move nothing through a bulk endpoint
+-- Steps that move nothing through such an endpoint
 
 -- nothing was attempted but at endpoint 0; or nothing was asked of any port, and each device that
--- is reached has its bulk endpoints as they were; or so it was in one stretch behind another
+-- is reached has its endpoints as they were; or so it was in one stretch behind another
 pub data MovesNoBulk : World → World → Type 0 where
   by_control : {w v : World} → ControlCourse w v → MovesNoBulk w v
   by_rest : {w v : World} → TouchesNoPort w v → EachWas SparesBulk w v → MovesNoBulk w v
@@ -47,16 +47,15 @@ pub data MovesNoBulk : World → World → Type 0 where
 
 -- An accepted device that is listed at a path
 
--- it was listed there before; its bulk pipes and their endpoints are as they were
+-- it was listed there before; its pipes and their endpoints are as they were
 pub record StayedAt (path : List ℕ) (device : Accepted) (old new : HostState) : Type 0 where
   pub listed : accepted_device_at path old.entries ≡ Some device
-  pub pipes : SameBulk (pipes_at path (table_in old)) (pipes_at path (table_in new))
+  pub pipes : SameFunction (pipes_at path (table_in old)) (pipes_at path (table_in new))
   pub endpoints : EndpointsStayed path old.world new.world
 
 -- it was found anew: at a moment of the call none was reached there, and up to then nothing was
--- moved through a bulk endpoint; until it was found nothing was attempted but at endpoint 0, and
--- since then its bulk endpoints are as they were; its bulk pipes are new, and their endpoints have
--- begun again
+-- moved through an endpoint; until it was found nothing was attempted but at endpoint 0, and since
+-- then its endpoints are as they were; its pipes are new, and their endpoints have begun again
 pub record RenewedAt (path : List ℕ) (device : Accepted) (old new : HostState) : Type 0 where
   pub moment : World
   pub before : Course AnyStep old.world moment
@@ -66,11 +65,11 @@ pub record RenewedAt (path : List ℕ) (device : Accepted) (old new : HostState)
   pub control : ControlCourse moment found
   pub behind : Course AnyStep found new.world
   pub since : EndpointsStayed path found new.world
-  pub pipes : SameBulk (new_pipes_to device (is_below_hub path)) (pipes_at path (table_in new))
+  pub pipes : SameFunction (new_pipes_to device (is_below_hub path)) (pipes_at path (table_in new))
   pub endpoints : EndpointsBegan path new.world
 
--- each accepted device has the bulk pipes and the endpoints that it had, or was found anew; and all
--- the while nothing was moved through a bulk endpoint, also of a device that is listed no longer
+-- each accepted device has the pipes and the endpoints that it had, or was found anew; and all the
+-- while nothing was moved through an endpoint, also of a device that is listed no longer
 pub record KeepsBulk (old new : HostState) : Type 0 where
   pub each : (path : List ℕ) (device : Accepted) → accepted_device_at path new.entries ≡ Some device
       → StayedAt path device old new ⊎ RenewedAt path device old new
@@ -78,12 +77,12 @@ pub record KeepsBulk (old new : HostState) : Type 0 where
 
 -- When the host stopped
 
--- an accepted device that is still listed was listed before, with the same bulk pipes; where it has
--- an address, and under this premise at all, their endpoints are as they were
+-- an accepted device that is still listed was listed before, with the same pipes; where it has an
+-- address, and under this premise at all, their endpoints are as they were
 pub record StayedWhere (So : Type 0) (path : List ℕ) (device : Accepted) (old new : HostState)
     : Type 0 where
   pub listed : accepted_device_at path old.entries ≡ Some device
-  pub pipes : SameBulk (pipes_at path (table_in old)) (pipes_at path (table_in new))
+  pub pipes : SameFunction (pipes_at path (table_in old)) (pipes_at path (table_in new))
   pub endpoints : So → EndpointsStayed path old.world new.world
   pub named : NamedEndpointsStayed path old.world new.world
 

@@ -16,8 +16,8 @@ pub record ForgetsOnWay (path : List ℕ) (old new : Entries) : Type 0 where
   pub left : StaysOrForgets on old new
 
 -- the host stopped at a path: nothing is entered, and at most what was found there, or at a hub on
--- its way, and below it is forgotten. Each device that is still listed keeps its bulk pipes. Its
--- bulk endpoints are as they were, if it has an address or the bus still works
+-- its way, and below it is forgotten. Each device that is still listed keeps its pipes. Its
+-- endpoints are as they were, if it has an address or the bus still works
 pub record CutAt (path : List ℕ) (old new : HostState) : Type 0 where
   pub entries : ForgetsOnWay path old.entries new.entries
   pub bulk : StaysWhere (new.world.fault ≡ None) old new

@@ -2,9 +2,12 @@
 use Rattle.std.specs.Prelude.{◌≡◌, ℕ, ◌*◌, List, length, Bool, true, false, Option, None, Result}
 use Rattle.std.specs.Prelude.{IfErr, IfOk, OnErr}
 use Rattle.std.specs.Global.{Vec}
+use Rattle.arrayvec.specs.ArrayVec.{ArrayVec}
 use Rattle.usb_world.specs.{World}
 use Rattle.usb_bus.specs.{Traced}
 use Rattle.usb_transaction.specs.{transaction_bound}
+use Rattle.usb_pipe.specs.{PipeState, write_bound}
+use Rattle.usb_table.specs.{EndpointChoice, TransferFault}
 use Rattle.usb_host.specs.Bounds.{clear_bound, round_bound}
 use Rattle.usb_host.specs.Budget.{RoundKeeps}
 use Rattle.usb_host.specs.HostStates.{HostState, opening_host}
@@ -15,7 +18,8 @@ use Rattle.usb_host.specs.Soundness.{HostInvariant, TransferKeeps}
 use Rattle.usb_host.specs.ToldFaults.{IsReportedLast, RoundFaultAllowed, StopsAsRound}
 use Rattle.usb_host.specs.ToldFaults.{StopsAsTransfer, HostWorks}
 use Rattle.usb_host.specs.ToldFaults.{TransferFaultAllowed}
-use Rattle.usb_host.specs.Transfers.{ClearedAt, ReceivedAt, SentAt}
+use Rattle.usb_host.specs.Transfers.{ClearedAt, ClearedOfAt, MovesOrRefuses, ReceivedAt}
+use Rattle.usb_host.specs.Transfers.{ReportedAt, SentAt}
 use Rattle.usb_host.specs.declared.fault.HostFault.{HostFault}
 use Rattle.usb_host.specs.declared.host.Round.{Round}
 
@@ -38,6 +42,14 @@ pub record TransfersAnyBus {A : Type 0} (modelled : Bool) (most : ℕ) (old : Ho
     (result : Result A HostFault) (new : HostState) : Type 0 where
   pub calls : CallsAnyBus modelled most old result new
   pub left : new.counts.left ≡ old.counts.left
+
+-- so of a transfer through one pipe, unless the host had stopped: where no pipe takes it, this is
+-- told, and nothing is tried
+pub record MovesAnyBus {A : Type 0} (modelled : Bool) (most : ℕ)
+    (asked : Result PipeState TransferFault) (old : HostState) (result : Result A HostFault)
+    (new : HostState) : Type 0 where
+  pub calls : TransfersAnyBus modelled most old result new
+  pub refuses : old.stopped ≡ false → MovesOrRefuses asked old result new
 
 -- `new`, whatever was done before over a bus in this world, with this trace: its root ports lost
 -- power and have it again, and no device is known. At no attempt so far two reachable devices may
@@ -77,12 +89,27 @@ pub record TransferTells {A : Type 0} (most : ℕ)
   pub did : Did old result new
   pub keeps : TransferKeeps old new
 
-abbrev pub SendTells : List ℕ → List ℕ → HostState → Result (Unit {0}) HostFault → HostState
-    → Type 0
-SendTells path bytes = TransferTells (transaction_bound * length bytes) (SentAt path bytes)
+-- `send` and `send_to`
+abbrev pub SendTells : List ℕ → EndpointChoice → List ℕ → HostState → Result (Unit {0}) HostFault
+    → HostState → Type 0
+SendTells path choice bytes =
+    TransferTells (transaction_bound * length bytes) (SentAt path choice bytes)
 
-abbrev pub ReceiveTells : List ℕ → ℕ → HostState → Result (Vec ℕ) HostFault → HostState → Type 0
-ReceiveTells path packets = TransferTells (transaction_bound * packets) (ReceivedAt path packets)
+-- `receive` and `receive_from`
+abbrev pub ReceiveTells : List ℕ → EndpointChoice → ℕ → HostState → Result (Vec ℕ) HostFault
+    → HostState → Type 0
+ReceiveTells path choice packets =
+    TransferTells (transaction_bound * packets) (ReceivedAt path choice packets)
 
+-- `poll`
+abbrev pub ReportTells : List ℕ → ℕ → HostState → Result (Option (ArrayVec ℕ)) HostFault
+    → HostState → Type 0
+ReportTells path endpoint = TransferTells transaction_bound (ReportedAt path endpoint)
+
+-- `clear_halt`
 abbrev pub ClearTells : List ℕ → HostState → Result (Unit {0}) HostFault → HostState → Type 0
 ClearTells path = TransferTells clear_bound (ClearedAt path)
+
+-- `clear_halt_of`
+abbrev pub ClearOfTells : List ℕ → ℕ → HostState → Result (Unit {0}) HostFault → HostState → Type 0
+ClearOfTells path endpoint = TransferTells write_bound (ClearedOfAt path endpoint)

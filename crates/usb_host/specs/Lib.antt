@@ -41,16 +41,16 @@ pub use Budget.{hubs_most, idle, look_weight, paid, poll_most, stray_weight, tol
 pub use Controls.{AsksOrRefuses, ControlsAnyBus, ControlsAt, ControlsOrRefuses, ReadAt, ReadTells}
 pub use Controls.{WriteTells, WrittenAt}
 pub use Discoveries.{EntersFound, FindsAnew}
-pub use BulkPipes.{EndpointsBegan, EndpointsStayed, KeepsBulk, RenewedAt, SameBulk, StayedAt}
+pub use BulkPipes.{EndpointsBegan, EndpointsStayed, KeepsBulk, RenewedAt, SameFunction, StayedAt}
 pub use BulkPipes.{NamedEndpointsStayed}
 pub use BulkPipes.{MovesNoBulk, StayedWhere, StaysWhere, by_both, by_control, by_rest}
 pub use Cuts.{CutAt, ForgetsOnWay, StaysOrForgets}
 pub use PortHandling.{ClearsChange, Climbs, Decides, Disabled, DisablesOnWay, DropsLost, FindsSound}
 pub use PortHandling.{HasWay, HoldsAt, InvariantAfterPort, IsDroppedAt, IsLost, IsOpen, LetsGoOn}
 pub use PortHandling.{PortCaused, RestElsewhere, ServesSound, Tidies, Watches}
-pub use HostCalls.{CallsAnyBus, RoundsAnyBus, TransfersAnyBus}
-pub use HostCalls.{ClearTells, NewTells, ReceiveTells, RoundTells, SendTells, StopsIn}
-pub use HostCalls.{TransferTells}
+pub use HostCalls.{CallsAnyBus, MovesAnyBus, RoundsAnyBus, TransfersAnyBus}
+pub use HostCalls.{ClearOfTells, ClearTells, NewTells, ReceiveTells, ReportTells, RoundTells}
+pub use HostCalls.{SendTells, StopsIn, TransferTells}
 pub use HostStates.{BusCounts, Frees, HostState, counts_after, counts_of, no_counts}
 pub use HostStates.{opening_host, work}
 unfoldable pub use HostStates.{repowered}
@@ -111,7 +111,8 @@ pub use ToldFaults.{HostReported, IsReportedLast, PartFaultAllowed, RoundFaultAl
 pub use ToldFaults.{StopsAsLook, StopsAsTransfer, TransferFaultAllowed, host_fault, host_told}
 pub use ToldFaults.{is_final}
 pub use ToldFaults.{is_last_fault, HostNotOfBus, HostWorks}
-pub use Transfers.{ClearedAt, MovesThrough, ReceivedAt, SentAt, table_in}
+pub use Transfers.{ClearedAt, ClearedOfAt, FitsPipe, MovesOrRefuses, MovesThrough, NothingTried}
+pub use Transfers.{ReceivedAt, ReportedAt, SentAt, pipe_for, table_in}
 pub use Changes.{HasOnlyWorldChanges, IsCleared, KeepsEach, is_stuck, was_disabled}
 pub use Requests.{AsksAndClears, ClearsAndAsks, ClearsAndReads, ClearsAndShows, ClearsBoth}
 pub use Requests.{ClearsChangeOf, DisablesAfter}

@@ -108,7 +108,7 @@ pub record LookCosts (c : Weights) (plan : PlanData) (old : HostState)
   pub plugs : is_final result ≡ false → new.world.fault ≡ None → HasPlugs plan.events new
 
 -- devices hold the addresses that the host has for them. If the host goes on, what is known stays
--- so, and bulk pipes and their endpoints stay but where a device is found anew
+-- so, and the pipes to functions and their endpoints stay but where a device is found anew
 pub record LookKeeps (old : HostState) (result : Result Look HostFault) (new : HostState)
     : Type 0 where
   pub owning : HostMapHolds old → HostMapHolds new

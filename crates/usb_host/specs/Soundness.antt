@@ -156,9 +156,9 @@ pub record KeepsInvariant (old new : HostState) : Type 0 where
   pub caused : HostInvariant old → IsFairTo old.world new.world
       → RefusalsJustified old.world old.entries → RefusalsJustified new.world new.entries
 
--- the same over a part of a round, which leaves bulk pipes and their endpoints alone, but where a
--- device is found anew; devices stand where one was
--- plugged, and with few plugs none waits
+-- the same over a part of a round, which leaves the pipes to functions and their endpoints alone,
+-- but where a device is found anew; devices stand where one was plugged, and with few plugs none
+-- waits
 pub record PartStays (old new : HostState) : Type 0 where
   pub sound : KeepsInvariant old new
   pub bulk : HostInvariant old → new.world.fault ≡ None → KeepsBulk old new

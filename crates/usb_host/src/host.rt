@@ -2,13 +2,16 @@
 ghost use Rattle.std.specs.Prelude.{◌≡◌, ◌*◌, [], length, true, false, IfOk, IfErr};
 ghost use Rattle.std.specs.Borrow.{Lends, sem};
 ghost use Rattle.usb_host.specs.Agreement.{Agrees};
-ghost use Rattle.usb_host.specs.HostCalls.{ClearTells, NewTells, ReceiveTells, RoundTells, RoundsAnyBus, SendTells, TransfersAnyBus};
+ghost use Rattle.usb_host.specs.HostCalls.{ClearTells, MovesAnyBus, NewTells, ReceiveTells, RoundTells, RoundsAnyBus, SendTells, TransfersAnyBus};
 ghost use Rattle.usb_transaction.specs.Transactions.{transaction_bound};
+ghost use Rattle.usb_table.specs.PipeRows.{receives_through, sends_through, unless_broken};
+ghost use Rattle.usb_table.specs.declared.choice.EndpointChoice.TheVariants.{FirstBulk};
 ghost use Rattle.usb_host.specs.Bounds.{clear_bound};
 ghost use Rattle.usb_host.specs.HostStates.{counts_after, counts_of};
 ghost use Rattle.usb_host.specs.LeftPorts.{none_left};
 ghost use Rattle.usb_host.specs.Numbers.{first_numbers};
 ghost use Rattle.usb_host.specs.ToldFaults.{StopsAsRound, StopsAsTransfer, host_told, is_final};
+ghost use Rattle.usb_host.specs.Transfers.{pipe_for};
 
 use crate::left::LeftPorts;
 use crate::numbers::Numbers;
@@ -20,7 +23,7 @@ use usb_bus::Bus;
 use usb_port::PortPath;
 use usb_request::feature::PORT_POWER;
 use usb_resources::AddressPool;
-use usb_table::{DeviceTable, TableFault};
+use usb_table::{DeviceTable, EndpointChoice, TableFault};
 
 /// Whether a round did anything.
 #[derive(Clone, Copy, Debug, PartialEq, Eq)]
@@ -198,8 +201,8 @@ impl<B: Bus> Host<B> {
         round
     }
 
-    /// Sends bytes to the bulk OUT endpoint of the device at a path (5.8). No bytes are sent with no
-    /// attempt.
+    /// Sends bytes to the first bulk OUT endpoint of the device at a path (5.8). No bytes are sent
+    /// with no attempt.
     ///
     /// # Errors
     ///
@@ -212,21 +215,19 @@ impl<B: Bus> Host<B> {
     ///   three errors in a row.
     /// - `Bus`: the bus has failed; the host then stops.
     pub fn send(&mut self, path: &PortPath, bytes: &[u8]) -> Result<(), HostFault>
-        ensures any_bus { TransfersAnyBus B.modelled (transaction_bound * length bytes.now)
+        ensures any_bus { MovesAnyBus B.modelled (transaction_bound * length bytes.now)
+            (unless_broken (pipe_for (sends_through FirstBulk) path.now self.old))
             self.old result self.new }
         ensures stopped { StopsAsTransfer self.old result self.new }
-        ensures tells { B.modelled ≡ true → SendTells path.now bytes.now self.old result self.new }
+        ensures tells { B.modelled ≡ true → SendTells path.now FirstBulk bytes.now
+            self.old result self.new }
     {
-        if self.stopped {
-            return Err(HostFault::Stopped);
-        }
-        let sent = as_host_fault(self.table.send(&mut self.bus, path, bytes));
-        self.stopped = is_final(&sent);
-        sent
+        self.send_through(path, EndpointChoice::FirstBulk, bytes)
     }
 
-    /// Receives this number of packets from the bulk IN endpoint of the device at a path, or fewer if
-    /// one of them is shorter than the maximum (5.8). No packets are received with no attempt.
+    /// Receives this number of packets from the first bulk IN endpoint of the device at a path, or
+    /// fewer if one of them is shorter than the maximum (5.8). No packets are received with no
+    /// attempt.
     ///
     /// # Errors
     ///
@@ -239,21 +240,18 @@ impl<B: Bus> Host<B> {
     ///   three errors in a row.
     /// - `Bus`: the bus has failed. `Memory`: the bytes find no room. After both the host stops.
     pub fn receive(&mut self, path: &PortPath, packets: u16) -> Result<Vec<u8>, HostFault>
-        ensures any_bus { TransfersAnyBus B.modelled (transaction_bound * packets)
+        ensures any_bus { MovesAnyBus B.modelled (transaction_bound * packets)
+            (unless_broken (pipe_for (receives_through FirstBulk) path.now self.old))
             self.old result self.new }
         ensures stopped { StopsAsTransfer self.old result self.new }
-        ensures tells { B.modelled ≡ true → ReceiveTells path.now packets self.old result self.new }
+        ensures tells { B.modelled ≡ true → ReceiveTells path.now FirstBulk packets
+            self.old result self.new }
     {
-        if self.stopped {
-            return Err(HostFault::Stopped);
-        }
-        let received = as_host_fault(self.table.receive(self.alloc, &mut self.bus, path, packets));
-        self.stopped = is_final(&received);
-        received
+        self.receive_through(path, EndpointChoice::FirstBulk, packets)
     }
 
-    /// Clears the halt of the bulk OUT endpoint of the device at a path, and then that of its bulk
-    /// IN endpoint (9.4.5), as `BulkPipe::clear_halt` does. The first fault ends it.
+    /// Clears the halt of the first bulk OUT endpoint of the device at a path, and then that of its
+    /// first bulk IN endpoint (9.4.5), as `EndpointPipe::clear_halt` does. The first fault ends it.
     ///
     /// # Errors
     ///

@@ -12,6 +12,9 @@
 //! - **A device is the same as long as its number is.** Over any bus, an accepted device that stays
 //!   listed keeps its number, and no number is given twice (`KeepsNumbers`; `Host::device`,
 //!   `next_news`).
+//! - **A transfer is refused just where it cannot go.** Over any bus, a call through the pipe to one
+//!   endpoint tells that there is no device, no such endpoint or a broken pipe. Then it attempts
+//!   nothing and changes no pipe (*MovesOrRefuses*; `Host::send_to` and the others).
 //!
 //! One record has what a call promises: `specs/HostCalls.antt`, `Looks.antt`, `Controls.antt`,
 //! `NewsReports.antt`. What does not mention the simulated world holds over any bus
@@ -24,6 +27,7 @@
 
 mod control;
 mod device;
+mod endpoint;
 mod fault;
 mod host;
 mod left;
@@ -50,4 +54,5 @@ pub use usb_bus::{Bus, BusFault};
 pub use usb_enum::{Cause, Finding};
 pub use usb_pipe::Setup;
 pub use usb_port::PortPath;
+pub use usb_request::EndpointAddress;
 pub use usb_table::TransferFault;

@@ -1,5 +1,5 @@
--- Bulk pipes and the endpoints at their other ends stay as they were over what a host does at its
--- ports.
+-- The pipes to functions and the endpoints at their other ends stay as they were over what a host
+-- does at its ports.
 use Rattle.std.proofs.Common.{◌≡◌, ◌⊎◌, inl, inr, refl, sym, ap, subst, ◌∙◌, ℕ, Bool, true, false}
 use Rattle.std.proofs.Common.{List, Option, None, Some, option_map, Result}
 use Rattle.std.specs.BTreeMap.{is_at}
@@ -17,13 +17,13 @@ use Rattle.usb_hub.specs.{TouchesNoPort}
 use Rattle.usb_enum.specs.{Cause, Accepted, Finding}
 use Rattle.usb_enum.specs.declared.finding.Finding.TheVariants.{Device, Refused}
 use Rattle.usb_enum.proofs.Interface.{went_course, went_sound}
-use Rattle.usb_table.specs.{Pipes, Hub, pipe_out, pipe_in, Entries, has_at}
+use Rattle.usb_table.specs.{Pipes, Hub, function_of, Entries, has_at}
 use Rattle.usb_table.specs.{without, accepted_device_of, accepted_device_at, address_in}
 use Rattle.usb_table.specs.{is_below_hub, SparesBulk, finding_at, new_pipes, Table, GoesThrough}
 use Rattle.usb_table.specs.{entered, pipes_at, PipesPolled}
 use Rattle.usb_table.proofs.Interface.{path_tied, pipes_at-entered, pipes_at-entered_elsewhere}
 use Rattle.usb_table.proofs.Interface.{spares-same, spares-stage, spares-then}
-use Rattle.usb_host.specs.{SameBulk, EndpointsStayed, EndpointsBegan, StayedAt, RenewedAt}
+use Rattle.usb_host.specs.{SameFunction, EndpointsStayed, EndpointsBegan, StayedAt, RenewedAt}
 use Rattle.usb_host.specs.{MovesNoBulk, NamedEndpointsStayed, StaysWhere, by_both, by_control}
 use Rattle.usb_host.specs.{by_rest}
 use Rattle.usb_host.specs.{KeepsBulk, HostState, claims, HostSteps, OnlyBusSteps, table_in}
@@ -35,18 +35,18 @@ use Rattle.usb_host.proofs.knowledge.SettledListings.{reached_there}
 
 -- Pipes
 
-pub same_bulk : {p q : Pipes} → q ≡ p → SameBulk p q
-same_bulk e = record { out = ap pipe_out e; into = ap pipe_in e }
+same_function : {p q : Pipes} → q ≡ p → SameFunction p q
+same_function e = record { same = ap function_of e }
 
-bulk_joined : {p q r : Pipes} → SameBulk p q → SameBulk q r → SameBulk p r
-bulk_joined x y = record { out = y.out ∙ x.out; into = y.into ∙ x.into }
+function_joined : {p q r : Pipes} → SameFunction p q → SameFunction q r → SameFunction p r
+function_joined x y = record { same = y.same ∙ x.same }
 
--- a poll moves no bulk pipe
-pub polled_bulk : (pipes : Pipes) {left : Pipes} (old new : World)
+-- a poll of a hub moves no pipe to a function
+polled_function : (pipes : Pipes) {left : Pipes} (old new : World)
     (result : Result (Option (ArrayVec ℕ)) PipeFault) → PipesPolled pipes old result left new
-    → SameBulk pipes left
-polled_bulk (Hub pipe) old new result x = record { out = ap pipe_out x.1; into = ap pipe_in x.1 }
-polled_bulk _ old new result x = same_bulk x.1
+    → SameFunction pipes left
+polled_function (Hub pipe) old new result x = record { same = ap function_of x.1 }
+polled_function _ old new result x = same_function x.1
 
 -- The endpoints of a path
 
@@ -140,7 +140,7 @@ pub stay_none : (h : HostState) → AllStay h h
 stay_none h = record {
   each = λ path device at. record {
     listed = at;
-    pipes = same_bulk refl;
+    pipes = same_function refl;
     endpoints = stayed_none path h.world {v = h.world} refl;
   };
 }
@@ -152,7 +152,7 @@ stay_joined a b c x y = record {
       let early : StayedAt path device a b = x.each path device late.listed in
       record {
         listed = early.listed;
-        pipes = bulk_joined early.pipes late.pipes;
+        pipes = function_joined early.pipes late.pipes;
         endpoints = stayed_joined path a.world b.world c.world early.endpoints late.endpoints;
       };
 }
@@ -172,9 +172,9 @@ where_stays a b so x = record {
   };
 }
 
--- entries and bulk pipes are as they were
+-- entries and the pipes to functions are as they were
 where_same : {So : Type 0} {a b : HostState} → b.entries ≡ a.entries
-    → ((path : List ℕ) → SameBulk (pipes_at path (table_in a)) (pipes_at path (table_in b)))
+    → ((path : List ℕ) → SameFunction (pipes_at path (table_in a)) (pipes_at path (table_in b)))
     → EachWas SparesBulk a.world b.world → StaysWhere So a b
 where_same same pipes each = record {
   each = λ path device at. record {
@@ -186,7 +186,7 @@ where_same same pipes each = record {
 }
 
 stay_same : {a b : HostState} → b.entries ≡ a.entries
-    → ((path : List ℕ) → SameBulk (pipes_at path (table_in a)) (pipes_at path (table_in b)))
+    → ((path : List ℕ) → SameFunction (pipes_at path (table_in a)) (pipes_at path (table_in b)))
     → EachWas SparesBulk a.world b.world → AllStay a b
 stay_same {a} {b} same pipes each =
     where_stays a b tt (where_same {So = Unit {0}} same pipes each)
@@ -196,7 +196,7 @@ pub stay_rests : (a b : HostState) → OnlyBusSteps a b → KeepsDevices a.world
     → b.world.shared ≡ false → AllStay a b
 stay_rests a b r devices single =
     stay_same (ap (λ (h : HostState). h.entries) r)
-    (λ path. same_bulk (ap (λ (h : HostState). pipes_at path (table_in h)) r))
+    (λ path. same_function (ap (λ (h : HostState). pipes_at path (table_in h)) r))
     (each_wider StaysAs SparesBulk (λ j s v x. spares-stage j s v x) a.world b.world
     (devices.stays single))
 
@@ -209,10 +209,10 @@ where_polled hub a b result goes polled each =
     where_same goes.entries (λ path. pick path (is_at (path_cmp hub) path) refl) each
   where
     pick : (path : List ℕ) (tied : Bool) → is_at (path_cmp hub) path ≡ tied
-        → SameBulk (pipes_at path (table_in a)) (pipes_at path (table_in b))
-    pick path true tie = rw (path_tied hub path tie) at (polled_bulk (pipes_at hub (table_in a))
+        → SameFunction (pipes_at path (table_in a)) (pipes_at path (table_in b))
+    pick path true tie = rw (path_tied hub path tie) at (polled_function (pipes_at hub (table_in a))
         {left = pipes_at hub (table_in b)} a.world b.world result polled)
-    pick path false apart = same_bulk (goes.others path apart)
+    pick path false apart = same_function (goes.others path apart)
 
 -- an event comes
 pub stay_event : (a b : HostState) → b.entries ≡ a.entries → b.pipes ≡ a.pipes
@@ -220,7 +220,7 @@ pub stay_event : (a b : HostState) → b.entries ≡ a.entries → b.pipes ≡ a
 stay_event a b same pipes_same is =
     let table : table_in b ≡ table_in a = ap (λ es. record { entries = es; pipes = b.pipes }) same
     ∙ ap (λ ps. record { entries = a.entries; pipes = ps }) pipes_same in
-    stay_same same (λ path. same_bulk (ap (pipes_at path) table))
+    stay_same same (λ path. same_function (ap (pipes_at path) table))
     (rw is (each_wider (λ x s v. v ≡ s) SparesBulk spares-same a.world (after event a.world)
     (event_same a.world)))
 
@@ -244,7 +244,7 @@ stay_forgotten first a b same rest gone pipes = record {
       record {
         listed = sym (ap accepted_device_of (ap (λ (es : Entries). finding_at path es) rest
             ∙ finding-kept first path a.entries away)) ∙ at;
-        pipes = same_bulk (pipes path away);
+        pipes = same_function (pipes path away);
         endpoints = stayed_none path a.world same;
       };
 }
@@ -269,7 +269,7 @@ where_joined a b c back x y = record {
       let early = x.each path device late.listed in
       record {
         listed = early.listed;
-        pipes = bulk_joined early.pipes late.pipes;
+        pipes = function_joined early.pipes late.pipes;
         endpoints = λ so.
             stayed_joined path a.world b.world c.world (early.endpoints (back so))
             (late.endpoints so);
@@ -290,7 +290,7 @@ where_unfound first a b same pipes_same gone each named = record {
       ∙ ap (λ ps. record { entries = a.entries; pipes = ps }) pipes_same in
       record {
         listed = listed;
-        pipes = same_bulk (ap (pipes_at path) table);
+        pipes = same_function (ap (pipes_at path) table);
         endpoints = λ so. stayed_elsewhere first path a.world b.world (each so)
             (listed_away first path a.entries gone listed);
         named = named_elsewhere first path a.world b.world named
@@ -312,7 +312,7 @@ beside first path f a b device table apart at endpoints =
     (lookup-insert_entry_elsewhere path first f a.entries apart)) ∙ at in
     record {
       listed = listed;
-      pipes = same_bulk
+      pipes = same_function
           (ap (pipes_at path) table ∙ pipes_at-entered_elsewhere first f (table_in a) path apart);
       endpoints = endpoints listed;
     }
@@ -382,7 +382,7 @@ module _ (first : List ℕ) (f : Finding) (a b : HostState)
         control = control;
         behind = here b.world;
         since = stayed_none first b.world {v = b.world} refl;
-        pipes = same_bulk (ap (pipes_at first) table ∙ pipes_at-entered first f (table_in a) ∙ ap
+        pipes = same_function (ap (pipes_at first) table ∙ pipes_at-entered first f (table_in a) ∙ ap
             (λ g. new_pipes g (is_below_hub first)) is);
         endpoints = began device is;
       }
@@ -410,7 +410,7 @@ module _ (a b c : HostState) (first : Course AnyStep a.world b.world)
       ⊎ RenewedAt path device a c
   stayed_then path (inl x) y = inl (record {
     listed = x.listed;
-    pipes = bulk_joined x.pipes y.pipes;
+    pipes = function_joined x.pipes y.pipes;
     endpoints = stayed_joined path a.world b.world c.world x.endpoints y.endpoints;
   })
   stayed_then path (inr x) y = inr (record {
@@ -422,7 +422,7 @@ module _ (a b c : HostState) (first : Course AnyStep a.world b.world)
     control = x.control;
     behind = course_joined x.behind second;
     since = stayed_joined path x.found b.world c.world x.since y.endpoints;
-    pipes = bulk_joined x.pipes y.pipes;
+    pipes = function_joined x.pipes y.pipes;
     endpoints = began_on path b.world c.world x.endpoints y.endpoints;
   })
 

@@ -450,7 +450,7 @@ module _ (lost : List ℕ) (b c d : HostState) (least : 1 ≤ length lost)
       (subst (RefusalsJustified b.world) (sym rest) (causes_dropped lost b.world b.entries caused))
       (λ cause s at there. inl pends)))
 
-  -- no bulk pipe but those of what is dropped has changed
+  -- no pipe to a function but those of what is dropped has changed
   lost_stay : (a : HostState) → OnlyBusSteps a b → KeepsDevices a.world b.world
       → d.world.shared ≡ false → AllStay a d
   lost_stay a r devices single =

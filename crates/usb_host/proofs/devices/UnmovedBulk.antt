@@ -1,4 +1,4 @@
--- Requests to a port move nothing through a bulk endpoint.
+-- Requests to a port move nothing through an endpoint of a function.
 use Rattle.std.proofs.Common.{◌≡◌, ap, inl, inr, refl, subst, Bool, ℕ, Some, Result, Ok}
 use Rattle.usb_request.specs.{PORT_ENABLE}
 use Rattle.usb_port.specs.{ClearConnectionChange, ClearEnable}

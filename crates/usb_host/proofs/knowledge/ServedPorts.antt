@@ -214,7 +214,7 @@ module _ {n : ℕ} {path : List ℕ} {port : KnownPort} {a b c : HostState} {sta
       rw world_is (x.decides (claims a.entries) path (stands_at-claim s) i.owned
       (stands_way a s (i.known (still_before still))) i.order at_b)
 
-  -- no bulk pipe but those of what is forgotten has changed
+  -- no pipe to a function but those of what is forgotten has changed
   pub forgot_stay : AllStay a c
   forgot_stay =
       let single = ap (λ (w : World). w.shared) (sym world_is) ∙ (stays.stays i.owned).single in

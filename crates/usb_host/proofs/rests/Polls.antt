@@ -136,7 +136,7 @@ status_pipe : (device : Accepted) {facts : HubFacts} (below : Bool) (pipes : Pip
     → device.hub ≡ Some facts → ArePipesTo device below pipes → (pipe : Interrupt)
     × (pipes ≡ HubPipe pipe) × IsStatusPipe device below pipe
 status_pipe device below (HubPipe pipe) told are = (pipe, refl, are.1)
-status_pipe device below (Function pipes) told are = false_true (sym are.0 ∙ ap is_some told)
+status_pipe device below (Function pipes) told are = false_true (sym are.function ∙ ap is_some told)
 status_pipe device below Absent told are = absurd are
 
 change_none : (b : PortState) → has_change b ≡ false → b.connection_changed ≡ false
