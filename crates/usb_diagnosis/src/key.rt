@@ -39,6 +39,10 @@ pub(crate) enum PlanKey {
     Bytes,
     Packets,
     Setup,
+    OutEndpoint,
+    InEndpoint,
+    AnyEndpoint,
+    PolledEndpoint,
     Attempt,
     Packet,
     How,
@@ -100,9 +104,35 @@ const PATH_KEYS: [PlanKey; 3] = [PlanKey::Do, PlanKey::After, PlanKey::Path];
 
 const ALONE_KEYS: [PlanKey; 2] = [PlanKey::Do, PlanKey::After];
 
-const SEND_KEYS: [PlanKey; 4] = [PlanKey::Do, PlanKey::After, PlanKey::Path, PlanKey::Bytes];
+const SEND_KEYS: [PlanKey; 5] = [
+    PlanKey::Do,
+    PlanKey::After,
+    PlanKey::Path,
+    PlanKey::Bytes,
+    PlanKey::OutEndpoint,
+];
 
-const RECEIVE_KEYS: [PlanKey; 4] = [PlanKey::Do, PlanKey::After, PlanKey::Path, PlanKey::Packets];
+const RECEIVE_KEYS: [PlanKey; 5] = [
+    PlanKey::Do,
+    PlanKey::After,
+    PlanKey::Path,
+    PlanKey::Packets,
+    PlanKey::InEndpoint,
+];
+
+const CLEAR_KEYS: [PlanKey; 4] = [
+    PlanKey::Do,
+    PlanKey::After,
+    PlanKey::Path,
+    PlanKey::AnyEndpoint,
+];
+
+const INTERRUPT_KEYS: [PlanKey; 4] = [
+    PlanKey::Do,
+    PlanKey::After,
+    PlanKey::Path,
+    PlanKey::PolledEndpoint,
+];
 
 const CONTROL_KEYS: [PlanKey; 5] = [
     PlanKey::Do,
@@ -127,8 +157,17 @@ const STALLS: [&str; 7] = [
 ];
 
 /// The words of `do`.
-const VERBS: [&str; 9] = [
-    "plug", "unplug", "show", "send", "receive", "clear", "control", "look", "news",
+const VERBS: [&str; 10] = [
+    "plug",
+    "unplug",
+    "show",
+    "send",
+    "receive",
+    "clear",
+    "interrupt",
+    "control",
+    "look",
+    "news",
 ];
 
 /// The words of `how`.
@@ -153,6 +192,9 @@ const ENDPOINT_TABLES: &str =
 
 const REQUEST_TABLES: &str =
     "at most 64 tables, each with `type`, `request`, and what the device does about it";
+
+const VERB_WORDS: &str =
+    "\"plug\", \"unplug\", \"show\", \"send\", \"receive\", \"clear\", \"interrupt\", \"control\", \"look\" or \"news\"";
 
 const ADDRESSES: &str =
     "a number from 1 to 15 for OUT or from 129 to 143 for IN, not that of an earlier table";
@@ -229,6 +271,10 @@ impl PlanKey {
             PlanKey::Bytes => "bytes",
             PlanKey::Packets => "packets",
             PlanKey::Setup => "setup",
+            PlanKey::OutEndpoint => "endpoint",
+            PlanKey::InEndpoint => "endpoint",
+            PlanKey::AnyEndpoint => "endpoint",
+            PlanKey::PolledEndpoint => "endpoint",
             PlanKey::Attempt => "attempt",
             PlanKey::Packet => "packet",
             PlanKey::How => "how",
@@ -255,12 +301,14 @@ impl PlanKey {
             PlanKey::HaltAfter => Kind::Number(1, 65535),
             PlanKey::Endpoints => Kind::Endpoints,
             PlanKey::Requests => Kind::Requests,
-            PlanKey::Address => Kind::Address,
+            PlanKey::Address | PlanKey::AnyEndpoint => Kind::Address,
             PlanKey::PacketTexts => Kind::Hexes(1000, 64),
             PlanKey::EndpointNaks => Kind::Number(0, 300),
             PlanKey::After => Kind::Number(0, 1_000_000_000),
             PlanKey::Packets => Kind::Number(0, 1000),
             PlanKey::Setup => Kind::Setup,
+            PlanKey::OutEndpoint => Kind::Number(1, 15),
+            PlanKey::InEndpoint | PlanKey::PolledEndpoint => Kind::Number(129, 143),
             PlanKey::Attempt => Kind::Number(1, (1 << 63) - 1),
             PlanKey::Packet => Kind::Number(1, 3),
             PlanKey::Bit => Kind::Number(0, 535),
@@ -305,14 +353,16 @@ impl PlanKey {
             PlanKey::EndpointSource => IN_BYTES,
             PlanKey::PacketTexts => IN_PACKETS,
             PlanKey::EndpointNaks => "a number from 0 to 300",
-            PlanKey::Do =>
-                "\"plug\", \"unplug\", \"show\", \"send\", \"receive\", \"clear\", \"control\", \"look\" or \"news\"",
+            PlanKey::Do => VERB_WORDS,
             PlanKey::After => "a number from 0 to 1000000000",
             PlanKey::Path => "the numbers of ports from a root port on, joined by dots",
             PlanKey::Device => "the name of a device of the plan",
             PlanKey::Bytes => "two hexadecimal digits for each byte",
             PlanKey::Packets => "a number from 0 to 1000",
             PlanKey::Setup => "two hexadecimal digits for each of 8 bytes",
+            PlanKey::OutEndpoint => "a number from 1 to 15",
+            PlanKey::InEndpoint | PlanKey::PolledEndpoint => "a number from 129 to 143",
+            PlanKey::AnyEndpoint => "a number from 1 to 15 for OUT or from 129 to 143 for IN",
             PlanKey::Attempt => "a number above 0 and above that of the damage before it",
             PlanKey::Packet => "1, 2 or 3",
             PlanKey::How => "\"lose\", \"pre\" or \"flip\"",
@@ -336,6 +386,7 @@ impl PlanKey {
             PlanKey::Bytes => Some("bytes = \"0102\""),
             PlanKey::Packets => Some("packets = 1"),
             PlanKey::Setup => Some("setup = \"8006000100001200\""),
+            PlanKey::PolledEndpoint => Some("endpoint = 0x81"),
             PlanKey::Attempt => Some("attempt = 1"),
             PlanKey::Packet => Some("packet = 1"),
             PlanKey::How => Some("how = \"lose\""),
@@ -352,10 +403,12 @@ fn verb_keys(verb: &str) -> &'static [PlanKey]
 {
     match verb {
         "plug" => &PLUG_KEYS,
-        "unplug" | "clear" | "look" => &PATH_KEYS,
+        "unplug" | "look" => &PATH_KEYS,
         "show" | "news" => &ALONE_KEYS,
         "send" => &SEND_KEYS,
         "receive" => &RECEIVE_KEYS,
+        "clear" => &CLEAR_KEYS,
+        "interrupt" => &INTERRUPT_KEYS,
         "control" => &CONTROL_KEYS,
         _ => &NO_VERB_KEYS,
     }

@@ -7,7 +7,7 @@ use Rattle.std.specs.List.{list_any}
 use Rattle.toml.specs.Data.{Data, Members, no_members, member, get_member}
 use Rattle.usb_plan.specs.declared.entry_fault.EntryFault.{EntryFault}
 use Rattle.usb_plan.specs.{BadValue, OtherKeys, Alone, PathDevice, PathBytes, PathPackets}
-use Rattle.usb_plan.specs.{PathSetup}
+use Rattle.usb_plan.specs.{PathEndpoint, PathSetup}
 use Rattle.usb_plan.specs.{only_named, keys_at, EventValues, event_values, verb_at}
 use Rattle.usb_plan.specs.{action_of, other_keys, SceneData, keys_of, event_keys, verb_fits}
 use Rattle.usb_plan.specs.{keys_given, after_at, event_room, event_with, event_given, event_of}
@@ -80,17 +80,28 @@ to_device = to_path ++ codes "device" ∷ []
 to_bytes : List (List ℕ)
 to_bytes = to_device ++ codes "bytes" ∷ []
 
+to_packets : List (List ℕ)
+to_packets = to_bytes ++ codes "packets" ∷ []
+
+to_setup : List (List ℕ)
+to_setup = to_packets ++ codes "setup" ∷ []
+
 -- the keys of one table
-without_setup : (ms : Members) → only_named (to_bytes ++ codes "packets" ∷ []) ms
-    ≡ not (event_values ms).has_others && is_none (event_values ms).setup
-unfolding event_values to_bytes to_device to_path
-without_setup ms =
-    less_named (to_bytes ++ codes "packets" ∷ []) [] (codes "setup") ms _ refl (not_not _)
+without_endpoint : (ms : Members) → only_named to_setup ms
+    ≡ not (event_values ms).has_others && is_none (event_values ms).endpoint
+unfolding event_values to_setup to_packets to_bytes to_device to_path
+without_endpoint ms = less_named to_setup [] (codes "endpoint") ms _ refl (not_not _)
+
+without_setup : (ms : Members) → only_named to_packets ms
+    ≡ not (event_values ms).has_others && is_none (event_values ms).endpoint &&
+    is_none (event_values ms).setup
+unfolding event_values to_setup to_packets to_bytes to_device to_path
+without_setup ms = less_named to_packets [] (codes "setup") ms _ refl (without_endpoint ms)
 
 without_packets : (ms : Members) → only_named to_bytes ms
-    ≡ not (event_values ms).has_others && is_none (event_values ms).setup &&
-    is_none (event_values ms).packets
-unfolding event_values to_bytes to_device to_path
+    ≡ not (event_values ms).has_others && is_none (event_values ms).endpoint &&
+    is_none (event_values ms).setup && is_none (event_values ms).packets
+unfolding event_values to_packets to_bytes to_device to_path
 without_packets ms = less_named to_bytes [] (codes "packets") ms _ refl (without_setup ms)
 
 path_device_fits : (ms : Members) → only_named to_device ms
@@ -106,38 +117,61 @@ alone_fits : (ms : Members) → only_named (event_keys []) ms ≡ verb_fits Alon
 unfolding event_values verb_fits to_path
 alone_fits ms = less_named (event_keys []) [] (codes "path") ms _ refl (path_fits ms)
 
-bytes_fits : (ms : Members) → only_named (to_path ++ codes "bytes" ∷ []) ms
-    ≡ verb_fits PathBytes (event_values ms)
-unfolding event_values verb_fits to_bytes to_device to_path
-bytes_fits ms = less_named to_path (codes "bytes" ∷ []) (codes "device") ms _ refl
-    (without_packets ms)
+-- the same, where the key `endpoint` may stand
+only_endpoint : List (List ℕ)
+only_endpoint = codes "endpoint" ∷ []
 
-packets_fits : (ms : Members) → only_named (to_path ++ codes "packets" ∷ []) ms
+but_setup : (ms : Members) → only_named (to_packets ++ only_endpoint) ms
+    ≡ not (event_values ms).has_others && is_none (event_values ms).setup
+unfolding event_values only_endpoint to_packets to_bytes to_device to_path
+but_setup ms = less_named to_packets only_endpoint (codes "setup") ms _ refl (not_not _)
+
+but_packets : (ms : Members) → only_named (to_bytes ++ only_endpoint) ms
+    ≡ not (event_values ms).has_others && is_none (event_values ms).setup &&
+    is_none (event_values ms).packets
+unfolding event_values only_endpoint to_packets to_bytes to_device to_path
+but_packets ms = less_named to_bytes only_endpoint (codes "packets") ms _ refl (but_setup ms)
+
+bytes_fits : (ms : Members) → only_named (to_path ++ codes "bytes" ∷ only_endpoint) ms
+    ≡ verb_fits PathBytes (event_values ms)
+unfolding event_values verb_fits only_endpoint to_bytes to_device to_path
+bytes_fits ms = less_named to_path (codes "bytes" ∷ only_endpoint) (codes "device") ms _ refl
+    (but_packets ms)
+
+packets_fits : (ms : Members) → only_named (to_path ++ codes "packets" ∷ only_endpoint) ms
     ≡ verb_fits PathPackets (event_values ms)
-unfolding event_values verb_fits to_bytes to_device to_path
+unfolding event_values verb_fits only_endpoint to_packets to_bytes to_device to_path
 packets_fits ms =
-    let back : List (List ℕ) = codes "packets" ∷ [] in
+    let back : List (List ℕ) = codes "packets" ∷ only_endpoint in
     less_named to_path back (codes "device") ms _ refl
-    (less_named to_device back (codes "bytes") ms _ refl (without_setup ms))
+    (less_named to_device back (codes "bytes") ms _ refl (but_setup ms))
+
+endpoint_fits : (ms : Members) → only_named (to_path ++ only_endpoint) ms
+    ≡ verb_fits PathEndpoint (event_values ms)
+unfolding event_values verb_fits only_endpoint to_bytes to_device to_path
+endpoint_fits ms =
+    less_named to_path only_endpoint (codes "device") ms _ refl
+    (less_named to_device only_endpoint (codes "bytes") ms _ refl (but_packets ms))
 
 setup_fits : (ms : Members) → only_named (to_path ++ codes "bytes" ∷ codes "setup" ∷ []) ms
     ≡ verb_fits PathSetup (event_values ms)
-unfolding event_values verb_fits to_bytes to_device to_path
+unfolding event_values verb_fits to_setup to_packets to_bytes to_device to_path
 setup_fits ms =
     less_named to_path (codes "bytes" ∷ codes "setup" ∷ []) (codes "device") ms _ refl
-    (less_named to_bytes (codes "setup" ∷ []) (codes "packets") ms _ refl (not_not _))
+    (less_named to_bytes (codes "setup" ∷ []) (codes "packets") ms _ refl (without_endpoint ms))
 
 answer : Bool → Result (Unit {0}) EntryFault
 answer b = if b then Ok tt else Err BadValue
 
 pub keys_given-event_values : (keys : OtherKeys) (ms : Members) → keys_given keys (event_values ms)
     ≡ keys_of keys ms
-unfolding keys_given keys_of keys_at answer to_device to_path
+unfolding keys_given keys_of keys_at answer only_endpoint to_device to_path
 keys_given-event_values Alone ms = ap answer (sym (alone_fits ms))
 keys_given-event_values Path ms = ap answer (sym (path_fits ms))
 keys_given-event_values PathDevice ms = ap answer (sym (path_device_fits ms))
 keys_given-event_values PathBytes ms = ap answer (sym (bytes_fits ms))
 keys_given-event_values PathPackets ms = ap answer (sym (packets_fits ms))
+keys_given-event_values PathEndpoint ms = ap answer (sym (endpoint_fits ms))
 keys_given-event_values PathSetup ms = ap answer (sym (setup_fits ms))
 
 -- an event by the values of its table

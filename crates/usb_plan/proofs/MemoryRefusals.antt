@@ -5,7 +5,7 @@ use Rattle.usb_device.specs.{Hub}
 use Rattle.usb_plan.specs.declared.entry_fault.EntryFault.{EntryFault}
 use Rattle.usb_plan.specs.{Memory, PlanFault, Identity, DeviceTexts, fault_in_part, sooner}
 use Rattle.usb_plan.specs.{least_fault, least, at, entry_at, ◌>>=◌, EqualUnless, send, control}
-use Rattle.usb_plan.specs.{event_with}
+use Rattle.usb_plan.specs.{event_with, out_endpoint, send_to, send_with}
 use Rattle.usb_plan.specs.{bulk_with, class_at, hub_with, with_item, identity_with}
 use Rattle.usb_plan.specs.{device_tables_with, device_texts_with, device_with, DeviceTables}
 use Rattle.usb_plan.specs.{endpoint_with, endpoints_with}
@@ -92,11 +92,25 @@ unfolding hub_with
 hub_with_unless ports read spelled h = unless_through Memory Memory (hub_with ports) read spelled
     refl h
 
-pub send_unless : (path bytes b : Result (List ℕ) EntryFault) → EqualUnless Memory bytes b
+send_unless : (path bytes b : Result (List ℕ) EntryFault) → EqualUnless Memory bytes b
     → EqualUnless Memory (send path bytes) (send path b)
 unfolding send fault_in_part
 send_unless path bytes b h = unless_through Memory Memory (send path) bytes b
     (bind_err _ _ Memory (least_fault-memory (_ ∷ []) _)) h
+
+send_to_unless : (path : Result (List ℕ) EntryFault) (endpoint : Result ℕ EntryFault)
+    (bytes b : Result (List ℕ) EntryFault) → EqualUnless Memory bytes b
+    → EqualUnless Memory (send_to path endpoint bytes) (send_to path endpoint b)
+unfolding send_to fault_in_part
+send_to_unless path endpoint bytes b h = unless_through Memory Memory (send_to path endpoint) bytes
+    b (bind_err _ _ Memory (least_fault-memory (_ ∷ _ ∷ []) _)) h
+
+pub send_with_unless : (endpoint : Option Data) (path bytes b : Result (List ℕ) EntryFault)
+    → EqualUnless Memory bytes b
+    → EqualUnless Memory (send_with endpoint path bytes) (send_with endpoint path b)
+unfolding send_with
+send_with_unless None path bytes b h = send_unless path bytes b h
+send_with_unless (Some d) path bytes b h = send_to_unless path (out_endpoint d) bytes b h
 
 pub control_unless : (path : Result (List ℕ) EntryFault) (request r : Result Request EntryFault)
     (bytes b : Result (Unit {0}) EntryFault) → EqualUnless Memory request r

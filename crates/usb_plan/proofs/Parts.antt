@@ -8,6 +8,7 @@ use Rattle.std.proofs.lemmas.List.Quantifiers.{position-Some}
 use Rattle.std.specs.Str.{bytes_eq}
 use Rattle.toml.specs.Data.{Data, Members, get_member, as_integer}
 use Rattle.usb_port.specs.{path_of}
+use Rattle.usb_request.specs.{DIRECTION_IN}
 use Rattle.usb_plan.specs.declared.entry_fault.EntryFault.{EntryFault}
 use Rattle.usb_plan.specs.{MissingKey, BadValue, UnknownDevice, BadPath, PortTaken, PortEmpty}
 use Rattle.usb_plan.specs.{Identity, DeviceTables, DeviceTexts, SceneData, Way, fault_in_part}
@@ -20,7 +21,9 @@ use Rattle.usb_plan.specs.{identity_with, identity_of, device_of_parts, device_w
 use Rattle.usb_plan.specs.{device_in, read_path, free_path, taken_path, verb_at, action_of}
 use Rattle.usb_plan.specs.{EventValues, event_values, device_index_at, bytes_at, packets_at}
 use Rattle.usb_plan.specs.{plug_of, unplug_of, send_of, receive_of, clear_of, control_of, look_of}
-use Rattle.usb_plan.specs.{asked, request_at, after_at, event_room}
+use Rattle.usb_plan.specs.{asked, request_at, after_at, event_room, interrupt_of, any_endpoint}
+use Rattle.usb_plan.specs.{out_endpoint, in_endpoint, in_endpoint_at, send_to, receive_from}
+use Rattle.usb_plan.specs.{send_with, receive_with, clear_with, clear_end}
 use Rattle.usb_plan.specs.declared.action.Request.{Request}
 use Rattle.usb_plan.specs.declared.action.Request.TheVariants.{Read, Write}
 use Rattle.usb_plan.specs.{event_with, event_of, event_in, attempt_at, packet_number, way_at}
@@ -30,7 +33,8 @@ use Rattle.usb_plan.specs.declared.plan.Top.{Top}
 use Rattle.usb_plan.specs.declared.quirks.Quirks.{Quirks}
 use Rattle.usb_plan.specs.declared.bulk.Bulk.{Bulk}
 use Rattle.usb_plan.specs.declared.fault.Place.{Place}
-use Rattle.usb_world.specs.{Event, Action, Plug, Unplug, Send, Receive, Clear, Look}
+use Rattle.usb_world.specs.{Event, Action, Plug, Unplug, Send, Receive, Clear, Look, SendTo}
+use Rattle.usb_world.specs.{ReceiveFrom, Poll, ClearOf}
 use Rattle.usb_world.specs.{Damage, Harm, Lose, LosePre, Flip, is_rooted, has_port, is_taken}
 use Rattle.usb_world.specs.{action_fits, event_fits, harm_fits, damage_fits}
 use Rattle.usb_world.specs.declared.event.Action.TheVariants.{Change, Ask}
@@ -389,34 +393,107 @@ unplug_of_ok scene v a h =
     let held = taken_path_ok scene (read_path scene v.path) path.value path.good in
     rw (← same) (rw (read_path_ok scene v.path path.value held.0, held.1))
 
+-- an endpoint of the right way
+out_endpoint_ok : (d : Data) (e : ℕ) → out_endpoint d ≡ Ok e → nat_le DIRECTION_IN e ≡ false
+unfolding out_endpoint
+out_endpoint_ok d e h =
+    let a = bind_good (any_endpoint d) _ e h in
+    let test = ok_unless (nat_le DIRECTION_IN a.value) (Ok a.value) BadValue e a.rest in
+    let same : a.value ≡ e = cc test.1 in
+    rw (← same) test.0
+
+in_endpoint_ok : (d : Data) (e : ℕ) → in_endpoint d ≡ Ok e → nat_le DIRECTION_IN e ≡ true
+unfolding in_endpoint
+in_endpoint_ok d e h =
+    let a = bind_good (any_endpoint d) _ e h in
+    let test = ok_if (nat_le DIRECTION_IN a.value) (Ok a.value) BadValue e a.rest in
+    let same : a.value ≡ e = cc test.1 in
+    rw (← same) test.0
+
+in_endpoint_at_ok : (o : Option Data) (e : ℕ) → in_endpoint_at o ≡ Ok e
+    → nat_le DIRECTION_IN e ≡ true
+unfolding in_endpoint_at
+in_endpoint_at_ok o e h =
+    let d = bind_good (ok_or o MissingKey) _ e h in
+    in_endpoint_ok d.value e d.rest
+
+send_with_ok : (scene : SceneData) (o p : Option Data) (bytes : Result (List ℕ) EntryFault)
+    (a : Action) → send_with o (read_path scene p) bytes ≡ Ok a → FitsScene scene a
+unfolding send_with action.send send_to
+send_with_ok scene None p bytes a h =
+    let e0 = bind_good (least_fault _) _ a h in
+    let e1 = bind_good (read_path scene p) _ a e0.rest in
+    let e2 = bind_good bytes _ a e1.rest in
+    let same : Ask (Send e1.value e2.value) ≡ a = cc e2.rest in
+    rw (← same) (read_path_ok scene p e1.value e1.good)
+send_with_ok scene (Some d) p bytes a h =
+    let e0 = bind_good (least_fault _) _ a h in
+    let e1 = bind_good (read_path scene p) _ a e0.rest in
+    let e2 = bind_good (out_endpoint d) _ a e1.rest in
+    let e3 = bind_good bytes _ a e2.rest in
+    let same : Ask (SendTo e1.value e2.value e3.value) ≡ a = cc e3.rest in
+    let way = out_endpoint_ok d e2.value e2.good in
+    rw (← same) (rw (read_path_ok scene p e1.value e1.good, way))
+
 send_of_ok : (scene : SceneData) (v : EventValues) (a : Action) → send_of scene v ≡ Ok a
     → FitsScene scene a
-unfolding send_of action.send
-send_of_ok scene v a h =
+unfolding send_of
+send_of_ok scene v a h = send_with_ok scene v.endpoint v.path (bytes_at v.bytes) a h
+
+receive_with_ok : (scene : SceneData) (o p q : Option Data) (a : Action)
+    → receive_with o (read_path scene p) (packets_at q) ≡ Ok a → FitsScene scene a
+unfolding receive_with action.receive receive_from
+receive_with_ok scene None p q a h =
     let e0 = bind_good (least_fault _) _ a h in
-    let e1 = bind_good (read_path scene v.path) _ a e0.rest in
-    let e2 = bind_good (bytes_at v.bytes) _ a e1.rest in
-    let same : Ask (Send e1.value e2.value) ≡ a = cc e2.rest in
-    rw (← same) (read_path_ok scene v.path e1.value e1.good)
+    let e1 = bind_good (read_path scene p) _ a e0.rest in
+    let e2 = bind_good (packets_at q) _ a e1.rest in
+    let same : Ask (Receive e1.value e2.value) ≡ a = cc e2.rest in
+    let few = le-leb e2.value 1000 (packets_at_ok q e2.value e2.good) in
+    rw (← same) (rw (read_path_ok scene p e1.value e1.good, few))
+receive_with_ok scene (Some d) p q a h =
+    let e0 = bind_good (least_fault _) _ a h in
+    let e1 = bind_good (read_path scene p) _ a e0.rest in
+    let e2 = bind_good (in_endpoint d) _ a e1.rest in
+    let e3 = bind_good (packets_at q) _ a e2.rest in
+    let same : Ask (ReceiveFrom e1.value e2.value e3.value) ≡ a = cc e3.rest in
+    let way = in_endpoint_ok d e2.value e2.good in
+    let few = le-leb e3.value 1000 (packets_at_ok q e3.value e3.good) in
+    rw (← same) (rw (read_path_ok scene p e1.value e1.good, way, few))
 
 receive_of_ok : (scene : SceneData) (v : EventValues) (a : Action) → receive_of scene v ≡ Ok a
     → FitsScene scene a
-unfolding receive_of action.receive
-receive_of_ok scene v a h =
+unfolding receive_of
+receive_of_ok scene v a h = receive_with_ok scene v.endpoint v.path v.packets a h
+
+clear_with_ok : (scene : SceneData) (o p : Option Data) (a : Action)
+    → clear_with o (read_path scene p) ≡ Ok a → FitsScene scene a
+unfolding clear_with clear_end
+clear_with_ok scene None p a h =
+    let path = bind_good (read_path scene p) _ a h in
+    let same : Ask (Clear path.value) ≡ a = cc path.rest in
+    rw (← same) (read_path_ok scene p path.value path.good)
+clear_with_ok scene (Some d) p a h =
     let e0 = bind_good (least_fault _) _ a h in
-    let e1 = bind_good (read_path scene v.path) _ a e0.rest in
-    let e2 = bind_good (packets_at v.packets) _ a e1.rest in
-    let same : Ask (Receive e1.value e2.value) ≡ a = cc e2.rest in
-    let few = le-leb e2.value 1000 (packets_at_ok v.packets e2.value e2.good) in
-    rw (← same) (rw (read_path_ok scene v.path e1.value e1.good, few))
+    let e1 = bind_good (read_path scene p) _ a e0.rest in
+    let e2 = bind_good (any_endpoint d) _ a e1.rest in
+    let same : Ask (ClearOf e1.value e2.value) ≡ a = cc e2.rest in
+    rw (← same) (read_path_ok scene p e1.value e1.good)
 
 clear_of_ok : (scene : SceneData) (v : EventValues) (a : Action) → clear_of scene v ≡ Ok a
     → FitsScene scene a
 unfolding clear_of
-clear_of_ok scene v a h =
-    let path = bind_good (read_path scene v.path) _ a h in
-    let same : Ask (Clear path.value) ≡ a = cc path.rest in
-    rw (← same) (read_path_ok scene v.path path.value path.good)
+clear_of_ok scene v a h = clear_with_ok scene v.endpoint v.path a h
+
+interrupt_of_ok : (scene : SceneData) (v : EventValues) (a : Action)
+    → interrupt_of scene v ≡ Ok a → FitsScene scene a
+unfolding interrupt_of action.poll
+interrupt_of_ok scene v a h =
+    let e0 = bind_good (least_fault _) _ a h in
+    let e1 = bind_good (read_path scene v.path) _ a e0.rest in
+    let e2 = bind_good (in_endpoint_at v.endpoint) _ a e1.rest in
+    let same : Ask (Poll e1.value e2.value) ≡ a = cc e2.rest in
+    let way = in_endpoint_at_ok v.endpoint e2.value e2.good in
+    rw (← same) (rw (read_path_ok scene v.path e1.value e1.good, way))
 
 asked_fits : (scene : SceneData) (p : List ℕ) (r : Request) → is_rooted scene.roots p ≡ true
     → FitsScene scene (Ask (asked p r))
@@ -452,6 +529,7 @@ action_of_ok verb.Receive scene v a h = receive_of_ok scene v a h
 action_of_ok verb.Clear scene v a h = clear_of_ok scene v a h
 action_of_ok verb.Control scene v a h = control_of_ok scene v a h
 action_of_ok verb.Look scene v a h = look_of_ok scene v a h
+action_of_ok verb.Interrupt scene v a h = interrupt_of_ok scene v a h
 action_of_ok _ scene v a h = subst (λ r. IfOk r (FitsScene scene)) h refl
 
 -- the event may come where so much is plugged, and there is room for it

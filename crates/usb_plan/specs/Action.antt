@@ -9,7 +9,9 @@ use Rattle.usb_plan.specs.declared.entry_fault.EntryFault.TheVariants.{UnknownDe
 use Rattle.usb_plan.specs.declared.action.OtherKeys.{OtherKeys}
 use Rattle.usb_plan.specs.declared.action.OtherKeys.TheVariants.{Alone, Path, PathDevice, PathBytes}
 use Rattle.usb_plan.specs.declared.action.OtherKeys.TheVariants.{PathPackets, PathSetup}
+use Rattle.usb_plan.specs.declared.action.OtherKeys.TheVariants.{PathEndpoint}
 use Rattle.usb_plan.specs.EntryFault.{fault_in_part, least_fault, ◌>>=◌}
+use Rattle.usb_plan.specs.Endpoints.{address_at}
 use Rattle.usb_plan.specs.EventMembers.{EventValues}
 use Rattle.usb_plan.specs.Keys.{keys_at}
 use Rattle.usb_plan.specs.Value.{read_text, number_at, hex_bytes}
@@ -17,7 +19,7 @@ use Rattle.usb_plan.specs.Path.{read_path, free_path, taken_path}
 use Rattle.usb_plan.specs.Scene.{SceneData}
 use Rattle.usb_request.specs.{Setup, DIRECTION_IN, setup_of}
 use Rattle.usb_world.specs.{Action, Plug, Unplug, Send, Receive, Clear, ControlIn, ControlOut}
-use Rattle.usb_world.specs.{Look, Write as Written}
+use Rattle.usb_world.specs.{Look, SendTo, ReceiveFrom, Poll, ClearOf, Write as Written}
 use Rattle.usb_world.specs.declared.event.Ask.{Ask as Asked}
 use Rattle.usb_plan.specs.declared.action.Request.{Request}
 use Rattle.usb_plan.specs.declared.action.Request.TheVariants.{Read, Write}
@@ -35,6 +37,22 @@ bytes_at d = ok_or d MissingKey >>= hex_bytes
 -- the key `packets`
 unfoldable pub packets_at : Option Data → Result ℕ EntryFault
 packets_at d = number_at 0 1000 d
+
+-- the key `endpoint` of an event, where it stands: an endpoint besides endpoint 0
+unfoldable pub any_endpoint : Data → Result ℕ EntryFault
+any_endpoint d = address_at (Some d)
+
+-- the same of one that takes bytes, OUT
+unfoldable pub out_endpoint : Data → Result ℕ EntryFault
+out_endpoint d = any_endpoint d >>= λ a. if nat_le DIRECTION_IN a then Err BadValue else Ok a
+
+-- the same of one that gives packets, IN
+unfoldable pub in_endpoint : Data → Result ℕ EntryFault
+in_endpoint d = any_endpoint d >>= λ a. if nat_le DIRECTION_IN a then Ok a else Err BadValue
+
+-- the same, where the key has to be there
+unfoldable pub in_endpoint_at : Option Data → Result ℕ EntryFault
+in_endpoint_at d = ok_or d MissingKey >>= in_endpoint
 
 -- the key `setup`: eight bytes
 unfoldable pub setup_in : List ℕ → Result Setup EntryFault
@@ -99,6 +117,56 @@ receive path packets = do
   n ← packets
   Ok (Ask (Receive p n))
 
+unfoldable pub send_to : Result (List ℕ) EntryFault → Result ℕ EntryFault
+    → Result (List ℕ) EntryFault → Result Action EntryFault
+send_to path endpoint bytes = do
+  u ← least_fault (fault_in_part path ∷ fault_in_part endpoint ∷ fault_in_part bytes ∷ [])
+  p ← path
+  e ← endpoint
+  b ← bytes
+  Ok (Ask (SendTo p e b))
+
+unfoldable pub receive_from : Result (List ℕ) EntryFault → Result ℕ EntryFault
+    → Result ℕ EntryFault → Result Action EntryFault
+receive_from path endpoint packets = do
+  u ← least_fault (fault_in_part path ∷ fault_in_part endpoint ∷ fault_in_part packets ∷ [])
+  p ← path
+  e ← endpoint
+  n ← packets
+  Ok (Ask (ReceiveFrom p e n))
+
+unfoldable pub poll : Result (List ℕ) EntryFault → Result ℕ EntryFault → Result Action EntryFault
+poll path endpoint = do
+  u ← least_fault (fault_in_part path ∷ fault_in_part endpoint ∷ [])
+  p ← path
+  e ← endpoint
+  Ok (Ask (Poll p e))
+
+unfoldable pub clear_end : Result (List ℕ) EntryFault → Result ℕ EntryFault
+    → Result Action EntryFault
+clear_end path endpoint = do
+  u ← least_fault (fault_in_part path ∷ fault_in_part endpoint ∷ [])
+  p ← path
+  e ← endpoint
+  Ok (Ask (ClearOf p e))
+
+-- with the key `endpoint` it is to that endpoint, else to the first bulk OUT
+unfoldable pub send_with : Option Data → Result (List ℕ) EntryFault → Result (List ℕ) EntryFault
+    → Result Action EntryFault
+send_with None path bytes = send path bytes
+send_with (Some d) path bytes = send_to path (out_endpoint d) bytes
+
+-- with the key `endpoint` it is from that endpoint, else from the first bulk IN
+unfoldable pub receive_with : Option Data → Result (List ℕ) EntryFault → Result ℕ EntryFault
+    → Result Action EntryFault
+receive_with None path packets = receive path packets
+receive_with (Some d) path packets = receive_from path (in_endpoint d) packets
+
+-- with the key `endpoint` it is that endpoint's halt, else those of the first bulk ones
+unfoldable pub clear_with : Option Data → Result (List ℕ) EntryFault → Result Action EntryFault
+clear_with None path = path >>= λ p. Ok (Ask (Clear p))
+clear_with (Some d) path = clear_end path (any_endpoint d)
+
 unfoldable pub control : Result (List ℕ) EntryFault → Result Request EntryFault
     → Result (Unit {0}) EntryFault → Result Action EntryFault
 control path request bytes = do
@@ -114,19 +182,22 @@ unfoldable pub unplug_of : SceneData → EventValues → Result Action EntryFaul
 unplug_of scene v = taken_path scene (read_path scene v.path) >>= λ path. Ok (Change (Unplug path))
 
 unfoldable pub send_of : SceneData → EventValues → Result Action EntryFault
-send_of scene v = send (read_path scene v.path) (bytes_at v.bytes)
+send_of scene v = send_with v.endpoint (read_path scene v.path) (bytes_at v.bytes)
 
 unfoldable pub receive_of : SceneData → EventValues → Result Action EntryFault
-receive_of scene v = receive (read_path scene v.path) (packets_at v.packets)
+receive_of scene v = receive_with v.endpoint (read_path scene v.path) (packets_at v.packets)
 
 unfoldable pub clear_of : SceneData → EventValues → Result Action EntryFault
-clear_of scene v = read_path scene v.path >>= λ path. Ok (Ask (Clear path))
+clear_of scene v = clear_with v.endpoint (read_path scene v.path)
 
 unfoldable pub control_of : SceneData → EventValues → Result Action EntryFault
 control_of scene v = control (read_path scene v.path) (request_at v) (given v.bytes)
 
 unfoldable pub look_of : SceneData → EventValues → Result Action EntryFault
 look_of scene v = read_path scene v.path >>= λ path. Ok (Ask (Look path))
+
+unfoldable pub interrupt_of : SceneData → EventValues → Result Action EntryFault
+interrupt_of scene v = poll (read_path scene v.path) (in_endpoint_at v.endpoint)
 
 abbrev pub event_keys : List (List ℕ) → List (List ℕ)
 event_keys others = codes "do" ∷ codes "after" ∷ others
@@ -135,8 +206,9 @@ abbrev pub other_names : OtherKeys → List (List ℕ)
 other_names Alone = []
 other_names Path = codes "path" ∷ []
 other_names PathDevice = codes "path" ∷ codes "device" ∷ []
-other_names PathBytes = codes "path" ∷ codes "bytes" ∷ []
-other_names PathPackets = codes "path" ∷ codes "packets" ∷ []
+other_names PathBytes = codes "path" ∷ codes "bytes" ∷ codes "endpoint" ∷ []
+other_names PathPackets = codes "path" ∷ codes "packets" ∷ codes "endpoint" ∷ []
+other_names PathEndpoint = codes "path" ∷ codes "endpoint" ∷ []
 other_names PathSetup = codes "path" ∷ codes "bytes" ∷ codes "setup" ∷ []
 
 -- no key but these, `do` and `after`
@@ -146,17 +218,22 @@ keys_of keys ms = keys_at (event_keys (other_names keys)) ms
 -- the same by what stands at the keys: no other key, and nothing at those that do not go with `do`
 unfoldable pub verb_fits : OtherKeys → EventValues → Bool
 verb_fits Alone v =
-    not v.has_others && is_none v.setup && is_none v.packets && is_none v.bytes && is_none v.device
-    && is_none v.path
+    not v.has_others && is_none v.endpoint && is_none v.setup && is_none v.packets &&
+    is_none v.bytes && is_none v.device && is_none v.path
 verb_fits Path v =
-    not v.has_others && is_none v.setup && is_none v.packets && is_none v.bytes && is_none v.device
+    not v.has_others && is_none v.endpoint && is_none v.setup && is_none v.packets &&
+    is_none v.bytes && is_none v.device
 verb_fits PathDevice v =
-    not v.has_others && is_none v.setup && is_none v.packets && is_none v.bytes
+    not v.has_others && is_none v.endpoint && is_none v.setup && is_none v.packets &&
+    is_none v.bytes
 verb_fits PathBytes v =
     not v.has_others && is_none v.setup && is_none v.packets && is_none v.device
 verb_fits PathPackets v =
     not v.has_others && is_none v.setup && is_none v.bytes && is_none v.device
-verb_fits PathSetup v = not v.has_others && is_none v.packets && is_none v.device
+verb_fits PathEndpoint v =
+    not v.has_others && is_none v.setup && is_none v.packets && is_none v.bytes && is_none v.device
+verb_fits PathSetup v =
+    not v.has_others && is_none v.endpoint && is_none v.packets && is_none v.device
 
 unfoldable pub keys_given : OtherKeys → EventValues → Result (Unit {0}) EntryFault
 keys_given keys v = if verb_fits keys v then Ok tt else Err BadValue

@@ -2,8 +2,8 @@
 use Rattle.std.specs.Prelude.{ℕ, ◌+◌, ◌*◌, List, [], ◌∷◌, length, Option, Some, None, slice_get}
 use Rattle.std.specs.Prelude.{max, min, ◌^◌, ◌-◌, Bool, true, false}
 use Rattle.std.specs.List.{sum_by, count_by}
-use Rattle.usb_world.specs.{Action, Plug, Unplug, Send, Receive, ControlIn, ControlOut, Look, Event}
-use Rattle.usb_world.specs.{PlanData}
+use Rattle.usb_world.specs.{Action, Plug, Unplug, Send, Receive, SendTo, ReceiveFrom, ControlIn}
+use Rattle.usb_world.specs.{ControlOut, Look, Event, PlanData}
 use Rattle.usb_world.specs.declared.event.Action.TheVariants.{Change, Ask}
 use Rattle.usb_device.specs.{said_lengths, Spec}
 
@@ -28,6 +28,8 @@ greatest_total devices (e ∷ events) = max (plugged_total devices e) (greatest_
 abbrev pub moved_in : Action → ℕ
 moved_in (Ask (Send path bytes)) = length bytes
 moved_in (Ask (Receive path packets)) = packets
+moved_in (Ask (SendTo path endpoint bytes)) = length bytes
+moved_in (Ask (ReceiveFrom path endpoint packets)) = packets
 moved_in (Ask (ControlIn path request)) = request.length
 moved_in (Ask (ControlOut path request)) = request.setup.length
 moved_in _ = 0

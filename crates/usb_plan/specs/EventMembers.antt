@@ -16,12 +16,13 @@ pub record EventValues : Type 0 where
   pub bytes : Option Data
   pub packets : Option Data
   pub setup : Option Data
+  pub endpoint : Option Data
   pub has_others : Bool
 
 abbrev pub all_event_keys : List (List ℕ)
 all_event_keys =
     codes "do" ∷ codes "after" ∷ codes "path" ∷ codes "device" ∷ codes "bytes" ∷ codes "packets" ∷
-    codes "setup" ∷ []
+    codes "setup" ∷ codes "endpoint" ∷ []
 
 -- those of a table
 unfoldable pub event_values : Members → EventValues
@@ -33,6 +34,7 @@ event_values ms = record {
   bytes = get_member (codes "bytes") ms;
   packets = get_member (codes "packets") ms;
   setup = get_member (codes "setup") ms;
+  endpoint = get_member (codes "endpoint") ms;
   has_others = not (only_named all_event_keys ms);
 }
 
@@ -46,6 +48,7 @@ found m = record {
   bytes = option_map (λ v. view v.now) m.bytes;
   packets = option_map (λ v. view v.now) m.packets;
   setup = option_map (λ v. view v.now) m.setup;
+  endpoint = option_map (λ v. view v.now) m.endpoint;
   has_others = m.has_others;
 }
 
@@ -59,4 +62,5 @@ with_value key d v =
     else if bytes_eq key (codes "bytes") then record v { bytes = Some d }
     else if bytes_eq key (codes "packets") then record v { packets = Some d }
     else if bytes_eq key (codes "setup") then record v { setup = Some d }
+    else if bytes_eq key (codes "endpoint") then record v { endpoint = Some d }
     else record v { has_others = true }

@@ -44,20 +44,22 @@ unfoldable pub use OwnRequests.{refusal_named, requests_at, requests_in, request
 unfoldable pub use OwnRequests.{row_of, row_with, word_at, word_in, write_answer}
 pub use Device.{FewNaks, HaltsLater, HubFits, device_keys, named_device, outer_of}
 unfoldable pub use Device.{configs_at, descriptor_at, device_in, device_of_parts, device_room}
-unfoldable pub use Device.{device_tables_of, device_tables_with, device_texts_of}
-unfoldable pub use Device.{device_texts_with, device_with, devices_from}
-unfoldable pub use Device.{identity_of, identity_with, name_at, name_in, read_device, speed_at}
-unfoldable pub use Device.{strings_at, with_halt, with_hub, with_quirks}
+unfoldable pub use Device.{device_tables_of, device_tables_with, device_texts_of, device_texts_with}
+unfoldable pub use Device.{device_with, devices_from, identity_of, identity_with, name_at, name_in}
+unfoldable pub use Device.{read_device, speed_at, strings_at, with_halt, with_hub, with_quirks}
 pub use Scene.{SceneData, scene_after}
 unfoldable pub use Path.{free_path, read_path, taken_path}
 unfoldable pub use Plugged.{first_through}
 pub use EventMembers.{EventValues, all_event_keys, found}
 unfoldable pub use EventMembers.{event_values, with_value}
 pub use Action.{event_keys, other_names}
-unfoldable pub use Action.{asked, bytes_at, clear_of, control, control_of, device_index_at, given}
-unfoldable pub use Action.{keys_given, keys_of, look_of, no_bytes, packets_at, plug, plug_of}
-unfoldable pub use Action.{receive, receive_of, request_at, request_with, send, send_of, setup_at}
-unfoldable pub use Action.{setup_in, unplug_of, verb_fits, write_bytes, write_with}
+unfoldable pub use Action.{any_endpoint, asked, bytes_at, clear_end, clear_of, clear_with, control}
+unfoldable pub use Action.{control_of, device_index_at, given, in_endpoint, in_endpoint_at}
+unfoldable pub use Action.{interrupt_of, keys_given, keys_of, look_of, no_bytes, out_endpoint}
+unfoldable pub use Action.{packets_at, plug, plug_of, poll, receive, receive_from, receive_of}
+unfoldable pub use Action.{receive_with, request_at, request_with, send, send_of, send_to}
+unfoldable pub use Action.{send_with, setup_at, setup_in, unplug_of, verb_fits, write_bytes}
+unfoldable pub use Action.{write_with}
 unfoldable pub use Verb.{action_of, other_keys, verb_at, verb_named}
 unfoldable pub use Event.{after_at, event_given, event_in, event_of, event_room, event_with}
 unfoldable pub use Event.{events_from}
@@ -71,8 +73,8 @@ unfoldable pub use Plan.{spelled_plan, top_of, top_with, values_at}
 pub use Attempts.{enough_for, is_look, is_look_at, looks_in, moved_in, total_after, total_at}
 unfoldable pub use Attempts.{bound_of, greatest_total, moved, plugged_total}
 pub use declared.action.OtherKeys.{OtherKeys}
-pub use declared.action.OtherKeys.TheVariants.{Alone, PathBytes, PathDevice, PathPackets}
-pub use declared.action.OtherKeys.TheVariants.{PathSetup}
+pub use declared.action.OtherKeys.TheVariants.{Alone, PathBytes, PathDevice, PathEndpoint}
+pub use declared.action.OtherKeys.TheVariants.{PathPackets, PathSetup}
 pub use declared.damage.Way.{Way}
 pub use declared.device.DeviceTables.{DeviceTables}
 pub use declared.device.DeviceTexts.{DeviceTexts}

@@ -2,12 +2,13 @@
 
 ghost use Rattle.std.specs.Prelude.{◌≡◌, ◌≤◌, option_map};
 ghost use Rattle.toml.specs.View.{view};
-ghost use Rattle.usb_plan.specs.Action.{device_index_at, bytes_at, packets_at, setup_in, setup_at, no_bytes, given, write_bytes, write_with, request_with, request_at, asked, plug, send, receive, control, plug_of, unplug_of, send_of, receive_of, clear_of, control_of, look_of, verb_fits, keys_given};
+ghost use Rattle.usb_plan.specs.Action.{device_index_at, bytes_at, packets_at, any_endpoint, out_endpoint, in_endpoint, in_endpoint_at, setup_in, setup_at, no_bytes, given, write_bytes, write_with, request_with, request_at, asked, plug, send, receive, send_to, receive_from, poll, clear_end, send_with, receive_with, clear_with, control, plug_of, unplug_of, send_of, receive_of, clear_of, control_of, look_of, interrupt_of, verb_fits, keys_given};
 ghost use Rattle.usb_plan.specs.EventMembers.{found};
 ghost use Rattle.usb_request.specs.Layout.{IsToDevice};
 ghost use Rattle.usb_plan.specs.EntryFault.{EqualUnless};
 ghost use Rattle.usb_plan.specs.declared.entry_fault.EntryFault.TheVariants.{Memory};
 
+use crate::endpoints::address_at;
 use crate::entry_fault::{EntryFault, fault_in_part, least_fault};
 use crate::members::EventMembers;
 use crate::path::{free_path, read_path, taken_path};
@@ -16,7 +17,7 @@ use crate::value::{hex_bytes, number_at, read_text};
 use std::alloc::Global;
 use toml::Value;
 use usb_port::PortPath;
-use usb_request::{ReadRequest, Setup};
+use usb_request::{EndpointAddress, ReadRequest, Setup};
 use usb_world::{Action, Ask, Change, SentBytes, WriteRequest};
 
 /// The key `device`.
@@ -44,6 +45,48 @@ fn packets_at(value: Option<&Value>) -> Result<u16, EntryFault>
 {
     let packets = number_at(0, 1000, value)?;
     Ok(packets as u16)
+}
+
+/// The key `endpoint`, where it stands.
+#[tactic(auto, unfolding(crate::specs::Action::any_endpoint))]
+fn any_endpoint(value: &Value) -> Result<EndpointAddress, EntryFault>
+    ensures { result ≡ any_endpoint (view value.now) }
+{
+    address_at(Some(value))
+}
+
+/// The same of an endpoint that takes bytes.
+#[tactic(auto, unfolding(crate::specs::Action::out_endpoint))]
+fn out_endpoint(value: &Value) -> Result<EndpointAddress, EntryFault>
+    ensures { result ≡ out_endpoint (view value.now) }
+{
+    let endpoint = any_endpoint(value)?;
+    if endpoint.is_in() {
+        Err(EntryFault::BadValue)
+    } else {
+        Ok(endpoint)
+    }
+}
+
+/// The same of an endpoint that gives packets.
+#[tactic(auto, unfolding(crate::specs::Action::in_endpoint))]
+fn in_endpoint(value: &Value) -> Result<EndpointAddress, EntryFault>
+    ensures { result ≡ in_endpoint (view value.now) }
+{
+    let endpoint = any_endpoint(value)?;
+    if endpoint.is_in() {
+        Ok(endpoint)
+    } else {
+        Err(EntryFault::BadValue)
+    }
+}
+
+/// The same, where the key has to be there.
+#[tactic(auto, unfolding(crate::specs::Action::in_endpoint_at))]
+fn in_endpoint_at(value: Option<&Value>) -> Result<EndpointAddress, EntryFault>
+    ensures { result ≡ in_endpoint_at (option_map (λ v. view v.now) value.entry) }
+{
+    in_endpoint(value.ok_or(EntryFault::MissingKey)?)
 }
 
 /// Setup data, of their eight bytes (9.3).
@@ -189,6 +232,104 @@ fn receive(
     Ok(Action::Ask(Ask::Receive(path?, packets?)))
 }
 
+#[tactic(auto, unfolding(crate::specs::Action::send_to))]
+fn send_to(
+    path: Result<PortPath, EntryFault>,
+    endpoint: Result<EndpointAddress, EntryFault>,
+    bytes: Result<SentBytes, EntryFault>,
+) -> Result<Action, EntryFault>
+    ensures { result ≡ send_to path endpoint bytes }
+{
+    least_fault(&[
+        fault_in_part(&path),
+        fault_in_part(&endpoint),
+        fault_in_part(&bytes),
+    ])?;
+    Ok(Action::Ask(Ask::SendTo(path?, endpoint?, bytes?)))
+}
+
+#[tactic(auto, unfolding(crate::specs::Action::receive_from))]
+fn receive_from(
+    path: Result<PortPath, EntryFault>,
+    endpoint: Result<EndpointAddress, EntryFault>,
+    packets: Result<u16, EntryFault>,
+) -> Result<Action, EntryFault>
+    ensures { result ≡ receive_from path endpoint packets }
+{
+    least_fault(&[
+        fault_in_part(&path),
+        fault_in_part(&endpoint),
+        fault_in_part(&packets),
+    ])?;
+    Ok(Action::Ask(Ask::ReceiveFrom(path?, endpoint?, packets?)))
+}
+
+#[tactic(auto, unfolding(crate::specs::Action::poll))]
+fn poll(
+    path: Result<PortPath, EntryFault>,
+    endpoint: Result<EndpointAddress, EntryFault>,
+) -> Result<Action, EntryFault>
+    ensures { result ≡ poll path endpoint }
+{
+    least_fault(&[fault_in_part(&path), fault_in_part(&endpoint)])?;
+    Ok(Action::Ask(Ask::Poll(path?, endpoint?)))
+}
+
+#[tactic(auto, unfolding(crate::specs::Action::clear_end))]
+fn clear_end(
+    path: Result<PortPath, EntryFault>,
+    endpoint: Result<EndpointAddress, EntryFault>,
+) -> Result<Action, EntryFault>
+    ensures { result ≡ clear_end path endpoint }
+{
+    least_fault(&[fault_in_part(&path), fault_in_part(&endpoint)])?;
+    Ok(Action::Ask(Ask::ClearOf(path?, endpoint?)))
+}
+
+/// Sends to the endpoint at a key, without it to the first bulk OUT.
+#[tactic(auto, unfolding(crate::specs::Action::send_with))]
+fn send_with(
+    endpoint: Option<&Value>,
+    path: Result<PortPath, EntryFault>,
+    bytes: Result<SentBytes, EntryFault>,
+) -> Result<Action, EntryFault>
+    ensures { result ≡ send_with (option_map (λ v. view v.now) endpoint.entry) path bytes }
+{
+    match endpoint {
+        None => send(path, bytes),
+        Some(endpoint) => send_to(path, out_endpoint(endpoint), bytes),
+    }
+}
+
+/// Receives from the endpoint at a key, without it from the first bulk IN.
+#[tactic(auto, unfolding(crate::specs::Action::receive_with))]
+fn receive_with(
+    endpoint: Option<&Value>,
+    path: Result<PortPath, EntryFault>,
+    packets: Result<u16, EntryFault>,
+) -> Result<Action, EntryFault>
+    ensures { result ≡ receive_with (option_map (λ v. view v.now) endpoint.entry) path packets }
+{
+    match endpoint {
+        None => receive(path, packets),
+        Some(endpoint) => receive_from(path, in_endpoint(endpoint), packets),
+    }
+}
+
+/// Clears the halt of the endpoint at a key, without it those of the first bulk endpoints.
+#[tactic(auto, unfolding(crate::specs::Action::clear_with))]
+fn clear_with(
+    endpoint: Option<&Value>,
+    path: Result<PortPath, EntryFault>,
+) -> Result<Action, EntryFault>
+    ensures { result ≡ clear_with (option_map (λ v. view v.now) endpoint.entry) path }
+{
+    match endpoint {
+        None => Ok(Action::Ask(Ask::Clear(path?))),
+        Some(endpoint) => clear_end(path, any_endpoint(endpoint)),
+    }
+}
+
 #[tactic(auto, unfolding(crate::specs::Action::control))]
 fn control(
     path: Result<PortPath, EntryFault>,
@@ -225,7 +366,7 @@ pub(crate) fn unplug_of(scene: &Scene<'_>, members: &EventMembers<'_>) -> Result
 }
 
 /// Sends bytes.
-#[tactic(auto, using(crate::proofs::MemoryRefusals::send_unless), unfolding(crate::specs::Action::send_of))]
+#[tactic(auto, using(crate::proofs::MemoryRefusals::send_with_unless), unfolding(crate::specs::Action::send_of))]
 pub(crate) fn send_of(
     alloc: Global,
     scene: &Scene<'_>,
@@ -235,7 +376,7 @@ pub(crate) fn send_of(
 {
     let path = read_path(scene, members.path);
     let bytes = bytes_at(alloc, members.bytes);
-    send(path, bytes)
+    send_with(members.endpoint, path, bytes)
 }
 
 /// Receives packets.
@@ -248,7 +389,7 @@ pub(crate) fn receive_of(
 {
     let path = read_path(scene, members.path);
     let packets = packets_at(members.packets);
-    receive(path, packets)
+    receive_with(members.endpoint, path, packets)
 }
 
 /// Clears halts.
@@ -256,8 +397,7 @@ pub(crate) fn receive_of(
 pub(crate) fn clear_of(scene: &Scene<'_>, members: &EventMembers<'_>) -> Result<Action, EntryFault>
     ensures { result ≡ clear_of scene.now (found members.now) }
 {
-    let path = read_path(scene, members.path)?;
-    Ok(Action::Ask(Ask::Clear(path)))
+    clear_with(members.endpoint, read_path(scene, members.path))
 }
 
 /// Makes a request of endpoint 0.
@@ -283,6 +423,18 @@ pub(crate) fn look_of(scene: &Scene<'_>, members: &EventMembers<'_>) -> Result<A
     Ok(Action::Ask(Ask::Look(path)))
 }
 
+/// Asks an interrupt endpoint for a packet.
+#[tactic(auto, unfolding(crate::specs::Action::interrupt_of))]
+pub(crate) fn interrupt_of(
+    scene: &Scene<'_>,
+    members: &EventMembers<'_>,
+) -> Result<Action, EntryFault>
+    ensures { result ≡ interrupt_of scene.now (found members.now) }
+{
+    let path = read_path(scene, members.path);
+    poll(path, in_endpoint_at(members.endpoint))
+}
+
 /// The keys that go with an event's `do` and `after`.
 #[derive(Clone, Copy)]
 pub(crate) enum OtherKeys {
@@ -292,10 +444,12 @@ pub(crate) enum OtherKeys {
     Path,
     /// `path` and `device`.
     PathDevice,
-    /// `path` and `bytes`.
+    /// `path`, `bytes` and maybe `endpoint`.
     PathBytes,
-    /// `path` and `packets`.
+    /// `path`, `packets` and maybe `endpoint`.
     PathPackets,
+    /// `path` and `endpoint`.
+    PathEndpoint,
     /// `path`, `setup` and maybe `bytes`.
     PathSetup,
 }
@@ -310,15 +464,18 @@ fn fits(keys: OtherKeys, members: &EventMembers<'_>) -> bool
     let no_bytes = members.bytes.is_none();
     let no_packets = members.packets.is_none();
     let no_setup = members.setup.is_none();
+    let no_end = members.endpoint.is_none();
     match keys {
         OtherKeys::Alone => {
-            known && no_setup && no_packets && no_bytes && no_device && members.path.is_none()
+            let no_path = members.path.is_none();
+            known && no_end && no_setup && no_packets && no_bytes && no_device && no_path
         }
-        OtherKeys::Path => known && no_setup && no_packets && no_bytes && no_device,
-        OtherKeys::PathDevice => known && no_setup && no_packets && no_bytes,
+        OtherKeys::Path => known && no_end && no_setup && no_packets && no_bytes && no_device,
+        OtherKeys::PathDevice => known && no_end && no_setup && no_packets && no_bytes,
         OtherKeys::PathBytes => known && no_setup && no_packets && no_device,
         OtherKeys::PathPackets => known && no_setup && no_bytes && no_device,
-        OtherKeys::PathSetup => known && no_packets && no_device,
+        OtherKeys::PathEndpoint => known && no_setup && no_packets && no_bytes && no_device,
+        OtherKeys::PathSetup => known && no_end && no_packets && no_device,
     }
 }
 

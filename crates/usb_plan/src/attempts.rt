@@ -74,6 +74,8 @@ fn moved(event: &Event) -> u64
     match &event.action {
         Action::Ask(Ask::Send(_, bytes)) => bytes.as_slice().len() as u64,
         Action::Ask(Ask::Receive(_, packets)) => u64::from(*packets),
+        Action::Ask(Ask::SendTo(_, _, bytes)) => bytes.as_slice().len() as u64,
+        Action::Ask(Ask::ReceiveFrom(_, _, packets)) => u64::from(*packets),
         Action::Ask(Ask::ControlIn(_, request)) => u64::from(request.setup().length),
         Action::Ask(Ask::ControlOut(_, request)) => u64::from(request.setup().length),
         _ => 0,

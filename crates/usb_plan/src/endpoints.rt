@@ -25,7 +25,7 @@ const MOST_ENDPOINTS: usize = 30;
 
 /// The key `address`.
 #[tactic(auto, unfolding(crate::specs::Endpoints::address_at))]
-fn address_at(value: Option<&Value>) -> Result<EndpointAddress, EntryFault>
+pub(crate) fn address_at(value: Option<&Value>) -> Result<EndpointAddress, EntryFault>
     ensures { result ≡ address_at (option_map (λ v. view v.now) value.entry) }
 {
     EndpointAddress::new(byte_at(value)?).ok_or(EntryFault::BadValue)

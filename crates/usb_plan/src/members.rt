@@ -17,6 +17,7 @@ pub(crate) struct EventMembers<'a> {
     pub bytes: Option<&'a Value>,
     pub packets: Option<&'a Value>,
     pub setup: Option<&'a Value>,
+    pub endpoint: Option<&'a Value>,
     /// Whether there is any other key.
     pub has_others: bool,
 }
@@ -34,6 +35,7 @@ impl<'a> EventMembers<'a> {
             bytes: None,
             packets: None,
             setup: None,
+            endpoint: None,
             has_others: false,
         };
         'entries: for (key, value) in table.iter() {
@@ -55,6 +57,7 @@ impl<'a> EventMembers<'a> {
             "bytes" => self.bytes = Some(value),
             "packets" => self.packets = Some(value),
             "setup" => self.setup = Some(value),
+            "endpoint" => self.endpoint = Some(value),
             _ => self.has_others = true,
         }
     }

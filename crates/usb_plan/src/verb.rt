@@ -8,7 +8,7 @@ ghost use Rattle.usb_plan.specs.Verb.{verb_named, verb_at, other_keys, action_of
 ghost use Rattle.usb_plan.specs.declared.entry_fault.EntryFault.TheVariants.{Memory};
 
 use crate::action::{
-    OtherKeys, clear_of, control_of, look_of, plug_of, receive_of, send_of, unplug_of,
+    OtherKeys, clear_of, control_of, interrupt_of, look_of, plug_of, receive_of, send_of, unplug_of,
 };
 use crate::entry_fault::EntryFault;
 use crate::members::EventMembers;
@@ -30,6 +30,7 @@ pub(crate) enum Verb {
     Control,
     Look,
     News,
+    Interrupt,
 }
 
 #[tactic(auto, unfolding(crate::specs::Verb::verb_named))]
@@ -46,6 +47,7 @@ fn verb_named(text: &str) -> Result<Verb, EntryFault>
         "control" => Ok(Verb::Control),
         "look" => Ok(Verb::Look),
         "news" => Ok(Verb::News),
+        "interrupt" => Ok(Verb::Interrupt),
         _ => Err(EntryFault::BadValue),
     }
 }
@@ -69,10 +71,11 @@ pub(crate) fn other_keys(verb: Verb) -> OtherKeys
         Verb::Show => OtherKeys::Alone,
         Verb::Send => OtherKeys::PathBytes,
         Verb::Receive => OtherKeys::PathPackets,
-        Verb::Clear => OtherKeys::Path,
+        Verb::Clear => OtherKeys::PathEndpoint,
         Verb::Control => OtherKeys::PathSetup,
         Verb::Look => OtherKeys::Path,
         Verb::News => OtherKeys::Alone,
+        Verb::Interrupt => OtherKeys::PathEndpoint,
     }
 }
 
@@ -96,5 +99,6 @@ pub(crate) fn action_of(
         Verb::Control => control_of(alloc, scene, members),
         Verb::Look => look_of(scene, members),
         Verb::News => Ok(Action::Ask(Ask::News)),
+        Verb::Interrupt => interrupt_of(scene, members),
     }
 }

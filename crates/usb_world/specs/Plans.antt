@@ -1,6 +1,7 @@
 -- A plan as contracts see it, and the rules that it keeps.
 use Rattle.std.specs.Prelude.{◌≡◌, ◌≤◌, ℕ, List, [], ◌∷◌, length, Bool, true, ◌&&◌, not, nat_le}
 use Rattle.std.specs.Prelude.{nat_lt, is_some}
+use Rattle.usb_request.specs.{DIRECTION_IN}
 use Rattle.usb_device.specs.{Spec, AreDevices}
 use Rattle.usb_world.specs.declared.event.Event.{Event}
 use Rattle.usb_world.specs.declared.event.Action.{Action}
@@ -8,6 +9,7 @@ use Rattle.usb_world.specs.declared.event.Action.TheVariants.{Change, Ask}
 use Rattle.usb_world.specs.declared.event.Change.TheVariants.{Plug, Unplug}
 use Rattle.usb_world.specs.declared.event.Ask.{Ask as Asked}
 use Rattle.usb_world.specs.declared.event.Ask.TheVariants.{Show, Send, Receive, Clear, ControlIn}
+use Rattle.usb_world.specs.declared.event.Ask.TheVariants.{SendTo, ReceiveFrom, Poll, ClearOf}
 use Rattle.usb_world.specs.declared.event.Ask.TheVariants.{ControlOut, Look, News}
 use Rattle.usb_world.specs.declared.damage.Damage.{Damage}
 use Rattle.usb_world.specs.declared.damage.Harm.{Harm}
@@ -19,12 +21,18 @@ use Rattle.usb_world.specs.PluggedDevices.{PluggedMap, index_at, plugged_after, 
 abbrev pub is_taken : PluggedMap → List ℕ → Bool
 is_taken tree path = is_some (index_at tree path)
 
--- what may be asked: of a device, below a root port
+-- what may be asked: of a device, below a root port, and of an endpoint of the right way (9.6.6)
 abbrev pub ask_fits : ℕ → Asked → Bool
 ask_fits roots Show = true
 ask_fits roots (Send path bytes) = is_rooted roots path
 ask_fits roots (Receive path packets) = is_rooted roots path && nat_le packets 1000
 ask_fits roots (Clear path) = is_rooted roots path
+ask_fits roots (SendTo path endpoint bytes) = is_rooted roots path && not
+    (nat_le DIRECTION_IN endpoint)
+ask_fits roots (ReceiveFrom path endpoint packets) = is_rooted roots path && nat_le DIRECTION_IN
+    endpoint && nat_le packets 1000
+ask_fits roots (Poll path endpoint) = is_rooted roots path && nat_le DIRECTION_IN endpoint
+ask_fits roots (ClearOf path endpoint) = is_rooted roots path
 ask_fits roots (ControlIn path request) = is_rooted roots path
 ask_fits roots (ControlOut path request) = is_rooted roots path
 ask_fits roots (Look path) = is_rooted roots path

@@ -7,7 +7,7 @@ use std::alloc::{AllocError, Global};
 use std::marker::Model;
 use usb_port::PortPath;
 use usb_request::endpoint_address::DIRECTION_IN;
-use usb_request::{ReadRequest, Setup};
+use usb_request::{EndpointAddress, ReadRequest, Setup};
 
 /// Bytes that an event sends.
 #[derive(Debug, Drop)]
@@ -140,6 +140,14 @@ pub enum Ask {
     Receive(PortPath, u16),
     /// To clear the halts of the bulk endpoints of the device at a port (9.4.1).
     Clear(PortPath),
+    /// To send these bytes to this endpoint of the device at a port (5.7, 5.8).
+    SendTo(PortPath, EndpointAddress, SentBytes),
+    /// To receive at most this number of packets, 0 to 1,000, from this endpoint of the device at a port (5.8).
+    ReceiveFrom(PortPath, EndpointAddress, u16),
+    /// To ask this interrupt endpoint of the device at a port once for a packet (5.7).
+    Poll(PortPath, EndpointAddress),
+    /// To clear the halt of this endpoint of the device at a port (9.4.1).
+    ClearOf(PortPath, EndpointAddress),
     /// To read from endpoint 0 of the device at a port (9.3).
     ControlIn(PortPath, ReadRequest),
     /// To write to endpoint 0 of the device at a port (9.3).
@@ -310,6 +318,14 @@ fn ask_copy(alloc: Global, ask: &Ask) -> Result<Ask, AllocError>
         Ask::Send(path, bytes) => Ask::Send(path.duplicate(), bytes.try_clone(alloc)?),
         Ask::Receive(path, packets) => Ask::Receive(path.duplicate(), *packets),
         Ask::Clear(path) => Ask::Clear(path.duplicate()),
+        Ask::SendTo(path, endpoint, bytes) => {
+            Ask::SendTo(path.duplicate(), *endpoint, bytes.try_clone(alloc)?)
+        }
+        Ask::ReceiveFrom(path, endpoint, packets) => {
+            Ask::ReceiveFrom(path.duplicate(), *endpoint, *packets)
+        }
+        Ask::Poll(path, endpoint) => Ask::Poll(path.duplicate(), *endpoint),
+        Ask::ClearOf(path, endpoint) => Ask::ClearOf(path.duplicate(), *endpoint),
         Ask::ControlIn(path, request) => Ask::ControlIn(path.duplicate(), *request),
         Ask::ControlOut(path, request) => {
             Ask::ControlOut(path.duplicate(), request.try_clone(alloc)?)

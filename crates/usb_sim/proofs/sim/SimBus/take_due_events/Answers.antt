@@ -37,6 +37,13 @@ due-preserved-in_ok-take_event-4 g c = record {
       (sym c.is_due.ensures.value ∙ c.due-test.true) c.in_ok-take_event.ensures.came;
 }
 
+pub due-preserved-in_ok-take_event-5 : goal.due-preserved-in_ok-take_event-5
+due-preserved-in_ok-take_event-5 g c = record {
+  fault = c.in_ok-take_event.ensures.came.told;
+  due = due_goes_on _ _ _ _ _ _ _ c.due.invariant.due
+      (sym c.is_due.ensures.value ∙ c.due-test.true) c.in_ok-take_event.ensures.came;
+}
+
 pub returns-clause-came : goal.returns-clause-came
 returns-clause-came g c = record {
   spends = c.due.invariant.due.spends;
