@@ -8,6 +8,7 @@ use Rattle.usb_table.specs.{tree_after}
 use Rattle.usb_host.specs.{HostState}
 use Rattle.usb_plan.specs.{spelled_plan}
 use Rattle.usb_run.specs.{Item, Listing, Sent, Received, Cleared, Read, Written, Looked, Tree}
+use Rattle.usb_run.specs.{SentTo, ReceivedFrom, Polled, ClearedOf}
 use Rattle.usb_run.specs.declared.runs.Item.TheVariants.{News}
 use Rattle.usb_run.specs.{ListsRight, item_lines}
 use Rattle.usb_run.specs.{number_of, Opens, RunsTo, listings, never}
@@ -29,6 +30,14 @@ drawn_lines style plan number (Read path read) = item_lines number (Read path re
 drawn_lines style plan number (Written path written) = item_lines number (Written path written)
 drawn_lines style plan number (Looked path looked) = item_lines number (Looked path looked)
 drawn_lines style plan number (News news) = item_lines number (News news)
+drawn_lines style plan number (SentTo path endpoint sent) =
+    item_lines number (SentTo path endpoint sent)
+drawn_lines style plan number (ReceivedFrom path endpoint received) =
+    item_lines number (ReceivedFrom path endpoint received)
+drawn_lines style plan number (Polled path endpoint polled) =
+    item_lines number (Polled path endpoint polled)
+drawn_lines style plan number (ClearedOf path endpoint cleared) =
+    item_lines number (ClearedOf path endpoint cleared)
 
 -- the text of an item; those made before it are given, the newest first
 abbrev pub drawn_item : Style → PlanData → List Item → Item → List ℕ

@@ -94,5 +94,7 @@ fn drawn_lines(
         Item::Read(_, _) | Item::Written(_, _) | Item::Looked(_, _) | Item::News(_) => {
             item_lines(alloc, number, item)
         }
+        Item::SentTo(_, _, _) | Item::ReceivedFrom(_, _, _) => item_lines(alloc, number, item),
+        Item::Polled(_, _, _) | Item::ClearedOf(_, _, _) => item_lines(alloc, number, item),
     }
 }

@@ -1,16 +1,18 @@
 -- What a run makes of an event, by its item, and by the call that the host makes for it.
 use Rattle.std.proofs.Common.{◌≡◌, ◌∙◌, refl, ap, ℕ, List, length, Option, None, Some, Result}
 use Rattle.std.specs.Global.{Vec}
+use Rattle.arrayvec.specs.ArrayVec.{ArrayVec}
 use Rattle.usb_world.specs.declared.event.Ask.{Ask}
 use Rattle.usb_world.specs.{Show, Send, Receive, Clear, ControlIn, ControlOut, IsWrite, Write}
-use Rattle.usb_world.specs.{Look as LookAt, News as AskNews}
+use Rattle.usb_world.specs.{Look as LookAt, News as AskNews, SendTo, ReceiveFrom, Poll, ClearOf}
 use Rattle.usb_request.specs.{IsToHost, Setup}
 use Rattle.usb_host.specs.{HostFault, ClearTells, ReceiveTells, SendTells, ReadTells, WriteTells}
-use Rattle.usb_host.specs.{LookTells}
+use Rattle.usb_host.specs.{LookTells, ReportTells, ClearOfTells}
 use Rattle.usb_host.specs.{HostState, Look, News, ReportsNews}
 use Rattle.usb_host.specs.{Left, Arrived}
-use Rattle.usb_table.specs.{TransferFault}
+use Rattle.usb_table.specs.{TransferFault, FirstBulk, At}
 use Rattle.usb_run.specs.{Item, Sent, Received, Cleared, Read, Written, Looked}
+use Rattle.usb_run.specs.{SentTo, ReceivedFrom, Polled, ClearedOf}
 use Rattle.usb_run.specs.{RunFault, listing_of}
 use Rattle.usb_run.specs.{AllNews, SomeNewsAre, no_news, one_news, IsItemOf, StopsAt, sent_count}
 use Rattle.usb_run.specs.declared.runs.Item.TheVariants.{News as ToldNews}
@@ -22,13 +24,28 @@ pub data AskAnswered (due : Option Ask) (item : Option Item) (old new : HostStat
   listed : due ≡ Some Show → item ≡ Some (listing_of new) → new ≡ old → AskAnswered due item old new
   sent : (path bytes : List ℕ) (told : Result (Unit {0}) TransferFault)
       → due ≡ Some (Send path bytes) → item ≡ Some (Sent path (sent_count (length bytes) told))
-      → Transfers (SendTells path bytes) old told new → AskAnswered due item old new
+      → Transfers (SendTells path FirstBulk bytes) old told new → AskAnswered due item old new
   received : (path : List ℕ) (packets : ℕ) (told : Result (Vec ℕ) TransferFault)
       → due ≡ Some (Receive path packets) → item ≡ Some (Received path told)
-      → Transfers (ReceiveTells path packets) old told new → AskAnswered due item old new
+      → Transfers (ReceiveTells path FirstBulk packets) old told new → AskAnswered due item old new
   cleared : (path : List ℕ) (told : Result (Unit {0}) TransferFault) → due ≡ Some (Clear path)
       → item ≡ Some (Cleared path told) → Transfers (ClearTells path) old told new
       → AskAnswered due item old new
+  sent_to : (path : List ℕ) (endpoint : ℕ) (bytes : List ℕ)
+      (told : Result (Unit {0}) TransferFault) → due ≡ Some (SendTo path endpoint bytes)
+      → item ≡ Some (SentTo path endpoint (sent_count (length bytes) told))
+      → Transfers (SendTells path (At endpoint) bytes) old told new → AskAnswered due item old new
+  received_from : (path : List ℕ) (endpoint packets : ℕ) (told : Result (Vec ℕ) TransferFault)
+      → due ≡ Some (ReceiveFrom path endpoint packets)
+      → item ≡ Some (ReceivedFrom path endpoint told)
+      → Transfers (ReceiveTells path (At endpoint) packets) old told new
+      → AskAnswered due item old new
+  polled : (path : List ℕ) (endpoint : ℕ) (told : Result (Option (ArrayVec ℕ)) TransferFault)
+      → due ≡ Some (Poll path endpoint) → item ≡ Some (Polled path endpoint told)
+      → Transfers (ReportTells path endpoint) old told new → AskAnswered due item old new
+  cleared_of : (path : List ℕ) (endpoint : ℕ) (told : Result (Unit {0}) TransferFault)
+      → due ≡ Some (ClearOf path endpoint) → item ≡ Some (ClearedOf path endpoint told)
+      → Transfers (ClearOfTells path endpoint) old told new → AskAnswered due item old new
   read : (path : List ℕ) (request : Setup) (told : Result (Vec ℕ) TransferFault)
       → IsToHost request → due ≡ Some (ControlIn path request) → item ≡ Some (Read path told)
       → Transfers (ReadTells path request) old told new → AskAnswered due item old new
@@ -50,6 +67,13 @@ answered (Some Show) item old new is = listed refl is.0 is.1
 answered (Some (Send path bytes)) item old new is = sent path bytes is.0 refl is.1 is.2
 answered (Some (Receive path packets)) item old new is = received path packets is.0 refl is.1 is.2
 answered (Some (Clear path)) item old new is = cleared path is.0 refl is.1 is.2
+answered (Some (SendTo path endpoint bytes)) item old new is =
+    sent_to path endpoint bytes is.0 refl is.1 is.2
+answered (Some (ReceiveFrom path endpoint packets)) item old new is =
+    received_from path endpoint packets is.0 refl is.1 is.2
+answered (Some (Poll path endpoint)) item old new is = polled path endpoint is.0 refl is.1 is.2
+answered (Some (ClearOf path endpoint)) item old new is =
+    cleared_of path endpoint is.0 refl is.1 is.2
 answered (Some (ControlIn path request)) item old new is =
     read path request is.1.0 is.0 refl is.1.1 is.1.2
 answered (Some (ControlOut path write)) item old new is =
@@ -90,12 +114,25 @@ all_reported old new all told = reported_then old told.last new (some_reported t
 pub data Calls (due : Option Ask) (old new : HostState) : Type 0 where
   no_call : new ≡ old → Calls due old new
   sends : (path bytes : List ℕ) (result : Result (Unit {0}) HostFault)
-      → due ≡ Some (Send path bytes) → SendTells path bytes old result new → Calls due old new
+      → due ≡ Some (Send path bytes) → SendTells path FirstBulk bytes old result new
+      → Calls due old new
   receives : (path : List ℕ) (packets : ℕ) (result : Result (Vec ℕ) HostFault)
-      → due ≡ Some (Receive path packets) → ReceiveTells path packets old result new
+      → due ≡ Some (Receive path packets) → ReceiveTells path FirstBulk packets old result new
       → Calls due old new
   clears : (path : List ℕ) (result : Result (Unit {0}) HostFault) → due ≡ Some (Clear path)
       → ClearTells path old result new → Calls due old new
+  sends_to : (path : List ℕ) (endpoint : ℕ) (bytes : List ℕ)
+      (result : Result (Unit {0}) HostFault) → due ≡ Some (SendTo path endpoint bytes)
+      → SendTells path (At endpoint) bytes old result new → Calls due old new
+  receives_from : (path : List ℕ) (endpoint packets : ℕ) (result : Result (Vec ℕ) HostFault)
+      → due ≡ Some (ReceiveFrom path endpoint packets)
+      → ReceiveTells path (At endpoint) packets old result new → Calls due old new
+  polls : (path : List ℕ) (endpoint : ℕ) (result : Result (Option (ArrayVec ℕ)) HostFault)
+      → due ≡ Some (Poll path endpoint) → ReportTells path endpoint old result new
+      → Calls due old new
+  clears_of : (path : List ℕ) (endpoint : ℕ) (result : Result (Unit {0}) HostFault)
+      → due ≡ Some (ClearOf path endpoint) → ClearOfTells path endpoint old result new
+      → Calls due old new
   reads : (path : List ℕ) (request : Setup) (result : Result (Vec ℕ) HostFault)
       → due ≡ Some (ControlIn path request) → ReadTells path request old result new
       → Calls due old new
@@ -114,6 +151,14 @@ item_calls (sent path bytes told asks is came) = sends path bytes came.answer as
 item_calls (received path packets told asks is came) =
     receives path packets came.answer asks came.call
 item_calls (cleared path told asks is came) = clears path came.answer asks came.call
+item_calls (sent_to path endpoint bytes told asks is came) =
+    sends_to path endpoint bytes came.answer asks came.call
+item_calls (received_from path endpoint packets told asks is came) =
+    receives_from path endpoint packets came.answer asks came.call
+item_calls (polled path endpoint told asks is came) =
+    polls path endpoint came.answer asks came.call
+item_calls (cleared_of path endpoint told asks is came) =
+    clears_of path endpoint came.answer asks came.call
 item_calls (read path request told host asks is came) =
     reads path request came.answer asks came.call
 item_calls (written path write told fits asks is came) =
@@ -131,6 +176,14 @@ stop_calls (Some (Send path bytes)) fault old new stops =
 stop_calls (Some (Receive path packets)) fault old new stops =
     receives path packets stops.answer refl stops.call
 stop_calls (Some (Clear path)) fault old new stops = clears path stops.answer refl stops.call
+stop_calls (Some (SendTo path endpoint bytes)) fault old new stops =
+    sends_to path endpoint bytes stops.answer refl stops.call
+stop_calls (Some (ReceiveFrom path endpoint packets)) fault old new stops =
+    receives_from path endpoint packets stops.answer refl stops.call
+stop_calls (Some (Poll path endpoint)) fault old new stops =
+    polls path endpoint stops.answer refl stops.call
+stop_calls (Some (ClearOf path endpoint)) fault old new stops =
+    clears_of path endpoint stops.answer refl stops.call
 stop_calls (Some (ControlIn path request)) fault old new stops =
     reads path request stops.answer refl stops.call
 stop_calls (Some (ControlOut path write)) fault old new stops =

@@ -4,7 +4,7 @@ use Rattle.std.specs.Prelude.{true, is_ok}
 use Rattle.std.specs.List.{AllByRecursion}
 use Rattle.usb_world.specs.declared.event.Ask.{Ask}
 use Rattle.usb_world.specs.{Show, Send, Receive, Clear, ControlIn, ControlOut, Look as LookAt}
-use Rattle.usb_world.specs.{News as AskNews}
+use Rattle.usb_world.specs.{News as AskNews, SendTo, ReceiveFrom, Poll, ClearOf}
 use Rattle.usb_world.specs.{PlanData, AreOfDamages, AtMostTwoRunning, EachWas, World}
 use Rattle.usb_device.specs.{reach}
 use Rattle.usb_transaction.specs.{Target}
@@ -13,6 +13,7 @@ use Rattle.usb_enum.specs.{FewLosses}
 use Rattle.usb_table.specs.{ChangesAt, Delivered, Collected, ReadLeft, ReadMade, Restarted}
 use Rattle.usb_table.specs.{TransferFault, TransferIs, TransferLeaves, WriteLeft, WriteMade}
 use Rattle.usb_table.specs.{bytes_in, control_target, Lists, table_answer, tree_after, write_target}
+use Rattle.usb_table.specs.{FirstBulk, At, Reported, RestartedOf, TableFault, Transfer}
 use Rattle.usb_host.specs.{HostFault, HostState, Look, LookDid, host_told, table_in}
 use Rattle.usb_host.specs.declared.fault.HostFault.TheVariants as host
 use Rattle.usb_run.specs.NewsCalls.{AllNews}
@@ -21,6 +22,7 @@ use Rattle.usb_run.specs.Transfers.{sent_count, transfer_ended}
 use Rattle.usb_run.specs.declared.runs.Item.{Item}
 use Rattle.usb_run.specs.declared.runs.Item.TheVariants.{Listing, Sent, Received, Cleared}
 use Rattle.usb_run.specs.declared.runs.Item.TheVariants.{Read, Written, Looked, News as ToldNews}
+use Rattle.usb_run.specs.declared.runs.Item.TheVariants.{SentTo, ReceivedFrom, Polled, ClearedOf}
 use Rattle.usb_run.specs.declared.runs.Report.{Report}
 
 -- a control transfer was made to a target, the device at a path: that did what this says, any other
@@ -46,6 +48,11 @@ abbrev pub as_answer : {A : Type 0} → Result A TransferFault → Result A Host
 as_answer (Ok done) = Ok done
 as_answer (Err fault) = Err (host.Transfer fault)
 
+-- what a transfer came to, as the table told it
+abbrev pub table_told : {A : Type 0} → Result A TransferFault → Result A TableFault
+table_told (Ok done) = Ok done
+table_told (Err fault) = Err (Transfer fault)
+
 -- the port at a path was enumerated anew, and what is told is what is listed there then, or that no
 -- port has the path; what the host knows after it is so
 pub record LookShows (path : List ℕ) (old : HostState) (told : Result Look TransferFault)
@@ -54,18 +61,28 @@ pub record LookShows (path : List ℕ) (old : HostState) (told : Result Look Tra
   pub knows : Knows new
 
 -- what an item tells of the event that asked for it is so: of a listing the host had settled; the
--- device at the path took the bytes that were to be sent, gave those that are told, had its halts
--- cleared, or answered or took what is told; a look shows what is listed at its port; and the news
--- are all there were
+-- device at the path took the bytes that were to be sent, gave those or the packet that is told,
+-- had its halts cleared, or answered or took what is told, at the endpoint that was asked for or at
+-- its first bulk one; a look shows what is listed at its port; and the news are all there were
 abbrev pub TellsRight : Option Ask → Item → HostState → HostState → Type 0
 TellsRight (Some Show) item old new = Settled new
 TellsRight (Some (Send path bytes)) (Sent to told) old new =
-    Delivered path (is_ok told) bytes (table_in old) old.world (table_in new) new.world
+    Delivered path FirstBulk (is_ok told) bytes (table_in old) old.world (table_in new) new.world
 TellsRight (Some (Receive path packets)) (Received from told) old new =
-    Collected path (is_ok told) packets (bytes_in told) (table_in old) old.world (table_in new)
-    new.world
+    Collected path FirstBulk (is_ok told) packets (bytes_in told) (table_in old) old.world
+    (table_in new) new.world
 TellsRight (Some (Clear path)) (Cleared at told) old new =
     Restarted path (is_ok told) (table_in old) old.world (table_in new) new.world
+TellsRight (Some (SendTo path endpoint bytes)) (SentTo to at told) old new =
+    Delivered path (At endpoint) (is_ok told) bytes (table_in old) old.world (table_in new)
+    new.world
+TellsRight (Some (ReceiveFrom path endpoint packets)) (ReceivedFrom from at told) old new =
+    Collected path (At endpoint) (is_ok told) packets (bytes_in told) (table_in old) old.world
+    (table_in new) new.world
+TellsRight (Some (Poll path endpoint)) (Polled from at told) old new =
+    Reported path endpoint (table_told told) (table_in old) old.world (table_in new) new.world
+TellsRight (Some (ClearOf path endpoint)) (ClearedOf of at told) old new =
+    RestartedOf path endpoint (is_ok told) (table_in old) old.world (table_in new) new.world
 TellsRight (Some (ControlIn path request)) (Read from told) old new =
     ControlIfAsked (ReadMade request) (ReadLeft request) path (control_target path old.entries)
     old.world told new.world
@@ -89,6 +106,10 @@ IsListingOf plan (Read path read) = ⊤
 IsListingOf plan (Written path written) = ⊤
 IsListingOf plan (Looked path looked) = ⊤
 IsListingOf plan (ToldNews news) = ⊤
+IsListingOf plan (SentTo path endpoint sent) = ⊤
+IsListingOf plan (ReceivedFrom path endpoint received) = ⊤
+IsListingOf plan (Polled path endpoint polled) = ⊤
+IsListingOf plan (ClearedOf path endpoint cleared) = ⊤
 
 -- each listing of a run is right, whether it stopped at a fault or not, where no three attempts
 -- running are damaged and no address was lost three times up to its last world; and there is a

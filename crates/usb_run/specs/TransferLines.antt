@@ -1,6 +1,8 @@
 -- The printed lines of transfers, looks and news.
-use Rattle.std.specs.Prelude.{ℕ, List, [], ◌∷◌, ◌++◌, Result, Ok, Err, codes, decimal, map}
+use Rattle.std.specs.Prelude.{ℕ, List, [], ◌∷◌, ◌++◌, Option, None, Some, Result, Ok, Err, codes}
+use Rattle.std.specs.Prelude.{decimal, map}
 use Rattle.std.specs.Global.{Vec}
+use Rattle.arrayvec.specs.ArrayVec.{ArrayVec}
 use Rattle.usb_packet.specs.{hex_text}
 use Rattle.usb_port.specs.{path_text}
 use Rattle.usb_host.specs.{Look, News}
@@ -51,6 +53,36 @@ received_line path received = codes "receive " ++ path_text path ++ received_end
 -- clear PATH done, or clear PATH failed WORDS
 unfoldable pub cleared_line : List ℕ → Result (Unit {0}) TransferFault → List ℕ
 cleared_line path cleared = codes "clear " ++ path_text path ++ cleared_end cleared
+
+-- an endpoint's address in two digits, behind a path
+abbrev pub endpoint_text : ℕ → List ℕ
+endpoint_text endpoint = codes " " ++ hex_text (endpoint ∷ [])
+
+-- the packet that an endpoint gave, or that it had none
+abbrev pub polled_end : Result (Option (ArrayVec ℕ)) TransferFault → List ℕ
+polled_end (Ok (Some packet)) = codes " done " ++ hex_text packet.items
+polled_end (Ok None) = codes " nothing"
+polled_end (Err fault) = failed_end fault
+
+-- send PATH EP done N, or send PATH EP failed WORDS
+unfoldable pub sent_to_line : List ℕ → ℕ → Result ℕ TransferFault → List ℕ
+sent_to_line path endpoint sent =
+    codes "send " ++ path_text path ++ endpoint_text endpoint ++ sent_end sent
+
+-- receive PATH EP done HEX, or receive PATH EP failed WORDS
+unfoldable pub received_from_line : List ℕ → ℕ → Result (Vec ℕ) TransferFault → List ℕ
+received_from_line path endpoint received =
+    codes "receive " ++ path_text path ++ endpoint_text endpoint ++ received_end received
+
+-- interrupt PATH EP done HEX, interrupt PATH EP nothing, or interrupt PATH EP failed WORDS
+unfoldable pub polled_line : List ℕ → ℕ → Result (Option (ArrayVec ℕ)) TransferFault → List ℕ
+polled_line path endpoint polled =
+    codes "interrupt " ++ path_text path ++ endpoint_text endpoint ++ polled_end polled
+
+-- clear PATH EP done, or clear PATH EP failed WORDS
+unfoldable pub cleared_of_line : List ℕ → ℕ → Result (Unit {0}) TransferFault → List ℕ
+cleared_of_line path endpoint cleared =
+    codes "clear " ++ path_text path ++ endpoint_text endpoint ++ cleared_end cleared
 
 -- control PATH in done HEX, or control PATH in failed WORDS
 unfoldable pub read_line : List ℕ → Result (Vec ℕ) TransferFault → List ℕ

@@ -1,18 +1,20 @@
 -- What a run makes of an event that has come, and what a transfer comes to.
 use Rattle.std.specs.Prelude.{◌≡◌, ℕ, length, Option, Some, None, Result, Ok, Err}
 use Rattle.std.specs.Global.{Vec}
+use Rattle.arrayvec.specs.ArrayVec.{ArrayVec}
 use Rattle.usb_world.specs.declared.event.Ask.{Ask}
 use Rattle.usb_request.specs.{IsToHost}
 use Rattle.usb_world.specs.{Show, Send, Receive, Clear, ControlIn, ControlOut, IsWrite}
-use Rattle.usb_world.specs.{Look as LookAt, News as AskNews}
-use Rattle.usb_table.specs.{TransferFault}
+use Rattle.usb_world.specs.{Look as LookAt, News as AskNews, SendTo, ReceiveFrom, Poll, ClearOf}
+use Rattle.usb_table.specs.{TransferFault, FirstBulk, At}
 use Rattle.usb_host.specs.{HostFault, ClearTells, ReceiveTells, SendTells, ReadTells, WriteTells}
-use Rattle.usb_host.specs.{LookTells}
+use Rattle.usb_host.specs.{LookTells, ReportTells, ClearOfTells}
 use Rattle.usb_host.specs.{HostState, Look, News}
 use Rattle.usb_host.specs.declared.fault.HostFault.TheVariants as host
 use Rattle.usb_run.specs.declared.runs.Item.{Item}
 use Rattle.usb_run.specs.declared.runs.Item.TheVariants.{Sent, Received, Cleared}
 use Rattle.usb_run.specs.declared.runs.Item.TheVariants.{Read, Written, Looked, News as ToldNews}
+use Rattle.usb_run.specs.declared.runs.Item.TheVariants.{SentTo, ReceivedFrom, Polled, ClearedOf}
 use Rattle.usb_run.specs.declared.runs.RunFault.{RunFault}
 use Rattle.usb_run.specs.declared.runs.RunFault.TheVariants.{Memory}
 use Rattle.usb_run.specs.NewsCalls.{AllNews, SomeNews}
@@ -58,13 +60,26 @@ IsItemOf (Some Show) item old new = (item ≡ Some (listing_of new)) × (new ≡
 IsItemOf (Some (Send path bytes)) item old new =
     (told : Result (Unit {0}) TransferFault)
     × (item ≡ Some (Sent path (sent_count (length bytes) told)))
-    × Transfers (SendTells path bytes) old told new
+    × Transfers (SendTells path FirstBulk bytes) old told new
 IsItemOf (Some (Receive path packets)) item old new =
     (told : Result (Vec ℕ) TransferFault) × (item ≡ Some (Received path told))
-    × Transfers (ReceiveTells path packets) old told new
+    × Transfers (ReceiveTells path FirstBulk packets) old told new
 IsItemOf (Some (Clear path)) item old new =
     (told : Result (Unit {0}) TransferFault) × (item ≡ Some (Cleared path told))
     × Transfers (ClearTells path) old told new
+IsItemOf (Some (SendTo path endpoint bytes)) item old new =
+    (told : Result (Unit {0}) TransferFault)
+    × (item ≡ Some (SentTo path endpoint (sent_count (length bytes) told)))
+    × Transfers (SendTells path (At endpoint) bytes) old told new
+IsItemOf (Some (ReceiveFrom path endpoint packets)) item old new =
+    (told : Result (Vec ℕ) TransferFault) × (item ≡ Some (ReceivedFrom path endpoint told))
+    × Transfers (ReceiveTells path (At endpoint) packets) old told new
+IsItemOf (Some (Poll path endpoint)) item old new =
+    (told : Result (Option (ArrayVec ℕ)) TransferFault)
+    × (item ≡ Some (Polled path endpoint told)) × Transfers (ReportTells path endpoint) old told new
+IsItemOf (Some (ClearOf path endpoint)) item old new =
+    (told : Result (Unit {0}) TransferFault) × (item ≡ Some (ClearedOf path endpoint told))
+    × Transfers (ClearOfTells path endpoint) old told new
 IsItemOf (Some (ControlIn path request)) item old new = IsToHost request
     × ((told : Result (Vec ℕ) TransferFault) × (item ≡ Some (Read path told))
     × Transfers (ReadTells path request) old told new)
@@ -83,10 +98,19 @@ IsItemOf (Some AskNews) item old new =
 abbrev pub StopsAt : Option Ask → RunFault → HostState → HostState → Type 0
 StopsAt None fault old new = ⊥
 StopsAt (Some Show) fault old new = (fault ≡ Memory) × (new ≡ old)
-StopsAt (Some (Send path bytes)) fault old new = TransferStops (SendTells path bytes) old fault new
+StopsAt (Some (Send path bytes)) fault old new =
+    TransferStops (SendTells path FirstBulk bytes) old fault new
 StopsAt (Some (Receive path packets)) fault old new =
-    TransferStops (ReceiveTells path packets) old fault new
+    TransferStops (ReceiveTells path FirstBulk packets) old fault new
 StopsAt (Some (Clear path)) fault old new = TransferStops (ClearTells path) old fault new
+StopsAt (Some (SendTo path endpoint bytes)) fault old new =
+    TransferStops (SendTells path (At endpoint) bytes) old fault new
+StopsAt (Some (ReceiveFrom path endpoint packets)) fault old new =
+    TransferStops (ReceiveTells path (At endpoint) packets) old fault new
+StopsAt (Some (Poll path endpoint)) fault old new =
+    TransferStops (ReportTells path endpoint) old fault new
+StopsAt (Some (ClearOf path endpoint)) fault old new =
+    TransferStops (ClearOfTells path endpoint) old fault new
 StopsAt (Some (ControlIn path request)) fault old new =
     TransferStops (ReadTells path request) old fault new
 StopsAt (Some (ControlOut path write)) fault old new =

@@ -31,4 +31,5 @@ pub use transfer::{answered, counted};
 pub use usb_bus::{BusFault, Watched};
 pub use usb_host::{Host, HostFault, Look, News, TransferFault, Tree};
 pub use usb_port::PortPath;
+pub use usb_request::EndpointAddress;
 pub use usb_sim::{Plan, SimBus, Trace, Tracer, Untraced};

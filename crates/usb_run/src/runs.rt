@@ -20,14 +20,16 @@ ghost use Rattle.usb_run.specs.Reports.{EndsWell, Finishes, Opens};
 ghost use Rattle.usb_run.specs.Transcript.{Next, NextAsked, NextEvent, PutsLine};
 ghost use Rattle.usb_run.specs.Transfers.{Does, Gives};
 
-use crate::asked::{look, news, read, write};
+use crate::asked::{clear_of, look, news, poll, read, receive_from, send_to, write};
 use crate::transfer::{answered, counted};
+use arrayvec::ArrayVec;
 use std::alloc::{AllocError, AllocFailed, Global};
 use std::io::Write;
 use thiserror::Error;
 use usb_bus::{BusFault, Watched};
 use usb_host::{Host, HostFault, Look, News, Round, TransferFault, Tree};
 use usb_port::PortPath;
+use usb_request::EndpointAddress;
 use usb_sim::{Ask, Plan, SimBus, Trace, Tracer, Untraced, untraced_fault};
 
 /// What a run made.
@@ -49,6 +51,14 @@ pub enum Item {
     Looked(PortPath, Result<Look, TransferFault>),
     /// Which devices left and which arrived since this was last asked.
     News(Vec<News>),
+    /// How many bytes were sent to an endpoint of the device at a path.
+    SentTo(PortPath, EndpointAddress, Result<u64, TransferFault>),
+    /// The bytes that were received from an endpoint of the device at a path.
+    ReceivedFrom(PortPath, EndpointAddress, Result<Vec<u8>, TransferFault>),
+    /// The packet that an endpoint of the device at a path gave, None where it had none.
+    Polled(PortPath, EndpointAddress, Result<Option<ArrayVec<u8, 64>>, TransferFault>),
+    /// That the halt of an endpoint of the device at a path was cleared.
+    ClearedOf(PortPath, EndpointAddress, Result<(), TransferFault>),
 }
 
 /// Why a run ended early, in the order in which the reasons are reported.
@@ -457,6 +467,14 @@ fn asked_item<T: Trace>(
         Ask::Send(path, bytes) => Ok(Some(send(host, path, bytes.as_slice())?)),
         Ask::Receive(path, packets) => Ok(Some(receive(host, path, packets)?)),
         Ask::Clear(path) => Ok(Some(clear(host, path)?)),
+        Ask::SendTo(path, endpoint, bytes) => {
+            Ok(Some(send_to(host, path, endpoint, bytes.as_slice())?))
+        }
+        Ask::ReceiveFrom(path, endpoint, packets) => {
+            Ok(Some(receive_from(host, path, endpoint, packets)?))
+        }
+        Ask::Poll(path, endpoint) => Ok(Some(poll(host, path, endpoint)?)),
+        Ask::ClearOf(path, endpoint) => Ok(Some(clear_of(host, path, endpoint)?)),
         Ask::ControlIn(path, request) => Ok(Some(read(host, path, request)?)),
         Ask::ControlOut(path, request) => Ok(Some(write(host, path, &request)?)),
         Ask::Look(path) => Ok(Some(look(host, path)?)),

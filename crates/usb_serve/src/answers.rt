@@ -2,10 +2,12 @@
 ghost use Rattle.std.specs.Prelude.{◌≡◌, ◌++◌, map, OnOk, IfOk};
 ghost use Rattle.usb_run.specs.TransferLines.{fault_word, failed_end, sent_end, received_end, cleared_end, sent_line, received_line, cleared_line};
 ghost use Rattle.usb_run.specs.TransferLines.{look_end, look_line, news_lines, one_news_line, read_line, written_line};
+ghost use Rattle.usb_run.specs.TransferLines.{cleared_of_line, endpoint_text, polled_end, polled_line, received_from_line, sent_to_line};
 
+use arrayvec::ArrayVec;
 use std::alloc::{AllocError, Global};
 use usb_port::PortPath;
-use usb_run::{Look, News, TransferFault};
+use usb_run::{EndpointAddress, Look, News, TransferFault};
 use usb_text::{Lines, push_cause, push_decimal, push_hex, push_path};
 
 /// `send PATH done N`, or `send PATH failed WORDS`.
@@ -64,6 +66,98 @@ pub fn cleared_line(
     let mut line = Vec::new(alloc);
     line.extend_from_slice(b"clear ")?;
     push_path(&mut line, path)?;
+    push_cleared(&mut line, cleared)?;
+    Ok(line)
+}
+
+/// `send PATH EP done N`, or `send PATH EP failed WORDS`; EP is bEndpointAddress in two digits.
+///
+/// # Errors
+///
+/// Memory was refused.
+#[tactic(auto, unfolding(usb_run::specs::TransferLines::sent_to_line))]
+pub fn sent_to_line(
+    alloc: Global,
+    path: &PortPath,
+    endpoint: EndpointAddress,
+    sent: &Result<u64, TransferFault>,
+) -> Result<Vec<u8>, AllocError>
+    ensures { IfOk result (λ line. line.items ≡ sent_to_line path.now endpoint sent.now) }
+{
+    let mut line = Vec::new(alloc);
+    line.extend_from_slice(b"send ")?;
+    push_path(&mut line, path)?;
+    push_endpoint(&mut line, endpoint)?;
+    push_sent(alloc, &mut line, sent)?;
+    Ok(line)
+}
+
+/// `receive PATH EP done HEX`, or `receive PATH EP failed WORDS`; EP is bEndpointAddress in two
+/// digits.
+///
+/// # Errors
+///
+/// Memory was refused.
+#[tactic(auto, unfolding(usb_run::specs::TransferLines::received_from_line))]
+pub fn received_from_line(
+    alloc: Global,
+    path: &PortPath,
+    endpoint: EndpointAddress,
+    received: &Result<Vec<u8>, TransferFault>,
+) -> Result<Vec<u8>, AllocError>
+    ensures { IfOk result (λ line.
+        line.items ≡ received_from_line path.now endpoint received.now) }
+{
+    let mut line = Vec::new(alloc);
+    line.extend_from_slice(b"receive ")?;
+    push_path(&mut line, path)?;
+    push_endpoint(&mut line, endpoint)?;
+    push_received(&mut line, received)?;
+    Ok(line)
+}
+
+/// `interrupt PATH EP done HEX`, `interrupt PATH EP nothing` where the endpoint had no packet, or
+/// `interrupt PATH EP failed WORDS`; EP is bEndpointAddress in two digits.
+///
+/// # Errors
+///
+/// Memory was refused.
+#[tactic(auto, unfolding(usb_run::specs::TransferLines::polled_line))]
+pub fn polled_line(
+    alloc: Global,
+    path: &PortPath,
+    endpoint: EndpointAddress,
+    polled: &Result<Option<ArrayVec<u8, 64>>, TransferFault>,
+) -> Result<Vec<u8>, AllocError>
+    ensures { IfOk result (λ line. line.items ≡ polled_line path.now endpoint polled.now) }
+{
+    let mut line = Vec::new(alloc);
+    line.extend_from_slice(b"interrupt ")?;
+    push_path(&mut line, path)?;
+    push_endpoint(&mut line, endpoint)?;
+    push_polled(&mut line, polled)?;
+    Ok(line)
+}
+
+/// `clear PATH EP done`, or `clear PATH EP failed WORDS`; EP is bEndpointAddress in two digits.
+///
+/// # Errors
+///
+/// Memory was refused.
+#[tactic(auto, unfolding(usb_run::specs::TransferLines::cleared_of_line))]
+pub fn cleared_of_line(
+    alloc: Global,
+    path: &PortPath,
+    endpoint: EndpointAddress,
+    cleared: &Result<(), TransferFault>,
+) -> Result<Vec<u8>, AllocError>
+    ensures { IfOk result (λ line.
+        line.items ≡ cleared_of_line path.now endpoint cleared.now) }
+{
+    let mut line = Vec::new(alloc);
+    line.extend_from_slice(b"clear ")?;
+    push_path(&mut line, path)?;
+    push_endpoint(&mut line, endpoint)?;
     push_cleared(&mut line, cleared)?;
     Ok(line)
 }
@@ -229,6 +323,30 @@ fn push_cleared(line: &mut Vec<u8>, cleared: &Result<(), TransferFault>) -> Resu
         Ok(()) => line.extend_from_slice(b" done"),
         Err(fault) => push_failed(line, *fault),
     }
+}
+
+fn push_polled(
+    line: &mut Vec<u8>,
+    polled: &Result<Option<ArrayVec<u8, 64>>, TransferFault>,
+) -> Result<(), AllocError>
+    ensures { OnOk result (line.new.items ≡ line.old.items ++ polled_end polled.now) }
+{
+    match polled {
+        Ok(Some(packet)) => {
+            line.extend_from_slice(b" done ")?;
+            push_hex(line, packet.as_slice())
+        }
+        Ok(None) => line.extend_from_slice(b" nothing"),
+        Err(fault) => push_failed(line, *fault),
+    }
+}
+
+/// Adds an endpoint's address behind a path.
+fn push_endpoint(line: &mut Vec<u8>, endpoint: EndpointAddress) -> Result<(), AllocError>
+    ensures { OnOk result (line.new.items ≡ line.old.items ++ endpoint_text endpoint) }
+{
+    line.extend_from_slice(b" ")?;
+    push_hex(line, &[endpoint.get()])
 }
 
 fn push_failed(line: &mut Vec<u8>, fault: TransferFault) -> Result<(), AllocError>

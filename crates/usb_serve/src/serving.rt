@@ -16,7 +16,8 @@ ghost use Rattle.usb_run.specs.Transcript.{Next, Prints};
 ghost use Rattle.usb_serve.specs.ServedTranscripts.{RunEnds};
 
 use crate::answers::{
-    cleared_line, look_line, news_lines, read_line, received_line, sent_line, written_line,
+    cleared_line, cleared_of_line, look_line, news_lines, polled_line, read_line,
+    received_from_line, received_line, sent_line, sent_to_line, written_line,
 };
 use crate::input::{InputFault, read_text};
 use crate::output::Output;
@@ -277,6 +278,8 @@ pub fn number_of(item: &Item, number: u64) -> u64
         Item::Listing(_, _) => number.saturating_add(1),
         Item::Sent(_, _) | Item::Received(_, _) | Item::Cleared(_, _) => number,
         Item::Read(_, _) | Item::Written(_, _) | Item::Looked(_, _) | Item::News(_) => number,
+        Item::SentTo(_, _, _) | Item::ReceivedFrom(_, _, _) => number,
+        Item::Polled(_, _, _) | Item::ClearedOf(_, _, _) => number,
     }
 }
 
@@ -297,6 +300,18 @@ pub fn item_lines(alloc: Global, number: u64, item: &Item) -> Result<Lines, Allo
         Item::Written(path, written) => one_line(alloc, written_line(alloc, path, written)?),
         Item::Looked(path, looked) => one_line(alloc, look_line(alloc, path, looked)?),
         Item::News(news) => news_lines(alloc, news.as_slice()),
+        Item::SentTo(path, endpoint, sent) => {
+            one_line(alloc, sent_to_line(alloc, path, *endpoint, sent)?)
+        }
+        Item::ReceivedFrom(path, endpoint, received) => {
+            one_line(alloc, received_from_line(alloc, path, *endpoint, received)?)
+        }
+        Item::Polled(path, endpoint, polled) => {
+            one_line(alloc, polled_line(alloc, path, *endpoint, polled)?)
+        }
+        Item::ClearedOf(path, endpoint, cleared) => {
+            one_line(alloc, cleared_of_line(alloc, path, *endpoint, cleared)?)
+        }
     }
 }
 

@@ -1,10 +1,11 @@
 -- What is right of the items of a plan's run.
 use Rattle.std.proofs.Common.{◌≡◌, ◌∙◌, refl, sym, ap, subst, true, false, length, List, [], ◌∷◌}
-use Rattle.std.proofs.Common.{Bool, Option, None, Some, Result, Ok, Err, arith, ℕ}
+use Rattle.std.proofs.Common.{Bool, Option, None, Some, Result, Ok, Err, arith, ℕ, is_ok}
 use Rattle.std.specs.List.{AllByRecursion}
 use Rattle.usb_device.specs.{Spec, Ports}
 use Rattle.usb_world.specs.{Action, Show, Send, Receive, Clear, ControlIn, ControlOut, Event}
 use Rattle.usb_world.specs.{Look as LookAt, News as AskNews, BusFault, PlanData, IsPlan}
+use Rattle.usb_world.specs.{SendTo, ReceiveFrom, Poll, ClearOf}
 use Rattle.usb_world.specs.{AtMostTwoRunning, AtPorts, after, ask_of, event, event_taken}
 use Rattle.usb_world.specs.{after_change, opening}
 use Rattle.usb_world.specs.{after_event, after_first_event, World}
@@ -17,16 +18,18 @@ use Rattle.usb_address.proofs.Interface.{opening_settled}
 use Rattle.usb_bus.specs.{Traced}
 use Rattle.usb_enum.specs.{FewLosses}
 use Rattle.usb_enum.proofs.Interface.{IsWorse, course_later}
-use Rattle.usb_table.specs.{Delivered}
+use Rattle.usb_table.specs.{Delivered, EndpointChoice, FirstBulk, At, TransferFault}
 use Rattle.usb_table.proofs.Interface.{lists_of_plan}
-use Rattle.usb_host.specs.{HostState, IsFairTo, table_in}
+use Rattle.usb_host.specs.{HostState, IsFairTo, table_in, SendTells}
 use Rattle.usb_run.specs.{Item, RunFault, Mode, IsListingOf, ListsRight, TellsRight, Reaches}
 use Rattle.usb_run.specs.{Settled, listing_of, Makes, asked, last, RunsTo, StoppedRun, behind}
 use Rattle.usb_run.specs.{on_the_way, unwritten, in_text, begun, told, IsItemOf, sent_count}
 use Rattle.usb_run.specs.declared.runs.Item.TheVariants as item
 use Rattle.usb_run.specs.Transcript.{Transcript}
+use Rattle.usb_run.specs.Transfers.{Transfers}
 use Rattle.usb_run.proofs.AskedCalls.{AskAnswered, silent, listed, sent, received, cleared, read}
 use Rattle.usb_run.proofs.AskedCalls.{written, looked, news, answered}
+use Rattle.usb_run.proofs.AskedCalls.{sent_to, received_from, polled, cleared_of}
 use Rattle.usb_run.proofs.courses.KnowledgeKept.{arrival_settled, item_knows}
 use Rattle.usb_run.proofs.courses.KnowledgeKept.{reaches_knows, reaches_running, reaches_still}
 use Rattle.usb_run.proofs.courses.RunCourses.{RunsOnward, onward_runs, onward_then, over_cuts}
@@ -34,7 +37,8 @@ use Rattle.usb_run.proofs.courses.RunCourses.{over_makes, over_puts, over_stops,
 use Rattle.usb_run.proofs.courses.DamagedLosses.{damages_runs}
 use Rattle.usb_run.proofs.courses.RunCourses.{over_run, traced_runs_onward, worse_runs}
 use Rattle.usb_run.proofs.items.ToldTransfers.{told_sent, told_received, told_cleared, told_read}
-use Rattle.usb_run.proofs.items.ToldTransfers.{told_look, told_written, count_done}
+use Rattle.usb_run.proofs.items.ToldTransfers.{told_look, told_written, told_reported}
+use Rattle.usb_run.proofs.items.ToldTransfers.{told_cleared_of, count_done}
 
 -- What is asked changes nothing that is plugged
 
@@ -90,23 +94,44 @@ item_right due made h mid k reaches is = right (answered due (Some made) mid k i
         subst (λ d. TellsRight d made mid k) (sym asks)
         (subst (λ (i : Item). TellsRight of_ask i mid k) (sym same) so)
 
+    sent_right : (choice : EndpointChoice) (path bytes : List ℕ)
+        (answer : Result (Unit {0}) TransferFault)
+        → Transfers (SendTells path choice bytes) mid answer k
+        → Delivered path choice (is_ok (sent_count (length bytes) answer)) bytes (table_in mid)
+        mid.world (table_in k) k.world
+    sent_right choice path bytes answer came =
+        subst (λ (b : Bool). Delivered path choice b bytes (table_in mid) mid.world (table_in k)
+        k.world) (count_done (length bytes) answer)
+        (told_sent path mid k (reaches_knows reaches).sound (reaches_still reaches)
+        (reaches_running reaches) choice bytes answer came)
+
     right : AskAnswered due (Some made) mid k → TellsRight due made mid k
     right (silent nothing same) = absurd (cc nothing)
     right (listed asks e same) =
         let shown = reaches_asked (subst (λ d. Reaches h (Ok (Some d)) mid) asks reaches) in
         tells (Some Show) (listing_of k) asks e (subst Settled (sym same) shown)
     right (sent path bytes answer asks e came) = tells (Some (Send path bytes)) _ asks e
-        (subst (λ (b : Bool). Delivered path b bytes (table_in mid) mid.world (table_in k) k.world)
-        (count_done (length bytes) answer)
-        (told_sent path mid k (reaches_knows reaches).sound (reaches_still reaches)
-        (reaches_running reaches)
-        bytes answer came))
+        (sent_right FirstBulk path bytes answer came)
     right (received path packets answer asks e came) = tells (Some (Receive path packets)) _ asks e
         (told_received path mid k (reaches_knows reaches).sound (reaches_still reaches)
-        (reaches_running reaches) packets answer came)
+        (reaches_running reaches) FirstBulk packets answer came)
     right (cleared path answer asks e came) = tells (Some (Clear path)) _ asks e
         (told_cleared path mid k (reaches_knows reaches).sound (reaches_still reaches)
         (reaches_running reaches) answer came)
+    right (sent_to path endpoint bytes answer asks e came) =
+        tells (Some (SendTo path endpoint bytes)) _ asks e
+        (sent_right (At endpoint) path bytes answer came)
+    right (received_from path endpoint packets answer asks e came) =
+        tells (Some (ReceiveFrom path endpoint packets)) _ asks e
+        (told_received path mid k (reaches_knows reaches).sound (reaches_still reaches)
+        (reaches_running reaches) (At endpoint) packets answer came)
+    right (polled path endpoint answer asks e came) = tells (Some (Poll path endpoint)) _ asks e
+        (told_reported path mid k (reaches_knows reaches).sound (reaches_still reaches)
+        (reaches_running reaches) endpoint answer came)
+    right (cleared_of path endpoint answer asks e came) =
+        tells (Some (ClearOf path endpoint)) _ asks e
+        (told_cleared_of path mid k (reaches_knows reaches).sound (reaches_still reaches)
+        (reaches_running reaches) endpoint answer came)
     right (read path request answer host asks e came) =
         tells (Some (ControlIn path request)) _ asks e
         (told_read path mid k (reaches_knows reaches).sound (reaches_still reaches)
@@ -156,6 +181,19 @@ module _ (plan : PlanData) (rules : IsPlan plan) (paths : AtPorts plan.events) (
       subst (IsListingOf plan) (sym is) tt
   due_right made mid k before still on (cleared path answer asks e came) right =
       let is : made ≡ item.Cleared path answer = cc e in
+      subst (IsListingOf plan) (sym is) tt
+  due_right made mid k before still on (sent_to path endpoint bytes answer asks e came) right =
+      let is : made ≡ item.SentTo path endpoint (sent_count (length bytes) answer) = cc e in
+      subst (IsListingOf plan) (sym is) tt
+  due_right made mid k before still on (received_from path endpoint packets answer asks e came)
+      right =
+      let is : made ≡ item.ReceivedFrom path endpoint answer = cc e in
+      subst (IsListingOf plan) (sym is) tt
+  due_right made mid k before still on (polled path endpoint answer asks e came) right =
+      let is : made ≡ item.Polled path endpoint answer = cc e in
+      subst (IsListingOf plan) (sym is) tt
+  due_right made mid k before still on (cleared_of path endpoint answer asks e came) right =
+      let is : made ≡ item.ClearedOf path endpoint answer = cc e in
       subst (IsListingOf plan) (sym is) tt
   due_right made mid k before still on (read path request answer host asks e came) right =
       let is : made ≡ item.Read path answer = cc e in

@@ -1,23 +1,26 @@
 -- What a run tells of a transfer is what the device at its path did.
 use Rattle.std.proofs.Common.{◌≡◌, ◌≢◌, ◌∙◌, refl, sym, ap, subst, Bool, false, ℕ, List, None}
-use Rattle.std.proofs.Common.{Result, Ok, Err, is_ok}
+use Rattle.std.proofs.Common.{Option, Some, Result, Ok, Err, is_ok}
 use Rattle.std.specs.Global.{Vec}
+use Rattle.arrayvec.specs.ArrayVec.{ArrayVec}
 use Rattle.usb_world.specs.{BusFault, World, Write}
 use Rattle.usb_table.specs.declared.fault.TableFault.TheVariants as table
 use Rattle.usb_table.specs.{TableFault, TransferFault, Pipes, Delivered, Collected, Restarted}
+use Rattle.usb_table.specs.{EndpointChoice, Reported, RestartedOf}
 use Rattle.usb_table.specs.{bytes_in, control_target, IsHeld, ReadLeft, ReadMade, table_answer}
 use Rattle.usb_table.specs.{TransferIf, TransferIs, TransferLeaves, WriteLeft, WriteMade}
 use Rattle.usb_table.specs.{write_target}
 use Rattle.usb_table.proofs.Interface.{sent_delivers, received_collects, cleared_restarts}
-use Rattle.usb_table.proofs.Interface.{done_through}
+use Rattle.usb_table.proofs.Interface.{done_through, polled_tells, cleared_restarts_of}
 use Rattle.usb_host.specs.{HostFault, HostState, claims, HostInvariant, host_told, MovesThrough}
 use Rattle.usb_host.specs.{table_in, ClearTells, ReceiveTells, SendTells, ReadTells, WriteTells}
-use Rattle.usb_host.specs.{ControlsAt, Look, LookDid, LookTells}
+use Rattle.usb_host.specs.{ClearOfTells, ControlsAt, Look, LookDid, LookTells, ReportTells}
 use Rattle.usb_host.specs.declared.fault.HostFault.TheVariants as host
-use Rattle.usb_pipe.specs.{PipeFault}
+use Rattle.usb_pipe.specs.{PipeFault, report_in}
 use Rattle.usb_request.specs.{Setup}
 use Rattle.usb_transaction.specs.{Target}
 use Rattle.usb_run.specs.{as_answer, ControlIfAsked, Knows, LookShows, transfer_ended, sent_count}
+use Rattle.usb_run.specs.{table_told}
 use Rattle.usb_run.specs.Transfers.{Transfers}
 
 -- What is told of an answer of the table's
@@ -37,6 +40,22 @@ bytes_told (Err (table.Transfer why)) told e =
     let is : told ≡ Err why = cc e in sym (ap bytes_in is)
 bytes_told (Err (table.Bus why)) told e = absurd (cc e)
 bytes_told (Err table.Memory) told e = absurd (cc e)
+
+-- what is told is the table's answer
+answer_told : {A : Type 0} (result : Result A TableFault) (told : Result A TransferFault)
+    → transfer_ended (host_told result) ≡ Ok told → result ≡ table_told told
+answer_told (Ok x) told e = let is : told ≡ Ok x = cc e in sym (ap table_told is)
+answer_told (Err (table.Transfer why)) told e =
+    let is : told ≡ Err why = cc e in sym (ap table_told is)
+answer_told (Err (table.Bus why)) told e = absurd (cc e)
+answer_told (Err table.Memory) told e = absurd (cc e)
+
+-- with the same packet
+pub report_told : (told : Result (Option (ArrayVec ℕ)) TransferFault)
+    → report_in (table_told told) ≡ report_in told
+report_told (Ok None) = refl
+report_told (Ok (Some packet)) = refl
+report_told (Err fault) = refl
 
 -- after a fault of the bus none is told
 pub no_bus_fault : {A : Type 0} (result : Result A TableFault) (told : Result A TransferFault)
@@ -94,30 +113,32 @@ module _ (path : List ℕ) (old new : HostState) (sound : HostInvariant old) (st
       → transfer_ended (host_told x.answer) ≡ Ok told
   ended told x e = sym (ap transfer_ended x.told) ∙ e
 
-  pub told_sent : (bytes : List ℕ) (told : Result (Unit {0}) TransferFault)
-      → Transfers (SendTells path bytes) old told new
-      → Delivered path (is_ok told) bytes (table_in old) old.world (table_in new) new.world
-  told_sent bytes told x =
+  pub told_sent : (choice : EndpointChoice) (bytes : List ℕ)
+      (told : Result (Unit {0}) TransferFault)
+      → Transfers (SendTells path choice bytes) old told new
+      → Delivered path choice (is_ok told) bytes (table_in old) old.world (table_in new) new.world
+  told_sent choice bytes told x =
       let h = x.call.did running in
-      subst (λ (b : Bool). Delivered path b bytes (table_in old) old.world (table_in new) new.world)
-      (done_told h.answer told (ended told h x.tells))
-      (sent_delivers path bytes (table_in old) (table_in new) old.world new.world h.answer
+      subst (λ (b : Bool). Delivered path choice b bytes (table_in old) old.world (table_in new)
+      new.world) (done_told h.answer told (ended told h x.tells))
+      (sent_delivers path bytes (table_in old) (table_in new) old.world new.world choice h.answer
       (sound.owned.so still) (sound.level still path) (single h) h.through.fits h.moves)
 
-  pub told_received : (packets : ℕ) (told : Result (Vec ℕ) TransferFault)
-      → Transfers (ReceiveTells path packets) old told new
-      → Collected path (is_ok told) packets (bytes_in told) (table_in old) old.world (table_in new)
-      new.world
-  told_received packets told x =
+  pub told_received : (choice : EndpointChoice) (packets : ℕ)
+      (told : Result (Vec ℕ) TransferFault)
+      → Transfers (ReceiveTells path choice packets) old told new
+      → Collected path choice (is_ok told) packets (bytes_in told) (table_in old) old.world
+      (table_in new) new.world
+  told_received choice packets told x =
       let h = x.call.did running in
       let e : transfer_ended (host_told h.answer) ≡ Ok told = ended told h x.tells in
-      subst (λ (b : Bool). Collected path b packets (bytes_in told) (table_in old) old.world
+      subst (λ (b : Bool). Collected path choice b packets (bytes_in told) (table_in old) old.world
       (table_in new) new.world) (done_told h.answer told e)
-      (subst (λ (bytes : List ℕ). Collected path (is_ok h.answer) packets bytes (table_in old)
-      old.world (table_in new) new.world)
+      (subst (λ (bytes : List ℕ). Collected path choice (is_ok h.answer) packets bytes
+      (table_in old) old.world (table_in new) new.world)
       (bytes_told h.answer told e)
-      (received_collects path packets (table_in old) (table_in new) old.world new.world h.answer
-      (no_bus_fault h.answer told e) (sound.owned.so still) (sound.level still path)
+      (received_collects path packets (table_in old) (table_in new) old.world new.world choice
+      h.answer (no_bus_fault h.answer told e) (sound.owned.so still) (sound.level still path)
       (single h) h.through.fits h.moves))
 
   pub told_cleared : (told : Result (Unit {0}) TransferFault)
@@ -129,6 +150,30 @@ module _ (path : List ℕ) (old new : HostState) (sound : HostInvariant old) (st
       subst (λ (b : Bool). Restarted path b (table_in old) old.world (table_in new) new.world)
       (done_told h.answer told e)
       (cleared_restarts path (table_in old) old.world new.world (table_in new) h.answer
+      (no_bus_fault h.answer told e) (sound.owned.so still) (sound.level still path)
+      (single h) h.through.fits h.moves)
+
+  pub told_reported : (endpoint : ℕ) (told : Result (Option (ArrayVec ℕ)) TransferFault)
+      → Transfers (ReportTells path endpoint) old told new
+      → Reported path endpoint (table_told told) (table_in old) old.world (table_in new) new.world
+  told_reported endpoint told x =
+      let h = x.call.did running in
+      let e : transfer_ended (host_told h.answer) ≡ Ok told = ended told h x.tells in
+      subst (λ (r : Result (Option (ArrayVec ℕ)) TableFault). Reported path endpoint r
+      (table_in old) old.world (table_in new) new.world) (answer_told h.answer told e)
+      (polled_tells path (table_in old) (table_in new) old.world new.world endpoint h.answer
+      (no_bus_fault h.answer told e) (sound.owned.so still) (sound.level still path)
+      (single h) h.through.fits h.moves)
+
+  pub told_cleared_of : (endpoint : ℕ) (told : Result (Unit {0}) TransferFault)
+      → Transfers (ClearOfTells path endpoint) old told new
+      → RestartedOf path endpoint (is_ok told) (table_in old) old.world (table_in new) new.world
+  told_cleared_of endpoint told x =
+      let h = x.call.did running in
+      let e : transfer_ended (host_told h.answer) ≡ Ok told = ended told h x.tells in
+      subst (λ (b : Bool). RestartedOf path endpoint b (table_in old) old.world (table_in new)
+      new.world) (done_told h.answer told e)
+      (cleared_restarts_of path (table_in old) old.world new.world endpoint (table_in new) h.answer
       (no_bus_fault h.answer told e) (sound.owned.so still) (sound.level still path)
       (single h) h.through.fits h.moves)
 

@@ -1,5 +1,5 @@
 use Rattle.std.proofs.Common.{◌∙◌, ap, sym}
-use Rattle.usb_world.specs.{Send, Receive, Clear}
+use Rattle.usb_world.specs.{Send, Receive, Clear, SendTo, ReceiveFrom, Poll, ClearOf}
 use Rattle.usb_run.proofs.items.AskedItems.{listing_asked, listing_refused, transfer_asked}
 use Rattle.usb_run.proofs.items.AskedItems.{transfer_failed}
 use Rattle.usb_run.proofs.runs.asked_item.Goals as goal
@@ -42,3 +42,19 @@ returns-in_ok-clear-in-Clear-clause-on g c =
 pub returns-in_err-clear-in-Clear-clause-on : goal.returns-in_err-clear-in-Clear-clause-on
 returns-in_err-clear-in-Clear-clause-on g c = transfer_failed _ (Clear c.in-Clear.path) _ _ _ _
     c.in-Clear.is c.from_residual-in_err-clear-in-Clear.ensures.1 c.in_err-clear-in-Clear.ensures.on
+
+pub returns-in_ok-send_to-in-SendTo-clause-on : goal.returns-in_ok-send_to-in-SendTo-clause-on
+returns-in_ok-send_to-in-SendTo-clause-on g c =
+    transfer_asked _
+    (SendTo c.in-SendTo.path c.in-SendTo.endpoint c.as_slice-in-SendTo.result.now) _ _ _
+    (c.in-SendTo.is ∙ ap (λ bytes. SendTo c.in-SendTo.path c.in-SendTo.endpoint bytes)
+    (sym c.as_slice-in-SendTo.ensures))
+    c.in_ok-send_to-in-SendTo.ensures.on
+
+pub returns-in_err-send_to-in-SendTo-clause-on : goal.returns-in_err-send_to-in-SendTo-clause-on
+returns-in_err-send_to-in-SendTo-clause-on g c =
+    transfer_failed _
+    (SendTo c.in-SendTo.path c.in-SendTo.endpoint c.as_slice-in-SendTo.result.now) _ _ _ _
+    (c.in-SendTo.is ∙ ap (λ bytes. SendTo c.in-SendTo.path c.in-SendTo.endpoint bytes)
+    (sym c.as_slice-in-SendTo.ensures))
+    c.from_residual-in_err-send_to-in-SendTo.ensures.1 c.in_err-send_to-in-SendTo.ensures.on
