@@ -1,33 +1,75 @@
--- Bytes join end to end.
+-- Bytes and packets join end to end.
 use Rattle.std.proofs.Common.{◌≡◌, ◌⊎◌, inl, inr, ◌∙◌, refl, sym, ap, subst, Bool, true, false, ℕ}
 use Rattle.std.proofs.Common.{List, [], ◌∷◌, ◌++◌, Option, None, Some, append-nil, append_assoc}
 use Rattle.std.proofs.Common.{if◌then◌else◌}
 use Rattle.std.specs.List.{concat}
-use Rattle.usb_device.specs.{GivesOn, NextBytes, State, in_data}
-use Rattle.usb_device.proofs.Interface.{gives-append}
-use Rattle.usb_pipe.specs.{Condition, Bulk}
-use Rattle.usb_table.specs.{sink_of}
+use Rattle.usb_device.specs.{State, out_end}
+use Rattle.usb_pipe.specs.{Condition, PipeState, report_in}
 use Rattle.usb_pipe.specs.declared.condition.Condition.TheVariants.{Ready, Halted, Broken}
-use Rattle.usb_streams.specs.{ToldItem, IsAtWork, IsFailedFront, Joins, TookSent, bytes_for}
-use Rattle.usb_streams.specs.{is_done, sent_to}
-use Rattle.usb_streams.proofs.PipeEnds.{end_of, sink_of-joined}
+use Rattle.usb_table.specs.{FirstBulk, At, bytes_in}
+use Rattle.usb_run.specs.{Item, Listing, Sent, SentTo, Received, ReceivedFrom, Polled, Cleared}
+use Rattle.usb_run.specs.{ClearedOf, Read, Looked, Written}
+use Rattle.usb_run.specs.declared.runs.Item.TheVariants.{News}
+use Rattle.usb_streams.specs.{AreGiven, AreJoined, ArePackets, Endpoint, IsAtWork, IsFailedFront}
+use Rattle.usb_streams.specs.{Joins, ToldItem, TookSent, bytes_for, bytes_from, is_done, is_of}
+use Rattle.usb_streams.specs.{received_from, sent_to}
+
+-- Packets
 
 concat-append : (a b : List (List ℕ)) → concat (a ++ b) ≡ concat a ++ concat b
 concat-append [] b = refl
 concat-append (bytes ∷ a) b = ap (λ l. bytes ++ l) (concat-append a b)
     ∙ sym (append_assoc bytes (concat a) (concat b))
 
--- the next packets, and the next ones behind them
-pub next_joined : (e most got mid behind : ℕ) (a b : List ℕ) (s u : State)
-    → in_data u e ≡ in_data s e → NextBytes e most got a mid s → NextBytes e most mid b behind u
-    → NextBytes e most got (a ++ b) behind s
-next_joined e most got mid behind a b s u same x y = record {
-  packets = x.packets ++ y.packets;
-  come = gives-append (in_data s e) most got mid behind x.packets y.packets x.come
-      (subst (λ content. GivesOn content most mid y.packets behind) same y.come);
-  joined = ap (λ l. l ++ b) x.joined ∙ ap (λ l. concat x.packets ++ l) y.joined
-      ∙ sym (concat-append x.packets y.packets);
-}
+joined_bytes : (mine : Bool) (bytes : List ℕ) (packets : List (List ℕ))
+    → AreJoined mine bytes packets → concat packets ≡ (if mine then bytes else [])
+joined_bytes true bytes packets are = are
+joined_bytes false bytes packets are = ap concat are
+
+polled_bytes : (mine : Bool) (report packets : List (List ℕ))
+    → packets ≡ (if mine then report else [])
+    → concat packets ≡ (if mine then concat report else [])
+polled_bytes true report packets are = ap concat are
+polled_bytes false report packets are = ap concat are
+
+-- packets that an item tells have the bytes that it tells
+packet_bytes : (end : Endpoint) (item : Item) (packets : List (List ℕ))
+    → ArePackets end item packets → concat packets ≡ bytes_from end item
+packet_bytes end (Listing tree taken) packets are = ap concat are
+packet_bytes end (Sent to told) packets are = ap concat are
+packet_bytes end (Received from told) packets are =
+    joined_bytes (is_of end from FirstBulk) (bytes_in told) packets are
+packet_bytes end (Cleared at told) packets are = ap concat are
+packet_bytes end (Read from told) packets are = ap concat are
+packet_bytes end (Written to told) packets are = ap concat are
+packet_bytes end (Looked at told) packets are = ap concat are
+packet_bytes end (News news) packets are = ap concat are
+packet_bytes end (SentTo to address told) packets are = ap concat are
+packet_bytes end (ReceivedFrom from address told) packets are =
+    joined_bytes (is_of end from (At address)) (bytes_in told) packets are
+packet_bytes end (Polled from address told) packets are =
+    polled_bytes (is_of end from (At address)) (report_in told) packets are
+packet_bytes end (ClearedOf at address told) packets are = ap concat are
+
+pub given_bytes : (end : Endpoint) (told : List ToldItem) (packets : List (List ℕ))
+    → AreGiven end told packets → concat packets ≡ received_from end told
+unfolding AreGiven received_from
+given_bytes end [] packets are = ap concat are
+given_bytes end (t ∷ told) packets are =
+    ap concat are.2.2 ∙ concat-append are.0 are.2.0
+    ∙ ap (λ l. l ++ concat are.2.0) (given_bytes end told are.0 are.1)
+    ∙ ap (λ l. received_from end told ++ l) (packet_bytes end t.item are.2.0 are.2.1)
+
+pub given_none : (end : Endpoint) → AreGiven end [] []
+unfolding AreGiven
+given_none end = refl
+
+pub given_then : (end : Endpoint) (t : ToldItem) (told : List ToldItem) (a b : List (List ℕ))
+    → AreGiven end told a → ArePackets end t.item b → AreGiven end (t ∷ told) (a ++ b)
+unfolding AreGiven
+given_then end t told a b first second = (a, first, (b, second, refl))
+
+-- Bytes
 
 -- what joins a sink joins what was taken before
 pub joins_behind : (done : Bool) (bytes first taken old new : List ℕ) → old ≡ first ++ taken
@@ -48,6 +90,12 @@ joins_none true bytes old new none same = same ∙ sym (append-nil old)
     ∙ ap (λ l. old ++ l) (sym none)
 joins_none false bytes old new none same = ([], [], none, same ∙ sym (append-nil old))
 
+-- nor where it failed at once
+pub joins_failed : (done : Bool) (bytes old new : List ℕ) → done ≡ false → new ≡ old
+    → Joins done bytes old new
+joins_failed true bytes old new failed same = absurd (cc failed)
+joins_failed false bytes old new failed same = ([], bytes, refl, same ∙ sym (append-nil old))
+
 -- Sends
 
 -- what joins a sink behind what was sent, and a front of a failed send behind it
@@ -60,7 +108,7 @@ front_joined first sent front bytes old new is none e =
 -- what a send does to a sink: all bytes join it where it is told done, and a front
 -- where it failed, which leaves no pipe that works; through a
 -- pipe that does not work nothing goes, and such a pipe stays so
-pub record SinkStep (done : Bool) (bytes : List ℕ) (pipe left : Option Bulk) (old new : List ℕ)
+pub record SinkStep (done : Bool) (bytes : List ℕ) (pipe left : Option PipeState) (old new : List ℕ)
     : Type 0 where
   pub whole : done ≡ true → IsAtWork pipe → new ≡ old ++ bytes
   pub cut : done ≡ false → IsAtWork pipe → (front : List ℕ) × (rest : List ℕ)
@@ -69,7 +117,7 @@ pub record SinkStep (done : Bool) (bytes : List ℕ) (pipe left : Option Bulk) (
       × (IsAtWork left → ⊥)
 
 -- what sends nothing
-pub sink_step_none : (done : Bool) (pipe left : Option Bulk) (old new : List ℕ) → left ≡ pipe
+pub sink_step_none : (done : Bool) (pipe left : Option PipeState) (old new : List ℕ) → left ≡ pipe
     → new ≡ old → SinkStep done [] pipe left old new
 sink_step_none done pipe left old new kept same = record {
   whole = λ told works. same ∙ sym (append-nil old);
@@ -77,7 +125,21 @@ sink_step_none done pipe left old new kept same = record {
   stuck = λ stuck. (same, (λ told. refl), λ works. stuck (subst IsAtWork kept works));
 }
 
-pub works_or_not : (pipe : Option Bulk) → IsAtWork pipe ⊎ (IsAtWork pipe → ⊥)
+-- what failed at once
+pub sink_step_failed : (done : Bool) (bytes : List ℕ) (pipe left : Option PipeState)
+    (old new : List ℕ) → done ≡ false → left ≡ pipe → new ≡ old
+    → SinkStep done bytes pipe left old new
+sink_step_failed done bytes pipe left old new failed kept same = record {
+  whole = λ told works. absurd (cc (told, failed));
+  cut = λ told works. ([], bytes, refl, same ∙ sym (append-nil old), λ works. refl);
+  stuck = λ stuck. (
+    same,
+    (λ told. absurd (cc (told, failed))),
+    λ works. stuck (subst IsAtWork kept works),
+  );
+}
+
+pub works_or_not : (pipe : Option PipeState) → IsAtWork pipe ⊎ (IsAtWork pipe → ⊥)
 works_or_not None = inl tt
 works_or_not (Some pipe) = by_condition pipe.condition refl
   where
@@ -92,54 +154,53 @@ none_done : (done : Bool) (bytes : List ℕ) → (done ≡ true → bytes ≡ []
 none_done true bytes empty = empty refl
 none_done false bytes empty = refl
 
-pub took_none : (path : List ℕ) (left : Option Bulk) (s : State) → TookSent path [] left s s
+pub took_none : (end : Endpoint) (left : Option PipeState) (s : State) → TookSent end [] left s s
 unfolding sent_to IsFailedFront
-took_none path left s = record {
+took_none end left s = record {
   front = [];
   failed = refl;
-  sink = sym (append-nil (sink_of left s));
+  sink = sym (append-nil (out_end s end.number).sink);
   works = λ works. refl;
 }
 
 -- the pipe stays
-pub took_stay : (path : List ℕ) (told : List ToldItem) (pipe left : Option Bulk) (s u v : State)
-    → left ≡ pipe → sink_of pipe v ≡ sink_of pipe u → TookSent path told pipe s u
-    → TookSent path told left s v
-took_stay path told pipe left s u v kept same x = subst (λ p. TookSent path told p s v) (sym kept)
+pub took_stay : (end : Endpoint) (told : List ToldItem) (pipe left : Option PipeState)
+    (s u v : State) → left ≡ pipe → (out_end v end.number).sink ≡ (out_end u end.number).sink
+    → TookSent end told pipe s u → TookSent end told left s v
+took_stay end told pipe left s u v kept same x = subst (λ p. TookSent end told p s v) (sym kept)
     (record { front = x.front; failed = x.failed; sink = same ∙ x.sink; works = x.works })
 
-pub took_then : (path : List ℕ) (t : ToldItem) (told : List ToldItem) (pipe left : Option Bulk)
-    (s u v : State) → end_of left ≡ end_of pipe → TookSent path told pipe s u
-    → SinkStep (is_done t.item) (bytes_for path t.due) pipe left (sink_of pipe u) (sink_of pipe v)
-    → TookSent path (t ∷ told) left s v
+pub took_then : (end : Endpoint) (t : ToldItem) (told : List ToldItem)
+    (pipe left : Option PipeState) (s u v : State) → TookSent end told pipe s u
+    → SinkStep (is_done t.item) (bytes_for end t.due) pipe left (out_end u end.number).sink
+    (out_end v end.number).sink → TookSent end (t ∷ told) left s v
 unfolding sent_to IsFailedFront
-took_then path t told pipe left s u v end x y = by_work (works_or_not pipe)
+took_then end t told pipe left s u v x y = by_work (works_or_not pipe)
   where
     first : List ℕ
-    first = sink_of pipe s
+    first = (out_end s end.number).sink
 
     mid : List ℕ
-    mid = sink_of pipe u
+    mid = (out_end u end.number).sink
 
     last : List ℕ
-    last = sink_of pipe v
+    last = (out_end v end.number).sink
 
     bytes : List ℕ
-    bytes = bytes_for path t.due
+    bytes = bytes_for end t.due
 
     sent : List ℕ
-    sent = sent_to path told
+    sent = sent_to end told
 
     by_done : (done : Bool) → is_done t.item ≡ done → IsAtWork pipe
-        → TookSent path (t ∷ told) left s v
+        → TookSent end (t ∷ told) left s v
     by_done true e works = record {
       front = [];
-      failed = inr (subst (IsFailedFront path told) (x.works works) x.failed);
-      sink = sink_of-joined pipe left s v _ end
-          (front_joined first sent x.front bytes mid last x.sink (x.works works) (y.whole e works)
+      failed = inr (subst (IsFailedFront end told) (x.works works) x.failed);
+      sink = front_joined first sent x.front bytes mid last x.sink (x.works works) (y.whole e works)
           ∙ ap (λ (d : Bool). first ++ (sent ++ (if d then bytes else []))) (sym e)
           ∙ ap (λ l. first ++ l)
-          (sym (append-nil (sent ++ (if is_done t.item then bytes else [])))));
+          (sym (append-nil (sent ++ (if is_done t.item then bytes else []))));
       works = λ works. refl;
     }
     by_done false e works =
@@ -147,23 +208,21 @@ took_then path t told pipe left s u v end x y = by_work (works_or_not pipe)
         record {
           front = c.0;
           failed = inl (e, (c.1, c.2));
-          sink = sink_of-joined pipe left s v _ end
-              (front_joined first sent x.front c.0 mid last x.sink (x.works works) c.3
+          sink = front_joined first sent x.front c.0 mid last x.sink (x.works works) c.3
               ∙ ap (λ l. first ++ (l ++ c.0)) (sym (append-nil sent))
               ∙ ap (λ (d : Bool). first ++ ((sent ++ (if d then bytes else [])) ++ c.0))
-              (sym e));
+              (sym e);
           works = c.4;
         }
 
-    by_work : IsAtWork pipe ⊎ (IsAtWork pipe → ⊥) → TookSent path (t ∷ told) left s v
+    by_work : IsAtWork pipe ⊎ (IsAtWork pipe → ⊥) → TookSent end (t ∷ told) left s v
     by_work (inl works) = by_done (is_done t.item) refl works
     by_work (inr stuck) =
         let n = y.stuck stuck in
         record {
           front = x.front;
           failed = inr x.failed;
-          sink = sink_of-joined pipe left s v _ end
-              (n.0 ∙ x.sink ∙ ap (λ l. first ++ (l ++ x.front)) (sym (append-nil sent)
-              ∙ ap (λ l. sent ++ l) (sym (none_done (is_done t.item) bytes n.1))));
+          sink = n.0 ∙ x.sink ∙ ap (λ l. first ++ (l ++ x.front)) (sym (append-nil sent)
+              ∙ ap (λ l. sent ++ l) (sym (none_done (is_done t.item) bytes n.1)));
           works = λ works. absurd (n.2 works);
         }

@@ -1,68 +1,130 @@
 -- One device over the parts of a stretch, one after the other.
-use Rattle.std.proofs.Common.{◌≡◌, ◌∙◌, refl, sym, ap, subst, ℕ, List, [], ◌∷◌, ◌++◌, false, Option}
-use Rattle.std.proofs.Common.{None, Some, append-nil}
-use Rattle.usb_device.specs.{NextBytes, State, Location, in_end, out_end}
+use Rattle.std.proofs.Common.{◌≡◌, ◌∙◌, refl, sym, ap, subst, Bool, true, false, ℕ, List, [], ◌∷◌}
+use Rattle.std.proofs.Common.{◌++◌, Option, None, Some, append-nil}
+use Rattle.usb_device.specs.{GivesOn, State, Location, in_data, in_end, out_end}
+use Rattle.usb_device.proofs.Interface.{gives-append}
 use Rattle.usb_world.specs.{Was}
-use Rattle.usb_pipe.specs.{Bulk, InPipeInSync}
-use Rattle.usb_table.specs.{sink_of, Pipes, pipe_in, pipe_out, FitsIn, SparesBulk, SameSettings}
+use Rattle.usb_pipe.specs.{PipeState, InPipeInSync}
+use Rattle.usb_table.specs.{Pipes, Hub, Function, Absent, FitsIn, SparesBulk}
+use Rattle.usb_table.specs.{SameSettings, function_of}
 use Rattle.usb_table.proofs.Interface.{root, same_in_data, still_source}
-use Rattle.usb_host.specs.{SameBulk, HostState}
-use Rattle.usb_streams.specs.{ToldItem, AreTaken, ClearsNoIn, ClearsNoOut, GaveNextBy, Joins}
-use Rattle.usb_streams.specs.{StreamsAt, bytes_for, bytes_from, is_done, is_end_of, received_from}
+use Rattle.usb_host.specs.{SameFunction, HostState}
+use Rattle.usb_streams.specs.{AreGiven, ArePackets, AreTaken, ClearsNone, Endpoint, FailsPlain}
+use Rattle.usb_streams.specs.{GaveNextBy, GaveTold, InStream, Joins, OutStream, StreamsAt}
+use Rattle.usb_streams.specs.{ToldItem, bytes_for, endpoint_at, first_of, is_done, is_this}
+use Rattle.usb_streams.specs.{pipe_of}
 use Rattle.usb_streams.specs.Streams.{Streams}
-use Rattle.usb_streams.proofs.Bytes.{SinkStep, joins_behind, next_joined, took_none, took_stay}
-use Rattle.usb_streams.proofs.Bytes.{took_then}
-use Rattle.usb_streams.proofs.PipeEnds.{SinksStay, end_of, is_end_of-same, sink_of-joined}
-use Rattle.usb_streams.proofs.PipeEnds.{sink_of-stays}
+use Rattle.usb_streams.proofs.Bytes.{SinkStep, given_bytes, given_none, given_then, joins_behind}
+use Rattle.usb_streams.proofs.Bytes.{took_none, took_stay, took_then}
+use Rattle.usb_streams.proofs.PipeEnds.{SinksStay}
 
 -- Sources
 
+-- such packets came next from an endpoint, through a pipe
+pub record GaveSome (Are : List (List ℕ) → Type 0) (e : ℕ) (pipe : PipeState) (got : ℕ)
+    (left : PipeState) (s v : State) : Type 0 where
+  pub packets : List (List ℕ)
+  pub are : Are packets
+  pub behind : ℕ
+  pub come : GivesOn (in_data s e) pipe.max got packets behind
+  pub level : InPipeInSync left behind v
+
+pub record Gives (Are : List (List ℕ) → Type 0) (e : ℕ) (pipe left : PipeState) (s v : State)
+    : Type 0 where
+  pub ep : left.ep ≡ pipe.ep
+  pub max : left.max ≡ pipe.max
+  pub some : (got : ℕ) → InPipeInSync pipe got s → GaveSome Are e pipe got left s v
+
+abbrev pub GivesBy : (List (List ℕ) → Type 0) → ℕ → Option PipeState → Option PipeState → State
+    → State → Type 0
+GivesBy Are e None left s v = Are [] × (left ≡ None)
+GivesBy Are e (Some pipe) None s v = ⊥
+GivesBy Are e (Some pipe) (Some left) s v = Gives Are e pipe left s v
+
 -- an IN pipe that stays as far as it was gives nothing
-pub gave_nothing : (pipe left : Option Bulk) (s v : State) → left ≡ pipe
-    → ((p : Bulk) (got : ℕ) → InPipeInSync p got s → InPipeInSync p got v)
-    → GaveNextBy [] pipe left s v
-gave_nothing None left s v kept level = (refl, kept)
-gave_nothing (Some pipe) left s v kept level =
-    subst (λ l. GaveNextBy [] (Some pipe) l s v) (sym kept) (record {
+pub gives_nothing : (Are : List (List ℕ) → Type 0) (e : ℕ) (pipe left : Option PipeState)
+    (s v : State) → Are [] → left ≡ pipe
+    → ((p : PipeState) (got : ℕ) → pipe ≡ Some p → InPipeInSync p got s → InPipeInSync p got v)
+    → GivesBy Are e pipe left s v
+gives_nothing Are e None left s v none kept level = (none, kept)
+gives_nothing Are e (Some pipe) left s v none kept level =
+    subst (λ l. GivesBy Are e (Some pipe) l s v) (sym kept) (record {
       ep = refl;
       max = refl;
-      next = λ got f. record {
+      some = λ got f. record {
+        packets = [];
+        are = none;
         behind = got;
-        came = record { packets = []; come = refl; joined = refl };
-        level = level pipe got f;
+        come = refl;
+        level = level pipe got refl f;
       };
     })
 
--- so it is where its endpoint stays
-pub gave_no_bytes : (pipe left : Option Bulk) (x : Location) (s v : State) → left ≡ pipe
-    → SameSettings x s v → ((e : ℕ) → (in_end v e).place ≡ (in_end s e).place)
-    → ((e : ℕ) → (in_end v e).state ≡ (in_end s e).state) → GaveNextBy [] pipe left s v
-gave_no_bytes pipe left x s v kept same place state =
-    gave_nothing pipe left s v kept
-    (λ p got f. still_source p got s v same (place p.ep) (state p.ep) f)
-
 -- what comes next, and what comes next behind it
-pub gave_bytes_then : (a b : List ℕ) (p q r : Option Bulk) (x : Location) (s u v : State)
-    → SameSettings x s u → GaveNextBy a p q s u → GaveNextBy b q r u v
-    → GaveNextBy (a ++ b) p r s v
-gave_bytes_then a b None None r at s u v same x y = (ap (λ l. l ++ b) x.0 ∙ y.0, y.1)
-gave_bytes_then a b None (Some q) r at s u v same x y = absurd (cc x.1)
-gave_bytes_then a b (Some p) None r at s u v same x y = absurd x
-gave_bytes_then a b (Some p) (Some q) None at s u v same x y = absurd y
-gave_bytes_then a b (Some p) (Some q) (Some r) at s u v same x y = record {
+gives_then : (A B C : List (List ℕ) → Type 0)
+    → ((a b : List (List ℕ)) → A a → B b → C (a ++ b)) → (e : ℕ) (p q r : Option PipeState)
+    (x : Location) (s u v : State) → SameSettings x s u → GivesBy A e p q s u
+    → GivesBy B e q r u v → GivesBy C e p r s v
+gives_then A B C join e None None r at s u v same x y = (join [] [] x.0 y.0, y.1)
+gives_then A B C join e None (Some q) r at s u v same x y = absurd (cc x.1)
+gives_then A B C join e (Some p) None r at s u v same x y = absurd x
+gives_then A B C join e (Some p) (Some q) None at s u v same x y = absurd y
+gives_then A B C join e (Some p) (Some q) (Some r) at s u v same x y = record {
   ep = y.ep ∙ x.ep;
   max = y.max ∙ x.max;
-  next = λ got f.
-      let first = x.next got f in
-      let second = y.next first.behind first.level in
-      let came : NextBytes p.ep p.max first.behind b second.behind u =
-      subst (λ e. NextBytes e p.max first.behind b second.behind u) x.ep
-      (subst (λ n. NextBytes q.ep n first.behind b second.behind u) x.max second.came) in
+  some = λ got f.
+      let first = x.some got f in
+      let second = y.some first.behind first.level in
+      let come : GivesOn (in_data s e) p.max first.behind second.packets second.behind =
+      subst (λ content. GivesOn content p.max first.behind second.packets second.behind)
+      (same_in_data e s u same)
+      (subst (λ n. GivesOn (in_data u e) n first.behind second.packets second.behind) x.max
+      second.come) in
       record {
+        packets = first.packets ++ second.packets;
+        are = join first.packets second.packets first.are second.are;
         behind = second.behind;
-        came = next_joined p.ep p.max got first.behind second.behind a b s u
-            (same_in_data p.ep s u same) first.came came;
+        come = gives-append (in_data s e) p.max got first.behind second.behind first.packets
+            second.packets first.come come;
         level = second.level;
+      };
+}
+
+-- what was told, as such packets
+told_gives : (end : Endpoint) (told : List ToldItem) (pipe left : Option PipeState) (s v : State)
+    → GaveNextBy end told pipe left s v → GivesBy (AreGiven end told) end.number pipe left s v
+told_gives end told None left s v x = x
+told_gives end told (Some pipe) None s v x = absurd x
+told_gives end told (Some pipe) (Some left) s v x = record {
+  ep = x.ep;
+  max = x.max;
+  some = λ got f.
+      let gave : GaveTold end told pipe got left s v = x.next got f in
+      record {
+        packets = gave.packets;
+        are = gave.given;
+        behind = gave.behind;
+        come = gave.come;
+        level = gave.level;
+      };
+}
+
+gives_told : (end : Endpoint) (told : List ToldItem) (pipe left : Option PipeState) (s v : State)
+    → GivesBy (AreGiven end told) end.number pipe left s v → GaveNextBy end told pipe left s v
+gives_told end told None left s v x = x
+gives_told end told (Some pipe) None s v x = absurd x
+gives_told end told (Some pipe) (Some left) s v x = record {
+  ep = x.ep;
+  max = x.max;
+  next = λ got f.
+      let gave : GaveSome (AreGiven end told) end.number pipe got left s v = x.some got f in
+      record {
+        packets = gave.packets;
+        given = gave.are;
+        joined = given_bytes end told gave.packets gave.are;
+        behind = gave.behind;
+        come = gave.come;
+        level = gave.level;
       };
 }
 
@@ -71,50 +133,97 @@ gave_bytes_then a b (Some p) (Some q) (Some r) at s u v same x y = record {
 -- what lies between two items moves no byte
 pub record DeviceStays (pipes left : Pipes) (s v : State) : Type 0 where
   pub sinks : SinksStay s v
-  pub out : pipe_out left ≡ pipe_out pipes
-  pub gave : GaveNextBy [] (pipe_in pipes) (pipe_in left) s v
+  pub kept : (is_in : Bool) (e : ℕ) → pipe_of is_in e left ≡ pipe_of is_in e pipes
+  pub first : (is_in : Bool) → first_of is_in left ≡ first_of is_in pipes
+  pub into : (pipe : PipeState) (got : ℕ) → InPipeInSync pipe got s → InPipeInSync pipe got v
   pub settings : SameSettings root s v
 
--- an item moves the bytes that it tells
+-- an item moves the bytes that it tells: through each OUT endpoint
+pub record OutMoves (end : Endpoint) (t : ToldItem) (pipe left : Option PipeState) (s v : State)
+    : Type 0 where
+  pub there : left ≡ None → pipe ≡ None
+  pub none : pipe ≡ None → (out_end v end.number).sink ≡ (out_end s end.number).sink
+  pub sink : Joins (is_done t.item) (bytes_for end t.due) (out_end s end.number).sink
+      (out_end v end.number).sink
+  pub took : ClearsNone end t → SinkStep (is_done t.item) (bytes_for end t.due) pipe left
+      (out_end s end.number).sink (out_end v end.number).sink
+
+-- and through all
 pub record DeviceMoves (path : List ℕ) (t : ToldItem) (pipes left : Pipes) (s v : State) : Type 0
   where
-    pub end : end_of (pipe_out left) ≡ end_of (pipe_out pipes)
-    pub sink : Joins (is_done t.item) (bytes_for path t.due) (sink_of (pipe_out pipes) s)
-        (sink_of (pipe_out pipes) v)
-    pub others : (e : ℕ) → is_end_of e (pipe_out pipes) ≡ false
-        → (out_end v e).sink ≡ (out_end s e).sink
-    pub took : ClearsNoOut path t → SinkStep (is_done t.item) (bytes_for path t.due)
-        (pipe_out pipes) (pipe_out left) (sink_of (pipe_out pipes) s) (sink_of (pipe_out pipes) v)
-    pub gave : ClearsNoIn path t → GaveNextBy (bytes_from path t.item) (pipe_in pipes)
-        (pipe_in left) s v
+    pub outs : (e : ℕ) → OutMoves (endpoint_at path false e pipes) t (pipe_of false e pipes)
+        (pipe_of false e left) s v
+    pub ins : (e : ℕ) → ClearsNone (endpoint_at path true e pipes) t
+        → GivesBy (ArePackets (endpoint_at path true e pipes) t.item) e (pipe_of true e pipes)
+        (pipe_of true e left) s v
+    pub first : (is_in : Bool) → first_of is_in left ≡ first_of is_in pipes
+    pub plain : (is_in : Bool) → first_of is_in pipes ≡ None → FailsPlain is_in path t
     pub settings : SameSettings root s v
 
-pub spares_stays : (pipes left : Pipes) (x : Location) (s v : State) → SameBulk pipes left
+-- the same function has the same pipes
+
+pub pipe_of_function : (is_in : Bool) (e : ℕ) (pipes left : Pipes)
+    → function_of left ≡ function_of pipes → pipe_of is_in e left ≡ pipe_of is_in e pipes
+pipe_of_function is_in e (Hub p) (Hub q) same = refl
+pipe_of_function is_in e (Hub p) (Function q) same = absurd (cc same)
+pipe_of_function is_in e (Hub p) Absent same = refl
+pipe_of_function is_in e (Function p) (Hub q) same = absurd (cc same)
+pipe_of_function is_in e (Function p) (Function q) same =
+    let it : q ≡ p = cc same in ap (λ f. pipe_of is_in e (Function f)) it
+pipe_of_function is_in e (Function p) Absent same = absurd (cc same)
+pipe_of_function is_in e Absent (Hub q) same = refl
+pipe_of_function is_in e Absent (Function q) same = absurd (cc same)
+pipe_of_function is_in e Absent Absent same = refl
+
+first_of_function : (is_in : Bool) (pipes left : Pipes)
+    → function_of left ≡ function_of pipes → first_of is_in left ≡ first_of is_in pipes
+first_of_function is_in (Hub p) (Hub q) same = refl
+first_of_function is_in (Hub p) (Function q) same = absurd (cc same)
+first_of_function is_in (Hub p) Absent same = refl
+first_of_function is_in (Function p) (Hub q) same = absurd (cc same)
+first_of_function is_in (Function p) (Function q) same =
+    let it : q ≡ p = cc same in ap (λ f. first_of is_in (Function f)) it
+first_of_function is_in (Function p) Absent same = absurd (cc same)
+first_of_function is_in Absent (Hub q) same = refl
+first_of_function is_in Absent (Function q) same = absurd (cc same)
+first_of_function is_in Absent Absent same = refl
+
+pub spares_stays : (pipes left : Pipes) (x : Location) (s v : State) → SameFunction pipes left
     → SparesBulk x s v → DeviceStays pipes left s v
 spares_stays pipes left x s v same spares =
     let settings : SameSettings x s v =
     (ap (λ (d : State). d.spec) spares, ap (λ (d : State). d.registers) spares) in
     record {
       sinks = λ e. ap (λ (d : State). (out_end d e).sink) spares;
-      out = same.out;
-      gave = gave_no_bytes (pipe_in pipes) (pipe_in left) x s v same.into settings
-          (λ e. ap (λ (d : State). (in_end d e).place) spares)
-          (λ e. ap (λ (d : State). (in_end d e).state) spares);
+      kept = λ is_in e. pipe_of_function is_in e pipes left same.same;
+      first = λ is_in. first_of_function is_in pipes left same.same;
+      into = λ p got f. still_source p got s v settings
+          (ap (λ (d : State). (in_end d p.ep).place) spares)
+          (ap (λ (d : State). (in_end d p.ep).state) spares) f;
       settings = settings;
     }
 
 -- Joins
 
-pub streams_none : (path : List ℕ) (pipes : Pipes) (x : Location) (s : State)
-    → FitsIn (pipe_in pipes) s → Streams path [] pipes pipes s s
-unfolding AreTaken received_from
-streams_none path pipes x s had = record {
-  took = λ all. took_none path (pipe_out pipes) s;
-  sink = ([], refl, sym (append-nil (sink_of (pipe_out pipes) s)));
-  others = λ e apart. refl;
-  had = had;
-  gave = λ all. gave_no_bytes (pipe_in pipes) (pipe_in pipes) x s s refl (refl, refl) (λ e. refl)
-      (λ e. refl);
+pub streams_none : (path : List ℕ) (pipes : Pipes) (s : State)
+    → ((e : ℕ) → FitsIn (pipe_of true e pipes) s) → Streams path [] pipes pipes s s
+unfolding AreTaken
+streams_none path pipes s had = record {
+  outs = λ e. record {
+    took = λ all. took_none (endpoint_at path false e pipes) (pipe_of false e pipes) s;
+    sink = ([], refl, sym (append-nil (out_end s e).sink));
+    none = λ none. refl;
+  };
+  ins = λ e. record {
+    had = had e;
+    gave = λ all. gives_told (endpoint_at path true e pipes) [] (pipe_of true e pipes)
+        (pipe_of true e pipes) s s
+        (gives_nothing (AreGiven (endpoint_at path true e pipes) []) e (pipe_of true e pipes)
+        (pipe_of true e pipes) s s (given_none (endpoint_at path true e pipes)) refl
+        (λ p got there f. f));
+  };
+  first = λ is_in. refl;
+  plain = λ is_in none. tt;
   spec = refl;
   registers = refl;
 }
@@ -122,47 +231,105 @@ streams_none path pipes x s had = record {
 pub streams_stay : (path : List ℕ) (told : List ToldItem) (p q r : Pipes) (s u v : State)
     → Streams path told p q s u → DeviceStays q r u v → Streams path told p r s v
 streams_stay path told p q r s u v x y = record {
-  took = λ all. took_stay path told (pipe_out q) (pipe_out r) s u v y.out
-      (sink_of-stays (pipe_out q) u v y.sinks) (x.took all);
-  sink = (
-    x.sink.0,
-    x.sink.1,
-    sink_of-joined (pipe_out q) (pipe_out r) s v x.sink.0 (ap end_of y.out)
-        (sink_of-stays (pipe_out q) u v y.sinks ∙ x.sink.2),
-  );
-  others = λ e apart. y.sinks e
-      ∙ x.others e (subst (λ p. is_end_of e p ≡ false) y.out apart);
-  had = x.had;
-  gave = λ all.
-      subst (λ l. GaveNextBy l (pipe_in p) (pipe_in r) s v) (append-nil (received_from path told))
-      (gave_bytes_then (received_from path told) [] (pipe_in p) (pipe_in q) (pipe_in r) root s u v
-      (x.spec, x.registers) (x.gave all) y.gave);
+  outs = λ e. out_stays e (x.outs e);
+  ins = λ e. in_stays e (x.ins e);
+  first = λ is_in. y.first is_in ∙ x.first is_in;
+  plain = x.plain;
   spec = y.settings.0 ∙ x.spec;
   registers = y.settings.1 ∙ x.registers;
 }
+  where
+    out_stays : (e : ℕ) → OutStream (endpoint_at path false e p) told (pipe_of false e q) s u
+        → OutStream (endpoint_at path false e p) told (pipe_of false e r) s v
+    out_stays e o = record {
+      took = λ all. took_stay (endpoint_at path false e p) told (pipe_of false e q)
+          (pipe_of false e r) s u v (y.kept false e) (y.sinks e) (o.took all);
+      sink = (o.sink.0, o.sink.1, y.sinks e ∙ o.sink.2);
+      none = λ none. y.sinks e ∙ o.none (sym (y.kept false e) ∙ none);
+    }
+
+    in_stays : (e : ℕ) → InStream (endpoint_at path true e p) told (pipe_of true e p)
+        (pipe_of true e q) s u → InStream (endpoint_at path true e p) told (pipe_of true e p)
+        (pipe_of true e r) s v
+    in_stays e i =
+        let end : Endpoint = endpoint_at path true e p in
+        record {
+          had = i.had;
+          gave = λ all. gives_told end told (pipe_of true e p) (pipe_of true e r) s v
+              (gives_then (AreGiven end told) (λ l. l ≡ []) (AreGiven end told)
+              (λ a b first none. subst (AreGiven end told)
+              (sym (append-nil a) ∙ ap (λ l. a ++ l) (sym none)) first)
+              e (pipe_of true e p) (pipe_of true e q) (pipe_of true e r) root s u v
+              (x.spec, x.registers)
+              (told_gives end told (pipe_of true e p) (pipe_of true e q) s u (i.gave all))
+              (gives_nothing (λ l. l ≡ []) e (pipe_of true e q) (pipe_of true e r) u v refl
+              (y.kept true e) (λ pipe got there f. y.into pipe got f)));
+        }
+
+-- an endpoint is the same as long as the first bulk ones are
+same_endpoint : (path : List ℕ) (is_in : Bool) (e : ℕ) (p q : Pipes)
+    → first_of is_in q ≡ first_of is_in p
+    → endpoint_at path is_in e q ≡ endpoint_at path is_in e p
+same_endpoint path is_in e p q same = ap (λ first. record {
+  path = path;
+  is_in = is_in;
+  number = e;
+  is_first = is_this e first;
+}) same
 
 pub streams_move : (path : List ℕ) (t : ToldItem) (told : List ToldItem) (p q r : Pipes)
     (s u v : State) → Streams path told p q s u → DeviceMoves path t q r u v
     → Streams path (t ∷ told) p r s v
-unfolding AreTaken received_from
-streams_move path t told p q r s u v x y =
-    let went = joins_behind (is_done t.item) (bytes_for path t.due) (sink_of (pipe_out q) s)
-    x.sink.0 (sink_of (pipe_out q) u) (sink_of (pipe_out q) v) x.sink.2 y.sink in
-    let taken : AreTaken path (t ∷ told) went.0 = (x.sink.0, x.sink.1, went.1) in
-    record {
-      took = λ all. took_then path t told (pipe_out q) (pipe_out r) s u v y.end (x.took all.1)
-          (y.took all.0);
-      sink = (went.0, taken, sink_of-joined (pipe_out q) (pipe_out r) s v went.0 y.end went.2);
-      others = λ e apart.
-          let before : is_end_of e (pipe_out q) ≡ false =
-          sym (is_end_of-same (pipe_out q) (pipe_out r) e y.end) ∙ apart in
-          y.others e before ∙ x.others e before;
-      had = x.had;
-      gave = λ all. gave_bytes_then (received_from path told) (bytes_from path t.item) (pipe_in p)
-          (pipe_in q) (pipe_in r) root s u v (x.spec, x.registers) (x.gave all.1) (y.gave all.0);
-      spec = y.settings.0 ∙ x.spec;
-      registers = y.settings.1 ∙ x.registers;
-    }
+unfolding AreTaken
+streams_move path t told p q r s u v x y = record {
+  outs = λ e. out_moves e (x.outs e)
+      (subst (λ end. OutMoves end t (pipe_of false e q) (pipe_of false e r) u v)
+      (same_endpoint path false e p q (x.first false)) (y.outs e));
+  ins = λ e. in_moves e (x.ins e)
+      (subst (λ (end : Endpoint). ClearsNone end t → GivesBy (ArePackets end t.item) e
+      (pipe_of true e q) (pipe_of true e r) u v)
+      (same_endpoint path true e p q (x.first true)) (y.ins e));
+  first = λ is_in. y.first is_in ∙ x.first is_in;
+  plain = λ is_in none. (y.plain is_in (x.first is_in ∙ none), x.plain is_in none);
+  spec = y.settings.0 ∙ x.spec;
+  registers = y.settings.1 ∙ x.registers;
+}
+  where
+    out_moves : (e : ℕ) → OutStream (endpoint_at path false e p) told (pipe_of false e q) s u
+        → OutMoves (endpoint_at path false e p) t (pipe_of false e q) (pipe_of false e r) u v
+        → OutStream (endpoint_at path false e p) (t ∷ told) (pipe_of false e r) s v
+    out_moves e o m =
+        let end : Endpoint = endpoint_at path false e p in
+        let went = joins_behind (is_done t.item) (bytes_for end t.due) (out_end s e).sink
+        o.sink.0 (out_end u e).sink (out_end v e).sink o.sink.2 m.sink in
+        let taken : AreTaken end (t ∷ told) went.0 = (o.sink.0, o.sink.1, went.1) in
+        record {
+          took = λ all. took_then end t told (pipe_of false e q) (pipe_of false e r) s u v
+              (o.took all.1) (m.took all.0);
+          sink = (went.0, taken, went.2);
+          none = λ none.
+              let before : pipe_of false e q ≡ None = m.there none in
+              m.none before ∙ o.none before;
+        }
+
+    in_moves : (e : ℕ) → InStream (endpoint_at path true e p) told (pipe_of true e p)
+        (pipe_of true e q) s u
+        → (ClearsNone (endpoint_at path true e p) t
+        → GivesBy (ArePackets (endpoint_at path true e p) t.item) e (pipe_of true e q)
+        (pipe_of true e r) u v)
+        → InStream (endpoint_at path true e p) (t ∷ told) (pipe_of true e p) (pipe_of true e r) s v
+    in_moves e i m =
+        let end : Endpoint = endpoint_at path true e p in
+        record {
+          had = i.had;
+          gave = λ all. gives_told end (t ∷ told) (pipe_of true e p) (pipe_of true e r) s v
+              (gives_then (AreGiven end told) (ArePackets end t.item) (AreGiven end (t ∷ told))
+              (λ a b first second. given_then end t told a b first second) e
+              (pipe_of true e p) (pipe_of true e q) (pipe_of true e r) root s u v
+              (x.spec, x.registers)
+              (told_gives end told (pipe_of true e p) (pipe_of true e q) s u (i.gave all.1))
+              (m all.0));
+        }
 
 -- At a path
 

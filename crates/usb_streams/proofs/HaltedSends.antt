@@ -11,7 +11,8 @@ use Rattle.usb_world.proofs.Interface.{each_joined, each_none, each_wider}
 use Rattle.usb_transaction.specs.{Target, is_at, SinkOut}
 use Rattle.usb_transaction.proofs.Interface.{sink_leaves, sink_over, trail_settled, trail_unshared}
 use Rattle.usb_transaction.proofs.Interface.{transacted_unshared}
-use Rattle.usb_pipe.specs.{Condition, PipeFault, Bulk, MovedOut, Sends, after_fault, FaultAfter}
+use Rattle.usb_pipe.specs.{Condition, PipeFault, PipeState, MovedOut, Sends, after_fault}
+use Rattle.usb_pipe.specs.{FaultAfter}
 use Rattle.usb_pipe.specs.{packet_target, OutPipeInSync, Gave, NotGone}
 use Rattle.usb_pipe.specs.declared.condition.Condition.TheVariants.{Ready, Halted, Broken}
 use Rattle.usb_pipe.specs.declared.fault.PipeFault.TheVariants as pipe_fault
@@ -61,26 +62,27 @@ module _ (t : Target) (ep : ℕ) where
 -- A send
 
 -- the device took nothing, and the send is done only where there was nothing to send
-pub record NoneSent (bytes : List ℕ) (pipe : Bulk) (answer : Result (Unit {0}) PipeFault)
+pub record NoneSent (bytes : List ℕ) (pipe : PipeState) (answer : Result (Unit {0}) PipeFault)
     (x : Location) (s v : State) : Type 0 where
   pub none : is_at s pipe.target ≡ true → OutPipeInSync pipe s
       → ((out_end v pipe.ep).sink ≡ (out_end s pipe.ep).sink)
       × (is_ok answer ≡ true → bytes ≡ [])
 
 -- nothing was attempted
-idle_sends : (bytes : List ℕ) (pipe : Bulk) (answer : Result (Unit {0}) PipeFault) (old new : World)
-    → new ≡ old → (is_ok answer ≡ true → bytes ≡ []) → EachWas (NoneSent bytes pipe answer) old new
+idle_sends : (bytes : List ℕ) (pipe : PipeState) (answer : Result (Unit {0}) PipeFault)
+    (old new : World) → new ≡ old → (is_ok answer ≡ true → bytes ≡ [])
+    → EachWas (NoneSent bytes pipe answer) old new
 idle_sends bytes pipe answer old new same empty =
     subst (EachWas (NoneSent bytes pipe answer) old) (sym same)
     (each_none (NoneSent bytes pipe answer) (λ x s. record { none = λ at fits. (refl, empty) })
     old)
 
-module _ (bytes : List ℕ) (pipe : Bulk) (old new : World) (halts : pipe.condition ≡ Halted)
+module _ (bytes : List ℕ) (pipe : PipeState) (old new : World) (halts : pipe.condition ≡ Halted)
     (single : new.shared ≡ false) where
   abbrev End : Target
   End = packet_target pipe.target pipe.max
 
-  moved_halted : (n : ℕ) (answer : Result (Unit {0}) PipeFault) (left : Bulk) → bytes ≢ []
+  moved_halted : (n : ℕ) (answer : Result (Unit {0}) PipeFault) (left : PipeState) → bytes ≢ []
       → MovedOut n bytes pipe old answer left new → EachWas (NoneSent bytes pipe answer) old new
   moved_halted n (Ok done) left some x =
       each_wider (NoneGiven End pipe.ep bytes) (NoneSent bytes pipe (Ok done))
@@ -110,8 +112,8 @@ module _ (bytes : List ℕ) (pipe : Bulk) (old new : World) (halts : pipe.condit
       (sink_leaves End pipe.ep (flips g.packets pipe.toggle) (take pipe.max g.rest) (Err g.fault)
       g.mid new began g.lost single)
 
-pub none_sent : (bytes : List ℕ) (pipe : Bulk) (answer : Result (Unit {0}) PipeFault) (left : Bulk)
-    (old new : World) → pipe.condition ≢ Ready → new.shared ≡ false
+pub none_sent : (bytes : List ℕ) (pipe : PipeState) (answer : Result (Unit {0}) PipeFault)
+    (left : PipeState) (old new : World) → pipe.condition ≢ Ready → new.shared ≡ false
     → Sends bytes pipe old answer left new → EachWas (NoneSent bytes pipe answer) old new
 none_sent bytes pipe answer left old new stuck single x =
     condition_cases Goal pipe.condition (λ e. absurd (stuck e)) halts breaks
@@ -144,8 +146,9 @@ fault_stuck n before pipe_fault.Broken old new ends room other e = absurd ends
 fault_stuck n before (pipe_fault.Bus fault) old new ends room other e = other fault refl
 fault_stuck n before pipe_fault.Memory old new ends room other e = room refl
 
-pub failed_stuck : (bytes : List ℕ) (pipe : Bulk) (why : PipeFault) (left : Bulk) (old new : World)
-    → ((fault : BusFault) → why ≢ pipe_fault.Bus fault) → Sends bytes pipe old (Err why) left new
+pub failed_stuck : (bytes : List ℕ) (pipe : PipeState) (why : PipeFault) (left : PipeState)
+    (old new : World) → ((fault : BusFault) → why ≢ pipe_fault.Bus fault)
+    → Sends bytes pipe old (Err why) left new
     → left.condition ≢ Ready
 failed_stuck bytes pipe why left old new other x ready =
     condition_cases ⊥ pipe.condition (λ e. works (λ broken. cc (broken, e)))
@@ -153,19 +156,20 @@ failed_stuck bytes pipe why left old new other x ready =
   where
     breaks : pipe.condition ≡ Broken → ⊥
     breaks e = let kept = (x.broken e).pipe_kept in
-        cc (ap (λ (p : Bulk). p.condition) kept, e, ready)
+        cc (ap (λ (p : PipeState). p.condition) kept, e, ready)
 
     works : pipe.condition ≢ Broken → ⊥
     works sound = elim (empty_or_not bytes) [
       | inl none ↦ (let told = (x.nothing sound none).answer in cc told)
       | inr some ↦ (let m = x.moved sound some in
           fault_stuck 0 pipe.condition why old new m.ends (λ e. m.room (ap Err e)) other
-          (sym (ap (λ (p : Bulk). p.condition) m.pipe_left) ∙ ready))
+          (sym (ap (λ (p : PipeState). p.condition) m.pipe_left) ∙ ready))
     ]
 
 -- a pipe that does not work stays so where nothing was sent
-pub empty_stuck : (bytes : List ℕ) (pipe : Bulk) (done : Unit {0}) (left : Bulk) (old new : World)
-    → bytes ≡ [] → pipe.condition ≢ Ready → Sends bytes pipe old (Ok done) left new
+pub empty_stuck : (bytes : List ℕ) (pipe : PipeState) (done : Unit {0}) (left : PipeState)
+    (old new : World) → bytes ≡ [] → pipe.condition ≢ Ready
+    → Sends bytes pipe old (Ok done) left new
     → left.condition ≢ Ready
 empty_stuck bytes pipe done left old new none stuck x ready =
     condition_cases ⊥ pipe.condition stuck
@@ -173,4 +177,4 @@ empty_stuck bytes pipe done left old new none stuck x ready =
     (x.broken e).answer in cc told)
   where
     kept : left ≡ pipe → ⊥
-    kept same = stuck (sym (ap (λ (p : Bulk). p.condition) same) ∙ ready)
+    kept same = stuck (sym (ap (λ (p : PipeState). p.condition) same) ∙ ready)

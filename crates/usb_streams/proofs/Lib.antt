@@ -1,8 +1,10 @@
 mod Bytes
+mod Clears
 mod Devices
 mod HaltedSends
 mod Heads
 mod Items
+mod Moves
 mod PipeEnds
 mod Starts
 mod Stretches

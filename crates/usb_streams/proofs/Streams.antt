@@ -6,9 +6,10 @@ use Rattle.usb_device.specs.{in_end, out_end}
 use Rattle.usb_world.specs.declared.event.Ask.{Ask}
 use Rattle.usb_world.specs.{Look, Was, World}
 use Rattle.usb_world.proofs.Interface.{settled_course}
+use Rattle.usb_pipe.specs.{InPipeInSync}
 use Rattle.usb_enum.specs.{Accepted}
-use Rattle.usb_table.specs.{Pipes, Hub, Function, Absent, pipe_in, pipe_out, accepted_device_at}
-use Rattle.usb_table.specs.{is_below_hub, PipesInSync, FitsIn, SparesBulk, pipes_at}
+use Rattle.usb_table.specs.{Pipes, Hub, Function, Absent, accepted_device_at, function_of}
+use Rattle.usb_table.specs.{is_below_hub, new_pipes_to, PipesInSync, FitsIn, SparesBulk, pipes_at}
 use Rattle.usb_table.proofs.Interface.{spares-same}
 use Rattle.usb_host.specs.{RenewedAt, StayedAt, Round, HostState, table_in, RoundTells}
 use Rattle.usb_host.proofs.Interface.{stay_event}
@@ -17,10 +18,10 @@ use Rattle.usb_run.proofs.Interface.{arrival_knows, came_running, came_still, co
 use Rattle.usb_run.proofs.Interface.{item_knows}
 use Rattle.usb_streams.specs.{LiesBetween, round, silent, last, wrote, Stretch, begun, further}
 use Rattle.usb_streams.specs.{more, HeadAt, KeepsStreams, ToldItem, StartsAt, StoodAt}
-use Rattle.usb_streams.specs.{FoundSince, in_look, in_round, StoodOrFound, StreamsAt}
+use Rattle.usb_streams.specs.{FoundSince, in_look, in_round, StoodOrFound, StreamsAt, pipe_of}
 use Rattle.usb_streams.specs.Streams.{Streams}
 use Rattle.usb_streams.proofs.Devices.{DeviceMoves, DeviceStays, streams_at_then, spares_stays}
-use Rattle.usb_streams.proofs.Devices.{streams_move, streams_none, streams_stay}
+use Rattle.usb_streams.proofs.Devices.{pipe_of_function, streams_move, streams_none, streams_stay}
 use Rattle.usb_streams.proofs.Heads.{course_kept, kept_then}
 use Rattle.usb_streams.proofs.Items.{LookFinds, MovesAt, item_moves}
 use Rattle.usb_streams.proofs.Starts.{begun_place, new_in}
@@ -28,10 +29,11 @@ use Rattle.usb_streams.proofs.Stretches.{between_knows, between_onward, item_onw
 
 -- Where a device stands
 
-level_in : (pipes : Pipes) (s : State) → PipesInSync pipes s → FitsIn (pipe_in pipes) s
-level_in (Hub pipe) s level = tt
-level_in (Function pipes) s level = level.1
-level_in Absent s level = tt
+level_in : (pipes : Pipes) (s : State) → PipesInSync pipes s → (e : ℕ)
+    → FitsIn (pipe_of true e pipes) s
+level_in (Hub pipe) s level e = tt
+level_in (Function pipes) s level e = level.ins e
+level_in Absent s level e = tt
 
 level_at : (path : List ℕ) (device : Accepted) (h : HostState) → Knows h → h.world.fault ≡ None
     → accepted_device_at path h.entries ≡ Some device
@@ -53,7 +55,7 @@ stood_none path device h knows still at = record {
         before = v;
         on = on;
         stands = stands;
-        so = streams_none path (pipes_at path (table_in h)) x v
+        so = streams_none path (pipes_at path (table_in h)) v
             (level_in (pipes_at path (table_in h)) v level);
       };
 }
@@ -62,12 +64,18 @@ stood_none path device h knows still at = record {
 renewed_starts : (path : List ℕ) (device : Accepted) (a b : HostState) → RenewedAt path device a b
     → Knows b → b.world.fault ≡ None → accepted_device_at path b.entries ≡ Some device
     → StartsAt path b
-renewed_starts path device a b renewed knows still at x s pipe is on stands e =
-    let new = new_in device (is_below_hub path) pipe (sym renewed.pipes.into ∙ e) in
-    let fits : FitsIn (Some pipe) s = subst (λ p. FitsIn p s) e
+renewed_starts path device a b renewed knows still at x s e pipe is on stands found =
+    let new = new_in device (is_below_hub path) e pipe
+    (sym (pipe_of_function true e (new_pipes_to device (is_below_hub path))
+    (pipes_at path (table_in b)) renewed.pipes.same) ∙ found) in
+    let fits : FitsIn (Some pipe) s = subst (λ p. FitsIn p s) found
     (level_in (pipes_at path (table_in b)) s
-    (level_at path device b knows still at x s is on stands)) in
-    begun_place pipe fits.0 s new.0 new.1 (renewed.endpoints x s is on stands pipe.ep).1 fits.1
+    (level_at path device b knows still at x s is on stands) e) in (
+      new.number,
+      subst (λ n. InPipeInSync pipe (in_end s n).place s) new.number
+          (begun_place pipe fits.0 s new.works new.first
+          (renewed.endpoints x s is on stands pipe.ep).1 fits.1),
+    )
 
 -- with what it had taken and given before
 renewed_head : (path : List ℕ) (device : Accepted) (a b : HostState)
@@ -85,7 +93,7 @@ renewed_head path device a b renewed knows still x v is on stands =
       place = λ e. ap (λ (d : State). (in_end d e).place) was.so;
     }))
 
--- what lies between two items leaves it, with its bulk endpoints
+-- what lies between two items leaves it, with its endpoints
 stayed_stands : (path : List ℕ) (device : Accepted) (told : List ToldItem) (a b c : HostState)
     → StoodAt path device told a b → StayedAt path device b c → StoodAt path device told a c
 stayed_stands path device told a b c stood stayed = record {
@@ -143,8 +151,7 @@ wrote_stays : (text : List ℕ) (a b : HostState) → AppendsText text a b
 wrote_stays text a b puts path device at = record {
   listed = ap (λ (h : HostState). accepted_device_at path h.entries) (sym puts.rest) ∙ at;
   pipes = record {
-    out = ap (λ (h : HostState). pipe_out (pipes_at path (table_in h))) puts.rest;
-    into = ap (λ (h : HostState). pipe_in (pipes_at path (table_in h))) puts.rest;
+    same = ap (λ (h : HostState). function_of (pipes_at path (table_in h))) puts.rest;
   };
   endpoints = λ x s is on stands.
       let same : b.world ≡ a.world = ap (λ (h : HostState). h.world) puts.rest in

@@ -1,4 +1,4 @@
-//! Streams of a run: over its items the transfers to a device join end to end (5.8).
+//! Streams of a run: over its items the transfers of each endpoint of a device join end to end (5.7, 5.8).
 //!
 //! usb_run says what a run reports of one transfer. These laws say what all transfers to one path
 //! come to, whatever else the run does between them.
@@ -6,8 +6,8 @@
 //! # What is proved
 //!
 //! - `transfers_join`: a device listed at the end of a *stretch* has been at its path since the
-//!   beginning, or since it was found anew. Since then the sends to it join end to end, and so do
-//!   the receives.
+//!   beginning, or since it was found anew. Since then the sends to each of its endpoints join end
+//!   to end, and so do the receives and polls of each.
 //! - `control_moves_nothing`: attempts at endpoint 0 move nothing at any other endpoint.
 //! - `runs_are_stretches`: a run is a stretch, with its items.
 //!

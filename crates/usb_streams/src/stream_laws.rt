@@ -18,10 +18,12 @@ ghost use Rattle.usb_streams.specs.Stretches.{IsStretch, Stretch, ToldItem};
 
 /// This is over any stretch of a run up to a host whose bus works. A device that is listed in the end was at its path
 /// from the beginning. Or it was there since a round or a look that found it anew and moved none of its bytes. From
-/// then on the endpoint of its OUT pipe took the bytes of the sends to it that are reported done, end to end. At most a
-/// prefix of a failed send comes after them, and no other endpoint took any. The receives from it that are reported
-/// done returned the next packets that its endpoint has, end to end, none twice and none left out. Each is so as long
-/// as no halt of the endpoint is cleared.
+/// then on each of its OUT endpoints took the bytes of the sends to it that are reported done, end to end. At most a
+/// prefix of a failed send comes after them. An endpoint took nothing where nothing was sent to it. What each IN endpoint
+/// gave to receives and polls that are reported done are its next packets, end to end, none twice and none left out.
+/// A poll that is reported done with a packet returned that packet. A transfer without an address is one of the first
+/// bulk endpoint of its direction. All this is so for an endpoint as long as no halt of it is cleared. A clear without
+/// an address leaves an endpoint alone whose pipe works.
 pub fn transfers_join()
     ensures { (old new : HostState) (told : List ToldItem) → Stretch old told new → Knows old
         → new.world.fault ≡ None
