@@ -17,8 +17,8 @@ use Rattle.usb_sim.specs.{Ghosts, trace_of, tracer_of, world_of}
 use Rattle.usb_bus.specs.{lines_between, next_due, step_lines, Attempts, TakesEvent}
 use Rattle.usb_lines.specs.{Pipe, LineFault}
 use Rattle.usb_lines.specs.declared.line.LineFault.TheVariants as line
-use Rattle.usb_wire.specs.{said_line, send_limit, write_limit, kind_asked, Answer, Roots, Ack}
-use Rattle.usb_wire.specs.{Nak, Stall, ControlOut}
+use Rattle.usb_wire.specs.{said_line, send_limit, send_to_limit, write_limit, kind_asked, Answer}
+use Rattle.usb_wire.specs.{Roots, Ack, Nak, Stall, ControlOut, ClearOf, Poll, ReceiveFrom, SendTo}
 use Rattle.usb_wire.specs.{Nothing, Data, Done, Show, End, Send, Receive, Clear, ControlIn, Look}
 use Rattle.usb_wire.specs.{News, Said, Changed, Answered, Asked, DataPacket, Endpoint, Question}
 use Rattle.usb_wire.specs.declared.question.Asked.TheVariants as asked
@@ -170,6 +170,11 @@ unfoldable pub send_wanted : List ℕ → List ℕ → Option Answer
 send_wanted path bytes = if nat_lt send_limit (length bytes) then None else Some
     (Send path (record { items = bytes }))
 
+unfoldable pub send_to_wanted : List ℕ → ℕ → List ℕ → Option Answer
+send_to_wanted path endpoint bytes =
+    if nat_lt send_to_limit (length bytes) then None
+    else Some (SendTo path endpoint (record { items = bytes }))
+
 unfoldable pub write_wanted : List ℕ → Write → Option Answer
 write_wanted path request =
     if nat_lt write_limit (length request.bytes) then None
@@ -180,6 +185,10 @@ asked_answer ask.Show = Some Show
 asked_answer (ask.Send path bytes) = send_wanted path bytes
 asked_answer (ask.Receive path packets) = Some (Receive path packets)
 asked_answer (ask.Clear path) = Some (Clear path)
+asked_answer (ask.SendTo path endpoint bytes) = send_to_wanted path endpoint bytes
+asked_answer (ask.ReceiveFrom path endpoint packets) = Some (ReceiveFrom path endpoint packets)
+asked_answer (ask.Poll path endpoint) = Some (Poll path endpoint)
+asked_answer (ask.ClearOf path endpoint) = Some (ClearOf path endpoint)
 asked_answer (ask.ControlIn path request) = Some (ControlIn path request)
 asked_answer (ask.ControlOut path request) = write_wanted path request
 asked_answer (ask.Look path) = Some (Look path)

@@ -29,6 +29,7 @@ abbrev pub is_report : List ℕ → Bool
 is_report line =
     begins_with line (codes "send ")
     || begins_with line (codes "receive ")
+    || begins_with line (codes "interrupt ")
     || begins_with line (codes "clear ")
     || begins_with line (codes "control ")
     || begins_with line (codes "look ")

@@ -7,7 +7,7 @@ ghost use Rattle.usb_bus.specs.Watch.{has_failed};
 ghost use Rattle.usb_sim.specs.Sim.{trace_of, world_of};
 ghost use Rattle.usb_lines.specs.Pipes.{pipe_of};
 ghost use Rattle.usb_wire.specs.Questions.{IsQuestion};
-ghost use Rattle.usb_far.specs.FarEnd.{IsEventGivenUp, IsGivenUp, HasNoPort, IsDone, IsUnanswered, SendsTooMuch, attempt_done, call_done, asked_answer, came_in, done, due_answer, send_wanted, statuses, wait_done, write_wanted};
+ghost use Rattle.usb_far.specs.FarEnd.{IsEventGivenUp, IsGivenUp, HasNoPort, IsDone, IsUnanswered, SendsTooMuch, attempt_done, call_done, asked_answer, came_in, done, due_answer, send_to_wanted, send_wanted, statuses, wait_done, write_wanted};
 
 use crate::attempt::{answer_of, in_attempt, is_poll, out_attempt, setup_attempt};
 use crate::fault::FarFault;
@@ -16,11 +16,12 @@ use std::alloc::{AllocError, Global};
 use std::io::Write;
 use usb_bus::{Attempt, Bus, Watched};
 use usb_port::{PortCall, PortPath};
+use usb_request::EndpointAddress;
 use usb_request::feature::{
     C_PORT_CONNECTION, C_PORT_ENABLE, C_PORT_RESET, PORT_ENABLE, PORT_POWER, PORT_RESET,
 };
 use usb_sim::{Ask, Plan, SentBytes, SimBus, Trace, Tracer, WriteRequest};
-use usb_wire::{Answer, ControlWrite, Question, SEND_LIMIT, WRITE_LIMIT};
+use usb_wire::{Answer, ControlWrite, Question, SEND_LIMIT, SEND_TO_LIMIT, WRITE_LIMIT};
 
 /// The statuses of root ports, port 1 first.
 pub(crate) type Statuses = ArrayVec<[u8; 4], 7>;
@@ -223,6 +224,14 @@ fn asked_answer(ask: Ask) -> Option<Answer>
         Ask::Send(path, bytes) => send_answer(path, &bytes),
         Ask::Receive(path, packets) => Some(Answer::Receive { path, packets }),
         Ask::Clear(path) => Some(Answer::Clear(path)),
+        Ask::SendTo(path, endpoint, bytes) => send_to_answer(path, endpoint, &bytes),
+        Ask::ReceiveFrom(path, endpoint, packets) => Some(Answer::ReceiveFrom {
+            path,
+            endpoint,
+            packets,
+        }),
+        Ask::Poll(path, endpoint) => Some(Answer::Poll { path, endpoint }),
+        Ask::ClearOf(path, endpoint) => Some(Answer::ClearOf { path, endpoint }),
         Ask::ControlIn(path, request) => Some(Answer::ControlIn { path, request }),
         Ask::ControlOut(path, request) => write_answer(path, &request),
         Ask::Look(path) => Some(Answer::Look(path)),
@@ -241,6 +250,23 @@ fn send_answer(path: PortPath, bytes: &SentBytes) -> Option<Answer>
     let mut sent = ArrayVec::new();
     sent.try_extend_from_slice(bytes.as_slice()).unwrap();
     Some(Answer::Send { path, bytes: sent })
+}
+
+/// What is to be sent to an endpoint that is named, if a line has room for it.
+#[tactic(auto, unfolding(crate::specs::FarEnd::send_to_wanted))]
+fn send_to_answer(path: PortPath, endpoint: EndpointAddress, bytes: &SentBytes) -> Option<Answer>
+    ensures { result ≡ send_to_wanted path endpoint bytes.now }
+{
+    if bytes.as_slice().len() > SEND_TO_LIMIT {
+        return None;
+    }
+    let mut sent = ArrayVec::new();
+    sent.try_extend_from_slice(bytes.as_slice()).unwrap();
+    Some(Answer::SendTo {
+        path,
+        endpoint,
+        bytes: sent,
+    })
 }
 
 /// What is to be written, if a line has room for it.

@@ -24,7 +24,8 @@ impl<T: Trace> FarEnd<T> {
     /// # Errors
     ///
     /// `NoQuestion` if it is the hello and not the first question, or the first one and not the hello. `BadNumber` if
-    /// there is no such root port. `LongSend` if an event sends more than 500 bytes. Else the fault of the bus.
+    /// there is no such root port. `LongSend` if an event sends or writes more than a line has room for. Else the fault of
+    /// the bus.
     pub(crate) fn reply(&mut self, question: Question) -> Result<Reply, FarFault>
         requires { IsQuestion question }
         ensures replied { IfOk result (λ reply.

@@ -27,7 +27,8 @@ use usb_wire::{Question, read_question};
 /// - `BadCharacter`: a byte of such a line is no printable ASCII.
 /// - `NoQuestion`: such a line is no question, or the hello is not the first one.
 /// - `BadNumber`: there is no such root port.
-/// - `LongSend`: an event sends more than 500 bytes, or writes more than 480 to endpoint 0.
+/// - `LongSend`: an event sends more than 500 bytes, more than 490 to an endpoint that is named, or
+///   writes more than 480 to endpoint 0.
 /// - `Bus`: the simulated bus has failed.
 /// - `Write`: the writer failed.
 pub fn serve<T: Trace, R: Read, W: Write>(
@@ -188,6 +189,7 @@ fn is_report(line: &[u8]) -> bool
 {
     begins_with(line, b"send ")
         || begins_with(line, b"receive ")
+        || begins_with(line, b"interrupt ")
         || begins_with(line, b"clear ")
         || begins_with(line, b"control ")
         || begins_with(line, b"look ")

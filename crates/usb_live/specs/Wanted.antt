@@ -19,6 +19,10 @@ abbrev pub ask_of : Answer → Option Ask
 ask_of (answer.Send path bytes) = Some (ask.Send path bytes.items)
 ask_of (answer.Receive path packets) = Some (ask.Receive path packets)
 ask_of (answer.Clear path) = Some (ask.Clear path)
+ask_of (answer.SendTo path endpoint bytes) = Some (ask.SendTo path endpoint bytes.items)
+ask_of (answer.ReceiveFrom path endpoint packets) = Some (ask.ReceiveFrom path endpoint packets)
+ask_of (answer.Poll path endpoint) = Some (ask.Poll path endpoint)
+ask_of (answer.ClearOf path endpoint) = Some (ask.ClearOf path endpoint)
 ask_of (answer.ControlIn path request) = Some (ask.ControlIn path request)
 ask_of (answer.ControlOut path write) =
     Some (ask.ControlOut path (record { setup = write.setup; bytes = write.bytes }))

@@ -24,6 +24,7 @@ mod end;
 mod host;
 mod owed;
 mod stage;
+mod transfer;
 mod wanted;
 
 pub use end::LiveEnd;

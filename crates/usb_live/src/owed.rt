@@ -1,8 +1,9 @@
 //! What is requested, and was not reported yet.
 ghost use Rattle.std.specs.Prelude.{◌≡◌};
-ghost use Rattle.usb_live.specs.Course.{is_count, is_nothing, is_within, owed_by, settles};
+ghost use Rattle.usb_live.specs.Course.{is_count, is_nothing, is_there, is_within, owed_by, settles};
 
 use usb_port::PortPath;
+use usb_request::EndpointAddress;
 use usb_run::{Item, TransferFault};
 use usb_stream::LiveFault;
 use usb_wire::Answer;
@@ -20,6 +21,14 @@ pub(crate) enum Owed {
     Receive(PortPath),
     /// That the halts of the device at a path were cleared.
     Clear(PortPath),
+    /// The number of bytes that were sent to an endpoint of the device at a path.
+    SendTo(PortPath, EndpointAddress, u64),
+    /// What was received from an endpoint of the device at a path.
+    ReceiveFrom(PortPath, EndpointAddress),
+    /// The packet of an endpoint of the device at a path, or that it had none.
+    Poll(PortPath, EndpointAddress),
+    /// That the halt of an endpoint of the device at a path was cleared.
+    ClearOf(PortPath, EndpointAddress),
     /// What was read from the device at a path, at most this number of bytes.
     Read(PortPath, u16),
     /// The number of bytes that were written to endpoint 0 of the device at a path.
@@ -39,6 +48,18 @@ pub(crate) fn owed_by(answer: &Result<Answer, LiveFault>) -> Owed
         Ok(Answer::Send { path, bytes }) => Owed::Send(path.duplicate(), bytes.len() as u64),
         Ok(Answer::Receive { path, .. }) => Owed::Receive(path.duplicate()),
         Ok(Answer::Clear(path)) => Owed::Clear(path.duplicate()),
+        Ok(
+            Answer::SendTo {
+                path,
+                endpoint,
+                bytes,
+            },
+        ) => Owed::SendTo(path.duplicate(), *endpoint, bytes.len() as u64),
+        Ok(Answer::ReceiveFrom { path, endpoint, .. }) => {
+            Owed::ReceiveFrom(path.duplicate(), *endpoint)
+        }
+        Ok(Answer::Poll { path, endpoint }) => Owed::Poll(path.duplicate(), *endpoint),
+        Ok(Answer::ClearOf { path, endpoint }) => Owed::ClearOf(path.duplicate(), *endpoint),
         Ok(Answer::ControlIn { path, request }) => {
             Owed::Read(path.duplicate(), request.setup().length)
         }
@@ -69,6 +90,18 @@ pub(crate) fn settles(owed: &Owed, item: &Item) -> bool
         }
         (Owed::Receive(path), Item::Received(at, _)) => path.numbers() == at.numbers(),
         (Owed::Clear(path), Item::Cleared(at, _)) => path.numbers() == at.numbers(),
+        (Owed::SendTo(path, endpoint, count), Item::SentTo(at, named, sent)) => {
+            is_there(path, *endpoint, at, *named) && is_count(*count, sent)
+        }
+        (Owed::ReceiveFrom(path, endpoint), Item::ReceivedFrom(at, named, _)) => {
+            is_there(path, *endpoint, at, *named)
+        }
+        (Owed::Poll(path, endpoint), Item::Polled(at, named, _)) => {
+            is_there(path, *endpoint, at, *named)
+        }
+        (Owed::ClearOf(path, endpoint), Item::ClearedOf(at, named, _)) => {
+            is_there(path, *endpoint, at, *named)
+        }
         (Owed::Read(path, most), Item::Read(at, read)) => {
             path.numbers() == at.numbers() && is_within(*most, read)
         }
@@ -79,6 +112,18 @@ pub(crate) fn settles(owed: &Owed, item: &Item) -> bool
         (Owed::News, Item::News(_)) => true,
         _ => false,
     }
+}
+
+/// Whether a transfer was made through an endpoint of the device at a path.
+fn is_there(
+    path: &PortPath,
+    endpoint: EndpointAddress,
+    at: &PortPath,
+    named: EndpointAddress,
+) -> bool
+    ensures { result ≡ is_there path.now endpoint at.now named }
+{
+    path.numbers() == at.numbers() && endpoint.get() == named.get()
 }
 
 /// Whether this number of bytes were sent, if the transfer did not fail.

@@ -3,6 +3,7 @@ ghost use Rattle.std.specs.Prelude.{◌≡◌, IfOk, IfSome, true};
 ghost use Rattle.usb_live.specs.Course.{IsShown, ListsEntries};
 ghost use Rattle.usb_live.specs.Wanted.{DoesWanted, IsOwed};
 
+use crate::transfer::{clear_of, poll, read, receive_from, send_to, write};
 use std::alloc::Global;
 use usb_bus::Bus;
 use usb_host::Host;
@@ -44,15 +45,20 @@ pub(crate) fn item_of<B: Bus>(
             let cleared = answered(host.clear_halt(&path))?;
             Ok(Some(Item::Cleared(path, cleared)))
         }
-        Answer::ControlIn { path, request } => {
-            let read = answered(host.control_in(&path, request.setup()))?;
-            Ok(Some(Item::Read(path, read)))
-        }
-        Answer::ControlOut { path, request } => {
-            let bytes = request.bytes();
-            let written = answered(host.control_out(&path, request.setup(), bytes))?;
-            Ok(Some(Item::Written(path, counted(bytes.len(), written))))
-        }
+        Answer::SendTo {
+            path,
+            endpoint,
+            bytes,
+        } => Ok(Some(send_to(host, path, endpoint, bytes.as_slice())?)),
+        Answer::ReceiveFrom {
+            path,
+            endpoint,
+            packets,
+        } => Ok(Some(receive_from(host, path, endpoint, packets)?)),
+        Answer::Poll { path, endpoint } => Ok(Some(poll(host, path, endpoint)?)),
+        Answer::ClearOf { path, endpoint } => Ok(Some(clear_of(host, path, endpoint)?)),
+        Answer::ControlIn { path, request } => Ok(Some(read(host, path, request)?)),
+        Answer::ControlOut { path, request } => Ok(Some(write(host, path, &request)?)),
         Answer::Look(path) => {
             let looked = answered(host.look(&path))?;
             Ok(Some(Item::Looked(path, looked)))

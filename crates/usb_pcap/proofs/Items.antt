@@ -14,10 +14,12 @@ use Rattle.std.specs.Option.{option_and_then}
 use Rattle.usb_pcap.specs.{Item, Port, Byte, Letter, decimal_in, if_found, is_digit, number_on}
 use Rattle.usb_pcap.specs.{strip, strip_any, with_digit, AreUnits, IsUnit, IsOneOf, IsPiece, Piece}
 use Rattle.usb_pcap.specs.{behind_bytes, behind_escape, behind_item, behind_items, behind_piece}
-use Rattle.usb_pcap.specs.{is_escape, is_plain}
+use Rattle.usb_pcap.specs.{behind_endpoint, is_endpoint, is_escape, is_plain, value_of}
+use Rattle.usb_request.specs.{is_endpoint_address}
+use Rattle.hex.specs.Hex.{encode_with}
 use Rattle.usb_port.specs.{is_port_digit}
 use Rattle.usb_pcap.proofs.Reading.{decimal_in-some, found_some, if_either, if-some, map_some}
-use Rattle.usb_pcap.proofs.Reading.{strip-some}
+use Rattle.usb_pcap.proofs.Reading.{digit_spelled, encode_step, encode_upper-pair, strip-some}
 
 -- ---- words
 
@@ -237,6 +239,7 @@ abbrev pub halts : Piece → ℕ → Bool
 halts (Piece.word w) c = true
 halts (Piece.one_of words) c = true
 halts Piece.path c = not (c == 46)
+halts Piece.endpoint c = true
 halts Piece.number c = not (is_ascii_digit c)
 halts Piece.bytes c = not (is_digit c)
 halts Piece.string c = not (is_plain c) && not (c == 92)
@@ -387,6 +390,20 @@ piece_bytes-sound text rest e =
           ∙ sym (append_assoc first items rest),
     )))
 
+piece_endpoint-sound : (text rest : List ℕ) → behind_endpoint text ≡ Some rest → (first : List ℕ)
+    × IsPiece Piece.endpoint first × (text ≡ first ++ rest)
+piece_endpoint-sound [] rest e = absurd (cc)
+piece_endpoint-sound (h ∷ []) rest e = absurd (cc)
+piece_endpoint-sound (h ∷ l ∷ text) rest e =
+    if-some (is_endpoint h l) (Some text) rest e (λ fit is.
+    let a = value_of h * 16 + value_of l in
+    let both = and_parts (is_digit h && is_digit l) (is_endpoint_address a) fit in
+    let digits = and_parts (is_digit h) (is_digit l) both.0 in (
+      h ∷ l ∷ [],
+      (a, both.1, sym (encode_upper-pair h l digits.0 digits.1)),
+      ap (λ t. h ∷ l ∷ t) (same_Some text rest is),
+    ))
+
 pub piece-sound : (piece : Piece) (text rest : List ℕ) → behind_piece piece text ≡ Some rest
     → (first : List ℕ) × IsPiece piece first × (text ≡ first ++ rest)
 unfolding behind_piece
@@ -400,6 +417,7 @@ piece-sound Piece.path (d ∷ text) rest e =
       (d, more, fit, are, refl),
       ap (λ l. d ∷ l) (whole ∙ ap (λ l. more ++ l) (same_Some (behind_items Port 6 text) rest is)),
     ))
+piece-sound Piece.endpoint text rest e = piece_endpoint-sound text rest e
 piece-sound Piece.number text rest e =
     map_some (λ (n : ℕ × List ℕ). n.1) (decimal_in text) rest e (λ n found is.
     let own = decimal_in-some text n found in
@@ -447,6 +465,20 @@ piece_bytes-complete text rest (inr (n, first, more, is, are, e)) stop =
     ∙ ap (option_map (λ r. behind_items Byte (length r) r))
     (item-complete Byte first (more ++ rest) is) ∙ ap Some all)
 
+address_few : (a : ℕ) → is_endpoint_address a ≡ true → a < 256
+address_few a h = grind (arith, nat_tests)
+
+piece_endpoint-complete : (text rest : List ℕ) → IsPiece Piece.endpoint text
+    → behind_endpoint (text ++ rest) ≡ Some rest
+unfolding encode_with
+piece_endpoint-complete text rest (a, named, e) =
+    let few = address_few a named in
+    let high = digit_spelled (a / 16) (omega (arith, few)) in
+    let low = digit_spelled (a % 16) (omega arith) in
+    let whole : a / 16 * 16 + a % 16 ≡ a = omega arith in
+    ap (λ t. behind_endpoint (t ++ rest)) (e ∙ encode_step a [])
+    ∙ rw (high.0, low.0, high.1, low.1, whole, named) refl
+
 abbrev pub distinct : Piece → Bool
 distinct (Piece.one_of words) = distinct_words words
 distinct _ = true
@@ -459,6 +491,7 @@ piece-complete (Piece.word w) text rest h is stop =
 piece-complete (Piece.one_of words) text rest h is stop = strip_any-complete words text rest h is
 piece-complete Piece.path text rest h (d, more, fit, are, e) stop =
     rw (e, fit) (ap Some (items-complete Port 6 6 more rest (omega arith) are (port_end rest stop)))
+piece-complete Piece.endpoint text rest h is stop = piece_endpoint-complete text rest is
 piece-complete Piece.number text rest h (n, few, e) stop =
     rw (e, decimal_in-complete n rest few stop) refl
 piece-complete Piece.bytes text rest h is stop = piece_bytes-complete text rest is stop

@@ -1,10 +1,10 @@
 -- What a run prints of an attempt is read as that attempt.
-use Rattle.std.proofs.Common.{◌≡◌, ◌⊎◌, ℕ, zero, suc, ◌+◌, ◌*◌, ◌/◌, ◌%◌, ◌<◌, ◌≤◌, inl, inr, ◌==◌}
-use Rattle.std.proofs.Common.{◌&&◌, Bool, true, false, List, [], ◌∷◌, ◌++◌, length, slice_index}
+use Rattle.std.proofs.Common.{◌≡◌, ◌⊎◌, ℕ, suc, ◌+◌, ◌*◌, ◌/◌, ◌%◌, ◌<◌, ◌≤◌, inl, inr, ◌==◌}
+use Rattle.std.proofs.Common.{Bool, true, false, List, [], ◌∷◌, ◌++◌, length, slice_index}
 use Rattle.std.proofs.Common.{Option, Some, None, IfSome, is_some, option_map, codes, decimal, refl}
 use Rattle.std.proofs.Common.{sym, ap, ap₂, subst, ◌∙◌, arith, append_assoc, append-nil}
 use Rattle.std.proofs.Common.{length-append}
-use Rattle.std.proofs.lemmas.Bool.{and_parts, cases_lt, eqb-true, lt-ltb, ltb-true}
+use Rattle.std.proofs.lemmas.Bool.{lt-ltb, ltb-true}
 use Rattle.hex.specs.Hex.{encode_upper, encode_with, upper_digits}
 use Rattle.usb_packet.specs.{TokenKind, OutTok, InTok, SetupTok, Toggle, Zero, One, Packet, Token}
 use Rattle.usb_packet.specs.{Sof, Payload, Ack, Nak, Stall, Pre, HasData, HasFields, IsBytes}
@@ -21,35 +21,9 @@ use Rattle.usb_pcap.specs.{host_ack_in, host_data_in, host_in, is_ack_packet, is
 use Rattle.usb_pcap.specs.{is_data_packet, may_be_marked, next_in, no_time, payload_if}
 use Rattle.usb_pcap.specs.{read_attempt, reply_if, traced}
 use Rattle.usb_pcap.proofs.Items.{StopsAt, decimal_in-complete, dash_apart}
+use Rattle.usb_pcap.proofs.Reading.{digit_spelled, encode_step}
 
 -- ---- bytes
-
--- every value has its upper-case digit
-abbrev spelled_there : ℕ → Bool
-spelled_there v = is_digit (slice_index upper_digits v) &&
-    (value_of (slice_index upper_digits v) == v)
-
-abbrev all_spelled : ℕ → Bool
-all_spelled zero = true
-all_spelled (suc n) = spelled_there n && all_spelled n
-
-all_spelled-at : (n v : ℕ) → all_spelled n ≡ true → v < n → spelled_there v ≡ true
-all_spelled-at zero v h lt = absurd (omega arith)
-all_spelled-at (suc n) v h lt =
-    let parts = and_parts (spelled_there n) (all_spelled n) h in
-    elim (cases_lt v n) [
-      | inl below ↦ all_spelled-at n v parts.1 below
-      | inr top ↦
-          let e : v ≡ n = omega arith in
-          rw e parts.0
-    ]
-
-pub digit_spelled : (v : ℕ) → v < 16 → (is_digit (slice_index upper_digits v) ≡ true)
-    × (value_of (slice_index upper_digits v) ≡ v)
-digit_spelled v few =
-    let both = and_parts (is_digit (slice_index upper_digits v))
-    (value_of (slice_index upper_digits v) == v) (all_spelled-at 16 v refl few) in
-    (both.0, eqb-true _ v both.1)
 
 -- a text that is at its end, or goes on with a blank
 abbrev Blank : List ℕ → Type 0
@@ -67,11 +41,6 @@ bytes_pair : (h l : ℕ) (done text : List ℕ) → is_digit h ≡ true → is_d
     ≡ bytes_on (done ++ (value_of h * 16 + value_of l) ∷ []) text
 unfolding bytes_on
 bytes_pair h l done text high low room = rw (high, low, lt-ltb (length done) 64 room) refl
-
-pub encode_step : (b : ℕ) (bytes : List ℕ) → encode_upper (b ∷ bytes) ≡ slice_index upper_digits
-    (b / 16) ∷ slice_index upper_digits (b % 16) ∷ encode_upper bytes
-unfolding encode_with
-encode_step b bytes = refl
 
 bytes_on-complete : (bytes done rest : List ℕ) → IsBytes bytes → length done + length bytes ≤ 64
     → Blank rest → bytes_on done (encode_upper bytes ++ rest) ≡ Some (done ++ bytes, rest)

@@ -108,6 +108,38 @@ encode_upper-pair h l hd ld =
     let end : (value_of h * 16 + value_of l) % 16 ≡ value_of l = omega arith in
     rw (top, end, high.0, low.0)
 
+-- every value has its upper-case digit
+abbrev spelled_there : ℕ → Bool
+spelled_there v = is_digit (slice_index upper_digits v) &&
+    (value_of (slice_index upper_digits v) == v)
+
+abbrev all_spelled : ℕ → Bool
+all_spelled zero = true
+all_spelled (suc n) = spelled_there n && all_spelled n
+
+all_spelled-at : (n v : ℕ) → all_spelled n ≡ true → v < n → spelled_there v ≡ true
+all_spelled-at zero v h lt = absurd (omega arith)
+all_spelled-at (suc n) v h lt =
+    let parts = and_parts (spelled_there n) (all_spelled n) h in
+    elim (cases_lt v n) [
+      | inl below ↦ all_spelled-at n v parts.1 below
+      | inr top ↦
+          let e : v ≡ n = omega arith in
+          rw e parts.0
+    ]
+
+pub digit_spelled : (v : ℕ) → v < 16 → (is_digit (slice_index upper_digits v) ≡ true)
+    × (value_of (slice_index upper_digits v) ≡ v)
+digit_spelled v few =
+    let both = and_parts (is_digit (slice_index upper_digits v))
+    (value_of (slice_index upper_digits v) == v) (all_spelled-at 16 v refl few) in
+    (both.0, eqb-true _ v both.1)
+
+pub encode_step : (b : ℕ) (bytes : List ℕ) → encode_upper (b ∷ bytes) ≡ slice_index upper_digits
+    (b / 16) ∷ slice_index upper_digits (b % 16) ∷ encode_upper bytes
+unfolding encode_with
+encode_step b bytes = refl
+
 pub bytes_on-some : (bytes text : List ℕ) (r : List ℕ × List ℕ) → bytes_on bytes text ≡ Some r
     → encode_upper bytes ++ text ≡ encode_upper r.0 ++ r.1
 unfolding bytes_on

@@ -18,8 +18,8 @@ use Rattle.usb_pcap.specs.{Begins, IsPlainChar, IsShownChar, IsShownText, is_dig
 use Rattle.usb_pcap.specs.{is_escaped_pair, pair_value, value_of}
 use Rattle.hex.specs.Hex.{encode_upper, encode_with, upper_digits}
 use Rattle.std.proofs.lemmas.Option.{same_Some}
-use Rattle.usb_pcap.proofs.Printed.{digit_spelled, encode_step}
-use Rattle.usb_pcap.proofs.Reading.{digit_there, encode_upper-pair, if-some}
+use Rattle.usb_pcap.proofs.Reading.{digit_spelled, digit_there, encode_step, encode_upper-pair}
+use Rattle.usb_pcap.proofs.Reading.{if-some}
 use lib.Utf8.{low_scalar, scalar, scalars}
 
 -- ---- one character

@@ -6,7 +6,7 @@ use Rattle.usb_pcap.specs.{Begins, IsPlug, IsReport, IsShownText, fits_form, has
 use Rattle.usb_pcap.specs.{plug_form, report_forms}
 use Rattle.usb_pcap.proofs.Forms.{fits_form-complete, fits_form-sound, is_report-complete}
 use Rattle.usb_pcap.proofs.Forms.{is_report-sound}
-use Rattle.usb_pcap.proofs.ShownNames.{begins_none, shown_decided}
+use Rattle.usb_pcap.proofs.ShownNames.{shown_decided}
 
 -- a line in the form of a plug is one by its name
 pub plug_formed : (line : List ℕ) (fits shown : Bool) → fits ≡ fits_form plug_form line

@@ -6,7 +6,9 @@ use Rattle.usb_pcap.specs.declared.item.Item.{Item}
 use Rattle.usb_pcap.specs.declared.item.Item.TheVariants.{Port, Byte, Letter}
 use Rattle.usb_pcap.specs.declared.part.Part.{Part}
 use Rattle.usb_pcap.specs.declared.part.Part.TheVariants as part
+use Rattle.usb_packet.specs.{hex_text}
 use Rattle.usb_port.specs.{is_port_digit}
+use Rattle.usb_request.specs.{is_endpoint_address}
 use Rattle.usb_pcap.specs.Text.{decimal_in, if_found, is_digit, strip, strip_any, value_of}
 
 -- ---- the grammar
@@ -45,6 +47,7 @@ pub data Piece : Type 0 where
   word : List ℕ → Piece
   one_of : List (List ℕ) → Piece
   path : Piece
+  endpoint : Piece
   number : Piece
   bytes : Piece
   string : Piece
@@ -56,6 +59,7 @@ IsPiece (Piece.word w) text = text ≡ w
 IsPiece (Piece.one_of words) text = IsOneOf words text
 IsPiece Piece.path text = (d : ℕ) × (more : List ℕ) × (is_port_digit d ≡ true)
     × AreUnits Port 6 more × (text ≡ d ∷ more)
+IsPiece Piece.endpoint text = (a : ℕ) × (is_endpoint_address a ≡ true) × (text ≡ hex_text (a ∷ []))
 IsPiece Piece.number text = (n : ℕ) × (n < 2 ^ 64) × (text ≡ decimal n)
 IsPiece Piece.bytes text =
     (text ≡ codes "-")
@@ -110,6 +114,15 @@ abbrev pub behind_path : List ℕ → Option (List ℕ)
 behind_path [] = None
 behind_path (d ∷ text) = if is_port_digit d then Some (behind_items Port 6 text) else None
 
+-- two upper-case digits of an endpoint's address (9.6.6)
+abbrev pub is_endpoint : ℕ → ℕ → Bool
+is_endpoint h l = is_digit h && is_digit l && is_endpoint_address (value_of h * 16 + value_of l)
+
+abbrev pub behind_endpoint : List ℕ → Option (List ℕ)
+behind_endpoint [] = None
+behind_endpoint (h ∷ []) = None
+behind_endpoint (h ∷ l ∷ text) = if is_endpoint h l then Some text else None
+
 abbrev pub behind_bytes : List ℕ → Option (List ℕ)
 behind_bytes text = if_found (strip (codes "-") text) Some
     (option_map (λ rest. behind_items Byte (length rest) rest) (behind_item Byte text))
@@ -123,6 +136,7 @@ unfoldable pub behind_piece : Piece → List ℕ → Option (List ℕ)
 behind_piece (Piece.word w) text = strip w text
 behind_piece (Piece.one_of words) text = strip_any words text
 behind_piece Piece.path text = behind_path text
+behind_piece Piece.endpoint text = behind_endpoint text
 behind_piece Piece.number text = option_map (λ n. n.1) (decimal_in text)
 behind_piece Piece.bytes text = behind_bytes text
 behind_piece Piece.string text = Some (behind_items Letter (length text) text)
@@ -142,6 +156,7 @@ abbrev pub piece_of : Part → Piece
 piece_of (part.Word w) = Piece.word w.now
 piece_of (part.OneOf words) = Piece.one_of (map (λ w. w.now) words.now)
 piece_of part.Path = Piece.path
+piece_of part.Endpoint = Piece.endpoint
 piece_of part.Number = Piece.number
 piece_of part.Bytes = Piece.bytes
 piece_of part.Text = Piece.string

@@ -21,8 +21,8 @@ pub use Record.{AppendsRecords, AreRecords, HasBit, IsRecord, answer_packets, at
 pub use Record.{damaged, header, host_packets, next_packets, own_mark, pre_mark, pre_packets}
 pub use Record.{record_head}
 pub use Grammar.{AreUnits, IsForm, IsOneOf, IsPiece, IsUnit, Piece, behind_byte, behind_bytes}
-pub use Grammar.{behind_escape, behind_letter, behind_name, behind_path, behind_port, is_escape}
-pub use Grammar.{is_plain, piece_of}
+pub use Grammar.{behind_endpoint, behind_escape, behind_letter, behind_name, behind_path}
+pub use Grammar.{behind_port, is_endpoint, is_escape, is_plain, piece_of}
 unfoldable pub use Grammar.{behind_item, behind_items, behind_piece, fits_form}
 pub use Report.{HasForm, IsPlug, IsReport, causes, failures, has_form, plug_form, report_forms}
 pub use Shown.{Begins, IsPlainChar, IsShownChar, IsShownText, is_escaped_pair, pair_value}

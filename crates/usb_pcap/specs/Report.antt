@@ -1,7 +1,7 @@
 -- The lines of a run that are of no attempt.
 use Rattle.std.specs.Prelude.{◌⊎◌, ℕ, ◌||◌, Bool, false, List, [], ◌∷◌, codes}
 use Rattle.usb_pcap.specs.Grammar.{IsForm, Piece, fits_form}
-use Rattle.usb_pcap.specs.Grammar.Piece.{word, one_of, path, number, bytes, string, name}
+use Rattle.usb_pcap.specs.Grammar.Piece.{word, one_of, path, endpoint, number, bytes, string, name}
 
 -- why a device was refused
 abbrev pub causes : List (List ℕ)
@@ -41,6 +41,14 @@ report_forms =
     ∷ (word (codes "clear ") ∷ path ∷ word (codes " done") ∷ [])
     ∷ (one_of (codes "send " ∷ codes "receive " ∷ codes "clear " ∷ []) ∷ path ∷
     word (codes " failed ") ∷ one_of failures ∷ [])
+    ∷ (word (codes "send ") ∷ path ∷ word (codes " ") ∷ endpoint ∷ word (codes " done ") ∷ number ∷
+    [])
+    ∷ (one_of (codes "receive " ∷ codes "interrupt " ∷ []) ∷ path ∷ word (codes " ") ∷ endpoint ∷
+    word (codes " done ") ∷ bytes ∷ [])
+    ∷ (word (codes "interrupt ") ∷ path ∷ word (codes " ") ∷ endpoint ∷ word (codes " nothing") ∷ [])
+    ∷ (word (codes "clear ") ∷ path ∷ word (codes " ") ∷ endpoint ∷ word (codes " done") ∷ [])
+    ∷ (one_of (codes "send " ∷ codes "receive " ∷ codes "interrupt " ∷ codes "clear " ∷ []) ∷ path ∷
+    word (codes " ") ∷ endpoint ∷ word (codes " failed ") ∷ one_of failures ∷ [])
     ∷ (word (codes "control ") ∷ path ∷ word (codes " in done ") ∷ bytes ∷ [])
     ∷ (word (codes "control ") ∷ path ∷ one_of (codes " in failed " ∷ codes " out failed " ∷ []) ∷
     one_of failures ∷ [])

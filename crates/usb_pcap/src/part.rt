@@ -1,10 +1,12 @@
 //! Parts of a line.
 ghost use Rattle.std.specs.Prelude.{◌≡◌, map, option_map};
-ghost use Rattle.usb_pcap.specs.Grammar.{behind_bytes, behind_name, behind_path, behind_piece, fits_form, piece_of};
+ghost use Rattle.usb_pcap.specs.Grammar.{behind_bytes, behind_endpoint, behind_name, behind_path, behind_piece, fits_form, is_endpoint, piece_of};
 ghost use Rattle.usb_pcap.specs.Text.{decimal_in, strip, strip_any};
+ghost use Rattle.usb_request.specs.EndpointAddresses.{is_endpoint_address};
 
 use crate::item::{Item, behind_item, behind_items, is_port_digit};
-use crate::text::Text;
+use crate::text::{Text, is_digit, value_of};
+use usb_request::EndpointAddress;
 
 /// A part of a line.
 pub(crate) enum Part {
@@ -14,6 +16,8 @@ pub(crate) enum Part {
     OneOf(&'static [&'static str]),
     /// The path of a port.
     Path,
+    /// The address of an endpoint, in two upper-case hexadecimal digits.
+    Endpoint,
     /// A number below 2 ^ 64, in decimal digits with no zero before them.
     Number,
     /// Bytes, in pairs of upper-case hexadecimal digits, a dash for none.
@@ -47,6 +51,7 @@ fn behind_part<'a>(part: &Part, text: &'a [u8]) -> Option<&'a [u8]>
         Part::Word(word) => behind_word(word, text),
         Part::OneOf(words) => behind_any(words, text),
         Part::Path => behind_path(text),
+        Part::Endpoint => behind_endpoint(text),
         Part::Number => behind_number(text),
         Part::Bytes => behind_bytes(text),
         Part::Text => Some(behind_items(Item::Letter, text.len(), text)),
@@ -81,6 +86,28 @@ fn behind_path(text: &[u8]) -> Option<&[u8]>
         [digit, rest @ ..] if is_port_digit(*digit) => Some(behind_items(Item::Port, 6, rest)),
         _ => None,
     }
+}
+
+fn behind_endpoint(text: &[u8]) -> Option<&[u8]>
+    ensures { option_map (λ r. r.now) result ≡ behind_endpoint text.now }
+{
+    match text {
+        [high, low, rest @ ..] if is_endpoint(*high, *low) => Some(rest),
+        _ => None,
+    }
+}
+
+/// The two digits of an endpoint's address (9.6.6).
+fn is_endpoint(high: u8, low: u8) -> bool
+    ensures { result ≡ is_endpoint high low }
+{
+    is_digit(high) && is_digit(low) && is_address(value_of(high) * 16 + value_of(low))
+}
+
+fn is_address(byte: u8) -> bool
+    ensures { result ≡ is_endpoint_address byte }
+{
+    EndpointAddress::new(byte).is_some()
 }
 
 fn behind_number(text: &[u8]) -> Option<&[u8]>

@@ -3,7 +3,7 @@ ghost use Rattle.std.specs.Prelude.{◌≡◌, map};
 ghost use Rattle.usb_pcap.specs.Grammar.{fits_form, piece_of};
 ghost use Rattle.usb_pcap.specs.Report.{has_form, plug_form, report_forms};
 
-use crate::part::Part::{self, Bytes, Name, Number, OneOf, Path, Text, Word};
+use crate::part::Part::{self, Bytes, Endpoint, Name, Number, OneOf, Path, Text, Word};
 use crate::part::fits_form;
 
 /// Why a device was refused.
@@ -36,7 +36,7 @@ const FAILURES: [&str; 6] = [
 const PLUG: [Part; 4] = [Word("plug "), Path, Word(" "), Name];
 
 /// An unplug, the lines of a listing, the lines of transfers, looks and news, a bound.
-const REPORTS: [&[Part]; 25] = [
+const REPORTS: [&[Part]; 30] = [
     &[Word("unplug "), Path],
     &[Word("listing "), Number],
     &[Word("end")],
@@ -71,6 +71,38 @@ const REPORTS: [&[Part]; 25] = [
     &[
         OneOf(&["send ", "receive ", "clear "]),
         Path,
+        Word(" failed "),
+        OneOf(&FAILURES),
+    ],
+    &[
+        Word("send "),
+        Path,
+        Word(" "),
+        Endpoint,
+        Word(" done "),
+        Number,
+    ],
+    &[
+        OneOf(&["receive ", "interrupt "]),
+        Path,
+        Word(" "),
+        Endpoint,
+        Word(" done "),
+        Bytes,
+    ],
+    &[
+        Word("interrupt "),
+        Path,
+        Word(" "),
+        Endpoint,
+        Word(" nothing"),
+    ],
+    &[Word("clear "), Path, Word(" "), Endpoint, Word(" done")],
+    &[
+        OneOf(&["send ", "receive ", "interrupt ", "clear "]),
+        Path,
+        Word(" "),
+        Endpoint,
         Word(" failed "),
         OneOf(&FAILURES),
     ],

@@ -15,6 +15,9 @@ use Rattle.usb_wire.specs.{ControlOut, Look, News, bare_control, both, control_a
 use Rattle.usb_wire.specs.{counted_write, is_other_count, is_other_request, is_other_setup, look_answer}
 use Rattle.usb_wire.specs.{request_field, request_of_word, request_with, setup_in_bytes, with_three}
 use Rattle.usb_wire.specs.{Write, has_bytes, is_write, write_answer, write_limit, write_of_words}
+use Rattle.usb_wire.specs.{ClearOf, Poll, ReceiveFrom, SendTo, clear_of_answer, endpoint_field}
+use Rattle.usb_wire.specs.{endpoint_named, address_named, poll_answer, receive_from_answer}
+use Rattle.usb_wire.specs.{send_to_answer, send_to_limit}
 use Rattle.usb_wire.specs.{NoAnswer, BadHex, BadLength, BadNumber, BadPath, Asked, send_limit}
 use Rattle.usb_wire.specs.{Field, Form, argument_fault, bytes_field, fault_by, line_fault}
 use Rattle.usb_wire.specs.{fields_in, forms, packets_field, path_field, root_field, roots_field}
@@ -100,6 +103,11 @@ fault_in-number : (least most : ℕ) (word : List ℕ) → fault_in (number_of_w
     ≡ (if is_none (number_within least most word) then Some BadNumber else None)
 unfolding number_of_word
 fault_in-number least most word = fault_in-ok_or (number_within least most word) BadNumber
+
+fault_in-endpoint : (word : List ℕ) → fault_in (endpoint_named word)
+    ≡ (if is_none (address_named word) then Some BadNumber else None)
+unfolding endpoint_named
+fault_in-endpoint word = fault_in-ok_or (address_named word) BadNumber
 
 fault_in-path : (word : List ℕ) → fault_in (path_in word)
     ≡ (if is_none (path_of word) then Some BadPath else None)
@@ -259,6 +267,21 @@ write_table false false true p = refl
 write_table false false false true = refl
 write_table false false false false = refl
 
+-- of three words, the second of an endpoint
+named_table : (h l m n p : Bool) → first_fault_of (if h then Some BadHex else if l then Some
+    BadLength else if m then Some BadNumber else None)
+    (first_fault_of (if n then Some BadNumber else None)
+    (first_fault_of (if p then Some BadPath else None) None))
+    ≡ (if h || false then Some BadHex else if (l || false) || false then Some BadLength
+    else if n || (m || false) then Some BadNumber else if p || false then Some BadPath else None)
+named_table true l m n p = refl
+named_table false true m n p = refl
+named_table false false true true p = refl
+named_table false false true false p = refl
+named_table false false false true p = refl
+named_table false false false false true = refl
+named_table false false false false false = refl
+
 -- ---- the readers of each form
 
 abbrev roots_given : ℕ → Result Answer WireFault
@@ -285,10 +308,22 @@ send_given xs p = Ok (Send p (record { items = xs }))
 abbrev receive_given : ℕ → List ℕ → Result Answer WireFault
 receive_given n p = Ok (Receive p n)
 
+abbrev poll_given : ℕ → List ℕ → Result Answer WireFault
+poll_given a p = Ok (Poll p a)
+
+abbrev clear_of_given : ℕ → List ℕ → Result Answer WireFault
+clear_of_given a p = Ok (ClearOf p a)
+
+abbrev send_to_given : List ℕ → ℕ → List ℕ → Result Answer WireFault
+send_to_given xs a p = Ok (SendTo p a (record { items = xs }))
+
+abbrev receive_from_given : ℕ → ℕ → List ℕ → Result Answer WireFault
+receive_from_given n a p = Ok (ReceiveFrom p a n)
+
 abbrev push_given : List ℕ → ℕ → Result Said WireFault
 push_given xs number = Ok (Changed number xs)
 
--- one reading, and two
+-- one reading, two, and three
 one_read : {A B : Type 0} (r : Result A WireFault) (f : A → Result B WireFault)
     (o : Option WireFault) → fault_in r ≡ o → ((x : A) → fault_in (f x) ≡ None)
     → fault_in (r >>= f) ≡ first_fault_of o None
@@ -301,6 +336,17 @@ two_read : {A B C : Type 0} (r : Result A WireFault) (s : Result B WireFault)
 two_read r s f o p e k h =
     fault_in-then r (λ x. s >>= f x) (first_fault_of p None) (λ x. one_read s (f x) p k (h x))
     ∙ ap (λ x. first_fault_of x (first_fault_of p None)) e
+
+three_read : {A B C D : Type 0} (r : Result A WireFault) (s : Result B WireFault)
+    (t : Result C WireFault) (f : A → B → C → Result D WireFault) (o p q : Option WireFault)
+    → fault_in r ≡ o → fault_in s ≡ p → fault_in t ≡ q
+    → ((x : A) (y : B) (z : C) → fault_in (f x y z) ≡ None)
+    → fault_in (r >>= (λ x. s >>= (λ y. t >>= f x y)))
+    ≡ first_fault_of o (first_fault_of p (first_fault_of q None))
+three_read r s t f o p q e k l h =
+    fault_in-then r (λ x. s >>= (λ y. t >>= f x y)) (first_fault_of p (first_fault_of q None))
+    (λ x. two_read s t (f x) p q k l (h x))
+    ∙ ap (λ x. first_fault_of x (first_fault_of p (first_fault_of q None))) e
 
 faults-roots : (count : ℕ) (word : List ℕ) → fault_in (roots_answer word)
     ≡ argument_fault count (roots_field ∷ []) (word ∷ [])
@@ -365,6 +411,46 @@ faults-receive count first second =
     (fault_in-number 0 1000 second) (fault_in-path first) (λ _ _. refl)
     ∙ faults_table false false false (is_none (number_within 0 1000 second)) false
     (is_none (path_of first))
+
+faults-poll : (count : ℕ) (first second : List ℕ) → fault_in (poll_answer first second)
+    ≡ argument_fault count (path_field ∷ endpoint_field ∷ []) (first ∷ second ∷ [])
+unfolding poll_answer
+faults-poll count first second =
+    two_read (endpoint_named second) (path_in first) poll_given _ _ (fault_in-endpoint second)
+    (fault_in-path first) (λ _ _. refl)
+    ∙ faults_table false false false (is_none (address_named second)) false (is_none (path_of first))
+
+faults-clear_of : (count : ℕ) (first second : List ℕ) → fault_in (clear_of_answer first second)
+    ≡ argument_fault count (path_field ∷ endpoint_field ∷ []) (first ∷ second ∷ [])
+unfolding clear_of_answer
+faults-clear_of count first second =
+    two_read (endpoint_named second) (path_in first) clear_of_given _ _ (fault_in-endpoint second)
+    (fault_in-path first) (λ _ _. refl)
+    ∙ faults_table false false false (is_none (address_named second)) false (is_none (path_of first))
+
+faults-send_to : (count : ℕ) (first second third : List ℕ)
+    → fault_in (send_to_answer first second third)
+    ≡ argument_fault count (path_field ∷ endpoint_field ∷ bytes_field send_to_limit ∷ [])
+    (first ∷ second ∷ third ∷ [])
+unfolding send_to_answer
+faults-send_to count first second third =
+    three_read (bytes_of_word send_to_limit third) (endpoint_named second) (path_in first)
+    send_to_given _ _ _ (fault_in-bytes send_to_limit third) (fault_in-endpoint second)
+    (fault_in-path first) (λ _ _ _. refl)
+    ∙ named_table (not (is_dash third || is_hex third)) (nat_lt send_to_limit (hex_length third))
+    false (is_none (address_named second)) (is_none (path_of first))
+
+faults-receive_from : (count : ℕ) (first second third : List ℕ)
+    → fault_in (receive_from_answer first second third)
+    ≡ argument_fault count (path_field ∷ endpoint_field ∷ packets_field ∷ [])
+    (first ∷ second ∷ third ∷ [])
+unfolding receive_from_answer
+faults-receive_from count first second third =
+    three_read (number_of_word 0 1000 third) (endpoint_named second) (path_in first)
+    receive_from_given _ _ _ (fault_in-number 0 1000 third) (fault_in-endpoint second)
+    (fault_in-path first) (λ _ _ _. refl)
+    ∙ named_table false false (is_none (number_within 0 1000 third))
+    (is_none (address_named second)) (is_none (path_of first))
 
 faults-status_change : (count : ℕ) (first second : List ℕ)
     → fault_in (status_change count first second)
@@ -449,9 +535,14 @@ faults-three Wait count word first second =
     (form_or count (bytes_eq word (codes "receive")) (receive_answer first second) _
     (path_field ∷ packets_field ∷ []) _ (first ∷ second ∷ [])
     (faults-receive count first second)
-    (form_or count (bytes_eq word (codes "control")) (control_answer first second) (Err NoAnswer)
-    (path_field ∷ request_field false ∷ []) None (first ∷ second ∷ [])
-    (faults-control count first second) refl)))
+    (form_or count (bytes_eq word (codes "control")) (control_answer first second) _
+    (path_field ∷ request_field false ∷ []) _ (first ∷ second ∷ [])
+    (faults-control count first second)
+    (form_or count (bytes_eq word (codes "interrupt")) (poll_answer first second) _
+    (path_field ∷ endpoint_field ∷ []) _ (first ∷ second ∷ []) (faults-poll count first second)
+    (form_or count (bytes_eq word (codes "clear")) (clear_of_answer first second) (Err NoAnswer)
+    (path_field ∷ endpoint_field ∷ []) None (first ∷ second ∷ [])
+    (faults-clear_of count first second) refl)))))
 faults-three _ count word first second =
     push_or count (bytes_eq word (codes "port")) (status_change count first second) (Err NoAnswer)
     (root_field ∷ status_field ∷ []) None (first ∷ second ∷ [])
@@ -462,9 +553,15 @@ faults-four : (asked : Asked) (count : ℕ) (word first second third : List ℕ)
     ≡ words_fault asked count (word ∷ first ∷ second ∷ third ∷ [])
 unfolding with_three
 faults-four Wait count word first second third =
-    form_or count (bytes_eq word (codes "control")) (write_answer first second third) (Err NoAnswer)
-    (path_field ∷ request_field true ∷ bytes_field write_limit ∷ []) None
-    (first ∷ second ∷ third ∷ []) (faults-write count first second third) refl
+    form_or count (bytes_eq word (codes "control")) (write_answer first second third) _
+    (path_field ∷ request_field true ∷ bytes_field write_limit ∷ []) _
+    (first ∷ second ∷ third ∷ []) (faults-write count first second third)
+    (form_or count (bytes_eq word (codes "send")) (send_to_answer first second third) _
+    (path_field ∷ endpoint_field ∷ bytes_field send_to_limit ∷ []) _
+    (first ∷ second ∷ third ∷ []) (faults-send_to count first second third)
+    (form_or count (bytes_eq word (codes "receive")) (receive_from_answer first second third)
+    (Err NoAnswer) (path_field ∷ endpoint_field ∷ packets_field ∷ []) None
+    (first ∷ second ∷ third ∷ []) (faults-receive_from count first second third) refl))
 faults-four _ count word first second third = refl
 
 -- ---- lines of more words have no form

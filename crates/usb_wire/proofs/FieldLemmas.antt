@@ -6,9 +6,10 @@ use Rattle.std.proofs.Common.{Result, Ok, Err, All, ◌⊎◌, refl, sym, subst,
 use Rattle.std.proofs.Common.{decimal, codes, lit<}
 use Rattle.std.specs.Char.{is_ascii_digit}
 use Rattle.std.specs.List.{AllPass, list_all}
+use Rattle.std.specs.Option.{option_and_then}
 use Rattle.std.specs.Result.{MatchResult, result_ok, result_unwrap_or}
 use Rattle.std.proofs.lemmas.Result.{MatchResult-at_ok}
-use Rattle.std.specs.Str.{all_ascii_digits}
+use Rattle.std.specs.Str.{all_ascii_digits, bytes_eq}
 use Rattle.std.specs.Str.Parse.{digits_value, ParsesUnsigned}
 use Rattle.std.proofs.Math.Bool.{and-false, or-true}
 use Rattle.std.proofs.lemmas.Bool.{and_parts, eqb-true, le-leb, le-ltb, leb-true, lt-leb, lt-ltb}
@@ -27,7 +28,9 @@ use Rattle.hex.proofs.HexLemmas.{decode_of-digits, decode_of-encode_upper, decod
 use Rattle.hex.proofs.HexLemmas.{decode_sized-twice}
 use Rattle.usb_packet.specs.{hex_text}
 use Rattle.usb_port.specs.{IsPortNumber, path_text}
-use Rattle.usb_wire.specs.{hex_length, hex_value, is_dash, is_decimal, is_hex, number_within}
+use Rattle.usb_request.specs.{is_endpoint_address}
+use Rattle.usb_wire.specs.{address_spelled, address_named, address_text, hex_length, hex_value}
+use Rattle.usb_wire.specs.{is_dash, is_decimal, is_hex, number_within}
 use Rattle.usb_wire.specs.{BadHex, BadLength, bytes_of_word, count_in, status_of_word}
 use Rattle.usb_wire.specs.Reading.{◌>>=◌}
 use Rattle.usb_wire.proofs.WordLemmas.{all_visible, is_visible}
@@ -151,6 +154,47 @@ hex_value-hex_text (b ∷ bytes) small =
     record { some = omega arith; even = ok.0; digits = ok.1 } in
     rw (dash-pair _ _ (encode_upper bytes), hex-pairs (encode_upper (b ∷ bytes)) pairs)
     (ap result_ok back)
+
+-- ---- addresses of endpoints
+
+-- the word spells the endpoint's address
+pub record IsEndpointWord (word : List ℕ) (a : ℕ) : Type 0 where
+  pub text : word ≡ address_text a
+  pub address : is_endpoint_address a ≡ true
+
+spelled_address : (word bytes : List ℕ) (a : ℕ) → address_spelled word bytes ≡ Some a
+    → IsEndpointWord word a
+spelled_address word [] a e = absurd (none-some a e)
+spelled_address word (b ∷ []) a e =
+    let found = cond_some (bytes_eq word (address_text b) && is_endpoint_address b) b a e in
+    let both = and_parts (bytes_eq word (address_text b)) (is_endpoint_address b) found.0 in
+    subst (IsEndpointWord word) found.1 (record {
+      text = (bytes_eq-Decides word (address_text b)).0 both.0;
+      address = both.1;
+    })
+spelled_address word (b ∷ c ∷ more) a e = absurd (none-some a e)
+
+address_in : (word : List ℕ) (o : Option (List ℕ)) (a : ℕ)
+    → option_and_then (address_spelled word) o ≡ Some a → IsEndpointWord word a
+address_in word None a e = absurd (none-some a e)
+address_in word (Some bytes) a e = spelled_address word bytes a e
+
+pub address_named-word : (word : List ℕ) (a : ℕ) → address_named word ≡ Some a → IsEndpointWord word a
+address_named-word word a e = address_in word (hex_value word) a e
+
+address_byte : (a : ℕ) → is_endpoint_address a ≡ true → a < 256
+address_byte a h = grind (arith, nat_tests)
+
+pub small_address : (a : ℕ) → is_endpoint_address a ≡ true → IsBytes (a ∷ [])
+small_address a h zero = address_byte a h
+small_address a h (suc i) = omega arith
+
+pub address_named-text : (a : ℕ) → is_endpoint_address a ≡ true
+    → address_named (address_text a) ≡ Some a
+address_named-text a h =
+    let value = hex_value-hex_text (a ∷ []) (small_address a h) in
+    let same = (bytes_eq-Decides (address_text a) (address_text a)).1 refl in
+    ap (option_and_then (address_spelled (address_text a))) value ∙ rw (same, h) refl
 
 -- ---- numbers
 

@@ -6,3 +6,4 @@ mod FaultLaws
 mod SaidLaws
 mod ReadLaws
 mod QuestionLaws
+mod EndpointLemmas

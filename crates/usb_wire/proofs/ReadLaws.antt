@@ -11,6 +11,10 @@ use Rattle.usb_packet.specs.{Toggle, Zero, One, data_name, hex_text}
 use Rattle.usb_port.specs.{IsPath, path_text}
 use Rattle.usb_port.proofs.Paths.{length-path_text, reads_back}
 use Rattle.usb_request.specs.{DIRECTION_IN, IsToDevice, IsToHost, Setup, bytes_of}
+use Rattle.usb_request.specs.{is_endpoint_address}
+use Rattle.usb_wire.specs.{ClearOf, Poll, ReceiveFrom, SendTo, clear_of_answer, endpoint_named}
+use Rattle.usb_wire.specs.{address_text, poll_answer, receive_from_answer}
+use Rattle.usb_wire.specs.{send_to_answer, send_to_limit}
 use Rattle.usb_wire.specs.{Answer, Roots, Ack, Nak, Stall, Nothing, Data, Done, Show, End, Send}
 use Rattle.usb_wire.specs.{Receive, Clear, Said, Changed, Answered, BadNumber, BadPath, Asked}
 use Rattle.usb_wire.specs.{ControlIn, ControlOut, Look, News, answer_setup, control_answer}
@@ -25,6 +29,7 @@ use Rattle.usb_wire.specs.{all_printable, words}
 use Rattle.usb_wire.specs.declared.question.Asked.TheVariants.{Hello, Attempt, Port, Wait}
 use Rattle.usb_wire.proofs.FieldLemmas.{Counted, all_visible-decimal, all_visible-hex}
 use Rattle.usb_wire.proofs.FieldLemmas.{all_visible-path_text, bytes_of_word-value}
+use Rattle.usb_wire.proofs.FieldLemmas.{address_named-text, small_address}
 use Rattle.usb_wire.proofs.FieldLemmas.{hex_value-hex_text, hex_value-length, spelled-value}
 use Rattle.usb_wire.proofs.FieldLemmas.{status_of_word-value, within-decimal}
 use Rattle.usb_wire.proofs.SetupLemmas.{IsBytes-bytes_of, length-bytes_of}
@@ -78,6 +83,18 @@ unfolding number_of_word
 read_number least most n low high few =
     ap (λ o. ok_or o BadNumber) (within-decimal least most n low high (omega arith))
 
+-- an endpoint's address is a word of two digits
+address_text-is_word : (most a : ℕ) → 3 ≤ most → is_endpoint_address a ≡ true
+    → IsVisibleWord most (address_text a)
+address_text-is_word most a wide h =
+    let word = bytes_word 1 (address_text a) (a ∷ [])
+    (hex_value-hex_text (a ∷ []) (small_address a h)) (omega arith) in
+    record { visible = word.visible; short = omega (arith, word.short, wide) }
+
+read_endpoint : (a : ℕ) → is_endpoint_address a ≡ true → endpoint_named (address_text a) ≡ Ok a
+unfolding endpoint_named
+read_endpoint a h = ap (λ o. ok_or o BadNumber) (address_named-text a h)
+
 read_path : (p : List ℕ) → IsPath p → path_in (path_text p) ≡ Ok p
 unfolding path_in
 read_path p h = ap (λ o. ok_or o BadPath) (reads_back p h)
@@ -115,12 +132,13 @@ record ReadsLine (asked : Asked) (count : ℕ) (line : List ℕ) (s : Said) : Ty
   says : words_say asked count (words line) ≡ Ok s
 
 -- a first word with a space behind it, which is cut off
-record IsFront (front first : List ℕ) : Type 0 where
-  short : length front ≤ 8
+record IsFront (most : ℕ) (front first : List ℕ) : Type 0 where
+  short : length front ≤ most
   printable : all_printable front ≡ true
   cut : (rest : List ℕ) → words (front ++ rest) ≡ first ∷ words rest
 
-read_two : (asked : Asked) (count : ℕ) (front first word : List ℕ) (s : Said) → IsFront front first
+read_two : (asked : Asked) (count : ℕ) (front first word : List ℕ) (s : Said)
+    → IsFront 8 front first
     → IsVisibleWord 1001 word → words_say asked count (first ∷ word ∷ []) ≡ Ok s
     → ReadsLine asked count (front ++ word) s
 read_two asked count front first word s f w e =
@@ -134,16 +152,16 @@ read_two asked count front first word s f w e =
     }
 
 -- words after two others
-record IsRest (rest : List ℕ) (ws : List (List ℕ)) : Type 0 where
+record IsRest (most : ℕ) (rest : List ℕ) (ws : List (List ℕ)) : Type 0 where
   words : words rest ≡ ws
   printable : all_printable rest ≡ true
-  short : length rest ≤ 1001
+  short : length rest ≤ most
 
-read_rest : (asked : Asked) (count : ℕ) (front first word rest : List ℕ) (ws : List (List ℕ))
-    (s : Said) → IsFront front first → IsVisibleWord 13 word → IsRest rest ws
+read_rest : (asked : Asked) (count m n : ℕ) (front first word rest : List ℕ) (ws : List (List ℕ))
+    (s : Said) → m + n ≤ 1010 → IsFront m front first → IsVisibleWord 13 word → IsRest n rest ws
     → words_say asked count (first ∷ word ∷ ws) ≡ Ok s
     → ReadsLine asked count (front ++ word ++ codes " " ++ rest) s
-read_rest asked count front first word rest ws s f w r e =
+read_rest asked count m n front first word rest ws s room f w r e =
     let whole : front ++ word ++ codes " " ++ rest ≡ front ++ (word ++ 32 ∷ rest) =
     append_assoc (front ++ word) (codes " ") rest ∙ append_assoc front word (32 ∷ rest) in
     let cut : words (front ++ (word ++ 32 ∷ rest)) ≡ first ∷ word ∷ ws =
@@ -156,25 +174,26 @@ read_rest asked count front first word rest ws s f w r e =
     let plain = all_printable-append word (32 ∷ rest) (all_printable-visible word w.visible)
     r.printable in
     subst (λ line. ReadsLine asked count line s) (sym whole) (record {
-      short = omega (arith, size, more, f.short, w.short, r.short);
+      short = omega (arith, size, more, room, f.short, w.short, r.short);
       printable = all_printable-append front (word ++ 32 ∷ rest) f.printable plain;
       says = ap (words_say asked count) cut ∙ e;
     })
 
-last_rest : (last : List ℕ) → IsVisibleWord 1001 last → IsRest last (last ∷ [])
-last_rest last l = record {
+last_rest : (most : ℕ) (last : List ℕ) → IsVisibleWord most last → IsRest most last (last ∷ [])
+last_rest most last l = record {
   words = words_none last (HasNoSpace-visible last l.visible);
   printable = all_printable-visible last l.visible;
   short = l.short;
 }
 
-two_rest : (word last : List ℕ) → IsVisibleWord 17 word → IsVisibleWord 961 last
-    → IsRest (word ++ codes " " ++ last) (word ∷ last ∷ [])
-two_rest word last w l =
-    let rest = last_rest last (record { visible = l.visible; short = omega (arith, l.short) }) in
+two_rest : (m n : ℕ) (word last : List ℕ) → IsVisibleWord m word → IsVisibleWord n last
+    → IsRest (m + 1 + n) (word ++ codes " " ++ last) (word ∷ last ∷ [])
+two_rest m n word last w l =
+    let rest = last_rest n last l in
     let size : length (word ++ 32 ∷ last) ≡ length word + length (32 ∷ last) =
     length-append word (32 ∷ last) in
-    subst (λ text. IsRest text (word ∷ last ∷ [])) (sym (append_assoc word (codes " ") last))
+    subst (λ text. IsRest (m + 1 + n) text (word ∷ last ∷ []))
+    (sym (append_assoc word (codes " ") last))
     (record {
       words = words_cut word last (HasNoSpace-visible word w.visible)
           ∙ ap (λ ws. word ∷ ws) rest.words;
@@ -184,18 +203,19 @@ two_rest word last w l =
     })
 
 read_three : (asked : Asked) (count : ℕ) (front first word last : List ℕ) (s : Said)
-    → IsFront front first → IsVisibleWord 13 word → IsVisibleWord 1001 last
+    → IsFront 8 front first → IsVisibleWord 13 word → IsVisibleWord 1001 last
     → words_say asked count (first ∷ word ∷ last ∷ []) ≡ Ok s
     → ReadsLine asked count (front ++ word ++ codes " " ++ last) s
 read_three asked count front first word last s f w l e =
-    read_rest asked count front first word last (last ∷ []) s f w (last_rest last l) e
+    read_rest asked count 8 1001 front first word last (last ∷ []) s (omega arith) f w
+    (last_rest 1001 last l) e
 
 -- the first word of a data packet
 abbrev printed_data : Toggle → List ℕ
 printed_data Zero = codes "DATA0"
 printed_data One = codes "DATA1"
 
-port_front : IsFront (codes "port ") (codes "port")
+port_front : IsFront 8 (codes "port ") (codes "port")
 port_front = record { short = lit≤ tt; printable = refl; cut = λ rest. refl }
 
 -- ---- each line
@@ -226,11 +246,11 @@ unfolding words_say with_one data_answer
 data_said count Zero xs digits e few = rw (read_bytes 64 digits xs e few) refl
 data_said count One xs digits e few = rw (read_bytes 64 digits xs e few) refl
 
-data_front : (toggle : Toggle) → IsFront (data_name toggle) (printed_data toggle)
+data_front : (toggle : Toggle) → IsFront 8 (data_name toggle) (printed_data toggle)
 data_front Zero = record { short = lit≤ tt; printable = refl; cut = λ rest. refl }
 data_front One = record { short = lit≤ tt; printable = refl; cut = λ rest. refl }
 
-control_front : IsFront (codes "control ") (codes "control")
+control_front : IsFront 8 (codes "control ") (codes "control")
 control_front = record { short = lit≤ tt; printable = refl; cut = λ rest. refl }
 
 setup_word : (setup : List ℕ) (s : Setup) → hex_value setup ≡ Some (bytes_of s)
@@ -260,10 +280,10 @@ read_write count setup digits p s [] h t e writes size few =
     read_bare count setup p s (ControlOut p (record { setup = s; bytes = [] })) h t
     (writes_bare s writes size) (rw (lt-ltb s.request_type DIRECTION_IN writes) refl)
 read_write count setup digits p s (x ∷ xs) h t e writes size few =
-    read_rest Wait count (codes "control ") (codes "control") (path_text p) _
+    read_rest Wait count 8 979 (codes "control ") (codes "control") (path_text p) _
     (setup ∷ digits ∷ []) (Answered (ControlOut p (record { setup = s; bytes = x ∷ xs })))
-    control_front (path_text-is_word 13 p (omega arith) h)
-    (two_rest setup digits (setup_word setup s t) (bytes_word write_limit digits (x ∷ xs) e few))
+    (omega arith) control_front (path_text-is_word 13 p (omega arith) h)
+    (two_rest 17 961 setup digits (setup_word setup s t) (bytes_word write_limit digits (x ∷ xs) e few))
     (rw (
       read_request_word true setup s t (writes_some s (length xs) writes size),
       read_bytes write_limit digits (x ∷ xs) e few,
@@ -272,11 +292,32 @@ read_write count setup digits p s (x ∷ xs) h t e writes size few =
       read_path p h,
     ) refl)
 
+-- what stands behind a path and an endpoint
+named_line : (front rest p : List ℕ) (a : ℕ)
+    → front ++ path_text p ++ codes " " ++ (address_text a ++ codes " " ++ rest)
+    ≡ front ++ path_text p ++ codes " " ++ address_text a ++ codes " " ++ rest
+named_line front rest p a =
+    let way : List ℕ = front ++ path_text p ++ codes " " in
+    sym (append_assoc way (address_text a ++ codes " ") rest)
+    ∙ ap (λ t. t ++ rest) (sym (append_assoc way (address_text a) (codes " ")))
+
+read_named : (count : ℕ) (front first word p : List ℕ) (a : ℕ) (s : Said) → IsFront 8 front first
+    → IsPath p → is_endpoint_address a ≡ true → IsVisibleWord 981 word
+    → words_say Wait count (first ∷ path_text p ∷ address_text a ∷ word ∷ []) ≡ Ok s
+    → ReadsLine Wait count
+    (front ++ path_text p ++ codes " " ++ address_text a ++ codes " " ++ word) s
+read_named count front first word p a s f h named w e =
+    subst (λ line. ReadsLine Wait count line s) (named_line front word p a)
+    (read_rest Wait count 8 985 front first (path_text p) _ (address_text a ∷ word ∷ []) s
+    (omega arith) f (path_text-is_word 13 p (omega arith) h)
+    (two_rest 3 981 (address_text a) word (address_text-is_word 3 a (omega arith) named) w) e)
+
 read_answer : (asked : Asked) (count : ℕ) (setup digits : List ℕ) (a : Answer) → MayAnswer asked a
     → hex_value setup ≡ Some (answer_setup a) → hex_value digits ≡ Some (answer_bytes a)
     → ReadsLine asked count (answer_in_digits setup digits a) (Answered a)
 unfolding words_say alone with_one roots_answer clear_answer look_answer three_say with_two
-    send_answer receive_answer
+    send_answer receive_answer poll_answer clear_of_answer with_three send_to_answer
+    receive_from_answer
 read_answer Hello count setup digits (Roots n) h t e =
     read_two Hello count (codes "roots ") (codes "roots") (decimal n) (Answered (Roots n))
     (record { short = lit≤ tt; printable = refl; cut = λ rest. refl })
@@ -341,6 +382,38 @@ read_answer Wait count setup digits (Clear p) h t e =
     read_two Wait count (codes "clear ") (codes "clear") (path_text p) (Answered (Clear p))
     (record { short = lit≤ tt; printable = refl; cut = λ rest. refl })
     (path_text-is_word 1001 p (omega arith) h) (rw (read_path p h) refl)
+read_answer Wait count setup digits (SendTo p a sent) h t e =
+    read_named count (codes "send ") (codes "send") digits p a (Answered (SendTo p a sent))
+    (record { short = lit≤ tt; printable = refl; cut = λ rest. refl }) h.0 h.1
+    (bytes_word 490 digits sent.items e h.2.0)
+    (rw (
+      read_bytes send_to_limit digits sent.items e h.2.0,
+      read_endpoint a h.1,
+      read_path p h.0,
+    ) refl)
+read_answer Wait count setup digits (ReceiveFrom p a n) h t e =
+    read_named count (codes "receive ") (codes "receive") (decimal n) p a
+    (Answered (ReceiveFrom p a n))
+    (record { short = lit≤ tt; printable = refl; cut = λ rest. refl }) h.0 h.1
+    (decimal-is_word 981 n (omega arith) h.2)
+    (rw (
+      read_number 0 1000 n (omega arith) h.2 h.2,
+      read_endpoint a h.1,
+      read_path p h.0,
+    ) refl)
+read_answer Wait count setup digits (Poll p a) h t e =
+    read_rest Wait count 10 3 (codes "interrupt ") (codes "interrupt") (path_text p)
+    (address_text a) (address_text a ∷ []) (Answered (Poll p a)) (omega arith)
+    (record { short = lit≤ tt; printable = refl; cut = λ rest. refl })
+    (path_text-is_word 13 p (omega arith) h.0)
+    (last_rest 3 (address_text a) (address_text-is_word 3 a (omega arith) h.1))
+    (rw (read_endpoint a h.1, read_path p h.0) refl)
+read_answer Wait count setup digits (ClearOf p a) h t e =
+    read_three Wait count (codes "clear ") (codes "clear") (path_text p) (address_text a)
+    (Answered (ClearOf p a)) (record { short = lit≤ tt; printable = refl; cut = λ rest. refl })
+    (path_text-is_word 13 p (omega arith) h.0)
+    (address_text-is_word 1001 a (omega arith) h.1)
+    (rw (read_endpoint a h.1, read_path p h.0) refl)
 read_answer Wait count setup digits (ControlIn p s) h t e =
     read_bare count setup p s (ControlIn p s) h.0 t (reads_bare s h.2)
     (rw (le-ltb s.request_type DIRECTION_IN h.2) refl)
@@ -385,9 +458,11 @@ none_small i = omega arith
 answer_small : (asked : Asked) (a : Answer) → MayAnswer asked a → IsBytes (answer_bytes a)
 answer_small Attempt (Data sent) h = h.1
 answer_small Wait (Send p sent) h = h.1.1
+answer_small Wait (SendTo p a sent) h = h.2.1
 answer_small Wait (ControlOut p w) h = h.3.1
 answer_small _ (Data sent) h = absurd h
 answer_small _ (Send p sent) h = absurd h
+answer_small _ (SendTo p a sent) h = absurd h
 answer_small _ (ControlOut p w) h = absurd h
 answer_small _ _ h = none_small
 

@@ -13,6 +13,9 @@ use Rattle.usb_packet.specs.{Toggle, Zero, One}
 use Rattle.usb_port.specs.{IsPath, path_of, path_text}
 use Rattle.usb_port.proofs.Paths.{some_if}
 use Rattle.usb_request.specs.{DIRECTION_IN, Setup, bytes_of}
+use Rattle.usb_wire.specs.{ClearOf, Poll, ReceiveFrom, SendTo, clear_of_answer, endpoint_named}
+use Rattle.usb_wire.specs.{address_named, address_text, poll_answer, receive_from_answer}
+use Rattle.usb_wire.specs.{send_to_answer, send_to_limit}
 use Rattle.usb_wire.specs.{Answer, Roots, Ack, Nak, Stall, Nothing, Data, Done, Show, End, Send}
 use Rattle.usb_wire.specs.{ControlIn, ControlOut, IsSetupData, Look, News, answer_setup}
 use Rattle.usb_wire.specs.{bare_control, both, control_answer, counted_write, has_bytes}
@@ -31,8 +34,8 @@ use Rattle.usb_wire.specs.{all_printable, words}
 use Rattle.usb_wire.specs.declared.question.Asked.TheVariants.{Hello, Attempt, Port, Wait}
 use Rattle.usb_wire.specs.declared.words.Words.{Words}
 use Rattle.usb_wire.specs.Reading.{◌>>=◌}
-use Rattle.usb_wire.proofs.FieldLemmas.{IsNumberWord, Spelled, counted-count_in, numbered-within}
-use Rattle.usb_wire.proofs.FieldLemmas.{spelled-value}
+use Rattle.usb_wire.proofs.FieldLemmas.{IsEndpointWord, IsNumberWord, Spelled, counted-count_in}
+use Rattle.usb_wire.proofs.FieldLemmas.{address_named-word, numbered-within, spelled-value}
 use Rattle.usb_wire.proofs.SetupLemmas.{setup_in_bytes-some}
 use Rattle.usb_wire.proofs.WordLemmas.{joined-words}
 
@@ -123,6 +126,10 @@ unfolding path_in
 path_in-word word p e =
     let found = some_if (Some p) word (sym (ok_or_ok (path_of word) BadPath p e)) in
     record { is = found.0; text = found.1 }
+
+endpoint_named-word : (word : List ℕ) (a : ℕ) → endpoint_named word ≡ Ok a → IsEndpointWord word a
+unfolding endpoint_named
+endpoint_named-word word a e = address_named-word word a (ok_or_ok (address_named word) BadNumber a e)
 
 pub record IsRequestWord (with_bytes : Bool) (word : List ℕ) (s : Setup) : Type 0 where
   pub value : hex_value word ≡ Some (bytes_of s)
@@ -371,6 +378,99 @@ receive_says count first second a e =
       text = sym text;
     }))))
 
+-- a path and an endpoint, as the table writes them
+named_text : (front first second p : List ℕ) (n : ℕ) → IsPathWord first p → IsEndpointWord second n
+    → front ++ path_text p ++ codes " " ++ address_text n ≡ front ++ (first ++ 32 ∷ second)
+named_text front first second p n way named =
+    ap (λ t. front ++ t ++ codes " " ++ address_text n) way.text
+    ∙ ap (λ t. front ++ first ++ codes " " ++ t) (sym named.text)
+    ∙ three_text front first second
+
+-- and what stands behind them
+named_more : (front first second third p : List ℕ) (n : ℕ) → IsPathWord first p
+    → IsEndpointWord second n
+    → front ++ path_text p ++ codes " " ++ address_text n ++ codes " " ++ third
+    ≡ front ++ (first ++ 32 ∷ (second ++ 32 ∷ third))
+named_more front first second third p n way named =
+    ap (λ t. t ++ codes " " ++ third) (named_text front first second p n way named)
+    ∙ append_assoc (front ++ (first ++ 32 ∷ second)) (codes " ") third
+    ∙ append_assoc front (first ++ 32 ∷ second) (32 ∷ third)
+    ∙ ap (λ t. front ++ t) (append_assoc first (32 ∷ second) (32 ∷ third))
+
+poll_says : (count : ℕ) (first second : List ℕ) (a : Answer) → poll_answer first second ≡ Ok a
+    → WordsSay Wait count (codes "interrupt" ∷ first ∷ second ∷ []) (Answered a)
+unfolding poll_answer
+poll_says count first second a e =
+    bind-ok (endpoint_named second) _ a e (λ n read e.
+    bind-ok (path_in first) _ a e (λ p found is.
+    let named = endpoint_named-word second n read in
+    let way = path_in-word first p found in
+    subst (λ a. WordsSay Wait count (codes "interrupt" ∷ first ∷ second ∷ []) (Answered a))
+    (same_Ok (Poll p n) a is)
+    (plain_line Wait count _ (Poll p n) (record {
+      may = (way.is, named.address);
+      none = (refl, refl);
+      text = sym (named_text (codes "interrupt ") first second p n way named);
+    }))))
+
+clear_of_says : (count : ℕ) (first second : List ℕ) (a : Answer)
+    → clear_of_answer first second ≡ Ok a
+    → WordsSay Wait count (codes "clear" ∷ first ∷ second ∷ []) (Answered a)
+unfolding clear_of_answer
+clear_of_says count first second a e =
+    bind-ok (endpoint_named second) _ a e (λ n read e.
+    bind-ok (path_in first) _ a e (λ p found is.
+    let named = endpoint_named-word second n read in
+    let way = path_in-word first p found in
+    subst (λ a. WordsSay Wait count (codes "clear" ∷ first ∷ second ∷ []) (Answered a))
+    (same_Ok (ClearOf p n) a is)
+    (plain_line Wait count _ (ClearOf p n) (record {
+      may = (way.is, named.address);
+      none = (refl, refl);
+      text = sym (named_text (codes "clear ") first second p n way named);
+    }))))
+
+send_to_says : (count : ℕ) (first second third : List ℕ) (a : Answer)
+    → send_to_answer first second third ≡ Ok a
+    → WordsSay Wait count (codes "send" ∷ first ∷ second ∷ third ∷ []) (Answered a)
+unfolding send_to_answer
+send_to_says count first second third a e =
+    bind-ok (bytes_of_word send_to_limit third) _ a e (λ xs read e.
+    bind-ok (endpoint_named second) _ a e (λ n given e.
+    bind-ok (path_in first) _ a e (λ p found is.
+    let sent = bytes_of_word-data send_to_limit third xs read in
+    let named = endpoint_named-word second n given in
+    let way = path_in-word first p found in
+    let text = named_more (codes "send ") first second third p n way named in
+    subst (λ a. WordsSay Wait count (codes "send" ∷ first ∷ second ∷ third ∷ []) (Answered a))
+    (same_Ok (SendTo p n (record { items = xs })) a is) (
+      (way.is, named.address, sent.few),
+      of_bytes third (Answered (SendTo p n (record { items = xs }))) refl sent.value (sym text),
+    ))))
+
+receive_from_says : (count : ℕ) (first second third : List ℕ) (a : Answer)
+    → receive_from_answer first second third ≡ Ok a
+    → WordsSay Wait count (codes "receive" ∷ first ∷ second ∷ third ∷ []) (Answered a)
+unfolding receive_from_answer
+receive_from_says count first second third a e =
+    bind-ok (number_of_word 0 1000 third) _ a e (λ k read e.
+    bind-ok (endpoint_named second) _ a e (λ n given e.
+    bind-ok (path_in first) _ a e (λ p found is.
+    let number = number_of_word-ok 0 1000 third k (omega arith) read in
+    let named = endpoint_named-word second n given in
+    let way = path_in-word first p found in
+    let text : codes "receive " ++ path_text p ++ codes " " ++ address_text n ++ codes " " ++
+    decimal k ≡ codes "receive " ++ (first ++ 32 ∷ (second ++ 32 ∷ third)) =
+    named_more (codes "receive ") first second (decimal k) p n way named
+    ∙ ap (λ t. codes "receive " ++ (first ++ 32 ∷ (second ++ 32 ∷ t))) (sym number.text) in
+    subst (λ a. WordsSay Wait count (codes "receive" ∷ first ∷ second ∷ third ∷ []) (Answered a))
+    (same_Ok (ReceiveFrom p n k) a is)
+    (plain_line Wait count _ (ReceiveFrom p n k) (record {
+      may = (way.is, named.address, number.high);
+      none = (refl, refl);
+      text = sym text;
+    })))))
+
 control_text : (first second p : List ℕ) → IsPathWord first p
     → codes "control " ++ path_text p ++ codes " " ++ second
     ≡ codes "control " ++ (first ++ 32 ∷ second)
@@ -525,7 +625,13 @@ two_says Wait count word first second a e =
     if_ok (bytes_eq word (codes "control")) (control_answer first second) _ a e
     (λ same e. says_same_word Wait count word (codes "control") arguments _ same
     (control_says count first second a e)) (λ e.
-    none_ok NoAnswer a e)))
+    if_ok (bytes_eq word (codes "interrupt")) (poll_answer first second) _ a e
+    (λ same e. says_same_word Wait count word (codes "interrupt") arguments _ same
+    (poll_says count first second a e)) (λ e.
+    if_ok (bytes_eq word (codes "clear")) (clear_of_answer first second) _ a e
+    (λ same e. says_same_word Wait count word (codes "clear") arguments _ same
+    (clear_of_says count first second a e)) (λ e.
+    none_ok NoAnswer a e)))))
 two_says _ count word first second a e = none_ok NoAnswer a e
 
 four_say : (asked : Asked) (count : ℕ) (word first second third : List ℕ) (a : Answer)
@@ -533,9 +639,17 @@ four_say : (asked : Asked) (count : ℕ) (word first second third : List ℕ) (a
     → WordsSay asked count (word ∷ first ∷ second ∷ third ∷ []) (Answered a)
 unfolding with_three
 four_say Wait count word first second third a e =
+    let arguments : List (List ℕ) = first ∷ second ∷ third ∷ [] in
     if_ok (bytes_eq word (codes "control")) (write_answer first second third) _ a e
-    (λ same e. says_same_word Wait count word (codes "control") (first ∷ second ∷ third ∷ []) _ same
-    (write_says count first second third a e)) (λ e. none_ok NoAnswer a e)
+    (λ same e. says_same_word Wait count word (codes "control") arguments _ same
+    (write_says count first second third a e)) (λ e.
+    if_ok (bytes_eq word (codes "send")) (send_to_answer first second third) _ a e
+    (λ same e. says_same_word Wait count word (codes "send") arguments _ same
+    (send_to_says count first second third a e)) (λ e.
+    if_ok (bytes_eq word (codes "receive")) (receive_from_answer first second third) _ a e
+    (λ same e. says_same_word Wait count word (codes "receive") arguments _ same
+    (receive_from_says count first second third a e)) (λ e.
+    none_ok NoAnswer a e)))
 four_say _ count word first second third a e = none_ok NoAnswer a e
 
 may_push-true : (asked : Asked) → may_push asked ≡ true → MayPush asked

@@ -1,18 +1,19 @@
 -- What the far end says, and the line of it.
 use Rattle.std.specs.Prelude.{◌≡◌, ℕ, ◌^◌, ◌<◌, ◌≤◌, List, [], ◌∷◌, ◌++◌, length, codes, decimal}
-use Rattle.std.specs.Prelude.{Some}
+use Rattle.std.specs.Prelude.{Some, true}
 use Rattle.usb_packet.specs.{IsBytes, data_name, hex_text}
 use Rattle.usb_port.specs.{IsPath, path_text}
-use Rattle.usb_request.specs.{IsToHost, bytes_of, Setup as SetupData}
+use Rattle.usb_request.specs.{IsToHost, bytes_of, is_endpoint_address, Setup as SetupData}
 use Rattle.usb_wire.specs.declared.answer.Answer.{Answer}
 use Rattle.usb_wire.specs.declared.answer.Answer.TheVariants.{Roots, Ack, Nak, Stall, Nothing, Data}
 use Rattle.usb_wire.specs.declared.answer.Answer.TheVariants.{Done, Show, End, Send, Receive, Clear}
 use Rattle.usb_wire.specs.declared.answer.Answer.TheVariants.{ControlIn, ControlOut, Look, News}
+use Rattle.usb_wire.specs.declared.answer.Answer.TheVariants.{ClearOf, Poll, ReceiveFrom, SendTo}
 use Rattle.usb_wire.specs.declared.answer.Said.{Said}
 use Rattle.usb_wire.specs.declared.answer.Said.TheVariants.{Changed, Answered}
 use Rattle.usb_wire.specs.declared.question.Asked.{Asked}
 use Rattle.usb_wire.specs.declared.question.Asked.TheVariants.{Hello, Attempt, Port, Wait}
-use Rattle.usb_wire.specs.Fields.{hex_value}
+use Rattle.usb_wire.specs.Fields.{address_text, hex_value}
 use Rattle.usb_wire.specs.Writes.{IsWrite}
 
 -- setup data, and after a space the bytes that go with them, if there are any
@@ -36,6 +37,15 @@ answer_in_digits setup digits (Send path bytes) =
 answer_in_digits setup digits (Receive path packets) =
     codes "receive " ++ path_text path ++ codes " " ++ decimal packets
 answer_in_digits setup digits (Clear path) = codes "clear " ++ path_text path
+answer_in_digits setup digits (SendTo path endpoint bytes) =
+    codes "send " ++ path_text path ++ codes " " ++ address_text endpoint ++ codes " " ++ digits
+answer_in_digits setup digits (ReceiveFrom path endpoint packets) =
+    codes "receive " ++ path_text path ++ codes " " ++ address_text endpoint ++ codes " " ++
+    decimal packets
+answer_in_digits setup digits (Poll path endpoint) =
+    codes "interrupt " ++ path_text path ++ codes " " ++ address_text endpoint
+answer_in_digits setup digits (ClearOf path endpoint) =
+    codes "clear " ++ path_text path ++ codes " " ++ address_text endpoint
 answer_in_digits setup digits (ControlIn path request) =
     codes "control " ++ path_text path ++ codes " " ++ setup
 answer_in_digits setup digits (ControlOut path write) =
@@ -63,6 +73,7 @@ said_setup (Answered answer) = answer_setup answer
 abbrev pub answer_bytes : Answer → List ℕ
 answer_bytes (Data sent) = sent.bytes.items
 answer_bytes (Send path bytes) = bytes.items
+answer_bytes (SendTo path endpoint bytes) = bytes.items
 answer_bytes (ControlOut path write) = write.bytes
 answer_bytes _ = []
 
@@ -91,9 +102,13 @@ AreAtMost most bytes = (length bytes ≤ most) × IsBytes bytes
 abbrev pub IsData : List ℕ → Type 0
 IsData bytes = AreAtMost 64 bytes
 
--- the most bytes of a transfer that is wanted: so many find room in each line that wants one
+-- the most bytes to the first bulk endpoint: so many find room in each line that wants it
 abbrev pub send_limit : ℕ
 send_limit = 500
+
+-- the most bytes to an endpoint that is named
+abbrev pub send_to_limit : ℕ
+send_to_limit = 490
 
 -- the most bytes that are written to endpoint 0
 abbrev pub write_limit : ℕ
@@ -120,6 +135,12 @@ MayAnswer Wait End = Unit {0}
 MayAnswer Wait (Send path bytes) = IsPath path × AreAtMost send_limit bytes.items
 MayAnswer Wait (Receive path packets) = IsPath path × (packets ≤ 1000)
 MayAnswer Wait (Clear path) = IsPath path
+MayAnswer Wait (SendTo path endpoint bytes) = IsPath path × (is_endpoint_address endpoint ≡ true)
+    × AreAtMost send_to_limit bytes.items
+MayAnswer Wait (ReceiveFrom path endpoint packets) =
+    IsPath path × (is_endpoint_address endpoint ≡ true) × (packets ≤ 1000)
+MayAnswer Wait (Poll path endpoint) = IsPath path × (is_endpoint_address endpoint ≡ true)
+MayAnswer Wait (ClearOf path endpoint) = IsPath path × (is_endpoint_address endpoint ≡ true)
 MayAnswer Wait (ControlIn path request) = IsPath path × IsSetupData request × IsToHost request
 MayAnswer Wait (ControlOut path write) = IsPath path × IsSetupData write.setup × IsWrite write
     × AreAtMost write_limit write.bytes

@@ -10,14 +10,14 @@ use Rattle.usb_wire.specs.declared.fault.WireFault.{WireFault}
 use Rattle.usb_wire.specs.declared.fault.WireFault.TheVariants.{LineTooLong, BadCharacter, NoAnswer}
 use Rattle.usb_wire.specs.declared.fault.WireFault.TheVariants.{BadHex, BadLength, BadNumber}
 use Rattle.usb_wire.specs.declared.fault.WireFault.TheVariants.{BadPath}
-use Rattle.usb_wire.specs.Answers.{send_limit, write_limit}
-use Rattle.usb_wire.specs.Fields.{hex_length, hex_value, is_dash, is_hex, is_other_request}
-use Rattle.usb_wire.specs.Fields.{number_within}
+use Rattle.usb_wire.specs.Answers.{send_limit, send_to_limit, write_limit}
+use Rattle.usb_wire.specs.Fields.{address_named, hex_length, hex_value, is_dash, is_hex}
+use Rattle.usb_wire.specs.Fields.{is_other_request, number_within}
 use Rattle.usb_wire.specs.Words.{all_printable, words}
 
 -- what a word after the first one is: bytes, at most so many; the four of a status; the eight of a
 -- request with bytes for the device, or of one without; how many root ports there are, the number
--- of one, how many packets; a path
+-- of one, how many packets; the address of an endpoint; a path
 pub data Field : Type 0 where
   bytes_field : ℕ → Field
   status_field : Field
@@ -25,6 +25,7 @@ pub data Field : Type 0 where
   roots_field : Field
   root_field : Field
   packets_field : Field
+  endpoint_field : Field
   path_field : Field
 
 -- the first word of a line, and what stands behind it
@@ -64,6 +65,10 @@ forms Wait =
     ∷ form (codes "receive") (path_field ∷ packets_field ∷ [])
     ∷ form (codes "control") (path_field ∷ request_field false ∷ [])
     ∷ form (codes "control") (path_field ∷ request_field true ∷ bytes_field write_limit ∷ [])
+    ∷ form (codes "interrupt") (path_field ∷ endpoint_field ∷ [])
+    ∷ form (codes "clear") (path_field ∷ endpoint_field ∷ [])
+    ∷ form (codes "send") (path_field ∷ endpoint_field ∷ bytes_field send_to_limit ∷ [])
+    ∷ form (codes "receive") (path_field ∷ endpoint_field ∷ packets_field ∷ [])
     ∷ []
 
 -- the first word is the form's, and so many words stand behind it
@@ -111,11 +116,12 @@ has_other_count (request_field true ∷ bytes_field most ∷ []) (setup ∷ byte
 has_other_count (field ∷ fields) (word ∷ more) = has_other_count fields more
 has_other_count _ _ = false
 
--- no number, or one that is out of its range
+-- no number, or one that is out of its range; no endpoint's address in two upper-case digits
 abbrev pub is_bad_number : ℕ → Field → List ℕ → Bool
 is_bad_number count roots_field word = is_none (number_within 1 7 word)
 is_bad_number count root_field word = is_none (number_within 1 count word)
 is_bad_number count packets_field word = is_none (number_within 0 1000 word)
+is_bad_number count endpoint_field word = is_none (address_named word)
 is_bad_number count _ word = false
 
 abbrev pub is_bad_path : Field → List ℕ → Bool

@@ -13,11 +13,12 @@ pub use Questions.{speed_text, token_text}
 pub use Writes.{IsWrite, Write}
 pub use Answers.{AreAtMost, IsData, IsSaidLine, IsSetupData, MayAnswer, MayPush, MaySay}
 pub use Answers.{answer_bytes, answer_in_digits, answer_setup, said_bytes, said_in_digits}
-pub use Answers.{said_line, said_setup, send_limit, write_limit, write_text}
+pub use Answers.{said_line, said_setup, send_limit, send_to_limit, write_limit, write_text}
 pub use Words.{AreWords, all_printable, is_printable, words}
-pub use Fields.{has_bytes, hex_length, hex_value, is_dash, is_decimal, is_hex, is_other_request}
-pub use Fields.{number_within}
-pub use Faults.{Field, Form, argument_fault, bytes_field, fault_by, fields_in, form, form_fits}
+pub use Fields.{address_spelled, address_named, address_text, has_bytes, hex_length, hex_value}
+pub use Fields.{is_dash, is_decimal, is_hex, is_other_request, number_within}
+pub use Faults.{Field, Form, argument_fault, bytes_field, endpoint_field, fault_by, fields_in}
+pub use Faults.{form, form_fits}
 pub use Faults.{forms, is_bad_hex, is_bad_length, is_bad_number, is_bad_path, is_some_bad}
 pub use Faults.{has_other_count, is_no_request, is_other_count, is_other_setup, line_fault}
 pub use Faults.{packets_field, path_field, push}
@@ -25,9 +26,11 @@ pub use Faults.{request_field, root_field, roots_field, status_field, words_faul
 pub use Reading.{bare_control, both, counted_write, fault_in, is_write, may_push, request_with}
 pub use Reading.{result_map}
 pub use Reading.{said_of, setup_in_bytes}
-unfoldable pub use Reading.{alone, bytes_of_word, clear_answer, control_answer, count_in}
-unfoldable pub use Reading.{data_answer, line_says, look_answer, number_of_word, path_in}
-unfoldable pub use Reading.{receive_answer, request_of_word, roots_answer, send_answer}
+unfoldable pub use Reading.{alone, bytes_of_word, clear_answer, clear_of_answer, control_answer}
+unfoldable pub use Reading.{count_in, data_answer, endpoint_named, line_says, look_answer}
+unfoldable pub use Reading.{number_of_word, path_in, poll_answer, receive_answer}
+unfoldable pub use Reading.{receive_from_answer, request_of_word, roots_answer, send_answer}
+unfoldable pub use Reading.{send_to_answer}
 unfoldable pub use Reading.{shape_says, status_change, status_of_word, text_of_line, three_say}
 unfoldable pub use Reading.{with_one, with_three, with_two, words_say, write_answer}
 unfoldable pub use Reading.{write_of_words}
@@ -38,8 +41,8 @@ unfoldable pub use QuestionReading.{port_question, question_of, setup_in, setup_
 unfoldable pub use QuestionReading.{toggle_named, token_behind, token_of_words}
 pub use declared.answer.Answer.{Answer}
 pub use declared.answer.Answer.TheVariants.{Ack, Clear, ControlIn, ControlOut, Data, Done, End}
-pub use declared.answer.Answer.TheVariants.{Look, Nak, News}
-pub use declared.answer.Answer.TheVariants.{Nothing, Receive, Roots, Send, Show, Stall}
+pub use declared.answer.Answer.TheVariants.{ClearOf, Look, Nak, News, Nothing, Poll, Receive}
+pub use declared.answer.Answer.TheVariants.{ReceiveFrom, Roots, Send, SendTo, Show, Stall}
 pub use declared.answer.Said.{Said}
 pub use declared.answer.Said.TheVariants.{Answered, Changed}
 pub use declared.fault.WireFault.{WireFault}

@@ -9,6 +9,7 @@ use Rattle.usb_wire.specs.declared.answer.Answer.{Answer}
 use Rattle.usb_wire.specs.declared.answer.Answer.TheVariants.{Roots, Ack, Nak, Stall, Nothing, Data}
 use Rattle.usb_wire.specs.declared.answer.Answer.TheVariants.{Done, Show, End, Send, Receive, Clear}
 use Rattle.usb_wire.specs.declared.answer.Answer.TheVariants.{ControlIn, ControlOut, Look, News}
+use Rattle.usb_wire.specs.declared.answer.Answer.TheVariants.{ClearOf, Poll, ReceiveFrom, SendTo}
 use Rattle.usb_wire.specs.declared.answer.Said.{Said}
 use Rattle.usb_wire.specs.declared.answer.Said.TheVariants.{Changed, Answered}
 use Rattle.usb_wire.specs.declared.fault.WireFault.{WireFault}
@@ -19,9 +20,9 @@ use Rattle.usb_wire.specs.declared.question.Asked.{Asked}
 use Rattle.usb_wire.specs.declared.question.Asked.TheVariants.{Hello, Attempt, Port, Wait}
 use Rattle.usb_wire.specs.declared.words.Words.{Words}
 use Rattle.usb_wire.specs.declared.words.Words.TheVariants.{One, Two, Three, Four, More}
-use Rattle.usb_wire.specs.Answers.{send_limit, write_limit}
-use Rattle.usb_wire.specs.Fields.{hex_length, hex_value, is_dash, is_hex, is_other_request}
-use Rattle.usb_wire.specs.Fields.{number_within}
+use Rattle.usb_wire.specs.Answers.{send_limit, send_to_limit, write_limit}
+use Rattle.usb_wire.specs.Fields.{address_named, hex_length, hex_value, is_dash, is_hex}
+use Rattle.usb_wire.specs.Fields.{is_other_request, number_within}
 use Rattle.usb_wire.specs.Words.{all_printable, words}
 use Rattle.usb_wire.specs.Writes.{Write}
 
@@ -92,6 +93,9 @@ write_of_words setup bytes = both (request_of_word true setup) (bytes_of_word wr
 
 unfoldable pub number_of_word : ℕ → ℕ → List ℕ → Result ℕ WireFault
 number_of_word least most word = ok_or (number_within least most word) BadNumber
+
+unfoldable pub endpoint_named : List ℕ → Result ℕ WireFault
+endpoint_named word = ok_or (address_named word) BadNumber
 
 unfoldable pub path_in : List ℕ → Result (List ℕ) WireFault
 path_in word = ok_or (path_of word) BadPath
@@ -172,12 +176,26 @@ control_answer first second = do
   path ← path_in first
   Ok (bare_control path setup)
 
+unfoldable pub poll_answer : List ℕ → List ℕ → Result Answer WireFault
+poll_answer first second = do
+  endpoint ← endpoint_named second
+  path ← path_in first
+  Ok (Poll path endpoint)
+
+unfoldable pub clear_of_answer : List ℕ → List ℕ → Result Answer WireFault
+clear_of_answer first second = do
+  endpoint ← endpoint_named second
+  path ← path_in first
+  Ok (ClearOf path endpoint)
+
 -- the answers of three words
 unfoldable pub with_two : Asked → List ℕ → List ℕ → List ℕ → Result Answer WireFault
 with_two Wait word first second =
     if bytes_eq word (codes "send") then send_answer first second
     else if bytes_eq word (codes "receive") then receive_answer first second
     else if bytes_eq word (codes "control") then control_answer first second
+    else if bytes_eq word (codes "interrupt") then poll_answer first second
+    else if bytes_eq word (codes "clear") then clear_of_answer first second
     else Err NoAnswer
 with_two _ word first second = Err NoAnswer
 
@@ -187,10 +205,26 @@ write_answer first second third = do
   path ← path_in first
   Ok (ControlOut path write)
 
+unfoldable pub send_to_answer : List ℕ → List ℕ → List ℕ → Result Answer WireFault
+send_to_answer first second third = do
+  bytes ← bytes_of_word send_to_limit third
+  endpoint ← endpoint_named second
+  path ← path_in first
+  Ok (SendTo path endpoint (record { items = bytes }))
+
+unfoldable pub receive_from_answer : List ℕ → List ℕ → List ℕ → Result Answer WireFault
+receive_from_answer first second third = do
+  packets ← number_of_word 0 1000 third
+  endpoint ← endpoint_named second
+  path ← path_in first
+  Ok (ReceiveFrom path endpoint packets)
+
 -- the answers of four words
 unfoldable pub with_three : Asked → List ℕ → List ℕ → List ℕ → List ℕ → Result Answer WireFault
 with_three Wait word first second third =
     if bytes_eq word (codes "control") then write_answer first second third
+    else if bytes_eq word (codes "send") then send_to_answer first second third
+    else if bytes_eq word (codes "receive") then receive_from_answer first second third
     else Err NoAnswer
 with_three _ word first second third = Err NoAnswer
 

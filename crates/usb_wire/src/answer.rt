@@ -1,20 +1,25 @@
 //! What the controller side says, and its lines.
-ghost use Rattle.std.specs.Prelude.{◌≡◌, ◌∷◌, ◌++◌, ◌+◌, ◌*◌, ◌<◌, ◌≤◌, [], decimal, length};
+ghost use Rattle.std.specs.Prelude.{◌≡◌, ◌∷◌, ◌++◌, ◌+◌, ◌*◌, ◌<◌, ◌≤◌, [], codes, decimal, length};
 ghost use Rattle.hex.specs.Hex.{encode_upper};
 ghost use Rattle.usb_packet.specs.Text.{hex_text};
 ghost use Rattle.usb_port.specs.Path.{path_text};
 ghost use Rattle.usb_request.specs.Layout.{bytes_of};
 ghost use Rattle.usb_wire.specs.Answers.{said_line, write_text};
+ghost use Rattle.usb_wire.specs.Fields.{address_text};
 
 use crate::question::{DataPacket, push_data};
 use crate::write::ControlWrite;
 use arrayvec::{ArrayString, ArrayVec};
 use usb_packet::{hex_digits, push_decimal};
 use usb_port::PortPath;
-use usb_request::{ReadRequest, Setup};
+use usb_request::{EndpointAddress, ReadRequest, Setup};
 
-/// The most bytes of a transfer that is requested: each line that requests one has room for them.
+/// The most bytes to send to the first bulk endpoint: each line that requests it has room for them.
 pub const SEND_LIMIT: usize = 500;
+
+/// The most bytes to send to an endpoint that is named: each line that requests it has room for
+/// them.
+pub const SEND_TO_LIMIT: usize = 490;
 
 /// The answer to a question.
 #[derive(Debug, Drop)]
@@ -53,6 +58,39 @@ pub enum Answer {
     },
     /// What is requested: to clear the halts of the bulk endpoints of the device at a port (9.4.1).
     Clear(PortPath),
+    /// What is requested: to send bytes to an OUT endpoint of the device at a port (5.7, 5.8).
+    SendTo {
+        /// The port.
+        path: PortPath,
+        /// The endpoint.
+        endpoint: EndpointAddress,
+        /// 0 to 490 bytes.
+        bytes: ArrayVec<u8, SEND_TO_LIMIT>,
+    },
+    /// What is requested: to receive from a bulk IN endpoint of the device at a port (5.8).
+    ReceiveFrom {
+        /// The port.
+        path: PortPath,
+        /// The endpoint.
+        endpoint: EndpointAddress,
+        /// The most packets, 0 to 1,000.
+        packets: u16,
+    },
+    /// What is requested: to ask an interrupt IN endpoint of the device at a port once for a packet
+    /// (5.7).
+    Poll {
+        /// The port.
+        path: PortPath,
+        /// The endpoint.
+        endpoint: EndpointAddress,
+    },
+    /// What is requested: to clear the halt of an endpoint of the device at a port (9.4.1).
+    ClearOf {
+        /// The port.
+        path: PortPath,
+        /// The endpoint.
+        endpoint: EndpointAddress,
+    },
     /// What is requested: to read from endpoint 0 of the device at a port (9.3).
     ControlIn {
         /// The port.
@@ -118,27 +156,23 @@ fn push_answer(line: &mut ArrayString<1024>, answer: &Answer)
             push_data(&mut data, sent.toggle, sent.bytes.as_slice());
             line.push_str(data.as_str());
         }
-        Answer::Send { path, bytes } => {
-            push_path(line, "send ", path);
-            line.push(' ');
-            push_bytes(line, bytes.as_slice());
-        }
-        Answer::Receive { path, packets } => {
-            push_path(line, "receive ", path);
-            line.push(' ');
-            push_number(line, u64::from(*packets));
-        }
+        Answer::Send { path, bytes } => push_send(line, path, bytes.as_slice()),
+        Answer::Receive { path, packets } => push_receive(line, path, *packets),
         Answer::Clear(path) => push_path(line, "clear ", path),
-        Answer::ControlIn { path, request } => {
-            push_path(line, "control ", path);
-            line.push(' ');
-            push_setup(line, request.setup());
-        }
-        Answer::ControlOut { path, request } => {
-            push_path(line, "control ", path);
-            line.push(' ');
-            push_write(line, request.setup(), request.bytes());
-        }
+        Answer::SendTo {
+            path,
+            endpoint,
+            bytes,
+        } => push_send_to(line, path, *endpoint, bytes.as_slice()),
+        Answer::ReceiveFrom {
+            path,
+            endpoint,
+            packets,
+        } => push_receive_from(line, path, *endpoint, *packets),
+        Answer::Poll { path, endpoint } => push_endpoint(line, "interrupt ", path, *endpoint),
+        Answer::ClearOf { path, endpoint } => push_endpoint(line, "clear ", path, *endpoint),
+        Answer::ControlIn { path, request } => push_read(line, path, request.setup()),
+        Answer::ControlOut { path, request } => push_control(line, path, request),
         Answer::Look(path) => push_path(line, "look ", path),
         Answer::News => line.push_str("news"),
         Answer::Ack => line.push_str("ACK"),
@@ -149,6 +183,84 @@ fn push_answer(line: &mut ArrayString<1024>, answer: &Answer)
         Answer::Show => line.push_str("show"),
         Answer::End => line.push_str("end"),
     }
+}
+
+/// What is to be sent to the first bulk endpoint.
+fn push_send(line: &mut ArrayString<1024>, path: &PortPath, bytes: &[u8])
+    requires empty { line.old.bytes ≡ [] }
+    requires few { length bytes.now ≤ 500 }
+    ensures { line.new.bytes
+        ≡ codes "send " ++ path_text path.now ++ codes " " ++ hex_text bytes.now }
+{
+    push_path(line, "send ", path);
+    line.push(' ');
+    push_bytes(line, bytes);
+}
+
+/// The most packets to receive from the first bulk endpoint.
+fn push_receive(line: &mut ArrayString<1024>, path: &PortPath, packets: u16)
+    requires { line.old.bytes ≡ [] }
+    ensures { line.new.bytes
+        ≡ codes "receive " ++ path_text path.now ++ codes " " ++ decimal packets }
+{
+    push_path(line, "receive ", path);
+    line.push(' ');
+    push_number(line, u64::from(packets));
+}
+
+/// What is to be sent to an endpoint that is named.
+fn push_send_to(
+    line: &mut ArrayString<1024>,
+    path: &PortPath,
+    endpoint: EndpointAddress,
+    bytes: &[u8],
+)
+    requires empty { line.old.bytes ≡ [] }
+    requires few { length bytes.now ≤ 490 }
+    ensures { line.new.bytes ≡ codes "send " ++ path_text path.now ++ codes " " ++
+        address_text endpoint ++ codes " " ++ hex_text bytes.now }
+{
+    push_endpoint(line, "send ", path, endpoint);
+    line.push(' ');
+    push_bytes(line, bytes);
+}
+
+/// The most packets to receive from an endpoint that is named.
+fn push_receive_from(
+    line: &mut ArrayString<1024>,
+    path: &PortPath,
+    endpoint: EndpointAddress,
+    packets: u16,
+)
+    requires { line.old.bytes ≡ [] }
+    ensures { line.new.bytes ≡ codes "receive " ++ path_text path.now ++ codes " " ++
+        address_text endpoint ++ codes " " ++ decimal packets }
+{
+    push_endpoint(line, "receive ", path, endpoint);
+    line.push(' ');
+    push_number(line, u64::from(packets));
+}
+
+/// A request that reads from endpoint 0.
+fn push_read(line: &mut ArrayString<1024>, path: &PortPath, setup: Setup)
+    requires { line.old.bytes ≡ [] }
+    ensures { line.new.bytes
+        ≡ codes "control " ++ path_text path.now ++ codes " " ++ hex_text (bytes_of setup) }
+{
+    push_path(line, "control ", path);
+    line.push(' ');
+    push_setup(line, setup);
+}
+
+/// A request that writes to endpoint 0.
+fn push_control(line: &mut ArrayString<1024>, path: &PortPath, request: &ControlWrite)
+    requires { line.old.bytes ≡ [] }
+    ensures { line.new.bytes ≡ codes "control " ++ path_text path.now ++ codes " " ++ write_text
+        (hex_text (bytes_of request.now.setup)) (hex_text request.now.bytes) request.now.bytes }
+{
+    push_path(line, "control ", path);
+    line.push(' ');
+    push_write(line, request.setup(), request.bytes());
 }
 
 /// Setup data, and the bytes that go with it, if there are any.
@@ -175,7 +287,7 @@ fn push_setup(line: &mut ArrayString<1024>, setup: Setup)
 
 /// A number in decimal digits.
 fn push_number(line: &mut ArrayString<1024>, number: u64)
-    requires { length line.old.bytes ≤ 8 + 13 + 1 }
+    requires { length line.old.bytes ≤ 10 + 16 + 1 }
     ensures text { line.new.bytes ≡ line.old.bytes ++ decimal number }
     ensures few { length line.new.bytes ≤ length line.old.bytes + 700 }
 {
@@ -187,12 +299,30 @@ fn push_number(line: &mut ArrayString<1024>, number: u64)
 /// A word and a path.
 fn push_path(line: &mut ArrayString<1024>, word: &str, path: &PortPath)
     requires empty { line.old.bytes ≡ [] }
-    requires short { length word.now ≤ 8 }
+    requires short { length word.now ≤ 10 }
     ensures text { line.new.bytes ≡ word.now ++ path_text path.now }
     ensures few { length line.new.bytes ≤ length word.now + 13 }
 {
     line.push_str(word);
     line.push_str(path.text().as_str());
+}
+
+/// A word, a path and the address of an endpoint.
+fn push_endpoint(
+    line: &mut ArrayString<1024>,
+    word: &str,
+    path: &PortPath,
+    endpoint: EndpointAddress,
+)
+    requires empty { line.old.bytes ≡ [] }
+    requires short { length word.now ≤ 10 }
+    ensures text { line.new.bytes
+        ≡ word.now ++ path_text path.now ++ codes " " ++ address_text endpoint }
+    ensures few { length line.new.bytes ≤ length word.now + 16 }
+{
+    push_path(line, word, path);
+    line.push(' ');
+    push_byte(line, endpoint.get());
 }
 
 /// Bytes in upper-case hexadecimal digits, a dash if there are none.

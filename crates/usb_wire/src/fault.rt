@@ -18,11 +18,12 @@ pub enum WireFault {
     /// In the place of bytes is neither pairs of hexadecimal digits nor a dash.
     #[error("bad hex")]
     BadHex,
-    /// There are over 64 bytes of data, 500 to send or 480 to write; not 4 of a status, 8 of setup
-    /// data, or wLength to write.
+    /// There are over 64 bytes of data, 500 to send, 490 to an endpoint that is named, or 480 to
+    /// write; not 4 of a status, 8 of setup data, or wLength to write.
     #[error("bad length")]
     BadLength,
-    /// In the place of a number is none, or one that is out of its range.
+    /// In the place of a number is none, or one that is out of its range. Or in the place of an
+    /// endpoint's address are no two upper-case digits of one (9.6.6).
     #[error("bad number")]
     BadNumber,
     /// In the place of a path is none: 1 to 7 numbers of ports, each 1 to 7, with dots between

@@ -3,16 +3,17 @@ ghost use Rattle.std.specs.Prelude.{◌≡◌, ◌≤◌, IfOk, MatchResult, fal
 ghost use Rattle.std.specs.Char.{is_ascii_digit};
 ghost use Rattle.std.specs.List.{list_all};
 ghost use Rattle.hex.specs.Hex.{decode_sized, is_hex_digit};
-ghost use Rattle.usb_wire.specs.Fields.{has_bytes, is_decimal, is_hex, is_other_request};
-ghost use Rattle.usb_wire.specs.Reading.{bytes_of_word, both, count_in, counted_write, number_of_word, path_in, request_of_word, request_with, result_map, setup_in_bytes, status_of_word, write_of_words};
+ghost use Rattle.usb_wire.specs.Fields.{address_spelled, address_named, has_bytes, is_decimal, is_hex, is_other_request};
+ghost use Rattle.usb_wire.specs.Reading.{bytes_of_word, both, count_in, counted_write, endpoint_named, number_of_word, path_in, request_of_word, request_with, result_map, setup_in_bytes, status_of_word, write_of_words};
 
 use crate::fault::WireFault;
 use crate::write::{ControlWrite, WRITE_LIMIT};
 use arrayvec::ArrayVec;
 use hex::FromHex;
+use usb_packet::hex_digits;
 use usb_port::PortPath;
-use usb_request::Setup;
 use usb_request::endpoint_address::DIRECTION_IN;
+use usb_request::{EndpointAddress, Setup};
 
 /// At most this number of bytes.
 #[tactic(auto, unfolding(crate::specs::Reading::bytes_of_word))]
@@ -199,6 +200,36 @@ fn all_digits(word: &[u8]) -> bool
     ensures { result ≡ list_all is_ascii_digit word.now }
 {
     word.iter().all(|digit| digit.is_ascii_digit())
+}
+
+/// The address of an endpoint, in two upper-case digits (9.6.6).
+#[tactic(auto, unfolding(crate::specs::Reading::endpoint_named))]
+pub(crate) fn endpoint_named(word: &str) -> Result<EndpointAddress, WireFault>
+    ensures { result ≡ endpoint_named word.now }
+{
+    address_named(word).ok_or(WireFault::BadNumber)
+}
+
+fn address_named(word: &str) -> Option<EndpointAddress>
+    ensures { result ≡ address_named word.now }
+{
+    match bytes_of_word::<1>(word) {
+        Ok(bytes) => address_spelled(word.as_bytes(), bytes.as_slice()),
+        Err(_) => None,
+    }
+}
+
+/// The address of an endpoint that bytes are, if the word spells it in upper case.
+fn address_spelled(word: &[u8], bytes: &[u8]) -> Option<EndpointAddress>
+    ensures { result ≡ address_spelled word.now bytes.now }
+{
+    let [byte] = bytes else {
+        return None;
+    };
+    if word != hex_digits(*byte).as_slice() {
+        return None;
+    }
+    EndpointAddress::new(*byte)
 }
 
 #[tactic(auto, unfolding(crate::specs::Reading::path_in))]

@@ -23,7 +23,7 @@ mod reading;
 mod words;
 mod write;
 
-pub use answer::{Answer, SEND_LIMIT, Said, said_line};
+pub use answer::{Answer, SEND_LIMIT, SEND_TO_LIMIT, Said, said_line};
 pub use asking::read_question;
 pub use fault::WireFault;
 pub use laws::lines_are_read_back;

@@ -3,14 +3,15 @@ ghost use Rattle.std.specs.Prelude.{◌≡◌, IfOk, false};
 ghost use Rattle.usb_wire.specs.Answers.{IsSaidLine, MaySay};
 ghost use Rattle.usb_wire.specs.Faults.{line_fault};
 ghost use Rattle.usb_wire.specs.Fields.{is_other_request};
-ghost use Rattle.usb_wire.specs.Reading.{alone, bare_control, clear_answer, control_answer, data_answer, fault_in, line_says, look_answer, may_push, status_change, receive_answer, result_map, roots_answer, send_answer, shape_says, text_of_line, three_say, with_one, with_three, with_two, write_answer};
+ghost use Rattle.usb_wire.specs.Reading.{alone, bare_control, clear_answer, clear_of_answer, control_answer, data_answer, fault_in, line_says, look_answer, may_push, poll_answer, status_change, receive_answer, receive_from_answer, result_map, roots_answer, send_answer, send_to_answer, shape_says, text_of_line, three_say, with_one, with_three, with_two, write_answer};
 ghost use Rattle.usb_wire.specs.Words.{all_printable, is_printable};
 ghost use Rattle.usb_wire.specs.declared.answer.Said.{Said as ASaid};
 
 use crate::answer::{Answer, Said};
 use crate::fault::WireFault;
 use crate::field::{
-    bytes_of_word, number_of_word, path_in, request_of_word, status_of_word, write_of_words,
+    bytes_of_word, endpoint_named, number_of_word, path_in, request_of_word, status_of_word,
+    write_of_words,
 };
 use crate::question::{Asked, DataPacket};
 use crate::words::{Words, words_of};
@@ -36,9 +37,10 @@ const LINE_LIMIT: usize = 1024;
 ///   that number of words. Or the BYTES of a `control` do not fit its request. Bit 7 of its first
 ///   byte is clear, and wLength is not 0 (9.3.1).
 /// - `BadHex`: in the place of bytes is neither pairs of hexadecimal digits nor a dash.
-/// - `BadLength`: there are over 64 bytes of data, 500 to send or 480 to write; not 4 of a status,
-///   8 of setup data, or wLength to write.
-/// - `BadNumber`: in the place of a number is none, or one out of its range.
+/// - `BadLength`: there are over 64 bytes of data, 500 to send, 490 to an endpoint that is named, or
+///   480 to write; not 4 of a status, 8 of setup data, or wLength to write.
+/// - `BadNumber`: in the place of a number is none, or one out of its range. Or in the place of an
+///   endpoint's address are no two upper-case digits of one (9.6.6).
 /// - `BadPath`: in the place of a path is none.
 pub fn read_said(asked: Asked, roots: u8, line: &[u8]) -> Result<Said, WireFault>
     // What is read may be said, and stands there.
@@ -237,6 +239,8 @@ fn with_two(asked: Asked, word: &str, first: &str, second: &str) -> Result<Answe
         "send" => send_answer(first, second),
         "receive" => receive_answer(first, second),
         "control" => control_answer(first, second),
+        "interrupt" => poll_answer(first, second),
+        "clear" => clear_of_answer(first, second),
         _ => Err(WireFault::NoAnswer),
     }
 }
@@ -260,6 +264,24 @@ fn receive_answer(first: &str, second: &str) -> Result<Answer, WireFault>
         path,
         packets: packets as u16,
     })
+}
+
+#[tactic(auto, unfolding(crate::specs::Reading::poll_answer))]
+fn poll_answer(first: &str, second: &str) -> Result<Answer, WireFault>
+    ensures { result ≡ poll_answer first.now second.now }
+{
+    let endpoint = endpoint_named(second)?;
+    let path = path_in(first)?;
+    Ok(Answer::Poll { path, endpoint })
+}
+
+#[tactic(auto, unfolding(crate::specs::Reading::clear_of_answer))]
+fn clear_of_answer(first: &str, second: &str) -> Result<Answer, WireFault>
+    ensures { result ≡ clear_of_answer first.now second.now }
+{
+    let endpoint = endpoint_named(second)?;
+    let path = path_in(first)?;
+    Ok(Answer::ClearOf { path, endpoint })
 }
 
 #[tactic(auto, unfolding(crate::specs::Reading::control_answer))]
@@ -301,8 +323,38 @@ fn with_three(
     }
     match word {
         "control" => write_answer(first, second, third),
+        "send" => send_to_answer(first, second, third),
+        "receive" => receive_from_answer(first, second, third),
         _ => Err(WireFault::NoAnswer),
     }
+}
+
+#[tactic(auto, unfolding(crate::specs::Reading::send_to_answer))]
+fn send_to_answer(first: &str, second: &str, third: &str) -> Result<Answer, WireFault>
+    ensures { result ≡ send_to_answer first.now second.now third.now }
+{
+    let bytes = bytes_of_word(third)?;
+    let endpoint = endpoint_named(second)?;
+    let path = path_in(first)?;
+    Ok(Answer::SendTo {
+        path,
+        endpoint,
+        bytes,
+    })
+}
+
+#[tactic(auto, unfolding(crate::specs::Reading::receive_from_answer))]
+fn receive_from_answer(first: &str, second: &str, third: &str) -> Result<Answer, WireFault>
+    ensures { result ≡ receive_from_answer first.now second.now third.now }
+{
+    let packets = number_of_word(0, 1000, third)?;
+    let endpoint = endpoint_named(second)?;
+    let path = path_in(first)?;
+    Ok(Answer::ReceiveFrom {
+        path,
+        endpoint,
+        packets: packets as u16,
+    })
 }
 
 #[tactic(auto, unfolding(crate::specs::Reading::write_answer))]
