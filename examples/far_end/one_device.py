@@ -72,7 +72,8 @@ class Port:
             self.told = now
 
 
-REPORTS = ("listing", "news", "control", "send", "receive", "clear", "look")  # the first words of what is not asked
+# the first words of what is not asked
+REPORTS = ("listing", "news", "control", "send", "receive", "interrupt", "clear", "look")
 port, block = Port(), False
 for line in map(str.rstrip, sys.stdin):
     words = line.split(" ")

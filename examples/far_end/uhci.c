@@ -43,7 +43,7 @@ enum { CONNECTION = 0x0001, ENABLE = 0x0002, RESET = 0x0010, POWER = 0x0100, LOW
 
 enum { LONGEST = 1024, PACKET = 64, MOST_ROOTS = 7, PAGE = 4096 };
 enum { SETUP = 0x2D, OUT = 0xE1, IN = 0x69 };
-enum { NAK_FRAMES = 4, LAST_FRAME = 1000 }; /* 256 NAKs of endpoint 0 take a second, and no attempt takes longer */
+enum { NAK_FRAMES = 33, LAST_FRAME = 1000 }; /* 256 NAKs in a row take eight seconds, and no attempt more than one */
 enum { RESET_MS = 50, RECOVERY_MS = 10, HUB_RESET_MS = 30, ADDRESS_MS = 10, WAIT_MS = 32 };
 
 struct question { int pid, address, endpoint, length; bool low, toggle; }; /* an attempt; its bytes stand in `data` */
@@ -51,6 +51,7 @@ struct port { bool powered; uint32_t changes, told; }; /* changes: those that no
 struct device { uint8_t setup[8]; bool toggle[16]; };          /* the last SETUP, and what each IN awaits */
 
 static int base, roots;
+static int naks; /* how often in a row the question that is answered was answered by NAK */
 static struct port ports[MOST_ROOTS + 1];
 static struct device devices[128]; /* by address */
 static uint32_t *frames;           /* a page: the frame list, each entry the queue */
@@ -176,7 +177,8 @@ static void start_controller(void)
 static int frames_since(uint16_t first) { return (inw(base + FRNUM) - first) & 0x7FF; }
 
 /* Makes one attempt and returns the descriptor's status. One that is answered by NAK stays ACTIVE: the controller asks
- * again in each frame, until it has asked in NAK_FRAMES of them, of other endpoints than 0 in one. */
+ * again in each frame. The first NAK is told at once; where the same question comes again behind it, a frame later each
+ * time, up to NAK_FRAMES. */
 static uint32_t attempt(const struct question *it)
 {
     td->link = TERMINATE;
@@ -188,7 +190,7 @@ static uint32_t attempt(const struct question *it)
     queue[1] = queue_at + TD_AT;
     uint16_t first = inw(base + FRNUM);
     for (int asked = 0; td->status & ACTIVE; asked = frames_since(first)) {
-        if (asked > LAST_FRAME || ((td->status & NAKED) && asked >= (it->endpoint ? 1 : NAK_FRAMES)))
+        if (asked > LAST_FRAME || ((td->status & NAKED) && asked >= (naks + 1 < NAK_FRAMES ? naks + 1 : NAK_FRAMES)))
             break;
         pause_us(100);
     }
@@ -395,7 +397,11 @@ static bool ask_port(const char *line)
 /* Answers one question; false where it is none. */
 static bool answer_line(const char *line, char *answer)
 {
+    static char last[LONGEST + 1];
     struct question it;
+    if (strcmp(line, last))
+        naks = 0;
+    snprintf(last, sizeof last, "%s", line);
     strcpy(answer, "ok");
     if (!strncmp(line, "port ", 5))
         return ask_port(line);
@@ -403,6 +409,7 @@ static bool answer_line(const char *line, char *answer)
         if (!read_attempt(line, &it))
             return false;
         answer_attempt(&it, answer);
+        naks = strcmp(answer, "NAK") ? 0 : naks + 1;
         return true;
     }
     for (int ms = 0; ms < WAIT_MS && all_told(); ms += 4)
@@ -410,16 +417,20 @@ static bool answer_line(const char *line, char *answer)
     return true;
 }
 
-/* Whether the line is told and not asked: that of a transfer, or one of a listing. */
+/* Whether the line is told and not asked: that of a transfer or a look, or one of a listing or of news. */
 static bool is_told(const char *line)
 {
-    static bool listing;
-    if (listing) {
-        listing = strcmp(line, "end");
+    static const char *const reports[] = {"control ", "send ", "receive ", "interrupt ", "clear ", "look "};
+    static bool block;
+    if (block) {
+        block = strcmp(line, "end");
         return true;
     }
-    listing = !strncmp(line, "listing ", 8);
-    return listing || !strncmp(line, "send ", 5) || !strncmp(line, "receive ", 8) || !strncmp(line, "clear ", 6);
+    block = !strncmp(line, "listing ", 8) || !strcmp(line, "news");
+    for (size_t i = 0; i < sizeof reports / sizeof *reports; i++)
+        if (!strncmp(line, reports[i], strlen(reports[i])))
+            return true;
+    return block;
 }
 
 int main(void)

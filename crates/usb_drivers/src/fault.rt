@@ -1,0 +1,38 @@
+//! Why a driver's call failed.
+ghost use Rattle.std.specs.Prelude.{◌≡◌};
+ghost use Rattle.usb_drivers.specs.declared.fault.DriverFault.TheVariants.{Host};
+
+use thiserror::Error;
+use usb_host::HostFault;
+
+/// Why a driver's call failed.
+#[derive(Clone, Copy, Debug, PartialEq, Eq, Error)]
+pub enum DriverFault {
+    /// The device at the path is not of the driver's kind.
+    #[error("not of this kind")]
+    Alien,
+    /// The device that the driver was given is not listed any more, also if another one is.
+    #[error("gone")]
+    Gone,
+    /// A call of the host ended so.
+    #[error("{0}")]
+    Host(HostFault),
+    /// The disk could not do what it was asked.
+    #[error("failed")]
+    Failed,
+    /// It moved fewer bytes than it was asked for.
+    #[error("too few bytes")]
+    Short,
+    /// What came is no status of the command, or disk and host disagree on what is under way:
+    /// `Disk::recover` lets them begin again.
+    #[error("out of step")]
+    OutOfStep,
+}
+
+impl From<HostFault> for DriverFault {
+    ghost from_gives = { λ fault e. e ≡ Host fault };
+
+    fn from(fault: HostFault) -> DriverFault {
+        DriverFault::Host(fault)
+    }
+}
