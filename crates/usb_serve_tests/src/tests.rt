@@ -1,4 +1,5 @@
 //! Tests of the words, of plans, and of readers and writers that fail.
+mod endpoints;
 mod frail;
 mod hubs;
 mod outputs;

@@ -252,6 +252,8 @@ const RUN: &[(&str, &str, &str)] = &[
     ),
     ("end", "", ""),
     ("send 1 done 3", "", ""),
+    ("send 1 02 done 3", "", ""),
+    ("interrupt 1 81 nothing", "", ""),
     ("unplug 1", "", ""),
     ("news", "", ""),
     ("left 1", "", ""),

@@ -268,6 +268,37 @@ const SAID: &[SaidRow] = &[
         line: "clear 1.2.3.4.5.6.7",
         written: "clear 1.2.3.4.5.6.7",
     },
+    // the same of an endpoint that is named
+    SaidRow {
+        asked: Asked::Wait,
+        line: "send 1.7 02 00ff",
+        written: "send 1.7 02 00FF",
+    },
+    SaidRow {
+        asked: Asked::Wait,
+        line: "send 1 0F -",
+        written: "send 1 0F -",
+    },
+    SaidRow {
+        asked: Asked::Wait,
+        line: "receive 2 8A 1000",
+        written: "receive 2 8A 1000",
+    },
+    SaidRow {
+        asked: Asked::Wait,
+        line: "interrupt 1.2.3.4.5.6.7 81",
+        written: "interrupt 1.2.3.4.5.6.7 81",
+    },
+    SaidRow {
+        asked: Asked::Wait,
+        line: "clear 3 8F",
+        written: "clear 3 8F",
+    },
+    SaidRow {
+        asked: Asked::Wait,
+        line: "clear 3 01",
+        written: "clear 3 01",
+    },
     // GET_STATUS (9.4.5)
     SaidRow {
         asked: Asked::Wait,
@@ -441,6 +472,99 @@ const FAULTS: &[FaultRow] = &[
         line: b"control 8 8000000000000200",
         fault: WireFault::BadPath,
     },
+    // no endpoint, too many words, another question
+    FaultRow {
+        asked: Asked::Wait,
+        line: b"interrupt 1",
+        fault: WireFault::NoAnswer,
+    },
+    FaultRow {
+        asked: Asked::Wait,
+        line: b"interrupt 1 81 1",
+        fault: WireFault::NoAnswer,
+    },
+    FaultRow {
+        asked: Asked::Wait,
+        line: b"send 1 02 00 00",
+        fault: WireFault::NoAnswer,
+    },
+    FaultRow {
+        asked: Asked::Wait,
+        line: b"clear 1 02 00",
+        fault: WireFault::NoAnswer,
+    },
+    FaultRow {
+        asked: Asked::Attempt,
+        line: b"interrupt 1 81",
+        fault: WireFault::NoAnswer,
+    },
+    // one digit, three, in lower case, endpoint 0, a reserved bit
+    FaultRow {
+        asked: Asked::Wait,
+        line: b"interrupt 8 1",
+        fault: WireFault::BadNumber,
+    },
+    FaultRow {
+        asked: Asked::Wait,
+        line: b"clear 1 081",
+        fault: WireFault::BadNumber,
+    },
+    FaultRow {
+        asked: Asked::Wait,
+        line: b"interrupt 1 8f",
+        fault: WireFault::BadNumber,
+    },
+    FaultRow {
+        asked: Asked::Wait,
+        line: b"interrupt 1 80",
+        fault: WireFault::BadNumber,
+    },
+    FaultRow {
+        asked: Asked::Wait,
+        line: b"clear 1 10",
+        fault: WireFault::BadNumber,
+    },
+    FaultRow {
+        asked: Asked::Wait,
+        line: b"send 1 -1 00",
+        fault: WireFault::BadNumber,
+    },
+    FaultRow {
+        asked: Asked::Wait,
+        line: b"receive 1 81 1001",
+        fault: WireFault::BadNumber,
+    },
+    // which fault comes first
+    FaultRow {
+        asked: Asked::Wait,
+        line: b"send 8 2 0",
+        fault: WireFault::BadHex,
+    },
+    FaultRow {
+        asked: Asked::Wait,
+        line: b"send 8 2 00",
+        fault: WireFault::BadNumber,
+    },
+    FaultRow {
+        asked: Asked::Wait,
+        line: b"send 8 02 00",
+        fault: WireFault::BadPath,
+    },
+    FaultRow {
+        asked: Asked::Wait,
+        line: b"receive 8 81 1",
+        fault: WireFault::BadPath,
+    },
+    FaultRow {
+        asked: Asked::Wait,
+        line: b"interrupt 8 81",
+        fault: WireFault::BadPath,
+    },
+    FaultRow {
+        asked: Asked::Wait,
+        line: b"clear 0 02",
+        fault: WireFault::BadPath,
+    },
     // a request with bytes for the device, but no bytes; then also a path that is none
     FaultRow {
         asked: Asked::Wait,
@@ -545,21 +669,23 @@ fn long_lines(rt: HostRuntime) {
     }
 }
 
-/// How many bytes are to be sent, and the fault that is reported of the line.
-const SENDS: &[(usize, Option<WireFault>)] = &[
-    (64, None),
-    (65, None),
-    (500, None),
-    (501, Some(WireFault::BadLength)),
-    (502, Some(WireFault::BadLength)),
+/// What is wanted, how many bytes are to be sent, and the fault that is reported of the line.
+const SENDS: &[(&str, usize, Option<WireFault>)] = &[
+    ("send 1.2.3.4.5.6.7 ", 64, None),
+    ("send 1.2.3.4.5.6.7 ", 65, None),
+    ("send 1.2.3.4.5.6.7 ", 500, None),
+    ("send 1.2.3.4.5.6.7 ", 501, Some(WireFault::BadLength)),
+    ("send 1.2.3.4.5.6.7 ", 502, Some(WireFault::BadLength)),
+    ("send 1.2.3.4.5.6.7 0F ", 490, None),
+    ("send 1.2.3.4.5.6.7 0F ", 491, Some(WireFault::BadLength)),
 ];
 
 /// The longest line that wants a transfer has 1,023 bytes.
 #[test]
 fn transfers_that_are_wanted(rt: HostRuntime) {
-    for (count, fault) in SENDS {
+    for (front, count, fault) in SENDS {
         let mut line = ArrayString::<1023>::new();
-        line.push_str("send 1.2.3.4.5.6.7 ");
+        line.push_str(front);
         for _ in 0..*count {
             let _ = line.write_str("5A");
         }

@@ -152,6 +152,50 @@ path = "1"
 do = "news"
 "#;
 
+/// What a driver of a plan wants of endpoints that it names; the last of that is to send 491 bytes.
+const NAMED: &str = r#"
+limit = 8
+roots = 1
+
+[[event]]
+do = "send"
+path = "1"
+endpoint = 2
+bytes = "0a0B"
+
+[[event]]
+do = "receive"
+path = "1.2"
+endpoint = 0x8F
+packets = 3
+
+[[event]]
+do = "interrupt"
+path = "1"
+endpoint = 0x81
+
+[[event]]
+do = "clear"
+path = "1"
+endpoint = 1
+
+[[event]]
+do = "send"
+path = "1"
+endpoint = 15
+bytes = """\
+0000000000000000000000000000000000000000000000000000000000000000000000000000000000000000000000000000\
+0000000000000000000000000000000000000000000000000000000000000000000000000000000000000000000000000000\
+0000000000000000000000000000000000000000000000000000000000000000000000000000000000000000000000000000\
+0000000000000000000000000000000000000000000000000000000000000000000000000000000000000000000000000000\
+0000000000000000000000000000000000000000000000000000000000000000000000000000000000000000000000000000\
+0000000000000000000000000000000000000000000000000000000000000000000000000000000000000000000000000000\
+0000000000000000000000000000000000000000000000000000000000000000000000000000000000000000000000000000\
+0000000000000000000000000000000000000000000000000000000000000000000000000000000000000000000000000000\
+0000000000000000000000000000000000000000000000000000000000000000000000000000000000000000000000000000\
+0000000000000000000000000000000000000000000000000000000000000000000000000000000000"""
+"#;
+
 /// A plan, what a host says, what is said to it, and how that ends.
 #[derive(Clone, Copy)]
 struct Row {
@@ -299,6 +343,15 @@ const ROWS: &[Row] = &[
         far: "roots 1\ncontrol 1 8000000000000200\ncontrol 1 2109000200000100 0A\n\
               control 1 0009010000000000\nlook 1\nnews\nend\n",
         ended: Ok(()),
+    },
+    // what it wants of endpoints that it names, up to one byte more than a line has room for
+    Row {
+        plan: NAMED,
+        host: "usbplan live 1\nwait\nsend 1 02 failed no device\nwait\n\
+               receive 1.2 8F failed no device\nwait\ninterrupt 1 81 nothing\nwait\n\
+               clear 1 01 failed no device\nwait\n",
+        far: "roots 1\nsend 1 02 0A0B\nreceive 1.2 8F 3\ninterrupt 1 81\nclear 1 01\n",
+        ended: Err((10, FarFault::LongSend)),
     },
     // an event that came in the last polls, which brought nothing, is told before the next one is taken
     Row {

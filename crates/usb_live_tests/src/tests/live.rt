@@ -87,6 +87,16 @@ const WANTED: &[Wanted] = &[
             LISTED,
         ],
     },
+    // endpoints that are named, which the device has not
+    Wanted {
+        far: "send 1 02 FF\nreceive 1 81 3\ninterrupt 2 81\nclear 1 01\nend\n",
+        host: &[
+            "send 1 02 failed no endpoint\nwait\nreceive 1 81 failed no endpoint\nwait\n",
+            "interrupt 2 81 failed no device\nwait\nclear 1 01 failed no endpoint\nwait\n",
+            "listing 1\n",
+            LISTED,
+        ],
+    },
     // a look finds that the device has left
     Wanted {
         far: "news\nlook 1\nport 1 00010000\nok\nnews\nend\n",
@@ -101,6 +111,80 @@ const WANTED: &[Wanted] = &[
         far: "port 1 00010100\nok\nport 1 00010000\nok\nend\n",
         host: &["port 1 clear C_PORT_CONNECTION\nwait\nlisting 1\nend\n"],
     },
+];
+
+/// What a host says to a controller side with a keyboard that is polled (HID 1.11), and what that says to it.
+const KEYBOARD: &[(&str, &str)] = &[
+    ("usbplan live 1\n", "roots 1\n"),
+    ("port 1 clear PORT_POWER\n", "ok\n"),
+    ("port 1 set PORT_POWER\n", "port 1 00010000\nok\n"),
+    ("wait\n", "port 1 01030100\nok\n"),
+    ("port 1 clear C_PORT_CONNECTION\n", "port 1 01030000\nok\n"),
+    ("port 1 set PORT_RESET\n", "port 1 03031000\nok\n"),
+    ("port 1 clear C_PORT_RESET\n", "port 1 03030000\nok\n"),
+    ("low SETUP 0.0 / DATA0 8006000100000800\n", "ACK\n"),
+    ("low IN 0.0 8\n", "DATA1 1201100100000008\n"),
+    ("low OUT 0.0 / DATA1 -\n", "ACK\n"),
+    ("low SETUP 0.0 / DATA0 0005010000000000\n", "ACK\n"),
+    ("low IN 0.0 8\n", "DATA1 -\n"),
+    ("low SETUP 1.0 / DATA0 8006000100001200\n", "ACK\n"),
+    ("low IN 1.0 8\n", "DATA1 1201100100000008\n"),
+    ("low IN 1.0 8\n", "DATA0 3412020000010000\n"),
+    ("low IN 1.0 8\n", "DATA1 0001\n"),
+    ("low OUT 1.0 / DATA1 -\n", "ACK\n"),
+    ("low SETUP 1.0 / DATA0 8006000200000900\n", "ACK\n"),
+    ("low IN 1.0 8\n", "DATA1 09022200010100A0\n"),
+    ("low IN 1.0 8\n", "DATA0 32\n"),
+    ("low OUT 1.0 / DATA1 -\n", "ACK\n"),
+    ("low SETUP 1.0 / DATA0 8006000200002200\n", "ACK\n"),
+    ("low IN 1.0 8\n", "DATA1 09022200010100A0\n"),
+    ("low IN 1.0 8\n", "DATA0 3209040000010301\n"),
+    ("low IN 1.0 8\n", "DATA1 0100092111010001\n"),
+    ("low IN 1.0 8\n", "DATA0 2217000705810308\n"),
+    ("low IN 1.0 8\n", "DATA1 000A\n"),
+    ("low OUT 1.0 / DATA1 -\n", "ACK\n"),
+    ("low SETUP 1.0 / DATA0 0009010000000000\n", "ACK\n"),
+    ("low IN 1.0 8\n", "DATA1 -\n"),
+    // a key, an empty packet, and none
+    ("wait\n", "interrupt 1 81\n"),
+    ("low IN 1.1 8\n", "DATA0 0000040000000000\n"),
+    (
+        "interrupt 1 81 done 0000040000000000\nwait\n",
+        "interrupt 1 81\n",
+    ),
+    ("low IN 1.1 8\n", "DATA1 -\n"),
+    ("interrupt 1 81 done -\nwait\n", "interrupt 1 81\n"),
+    ("low IN 1.1 8\n", "NAK\n"),
+    // halted, and cleared
+    ("interrupt 1 81 nothing\nwait\n", "interrupt 1 81\n"),
+    ("low IN 1.1 8\n", "STALL\n"),
+    ("interrupt 1 81 failed stalled\nwait\n", "clear 1 81\n"),
+    ("low SETUP 1.0 / DATA0 0201000081000000\n", "ACK\n"),
+    ("low IN 1.0 8\n", "DATA1 -\n"),
+    ("clear 1 81 done\nwait\n", "interrupt 1 81\n"),
+    // no answer, which breaks no pipe
+    ("low IN 1.1 8\n", "none\n"),
+    ("low IN 1.1 8\n", "none\n"),
+    ("low IN 1.1 8\n", "none\n"),
+    (
+        "interrupt 1 81 failed no answer\nwait\n",
+        "interrupt 1 81\n",
+    ),
+    ("low IN 1.1 8\n", "DATA0 01\n"),
+    // endpoints that are not for this, or not there
+    ("interrupt 1 81 done 01\nwait\n", "receive 1 81 3\n"),
+    ("receive 1 81 failed no endpoint\nwait\n", "send 1 81 FF\n"),
+    ("send 1 81 failed no endpoint\nwait\n", "send 1 01 FF\n"),
+    ("send 1 01 failed no endpoint\nwait\n", "clear 1 82\n"),
+    ("clear 1 82 failed no endpoint\nwait\n", "interrupt 2 81\n"),
+    ("interrupt 2 81 failed no device\nwait\n", "end\n"),
+    (
+        "listing 1\n\
+         1 address 1 low 120110010000000834120200000100000001\n\
+         1 config 0 09022200010100A0320904000001030101000921110100012217000705810308000A *\n\
+         end\n",
+        "",
+    ),
 ];
 
 /// What a controller side says, how many questions may be asked, how that ends, and how many lines the host has
@@ -173,6 +257,12 @@ const ROWS: &[Row] = &[
         far: "roots 1\nok\nok\nsend 1 F\n",
         limit: 9,
         ended: Err(LiveEnd::Line(4, LiveFault::Line(WireFault::BadHex))),
+        lines: 4,
+    },
+    Row {
+        far: "roots 1\nok\nok\ninterrupt 1 8f\n",
+        limit: 9,
+        ended: Err(LiveEnd::Line(4, LiveFault::Line(WireFault::BadNumber))),
         lines: 4,
     },
     Row {
@@ -263,6 +353,24 @@ fn courses(rt: HostRuntime) -> Result<(), Fail> {
         let told = str::from_utf8(played.host.as_slice()).ok();
         assert_eq!(rt; told, Some(host.as_str()), "{}", row.far);
     }
+    Ok(())
+}
+
+/// A course of polls, from the hello to the end.
+#[test]
+fn polls(rt: HostRuntime) -> Result<(), Fail> {
+    let mut far = String::new(rt.alloc());
+    let mut host = String::new(rt.alloc());
+    for (asked, said) in KEYBOARD {
+        host.push_str(asked)?;
+        far.push_str(said)?;
+    }
+    let played = play(rt.alloc(), far.as_bytes(), u64::MAX, u64::MAX);
+    assert_eq!(rt; played.ended, Ok(()));
+    assert_eq!(rt;
+        str::from_utf8(played.host.as_slice()).ok(),
+        Some(host.as_str())
+    );
     Ok(())
 }
 

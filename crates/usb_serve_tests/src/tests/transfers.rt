@@ -1,10 +1,11 @@
 //! What is reported of transfers: the lines that `serve` writes, and the items of `run`.
+use arrayvec::ArrayVec;
 use std::alloc::{AllocError, Global};
 use std::str;
 use std::test::Fail;
 use usb_bus::Watched;
 use usb_plan::read_plan;
-use usb_run::{Item, Mode, TransferFault, run};
+use usb_run::{EndpointAddress, Item, Mode, TransferFault, run};
 use usb_serve::serve;
 
 /// The head of each plan: its limit, its root ports and its devices.
@@ -370,8 +371,16 @@ const ROWS: [Row; 9] = [
     LOST_PACKETS,
 ];
 
+/// A line tells of a transfer through a pipe.
+fn is_of_transfer(line: &str) -> bool {
+    line.starts_with("send ")
+        || line.starts_with("receive ")
+        || line.starts_with("interrupt ")
+        || line.starts_with("clear ")
+}
+
 /// The lines of transfers among those that `serve` writes of a plan.
-fn lines_told(alloc: Global, plan: &str) -> Result<String, Fail> {
+pub(super) fn lines_told(alloc: Global, plan: &str) -> Result<String, Fail> {
     let mut reader = Watched::new(plan.as_bytes());
     let (_, writer) = serve(
         alloc,
@@ -382,7 +391,7 @@ fn lines_told(alloc: Global, plan: &str) -> Result<String, Fail> {
     let written = writer.into_inner();
     let mut told = String::new(alloc);
     for line in str::from_utf8(written.as_slice())?.lines() {
-        if line.starts_with("send ") || line.starts_with("receive ") || line.starts_with("clear ") {
+        if is_of_transfer(line) {
             told.push_str(line)?;
             told.push('\n')?;
         }
@@ -398,7 +407,58 @@ fn end_text(alloc: Global, ended: Result<String, TransferFault>) -> Result<Strin
     }
 }
 
-/// An item of a run that is a transfer through a bulk pipe, in the words of its line.
+/// How a send ended.
+fn sent_text(alloc: Global, sent: &Result<u64, TransferFault>) -> Result<String, AllocError> {
+    let ended = match sent {
+        Ok(count) => Ok(format!(in alloc; " {count}")?),
+        Err(fault) => Err(*fault),
+    };
+    end_text(alloc, ended)
+}
+
+/// How a receive ended.
+fn received_text(
+    alloc: Global,
+    received: &Result<Vec<u8>, TransferFault>,
+) -> Result<String, AllocError> {
+    let ended = match received {
+        Ok(bytes) => Ok(format!(in alloc; " {}", digits(alloc, bytes.as_slice())?)?),
+        Err(fault) => Err(*fault),
+    };
+    end_text(alloc, ended)
+}
+
+/// How a poll ended.
+fn polled_text(
+    alloc: Global,
+    polled: &Result<Option<ArrayVec<u8, 64>>, TransferFault>,
+) -> Result<String, AllocError> {
+    match polled {
+        Ok(Some(packet)) => format!(in alloc; "done {}", digits(alloc, packet.as_slice())?),
+        Ok(None) => String::from_str(alloc, "nothing"),
+        Err(fault) => end_text(alloc, Err(*fault)),
+    }
+}
+
+/// How a clear ended.
+fn cleared_text(alloc: Global, cleared: &Result<(), TransferFault>) -> Result<String, AllocError> {
+    let ended = match cleared {
+        Ok(()) => Ok(String::new(alloc)),
+        Err(fault) => Err(*fault),
+    };
+    end_text(alloc, ended)
+}
+
+/// The end of a transfer by its endpoint's address, behind that in two digits.
+fn at_endpoint(
+    alloc: Global,
+    endpoint: EndpointAddress,
+    ended: String,
+) -> Result<String, AllocError> {
+    format!(in alloc; "{} {}", digits(alloc, &[endpoint.get()])?, ended)
+}
+
+/// An item of a run that is a transfer through a pipe, in the words of its line.
 fn item_text(alloc: Global, item: &Item) -> Result<String, AllocError> {
     match item {
         Item::Listing(_, _)
@@ -407,25 +467,33 @@ fn item_text(alloc: Global, item: &Item) -> Result<String, AllocError> {
         | Item::Looked(_, _)
         | Item::News(_) => Ok(String::new(alloc)),
         Item::Sent(path, sent) => {
-            let ended = match sent {
-                Ok(count) => Ok(format!(in alloc; " {count}")?),
-                Err(fault) => Err(*fault),
-            };
-            format!(in alloc; "send {} {}\n", path.text(), end_text(alloc, ended)?)
+            format!(in alloc; "send {} {}\n", path.text(), sent_text(alloc, sent)?)
         }
         Item::Received(path, received) => {
-            let ended = match received {
-                Ok(bytes) => Ok(format!(in alloc; " {}", digits(alloc, bytes.as_slice())?)?),
-                Err(fault) => Err(*fault),
-            };
-            format!(in alloc; "receive {} {}\n", path.text(), end_text(alloc, ended)?)
+            format!(in alloc;
+                "receive {} {}\n",
+                path.text(),
+                received_text(alloc, received)?
+            )
         }
         Item::Cleared(path, cleared) => {
-            let ended = match cleared {
-                Ok(()) => Ok(String::new(alloc)),
-                Err(fault) => Err(*fault),
-            };
-            format!(in alloc; "clear {} {}\n", path.text(), end_text(alloc, ended)?)
+            format!(in alloc; "clear {} {}\n", path.text(), cleared_text(alloc, cleared)?)
+        }
+        Item::SentTo(path, endpoint, sent) => {
+            let ended = at_endpoint(alloc, *endpoint, sent_text(alloc, sent)?)?;
+            format!(in alloc; "send {} {}\n", path.text(), ended)
+        }
+        Item::ReceivedFrom(path, endpoint, received) => {
+            let ended = at_endpoint(alloc, *endpoint, received_text(alloc, received)?)?;
+            format!(in alloc; "receive {} {}\n", path.text(), ended)
+        }
+        Item::Polled(path, endpoint, polled) => {
+            let ended = at_endpoint(alloc, *endpoint, polled_text(alloc, polled)?)?;
+            format!(in alloc; "interrupt {} {}\n", path.text(), ended)
+        }
+        Item::ClearedOf(path, endpoint, cleared) => {
+            let ended = at_endpoint(alloc, *endpoint, cleared_text(alloc, cleared)?)?;
+            format!(in alloc; "clear {} {}\n", path.text(), ended)
         }
     }
 }
@@ -439,7 +507,7 @@ fn digits(alloc: Global, bytes: &[u8]) -> Result<String, AllocError> {
 }
 
 /// The items of a plan's run that are transfers, in the words of their lines.
-fn items_told(alloc: Global, plan: &str) -> Result<String, Fail> {
+pub(super) fn items_told(alloc: Global, plan: &str) -> Result<String, Fail> {
     let plan = read_plan(alloc, plan)?;
     let report = run(alloc, &plan)?;
     let mut told = String::new(alloc);

@@ -247,6 +247,23 @@ fn ask_told(alloc: Global, ask: &Ask) -> Result<String, AllocError> {
             format!(in alloc; "receive {packets} from {:?}", path.numbers())
         }
         Ask::Clear(path) => format!(in alloc; "clear {:?}", path.numbers()),
+        Ask::SendTo(path, endpoint, bytes) => {
+            let (sent, endpoint) = (bytes.as_slice(), endpoint.get());
+            format!(in alloc; "send {sent:?} to {:?} {endpoint}", path.numbers())
+        }
+        Ask::ReceiveFrom(path, endpoint, packets) => {
+            format!(in alloc;
+                "receive {packets} from {:?} {}",
+                path.numbers(),
+                endpoint.get()
+            )
+        }
+        Ask::Poll(path, endpoint) => {
+            format!(in alloc; "interrupt {:?} {}", path.numbers(), endpoint.get())
+        }
+        Ask::ClearOf(path, endpoint) => {
+            format!(in alloc; "clear {:?} {}", path.numbers(), endpoint.get())
+        }
         Ask::ControlIn(path, _) => format!(in alloc; "control {:?} in", path.numbers()),
         Ask::ControlOut(path, _) => format!(in alloc; "control {:?} out", path.numbers()),
         Ask::Look(path) => format!(in alloc; "look {:?}", path.numbers()),

@@ -5,7 +5,7 @@ use super::plans::{BULK, Hit, SMALL_BULK, bus_of};
 use super::ready::{TARGET, Told, make_ready, tell, told};
 use std::alloc::{AllocError, Global};
 use std::test::Fail;
-use usb_pipe::{BulkPipe, Bus, PipeFault};
+use usb_pipe::{Bus, EndpointKind, EndpointPipe, PipeFault, UsableEndpoint};
 use usb_sim::{SimBus, Tracer};
 
 /// A call of one of the two pipes to an endpoint.
@@ -19,9 +19,13 @@ enum Call {
     Receive(u16),
     /// Clears the halt of the pipe that receives.
     ClearIn,
+    /// The same, whatever the pipe saw.
+    ClearInAnyway,
+    /// Asks once for a packet.
+    Poll,
 }
 
-use Call::{ClearIn, ClearOut, Receive, Send};
+use Call::{ClearIn, ClearInAnyway, ClearOut, Poll, Receive, Send};
 
 /// A device, what else its plan says of it, an endpoint and its maximum, the limit and the damaged packets; the calls
 /// with their answers, how many attempts are made in all, and the trace without its NAKs after the 16 attempts that
@@ -41,7 +45,7 @@ struct Row {
     trace: &'static str,
 }
 
-const ROWS: [Row; 17] = [
+const ROWS: [Row; 18] = [
     Row {
         name: "130 bytes",
         device: BULK,
@@ -321,6 +325,28 @@ const ROWS: [Row; 17] = [
 ",
     },
     Row {
+        name: "polls, whatever is lost, and a clear of a pipe that works",
+        device: SMALL_BULK,
+        quirk: "",
+        endpoint: 2,
+        most: 8,
+        limit: 10_000,
+        hits: &[Lost(17, 3), Lost(20, 1), Lost(21, 1), Lost(22, 1)],
+        calls: &[Poll, Poll, Poll, Poll, Poll, ClearInAnyway, Poll],
+        answers: "0102030405060708, 090A0B0C0D0E0F10, no answer, 11121314, ok, ok, ok",
+        attempts: 27,
+        trace: "17 IN 1.2 / DATA0 0102030405060708 / ACK [lost]
+18 IN 1.2 / DATA0 0102030405060708 / ACK
+19 IN 1.2 / DATA1 090A0B0C0D0E0F10 / ACK
+20 IN 1.2 [lost] / none
+21 IN 1.2 [lost] / none
+22 IN 1.2 [lost] / none
+23 IN 1.2 / DATA0 11121314 / ACK
+25 SETUP 1.0 / DATA0 0201000082000000 / ACK
+26 IN 1.0 / DATA1 - / ACK
+",
+    },
+    Row {
         name: "the limit ends a transfer that sends",
         device: SMALL_BULK,
         quirk: "",
@@ -352,10 +378,14 @@ const ROWS: [Row; 17] = [
     },
 ];
 
-fn pipe_to(endpoint: u8, most: u8, is_in: bool) -> BulkPipe
+fn pipe_to(endpoint: u8, most: u8, is_in: bool) -> EndpointPipe
     ensures { result.is_in ≡ is_in }
 {
-    BulkPipe::new(TARGET, endpoint.min(15), most.clamp(1, 64), is_in)
+    let usable = UsableEndpoint {
+        kind: EndpointKind::Bulk,
+        max: most.clamp(1, 64),
+    };
+    EndpointPipe::new(TARGET, endpoint.min(15), usable, is_in)
 }
 
 /// The bytes 1 to 130.
@@ -367,11 +397,27 @@ fn counted(alloc: Global) -> Result<Vec<u8>, AllocError> {
     Ok(bytes)
 }
 
+/// The bytes of a packet that a poll gave, or none.
+fn polled<B: Bus>(
+    alloc: Global,
+    bus: &mut B,
+    source: &mut EndpointPipe,
+) -> Result<Vec<u8>, PipeFault>
+    requires source { source.old.is_in ≡ true }
+    ensures source { source.new.is_in ≡ true }
+{
+    let mut bytes = Vec::new(alloc);
+    if let Some(packet) = source.poll(bus)? {
+        bytes.extend_from_slice(&packet)?;
+    }
+    Ok(bytes)
+}
+
 fn called<B: Bus>(
     alloc: Global,
     bus: &mut B,
-    sink: &mut BulkPipe,
-    source: &mut BulkPipe,
+    sink: &mut EndpointPipe,
+    source: &mut EndpointPipe,
     call: Call,
 ) -> Result<Vec<u8>, PipeFault>
     requires sink { sink.old.is_in ≡ false }
@@ -387,6 +433,8 @@ fn called<B: Bus>(
         Call::ClearOut => sink.clear_halt(bus)?,
         Call::Receive(packets) => return source.receive(alloc, bus, packets),
         Call::ClearIn => source.clear_halt(bus)?,
+        Call::ClearInAnyway => source.clear(bus)?,
+        Call::Poll => return polled(alloc, bus, source),
     }
     Ok(Vec::new(alloc))
 }
@@ -429,7 +477,7 @@ fn a_pipe_moves_bytes(rt: HostRuntime) -> Result<(), Fail> {
 fn behind_a_refusal(
     alloc: Global,
     bus: &mut SimBus<Tracer<Vec<u8>>>,
-    pipe: &mut BulkPipe,
+    pipe: &mut EndpointPipe,
 ) -> Result<(Option<PipeFault>, u64, usize), PipeFault>
     requires { pipe.old.is_in ≡ true }
 {

@@ -6,11 +6,11 @@ use std::alloc::AllocError;
 const EVENTS: [Row; 25] = [
     Row {
         text: "[[event]]\npath = \"1\"\n",
-        told: "p.toml:8: plan: event 1: missing key\n  event 1, line 8: no key `do`\n  allowed: \"plug\", \"unplug\", \"show\", \"send\", \"receive\", \"clear\", \"control\", \"look\" or \"news\"\n  such as: do = \"plug\"\n",
+        told: "p.toml:8: plan: event 1: missing key\n  event 1, line 8: no key `do`\n  allowed: \"plug\", \"unplug\", \"show\", \"send\", \"receive\", \"clear\", \"interrupt\", \"control\", \"look\" or \"news\"\n  such as: do = \"plug\"\n",
     },
     Row {
         text: "[[event]]\ndo = \"plgu\"\n",
-        told: "p.toml:9: plan: event 1: bad value\n  event 1, line 8: `do` is \"plgu\"\n  allowed: \"plug\", \"unplug\", \"show\", \"send\", \"receive\", \"clear\", \"control\", \"look\" or \"news\"\n  did you mean \"plug\"?\n",
+        told: "p.toml:9: plan: event 1: bad value\n  event 1, line 8: `do` is \"plgu\"\n  allowed: \"plug\", \"unplug\", \"show\", \"send\", \"receive\", \"clear\", \"interrupt\", \"control\", \"look\" or \"news\"\n  did you mean \"plug\"?\n",
     },
     Row {
         text: "[[event]]\ndo = \"plug\"\ndevice = \"fn\"\n",
@@ -58,7 +58,7 @@ const EVENTS: [Row; 25] = [
     },
     Row {
         text: "[[event]]\ndo = \"clear\"\npath = \"1\"\nbytes = \"00\"\n",
-        told: "p.toml:11: plan: event 1: bad value\n  event 1, line 8: unknown key `bytes`\n  allowed: `do`, `after`, `path`\n",
+        told: "p.toml:11: plan: event 1: bad value\n  event 1, line 8: unknown key `bytes`\n  allowed: `do`, `after`, `path`, `endpoint`\n",
     },
     Row {
         text: "[[event]]\ndo = \"plug\"\npath = 1\ndevice = \"fn\"\n",
@@ -66,7 +66,7 @@ const EVENTS: [Row; 25] = [
     },
     Row {
         text: "[[event]]\ndo = 5\n",
-        told: "p.toml:9: plan: event 1: bad value\n  event 1, line 8: `do` is 5\n  allowed: \"plug\", \"unplug\", \"show\", \"send\", \"receive\", \"clear\", \"control\", \"look\" or \"news\"\n",
+        told: "p.toml:9: plan: event 1: bad value\n  event 1, line 8: `do` is 5\n  allowed: \"plug\", \"unplug\", \"show\", \"send\", \"receive\", \"clear\", \"interrupt\", \"control\", \"look\" or \"news\"\n",
     },
     Row {
         text: "[[event]]\ndo = \"unplug\"\n",
@@ -150,11 +150,11 @@ const ASKING: [Row; 16] = [
     },
     Row {
         text: "[[event]]\ndo = \"contrl\"\n",
-        told: "p.toml:9: plan: event 1: bad value\n  event 1, line 8: `do` is \"contrl\"\n  allowed: \"plug\", \"unplug\", \"show\", \"send\", \"receive\", \"clear\", \"control\", \"look\" or \"news\"\n  did you mean \"control\"?\n",
+        told: "p.toml:9: plan: event 1: bad value\n  event 1, line 8: `do` is \"contrl\"\n  allowed: \"plug\", \"unplug\", \"show\", \"send\", \"receive\", \"clear\", \"interrupt\", \"control\", \"look\" or \"news\"\n  did you mean \"control\"?\n",
     },
     Row {
         text: "[[event]]\ndo = \"loo\"\n",
-        told: "p.toml:9: plan: event 1: bad value\n  event 1, line 8: `do` is \"loo\"\n  allowed: \"plug\", \"unplug\", \"show\", \"send\", \"receive\", \"clear\", \"control\", \"look\" or \"news\"\n  did you mean \"look\"?\n",
+        told: "p.toml:9: plan: event 1: bad value\n  event 1, line 8: `do` is \"loo\"\n  allowed: \"plug\", \"unplug\", \"show\", \"send\", \"receive\", \"clear\", \"interrupt\", \"control\", \"look\" or \"news\"\n  did you mean \"look\"?\n",
     },
     Row {
         text: "[[event]]\ndo = \"look\"\npath = \"1\"\nsetup = \"\"\n",
@@ -174,10 +174,55 @@ const ASKING: [Row; 16] = [
     },
 ];
 
+/// An event of an endpoint by its address that begins on line 8.
+const ENDPOINTS: [Row; 10] = [
+    Row {
+        text: "[[event]]\ndo = \"interrupt\"\npath = \"1\"\n",
+        told: "p.toml:8: plan: event 1: missing key\n  event 1, line 8: no key `endpoint`\n  allowed: a number from 129 to 143\n  such as: endpoint = 0x81\n",
+    },
+    Row {
+        text: "[[event]]\ndo = \"interrupt\"\npath = \"1\"\nendpoints = 0x81\n",
+        told: "p.toml:8: plan: event 1: missing key\n  event 1, line 8: no key `endpoint`\n  allowed: a number from 129 to 143\n  such as: endpoint = 0x81\n  unknown key `endpoints`: did you mean `endpoint`?\n",
+    },
+    Row {
+        text: "[[event]]\ndo = \"interrupt\"\npath = \"1\"\nendpoint = 1\n",
+        told: "p.toml:11: plan: event 1: bad value\n  event 1, line 8: `endpoint` is 1\n  allowed: a number from 129 to 143\n",
+    },
+    Row {
+        text: "[[event]]\ndo = \"send\"\npath = \"1\"\nbytes = \"\"\nendpoint = 0x81\n",
+        told: "p.toml:12: plan: event 1: bad value\n  event 1, line 8: `endpoint` is 129\n  allowed: a number from 1 to 15\n",
+    },
+    Row {
+        text: "[[event]]\ndo = \"receive\"\npath = \"1\"\npackets = 1\nendpoint = 0x80\n",
+        told: "p.toml:12: plan: event 1: bad value\n  event 1, line 8: `endpoint` is 128\n  allowed: a number from 129 to 143\n",
+    },
+    Row {
+        text: "[[event]]\ndo = \"clear\"\npath = \"1\"\nendpoint = 0\n",
+        told: "p.toml:11: plan: event 1: bad value\n  event 1, line 8: `endpoint` is 0\n  allowed: a number from 1 to 15 for OUT or from 129 to 143 for IN\n",
+    },
+    Row {
+        text: "[[event]]\ndo = \"send\"\npath = \"1\"\nbytes = \"\"\nendpont = 1\n",
+        told: "p.toml:12: plan: event 1: bad value\n  event 1, line 8: unknown key `endpont`\n  allowed: `do`, `after`, `path`, `bytes`, `endpoint`\n  did you mean `endpoint`?\n",
+    },
+    Row {
+        text: "[[event]]\ndo = \"interrupt\"\npath = \"1\"\nendpoint = 0x81\npackets = 1\n",
+        told: "p.toml:12: plan: event 1: bad value\n  event 1, line 8: unknown key `packets`\n  allowed: `do`, `after`, `path`, `endpoint`\n",
+    },
+    Row {
+        text: "[[event]]\ndo = \"look\"\npath = \"1\"\nendpoint = 1\n",
+        told: "p.toml:11: plan: event 1: bad value\n  event 1, line 8: unknown key `endpoint`\n  allowed: `do`, `after`, `path`\n",
+    },
+    Row {
+        text: "[[event]]\ndo = \"interupt\"\npath = \"1\"\n",
+        told: "p.toml:9: plan: event 1: bad value\n  event 1, line 8: `do` is \"interupt\"\n  allowed: \"plug\", \"unplug\", \"show\", \"send\", \"receive\", \"clear\", \"interrupt\", \"control\", \"look\" or \"news\"\n  did you mean \"interrupt\"?\n",
+    },
+];
+
 #[test]
 fn a_fault_of_an_event(rt: HostRuntime) -> Result<(), AllocError> {
     check_rows(&rt, rt.alloc(), FUNCTION, &EVENTS)?;
-    check_rows(&rt, rt.alloc(), FUNCTION, &ASKING)
+    check_rows(&rt, rt.alloc(), FUNCTION, &ASKING)?;
+    check_rows(&rt, rt.alloc(), FUNCTION, &ENDPOINTS)
 }
 
 /// A damage that begins on line 8.

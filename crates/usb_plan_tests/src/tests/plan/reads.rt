@@ -100,6 +100,20 @@ fn put_action(text: &mut String, action: &Action) -> Result<(), AllocError> {
             text.push_str(",")?;
             put_bytes(text, request.bytes())
         }
+        Action::Ask(Ask::SendTo(path, endpoint, bytes)) => {
+            write!(text, "send {} {}", path.text(), endpoint.get())?;
+            put_bytes(text, bytes.as_slice())
+        }
+        Action::Ask(Ask::ReceiveFrom(path, endpoint, packets)) => {
+            write!(text, "receive {} {} {packets}", path.text(), endpoint.get())
+        }
+        Action::Ask(Ask::Poll(path, endpoint)) => {
+            write!(text, "interrupt {} {}", path.text(), endpoint.get())
+        }
+        Action::Ask(Ask::Clear(path)) => write!(text, "clear {}", path.text()),
+        Action::Ask(Ask::ClearOf(path, endpoint)) => {
+            write!(text, "clear {} {}", path.text(), endpoint.get())
+        }
         Action::Ask(Ask::Look(path)) => write!(text, "look {}", path.text()),
         Action::Ask(Ask::News) => text.push_str("news"),
         _ => text.push_str("other"),
@@ -149,7 +163,7 @@ struct Example {
     read: &'static str,
 }
 
-const EXAMPLES: [Example; 10] = [
+const EXAMPLES: [Example; 12] = [
     Example {
         text: &["limit = 0\nroots = 1\n"],
         read: "limit 0, roots 1, bound 2",
@@ -214,6 +228,21 @@ const EXAMPLES: [Example; 10] = [
             "[[event]]\ndo = \"look\"\npath = \"1.7\"\nafter = 3\n",
         ],
         read: "limit 1, roots 1, bound 55350002; 0 look 1; 0 news; 3 look 1.7",
+    },
+    // what goes through an endpoint counts as without its address
+    Example {
+        text: &[
+            "limit = 1\nroots = 1\n[[event]]\ndo = \"send\"\npath = \"1.2\"\nbytes = \"0aFF\"\nendpoint = 15\n",
+            "[[event]]\ndo = \"receive\"\npath = \"1\"\npackets = 7\nendpoint = 0x81\n",
+        ],
+        read: "limit 1, roots 1, bound 12209002; 0 send 1.2 15 10 255; 0 receive 1 129 7",
+    },
+    Example {
+        text: &[
+            "limit = 1\nroots = 1\n[[event]]\ndo = \"interrupt\"\npath = \"1\"\nendpoint = 0x8f\nafter = 2\n",
+            "[[event]]\ndo = \"clear\"\npath = \"1.7\"\nendpoint = 1\n[[event]]\ndo = \"clear\"\npath = \"1\"\n",
+        ],
+        read: "limit 1, roots 1, bound 18450002; 2 interrupt 1 143; 0 clear 1.7 1; 0 clear 1",
     },
 ];
 
