@@ -26,9 +26,10 @@ const DISK: Kind = Kind {
     transfer: EndpointKind::Bulk,
 };
 
-/// Bulk-Only Mass Storage Reset (Bulk-Only Transport, 3.1).
+/// Class requests to an interface.
 const TO_INTERFACE: u8 = 0x21;
 
+/// Bulk-Only Mass Storage Reset (Bulk-Only Transport, 3.1).
 const RESET: u8 = 0xff;
 
 /// How often a disk is asked for its size.
