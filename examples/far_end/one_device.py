@@ -73,7 +73,7 @@ class Port:
 
 
 # the first words of what is not asked
-REPORTS = ("listing", "news", "control", "send", "receive", "interrupt", "clear", "look")
+REPORTS = ("listing", "news", "control", "send", "receive", "interrupt", "clear", "interface", "look")
 port, block = Port(), False
 for line in map(str.rstrip, sys.stdin):
     words = line.split(" ")
@@ -81,6 +81,6 @@ for line in map(str.rstrip, sys.stdin):
         block = line != "end" and (block or words[0] in ("listing", "news"))
         continue
     answer = ("roots 1" if words[0] == "usbplan" else port.call(line[7:]) if words[0] == "port" else
-              port.wait() if line == "wait" else port.attempt(words))
+              port.wait() if line == "wait" else "ok" if words[0] == "restart" else port.attempt(words))
     port.push()
     print(answer, flush=True)

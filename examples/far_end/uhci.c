@@ -394,6 +394,20 @@ static bool ask_port(const char *line)
     return call_port(number, !strcmp(verb, "set"), name);
 }
 
+/* Makes an endpoint begin again at DATA0. The toggle of an OUT stands in the question. */
+static bool restart_endpoint(const char *line)
+{
+    char way[4];
+    int address, endpoint, end = 0;
+    if (sscanf(line, "restart %d.%d %3s%n", &address, &endpoint, way, &end) != 3 || line[end])
+        return false;
+    if (address < 0 || address > 127 || endpoint < 1 || endpoint > 15 || (strcmp(way, "in") && strcmp(way, "out")))
+        return false;
+    if (!strcmp(way, "in"))
+        devices[address].toggle[endpoint] = false;
+    return true;
+}
+
 /* Answers one question; false where it is none. */
 static bool answer_line(const char *line, char *answer)
 {
@@ -405,6 +419,8 @@ static bool answer_line(const char *line, char *answer)
     strcpy(answer, "ok");
     if (!strncmp(line, "port ", 5))
         return ask_port(line);
+    if (!strncmp(line, "restart ", 8))
+        return restart_endpoint(line);
     if (strcmp(line, "wait")) {
         if (!read_attempt(line, &it))
             return false;
@@ -417,10 +433,11 @@ static bool answer_line(const char *line, char *answer)
     return true;
 }
 
-/* Whether the line is told and not asked: that of a transfer or a look, or one of a listing or of news. */
+/* Whether the line is told and not asked: that of a transfer, a setting or a look, or one of a listing or of news. */
 static bool is_told(const char *line)
 {
-    static const char *const reports[] = {"control ", "send ", "receive ", "interrupt ", "clear ", "look "};
+    static const char *const reports[] = {"control ", "send ", "receive ", "interrupt ", "clear ", "interface ",
+                                          "look "};
     static bool block;
     if (block) {
         block = strcmp(line, "end");

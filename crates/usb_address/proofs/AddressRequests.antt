@@ -4,7 +4,8 @@ use Rattle.std.proofs.Common.{List, [], ◌∷◌, Option, None, Some, slice_get
 use Rattle.usb_request.specs.{HUB, GET_STATUS, CLEAR_FEATURE, SET_FEATURE, SET_ADDRESS}
 use Rattle.usb_request.specs.{GET_DESCRIPTOR, GET_CONFIGURATION, SET_CONFIGURATION, DEVICE_IN}
 use Rattle.usb_request.specs.{DEVICE_OUT, ENDPOINT_OUT, HUB_IN, PORT_IN, PORT_OUT, descriptor_value}
-use Rattle.usb_request.specs.{Setup}
+use Rattle.usb_request.specs.{INTERFACE_IN, INTERFACE_OUT, ENDPOINT_IN, GET_INTERFACE}
+use Rattle.usb_request.specs.{SET_INTERFACE, Setup}
 use Rattle.usb_port.specs.{PortState, PortCall, set_call, clear_call}
 use Rattle.usb_device.specs.{ServedEndpoint, Registers, Spec, Hub, Outcome, stalled, takes_address}
 use Rattle.usb_device.specs.{takes_configuration, halts, unhalts, tells_port, Is, unless}
@@ -13,6 +14,9 @@ use Rattle.usb_device.specs.{asked_configuration, endpoint_of, on_endpoint, aske
 use Rattle.usb_device.specs.{port_named, told_port, called_at, asked_port_status, port_feature}
 use Rattle.usb_device.specs.{outcome, reading, ending, reads, reads_port, first_stage}
 use Rattle.usb_device.specs.{answers_taken, takes, writes, writing, ends_if, first_write}
+use Rattle.usb_device.specs.{asked_interface_status, asked_setting, asked_interface, flag_bytes}
+use Rattle.usb_device.specs.{asked_endpoint_status, is_endpoint_0, tells_halt, told_halt, served}
+use Rattle.usb_device.specs.{takes_setting, told_bytes, State}
 use Rattle.usb_device.specs.Request.{answers}
 use Rattle.usb_device.proofs.Interface.{asked_own-any}
 use Rattle.usb_address.specs.Aims.{Aims}
@@ -52,6 +56,10 @@ module _ (Q : ℕ → Type 0) where
   told_only None = tt
   told_only (Some i) = tt
 
+  halt_only : (o : Option ServedEndpoint) → TakesOnly Q (told_halt o)
+  halt_only None = tt
+  halt_only (Some endpoint) = tt
+
   called_only : (c : Option PortCall) (o : Option ℕ) → TakesOnly Q (called_at c o)
   called_only (Some c) None = tt
   called_only c o = tt
@@ -81,6 +89,17 @@ module _ (Q : ℕ → Type 0) where
       (only_unless s.stalls.set_config (asked_configuration s g r)
       (only_if (not (g.address == 0) && is_value s.configs r.value && r.length == 0)
       (takes_configuration r.value) stalled tt tt))
+      (only_if (Is r INTERFACE_IN GET_STATUS) (asked_interface_status s g r) _
+      (only_if _ (answers (flag_bytes false)) stalled tt tt)
+      (only_if (Is r INTERFACE_IN GET_INTERFACE) (asked_setting s g r) _
+      (only_if _ (answers _) stalled tt tt)
+      (only_if (Is r INTERFACE_OUT SET_INTERFACE)
+      (unless s.stalls.interface (asked_interface s g r)) _
+      (only_unless s.stalls.interface (asked_interface s g r)
+      (only_if _ (takes_setting r.index r.value) stalled tt tt))
+      (only_if (Is r ENDPOINT_IN GET_STATUS) (asked_endpoint_status s g r) _
+      (only_if (not (r.value == 0)) stalled _ tt
+      (only_if (is_endpoint_0 r.index) (tells_halt None) _ tt (halt_only (served s g r.index))))
       (only_if (Is r ENDPOINT_OUT CLEAR_FEATURE) (on_endpoint unhalts (endpoint_of s g r)) _
       (endpoint_only unhalts (λ x. tt) (endpoint_of s g r))
       (only_if (Is r ENDPOINT_OUT SET_FEATURE) (on_endpoint halts (endpoint_of s g r)) _
@@ -95,7 +114,7 @@ module _ (Q : ℕ → Type 0) where
       (only_if (Is r PORT_OUT CLEAR_FEATURE) (port_feature (clear_call r.value) s g r) _
       (only_if (r.length == 0) (called_at (clear_call r.value) (port_named s.hub g r.index))
       stalled (called_only (clear_call r.value) (port_named s.hub g r.index)) tt)
-      (asked_own-any (TakesOnly Q) tt s.requests g r (λ bytes. tt) tt (λ kept. tt))))))))))))
+      (asked_own-any (TakesOnly Q) tt s.requests g r (λ bytes. tt) tt (λ kept. tt))))))))))))))))
 
   reads_aim : (wanted : ℕ) (bytes : List ℕ) → Aims Q (reads wanted bytes)
   reads_aim wanted bytes = split (wanted == 0)
@@ -117,11 +136,12 @@ module _ (Q : ℕ → Type 0) where
       split true false = tt
       split false kept = tt
 
-  pub first_aims : (row : List PortState) (taken : List ℕ) (wanted : ℕ) (o : Outcome)
-      → TakesOnly Q o → Aims Q (first_stage row taken wanted o)
-  first_aims row taken wanted (answers bytes) h = reads_aim wanted bytes
-  first_aims row taken wanted (takes_address a) h = h
-  first_aims row taken wanted (tells_port i) h = port_aims wanted (slice_get row i)
-  first_aims row taken wanted answers_taken h = reads_aim wanted taken
-  first_aims row taken wanted (takes kept) h = writes_aim wanted kept
-  first_aims row taken wanted o h = tt
+  pub first_aims : (row : List PortState) (d : State) (wanted : ℕ) (o : Outcome)
+      → TakesOnly Q o → Aims Q (first_stage row d wanted o)
+  first_aims row d wanted (answers bytes) h = reads_aim wanted bytes
+  first_aims row d wanted (takes_address a) h = h
+  first_aims row d wanted (tells_port i) h = port_aims wanted (slice_get row i)
+  first_aims row d wanted answers_taken h = reads_aim wanted d.taken
+  first_aims row d wanted (tells_halt endpoint) h = reads_aim wanted (told_bytes d endpoint)
+  first_aims row d wanted (takes kept) h = writes_aim wanted kept
+  first_aims row d wanted o h = tt

@@ -3,7 +3,6 @@ use Rattle.std.proofs.Common.{◌≡◌, ℕ, ◌==◌, if◌then◌else◌, Boo
 use Rattle.std.proofs.Common.{Some, refl, rules}
 use Rattle.usb_packet.specs.{Toggle}
 use Rattle.usb_port.specs.{PortState}
-use Rattle.usb_device.specs.declared.transfer.InEndpoint.TheVariants as by
 use Rattle.usb_device.specs.{Way, held_law, in_end_law, in_other_law, in_law, out_law, State}
 use Rattle.usb_device.specs.{forgotten, in_max, in_ack_row, out_end_row, out_max, data_row}
 

@@ -17,7 +17,7 @@ use Rattle.usb_pipe.specs.{Condition, PipeFault, PipeState, halt_address, packet
 use Rattle.usb_pipe.specs.{Cleared, Clears, FaultAfter, packet_target, Interrupt, PollAsked, Polls}
 use Rattle.usb_pipe.specs.{Gave, Came, Puts, Fetches, SendEnds, NotCame, NoRoomLeft, ReceiveEnds}
 use Rattle.usb_pipe.specs.declared.condition.Condition.TheVariants as condition
-use Rattle.usb_pipe.specs.declared.fault.PipeFault.TheVariants.{Stalled, Broken, Bus}
+use Rattle.usb_pipe.specs.declared.fault.PipeFault.TheVariants.{Stalled}
 use Rattle.usb_pipe.specs.Moves as moves
 use Rattle.usb_pipe.proofs.Interface.{harmless}
 use Rattle.usb_address.specs.{AddressMap, LeavesTrans, LeavesPipe, MapHolds, WhileBusWorks}

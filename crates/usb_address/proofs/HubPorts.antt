@@ -2,7 +2,7 @@
 use Rattle.std.proofs.Common.{◌≡◌, ℕ, suc, ◌-◌, ◌==◌, ◌&&◌, nat_le, not, ◌⊎◌, inl, inr, Bool, true}
 use Rattle.std.proofs.Common.{false, Option, None, Some, option_map, if◌then◌else◌, refl, arith}
 use Rattle.std.proofs.lemmas.Option.{same_Some}
-use Rattle.usb_device.specs.{Registers, Hub, port_named, State, Ports, ended, empty, full, Place}
+use Rattle.usb_device.specs.{Registers, Hub, port_named, State, Ports, ended, full, Place}
 use Rattle.usb_tree.specs.{address_of}
 
 -- what stands at the ports of a device

@@ -5,7 +5,6 @@ use Rattle.std.proofs.Common.{sym, subst, ◌∙◌, rules}
 use Rattle.arrayvec.specs.ArrayVec.{ArrayVec}
 use Rattle.usb_packet.specs.{Toggle, One as Data1}
 use Rattle.usb_port.specs.{PortState}
-use Rattle.usb_device.specs.declared.answer.Answer.TheVariants as answer
 use Rattle.usb_device.specs.{Stage, reading, read, State, Reply, out_row, status_row, sink_row}
 use Rattle.usb_device.specs.{out_end_row, data_row, Way, in_law, out_law, Ports, vacant, taken}
 use Rattle.usb_device.specs.{row_of, reach_at, state_at, Location, Registers, Write, WriteData}

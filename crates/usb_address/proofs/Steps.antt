@@ -103,7 +103,7 @@ module _ (Q : ℕ → Type 0) where
       ) (None, s)
       (unheard a x.third (is_whole x.first && is_whole x.second) s
       (accepted s (row_of below) (setup_of bytes)) (sym o ∙ h))))
-      (first_aims Q (row_of below) s.taken (setup_of bytes).length
+      (first_aims Q (row_of below) s (setup_of bytes).length
       (outcome s.spec s.registers (setup_of bytes)) (c s))
 
   pub set_up_aims : (a : Attempt) (bytes : List ℕ) (w : World) → IsMade a w → IsSetup a bytes

@@ -8,7 +8,7 @@ use Rattle.usb_world.specs.{Attempt, BusFault, Outcome, World, attempt, after, i
 use Rattle.usb_world.specs.{IsOut, IsIn, IsMade, is_setup}
 use Rattle.usb_world.specs.declared.types.Outcome.TheVariants.{Ack}
 use Rattle.usb_world.proofs.Interface.{made_of, quiet_resets}
-use Rattle.usb_transaction.specs.{TransFault, Stalled, Busy, NoAnswer, Bus, set_up_as, AttemptLog}
+use Rattle.usb_transaction.specs.{TransFault, Bus, set_up_as, AttemptLog}
 use Rattle.usb_transaction.specs.{start, next, BusFailed, Transacted, LastOutcome}
 use Rattle.usb_address.specs.{AllAim, TakesOnly, Never, LeavesTrans, MapHolds}
 use Rattle.usb_address.proofs.Steps.{in_aims, out_aims, set_up_aims, data_owned, quiet_owned}

@@ -2,7 +2,8 @@
 use Rattle.std.specs.Prelude.{◌≡◌, ℕ, true, None, Some, ⊤}
 use Rattle.usb_device.specs.{Outcome, stalled, takes_address, takes_configuration, halts, unhalts}
 use Rattle.usb_device.specs.{tells_port, calls_port, State, Stage, idle, refused, reading, read}
-use Rattle.usb_device.specs.{ending, writing, answers_taken, takes, Location, reach_on, state_on}
+use Rattle.usb_device.specs.{ending, writing, answers_taken, takes, takes_setting, tells_halt}
+use Rattle.usb_device.specs.{Location, reach_on, state_on}
 use Rattle.usb_device.specs.Request.{answers}
 use Rattle.usb_tree.specs.{address_of}
 use Rattle.usb_world.specs.{World}
@@ -34,6 +35,8 @@ TakesOnly Q (tells_port i) = ⊤
 TakesOnly Q (calls_port c i) = ⊤
 TakesOnly Q answers_taken = ⊤
 TakesOnly Q (takes kept) = ⊤
+TakesOnly Q (takes_setting interface setting) = ⊤
+TakesOnly Q (tells_halt endpoint) = ⊤
 
 abbrev pub Never : ℕ → Type 0
 Never a = ⊥

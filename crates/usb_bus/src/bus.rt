@@ -88,6 +88,18 @@ pub trait Bus {
         ensures silent { modelled ≡ true → trace self.new ≡ trace self.old }
         ensures unspent { Spends spent ports 0 self.old self.new };
 
+    /// Makes an endpoint of the device at an address begin again at DATA0, as SET_INTERFACE does (9.4.10, 9.1.1.5).
+    ///
+    /// A controller that keeps toggles itself sets its toggle of that endpoint to DATA0. One that takes the toggle
+    /// from each attempt does nothing.
+    fn restart_endpoint(&mut self, address: u8, number: u8, is_in: bool)
+        requires address { address ≤ 127 }
+        requires least { 1 ≤ number }
+        requires most { number ≤ 15 }
+        ensures world { modelled ≡ true → world self.new ≡ world self.old }
+        ensures silent { modelled ≡ true → trace self.new ≡ trace self.old }
+        ensures unspent { Spends spent ports 0 self.old self.new };
+
     /// A law: the root ports are those of the world.
     ghost counted: { modelled ≡ true → (s : Self) → ports s ≡ roots_of (world s) };
 

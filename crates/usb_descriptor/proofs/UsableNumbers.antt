@@ -1,18 +1,21 @@
 -- Which numbers and maximums the endpoints of a text have that a pipe can use.
-use Rattle.std.proofs.Common.{◌≡◌, ◌≤◌, ℕ, ◌==◌, nat_le, not, ◌&&◌, Bool, true, false, List, []}
-use Rattle.std.proofs.Common.{◌∷◌}
-use Rattle.std.proofs.Common.{Option, None, Some, Result, Ok, Err, refl, sym, subst, ap, ◌∙◌, arith}
-use Rattle.std.proofs.Common.{if◌then◌else◌}
+use Rattle.std.proofs.Common.{◌≡◌, ◌≤◌, ◌<◌, ℕ, ◌==◌, nat_le, not, ◌&&◌, Bool, true, false, List}
+use Rattle.std.proofs.Common.{[], ◌∷◌, if◌then◌else◌, replicate, ◌⊎◌, inl, inr}
+use Rattle.std.proofs.Common.{Option, None, Some, Result, Ok, Err, refl, sym, ap, ◌∙◌, arith}
 use Rattle.std.proofs.lemmas.Bool.Decides.{nat_tests}
-use Rattle.std.specs.Option.{option_or}
+use Rattle.std.proofs.lemmas.Bool.{cases_lt}
+use Rattle.std.proofs.lemmas.List.{get_or-replicate, get_or_past}
+use Rattle.std.specs.Option.{is_some, option_or}
 use Rattle.usb_descriptor.specs.declared.item.Item.{Item}
 use Rattle.usb_descriptor.specs.{EndpointKind, DescriptorFault, Endpoint, Interface, Other}
-use Rattle.usb_descriptor.specs.{UsableEndpoint, as_usable, bulk_described, bulk_in_at, bulk_in_of}
-use Rattle.usb_descriptor.specs.{bulk_out_at, bulk_out_of, bulk_with, config_of, counts_after}
-use Rattle.usb_descriptor.specs.{endpoint_number, first_counting, first_from, has_number, in_config}
-use Rattle.usb_descriptor.specs.{interrupt_described, interrupt_with, is_bulk, is_bulk_size, is_in}
-use Rattle.usb_descriptor.specs.{is_interrupt, items_of, max_packet_size, packet_size, transfer_of}
-use Rattle.usb_descriptor.specs.{usable_at, usable_in, usable_of, interrupt_most}
+use Rattle.usb_descriptor.specs.{UsableEndpoint, alternate_setting, as_usable, bulk_described}
+use Rattle.usb_descriptor.specs.{bulk_in_at, bulk_in_of, bulk_out_at, bulk_out_of, bulk_with}
+use Rattle.usb_descriptor.specs.{config_of, default_settings, endpoint_number}
+use Rattle.usb_descriptor.specs.{first_counting, first_from, first_inside, has_number, in_config}
+use Rattle.usb_descriptor.specs.{inside_after, interface_number, interrupt_described}
+use Rattle.usb_descriptor.specs.{interrupt_with, is_bulk, is_bulk_size, is_in, is_interrupt}
+use Rattle.usb_descriptor.specs.{items_of, max_packet_size, packet_size, setting_of, transfer_of}
+use Rattle.usb_descriptor.specs.{usable_at, usable_in, usable_of, usable_under, interrupt_most}
 use Rattle.usb_descriptor.specs.declared.usable.EndpointKind.TheVariants as kind
 
 -- number and maximum are what a pipe may have
@@ -65,207 +68,270 @@ interrupt_end low endpoint end h =
     by_speed true t = grind (arith, nat_tests, t)
     by_speed false t = grind (arith, nat_tests, t)
 
-numbered : (to_host : Bool) (e : ℕ) (endpoint : List ℕ) → has_number to_host e endpoint ≡ true
+pub numbered : (to_host : Bool) (e : ℕ) (endpoint : List ℕ) → has_number to_host e endpoint ≡ true
     → endpoint_number endpoint ≡ e
 numbered true e endpoint h = grind (arith, nat_tests, h)
 numbered false e endpoint h = grind (arith, nat_tests, h)
 
-first_so : (pick : List ℕ → Option (ℕ × ℕ)) (P : ℕ × ℕ → Type 0)
-    → ((endpoint : List ℕ) (end : ℕ × ℕ) → pick endpoint ≡ Some end → P end)
-    → (counts : Bool) (items : List Item) (end : ℕ × ℕ) → first_from pick counts items ≡ Some end
-    → P end
-first_so pick P so counts [] end h = cc h
-first_so pick P so counts (Interface bytes ∷ items) end h =
-    first_so pick P so (counts_after counts (Interface bytes)) items end h
-first_so pick P so counts (Other bytes ∷ items) end h = first_so pick P so counts items end h
-first_so pick P so false (Endpoint bytes ∷ items) end h = first_so pick P so false items end h
-first_so pick P so true (Endpoint bytes ∷ items) end h =
-    by_pick (pick bytes) refl h (first_so pick P so true items end)
+-- what is picked first is picked of some item
+pub first_so : (settings : List ℕ) (pick : ℕ → List ℕ → Option UsableEndpoint)
+    (P : UsableEndpoint → Type 0)
+    → ((interface : ℕ) (endpoint : List ℕ) (end : UsableEndpoint)
+    → pick interface endpoint ≡ Some end → P end)
+    → (inside : Option ℕ) (items : List Item) (end : UsableEndpoint)
+    → first_inside settings pick inside items ≡ Some end → P end
+first_so settings pick P so inside [] end h = cc h
+first_so settings pick P so inside (Interface bytes ∷ items) end h =
+    first_so settings pick P so (inside_after settings inside (Interface bytes)) items end h
+first_so settings pick P so inside (Other bytes ∷ items) end h =
+    first_so settings pick P so inside items end h
+first_so settings pick P so None (Endpoint bytes ∷ items) end h =
+    first_so settings pick P so None items end h
+first_so settings pick P so (Some interface) (Endpoint bytes ∷ items) end h =
+    by_pick (pick interface bytes) refl h (first_so settings pick P so (Some interface) items end)
   where
-    by_pick : (o : Option (ℕ × ℕ)) → pick bytes ≡ o
-        → option_or o (first_from pick true items) ≡ Some end
-        → (first_from pick true items ≡ Some end → P end) → P end
+    by_pick : (o : Option UsableEndpoint) → pick interface bytes ≡ o
+        → option_or o (first_inside settings pick (Some interface) items) ≡ Some end
+        → (first_inside settings pick (Some interface) items ≡ Some end → P end) → P end
     by_pick None is g more = more g
-    by_pick (Some x) is g more = so bytes end (is ∙ g)
+    by_pick (Some x) is g more = so interface bytes end (is ∙ g)
 
--- the endpoint that is picked first among those of a number has it
-with_number : (to_host : Bool) (e : ℕ) (described : List ℕ → Option (ℕ × ℕ))
-    → ((endpoint : List ℕ) (end : ℕ × ℕ) → described endpoint ≡ Some end
-    → IsEnd (endpoint_number endpoint) end)
-    → (endpoint : List ℕ) (end : ℕ × ℕ)
-    → (if has_number to_host e endpoint then described endpoint else None) ≡ Some end
-    → IsEnd e end
-with_number to_host e described so endpoint end h =
+-- a number of 1 to 15, and a maximum of 1 to 64
+abbrev IsSmall : ℕ → UsableEndpoint → Type 0
+IsSmall e end = (1 ≤ e) × (e ≤ 15) × (1 ≤ end.max) × (end.max ≤ 64)
+
+abbrev max_or : Option UsableEndpoint → ℕ
+max_or None = 0
+max_or (Some end) = end.max
+
+-- what is described of an endpoint with a number
+small : (to_host : Bool) (e interface : ℕ) (k : EndpointKind) (endpoint : List ℕ)
+    (described : Option (ℕ × ℕ)) (end : UsableEndpoint) → has_number to_host e endpoint ≡ true
+    → ((x : ℕ × ℕ) → described ≡ Some x → IsEnd (endpoint_number endpoint) x)
+    → as_usable k interface described ≡ Some end → IsSmall e end
+small to_host e interface k endpoint None end here so g = cc g
+small to_host e interface k endpoint (Some x) end here so g =
+    let y = so x refl in
+    let number : x.0 ≡ e = y.number ∙ numbered to_host e endpoint here in
+    let max : end.max ≡ x.1 = ap max_or (sym g) in
+    let z : (1 ≤ x.0) × (x.0 ≤ 15) × (1 ≤ x.1) × (x.1 ≤ 64) =
+    (y.least, y.most, y.some, y.within) in
+    rw max (rw number at z)
+
+bulk_small : (low to_host : Bool) (e interface : ℕ) (endpoint : List ℕ) (end : UsableEndpoint)
+    → bulk_with low to_host e interface endpoint ≡ Some end → IsSmall e end
+unfolding bulk_with
+bulk_small low to_host e interface endpoint end h =
+    by_number low (has_number to_host e endpoint) refl h
+  where
+    by_number : (slow here : Bool) → has_number to_host e endpoint ≡ here
+        → (if not slow && here then as_usable kind.Bulk interface (bulk_described endpoint)
+        else None) ≡ Some end → IsSmall e end
+    by_number true here is g = cc g
+    by_number false false is g = cc g
+    by_number false true is g = small to_host e interface kind.Bulk endpoint
+        (bulk_described endpoint) end is (bulk_end endpoint) g
+
+interrupt_small : (low to_host : Bool) (e interface : ℕ) (endpoint : List ℕ) (end : UsableEndpoint)
+    → interrupt_with low to_host e interface endpoint ≡ Some end → IsSmall e end
+unfolding interrupt_with
+interrupt_small low to_host e interface endpoint end h =
     by_number (has_number to_host e endpoint) refl h
   where
-    by_number : (b : Bool) → has_number to_host e endpoint ≡ b
-        → (if b then described endpoint else None) ≡ Some end → IsEnd e end
-    by_number false at g = cc g
-    by_number true at g =
-        subst (λ n. IsEnd n end) (numbered to_host e endpoint at) (so endpoint end g)
+    by_number : (here : Bool) → has_number to_host e endpoint ≡ here
+        → (if here then as_usable kind.Interrupt interface (interrupt_described low endpoint)
+        else None) ≡ Some end → IsSmall e end
+    by_number false is g = cc g
+    by_number true is g = small to_host e interface kind.Interrupt endpoint
+        (interrupt_described low endpoint) end is (interrupt_end low endpoint) g
 
-bulk_first : (to_host : Bool) (e : ℕ) (items : List Item) (end : ℕ × ℕ)
-    → first_from (bulk_with to_host e) false items ≡ Some end → IsEnd e end
-unfolding bulk_with
-bulk_first to_host e items end h = first_so (bulk_with to_host e) (IsEnd e)
-    (with_number to_host e bulk_described bulk_end) false items end h
+pub or_so : (P : Type 0) (end : UsableEndpoint) (a b : Option UsableEndpoint)
+    → (a ≡ Some end → P) → (b ≡ Some end → P) → option_or a b ≡ Some end → P
+or_so P end None b h k g = k g
+or_so P end (Some x) b h k g = h g
 
-interrupt_first : (low to_host : Bool) (e : ℕ) (items : List Item) (end : ℕ × ℕ)
-    → first_from (interrupt_with low to_host e) false items ≡ Some end → IsEnd e end
-unfolding interrupt_with
-interrupt_first low to_host e items end h = first_so (interrupt_with low to_host e) (IsEnd e)
-    (with_number to_host e (interrupt_described low) (interrupt_end low)) false items end h
+pub usable_under-small : (settings : List ℕ) (low to_host : Bool) (e : ℕ) (bytes : List ℕ)
+    (end : UsableEndpoint) → usable_under settings low to_host e bytes ≡ Some end
+    → (1 ≤ e) × (e ≤ 15) × (1 ≤ end.max) × (end.max ≤ 64)
+unfolding usable_under usable_at
+usable_under-small settings low to_host e bytes end h = by_text (config_of bytes) h
+  where
+    by_text : (text : Result (List ℕ) DescriptorFault)
+        → usable_in settings low to_host e text ≡ Some end → IsSmall e end
+    by_text (Err fault) g = cc g
+    by_text (Ok text) g = or_so (IsSmall e end) end _ _
+        (first_so settings (bulk_with low to_host e) (IsSmall e) (bulk_small low to_host e) None
+        (items_of text) end)
+        (first_so settings (interrupt_with low to_host e) (IsSmall e)
+        (interrupt_small low to_host e) None (items_of text) end) g
 
 pub usable_of-small : (low to_host : Bool) (e : ℕ) (bytes : List ℕ) (end : UsableEndpoint)
     → usable_of low to_host e bytes ≡ Some end
     → (1 ≤ e) × (e ≤ 15) × (1 ≤ end.max) × (end.max ≤ 64)
-unfolding usable_of usable_at first_counting
-usable_of-small low to_host e bytes end h = by_text (config_of bytes) h
+usable_of-small low to_host e bytes end h =
+    usable_under-small default_settings low to_host e bytes end h
+
+-- the settings of a device that was just configured
+pub setting_of-default : (interface : ℕ) → setting_of default_settings interface ≡ 0
+unfolding default_settings
+setting_of-default interface = by_size (cases_lt interface 256)
   where
-    Small : Type 0
-    Small = (1 ≤ e) × (e ≤ 15) × (1 ≤ end.max) × (end.max ≤ 64)
+    by_size : (interface < 256) ⊎ (256 ≤ interface) → setting_of (replicate 256 0) interface ≡ 0
+    by_size (inl h) = get_or-replicate 256 interface 0 0 h
+    by_size (inr h) = get_or_past (replicate 256 0) interface 0 h
 
-    small : (k : EndpointKind) (o : Option (ℕ × ℕ)) → as_usable k o ≡ Some end
-        → ((x : ℕ × ℕ) → o ≡ Some x → IsEnd e x) → Small
-    small k None g so = cc g
-    small k (Some x) g so =
-        let y = so x refl in
-        let m : end.max ≡ x.1 = ap max_or (sym g) in
-        let z : (1 ≤ x.0) × (x.0 ≤ 15) × (1 ≤ x.1) × (x.1 ≤ 64) =
-        (y.least, y.most, y.some, y.within) in
-        rw m (rw y.number at z)
-      where
-        max_or : Option UsableEndpoint → ℕ
-        max_or None = 0
-        max_or (Some u) = u.max
+-- an endpoint in bulk, whatever its interface
+abbrev pub IsBulkOf : ℕ → Option UsableEndpoint → Type 0
+IsBulkOf max end = (interface : ℕ)
+    × (end ≡ Some (record { kind = kind.Bulk; max = max; interface = interface }))
 
-    by_items : (slow : Bool) (items : List Item)
-        → option_or (if slow then None else as_usable kind.Bulk
-        (first_from (bulk_with to_host e) false items))
-        (as_usable kind.Interrupt (first_from (interrupt_with low to_host e) false items))
-        ≡ Some end → Small
-    by_items true items g = small kind.Interrupt _ g (interrupt_first low to_host e items)
-    by_items false items g =
-        by_bulk (first_from (bulk_with to_host e) false items) refl g
-      where
-        by_bulk : (o : Option (ℕ × ℕ)) → first_from (bulk_with to_host e) false items ≡ o
-            → option_or (as_usable kind.Bulk o) (as_usable kind.Interrupt
-            (first_from (interrupt_with low to_host e) false items)) ≡ Some end → Small
-        by_bulk None is k = small kind.Interrupt _ k (interrupt_first low to_host e items)
-        by_bulk (Some x) is k = small kind.Bulk (Some x) k
-            (λ y e. bulk_first to_host _ items y (is ∙ e))
+abbrev number_or : Option (ℕ × ℕ) → ℕ
+number_or None = 0
+number_or (Some x) = x.0
 
-    by_text : (text : Result (List ℕ) DescriptorFault) → usable_in low to_host e text ≡ Some end
-        → Small
-    by_text (Err fault) g = cc g
-    by_text (Ok text) g = by_items low (items_of text) g
+abbrev most_or : Option (ℕ × ℕ) → ℕ
+most_or None = 0
+most_or (Some x) = x.1
 
 -- the first bulk endpoint of a direction is the one that counts at its number
 first_with : (to_host : Bool) (way : List ℕ → Option (ℕ × ℕ)) (n m : ℕ)
-    → ((endpoint : List ℕ) → (way endpoint ≡ None → bulk_with to_host n endpoint ≡ None)
+    → ((interface : ℕ) (endpoint : List ℕ)
+    → (way endpoint ≡ None → bulk_with false to_host n interface endpoint ≡ None)
     × ((end : ℕ × ℕ) → way endpoint ≡ Some end → end.0 ≡ n
-    → bulk_with to_host n endpoint ≡ Some end))
-    → (counts : Bool) (items : List Item) → first_from way counts items ≡ Some (n, m)
-    → first_from (bulk_with to_host n) counts items ≡ Some (n, m)
-first_with to_host way n m so counts [] h = cc h
-first_with to_host way n m so counts (Interface bytes ∷ items) h =
-    first_with to_host way n m so (counts_after counts (Interface bytes)) items h
-first_with to_host way n m so counts (Other bytes ∷ items) h =
-    first_with to_host way n m so counts items h
-first_with to_host way n m so false (Endpoint bytes ∷ items) h =
-    first_with to_host way n m so false items h
-first_with to_host way n m so true (Endpoint bytes ∷ items) h =
-    by_way (way bytes) refl h (first_with to_host way n m so true items)
+    → bulk_with false to_host n interface endpoint ≡ as_usable kind.Bulk interface (Some end)))
+    → (inside : Option ℕ) (items : List Item) → first_from way (is_some inside) items ≡ Some (n, m)
+    → IsBulkOf m (first_inside default_settings (bulk_with false to_host n) inside items)
+first_with to_host way n m so inside [] h = cc h
+first_with to_host way n m so inside (Interface bytes ∷ items) h =
+    by_setting (alternate_setting bytes == 0) refl h
+    (first_with to_host way n m so (Some (interface_number bytes)) items)
+    (first_with to_host way n m so None items)
   where
-    number_or : Option (ℕ × ℕ) → ℕ
-    number_or None = 0
-    number_or (Some x) = x.0
-
+    by_setting : (b : Bool) → (alternate_setting bytes == 0) ≡ b
+        → first_from way b items ≡ Some (n, m)
+        → (first_from way true items ≡ Some (n, m) → IsBulkOf m
+        (first_inside default_settings (bulk_with false to_host n) (Some (interface_number bytes))
+        items))
+        → (first_from way false items ≡ Some (n, m) → IsBulkOf m
+        (first_inside default_settings (bulk_with false to_host n) None items))
+        → IsBulkOf m (first_inside default_settings (bulk_with false to_host n)
+        (if alternate_setting bytes == setting_of default_settings (interface_number bytes)
+        then Some (interface_number bytes) else None) items)
+    by_setting true is g inner outer =
+        rw (setting_of-default (interface_number bytes), is) (inner g)
+    by_setting false is g inner outer =
+        rw (setting_of-default (interface_number bytes), is) (outer g)
+first_with to_host way n m so inside (Other bytes ∷ items) h =
+    first_with to_host way n m so inside items h
+first_with to_host way n m so None (Endpoint bytes ∷ items) h =
+    first_with to_host way n m so None items h
+first_with to_host way n m so (Some interface) (Endpoint bytes ∷ items) h =
+    by_way (way bytes) refl h (first_with to_host way n m so (Some interface) items)
+  where
     by_way : (o : Option (ℕ × ℕ)) → way bytes ≡ o
         → option_or o (first_from way true items) ≡ Some (n, m)
-        → (first_from way true items ≡ Some (n, m)
-        → first_from (bulk_with to_host n) true items ≡ Some (n, m))
-        → option_or (bulk_with to_host n bytes) (first_from (bulk_with to_host n) true items)
-        ≡ Some (n, m)
-    by_way None is g more = rw ((so bytes).0 is) (more g)
-    by_way (Some x) is g more = rw ((so bytes).1 x is (ap number_or g)) g
+        → (first_from way true items ≡ Some (n, m) → IsBulkOf m
+        (first_inside default_settings (bulk_with false to_host n) (Some interface) items))
+        → IsBulkOf m (option_or (bulk_with false to_host n interface bytes)
+        (first_inside default_settings (bulk_with false to_host n) (Some interface) items))
+    by_way None is g more = rw ((so interface bytes).0 is) (more g)
+    by_way (Some x) is g more = rw ((so interface bytes).1 x is (ap number_or g))
+        (rw (ap most_or g) (interface, refl))
 
-none_then : (b : Bool) (o : Option (ℕ × ℕ)) → o ≡ None → (if b then o else None) ≡ None
-none_then true o h = h
-none_then false o h = refl
+then_none : (interface : ℕ) (b : Bool) (o : Option (ℕ × ℕ)) → o ≡ None
+    → (if b then as_usable kind.Bulk interface o else None) ≡ None
+then_none interface true o h = rw h refl
+then_none interface false o h = refl
 
 -- an endpoint that is described has its own number
-some_then : (n : ℕ) (endpoint : List ℕ) (end : ℕ × ℕ) → bulk_described endpoint ≡ Some end
+then_some : (n interface : ℕ) (endpoint : List ℕ) (end : ℕ × ℕ) → bulk_described endpoint ≡ Some end
     → end.0 ≡ n
-    → (if endpoint_number endpoint == n then bulk_described endpoint else None) ≡ Some end
-some_then n endpoint end h number =
+    → (if endpoint_number endpoint == n then as_usable kind.Bulk interface (bulk_described endpoint)
+    else None) ≡ as_usable kind.Bulk interface (Some end)
+then_some n interface endpoint end h number =
     let same : (endpoint_number endpoint == n) ≡ true =
     grind (arith, nat_tests, number, (bulk_end endpoint end h).number) in
-    rw same h
+    rw (same, h) refl
 
-out_with : (n : ℕ) (endpoint : List ℕ)
-    → (bulk_out_at endpoint ≡ None → bulk_with false n endpoint ≡ None)
+out_with : (n interface : ℕ) (endpoint : List ℕ)
+    → (bulk_out_at endpoint ≡ None → bulk_with false false n interface endpoint ≡ None)
     × ((end : ℕ × ℕ) → bulk_out_at endpoint ≡ Some end → end.0 ≡ n
-    → bulk_with false n endpoint ≡ Some end)
+    → bulk_with false false n interface endpoint ≡ as_usable kind.Bulk interface (Some end))
 unfolding bulk_out_at bulk_with
-out_with n endpoint =
-    (by_none (is_in endpoint), λ end is. by_some end is (is_in endpoint) refl)
+out_with n interface endpoint = (by_none (is_in endpoint), λ end. by_some end (is_in endpoint))
   where
     by_none : (b : Bool) → (if b then None else bulk_described endpoint) ≡ None
-        → (if not b && endpoint_number endpoint == n then bulk_described endpoint else None) ≡ None
+        → (if not b && endpoint_number endpoint == n
+        then as_usable kind.Bulk interface (bulk_described endpoint) else None) ≡ None
     by_none true h = refl
-    by_none false h = none_then (endpoint_number endpoint == n) (bulk_described endpoint) h
+    by_none false h =
+        then_none interface (endpoint_number endpoint == n) (bulk_described endpoint) h
 
-    by_some : (end : ℕ × ℕ) → bulk_out_at endpoint ≡ Some end → (b : Bool) → is_in endpoint ≡ b
+    by_some : (end : ℕ × ℕ) (b : Bool) → (if b then None else bulk_described endpoint) ≡ Some end
         → end.0 ≡ n
-        → (if not b && endpoint_number endpoint == n then bulk_described endpoint else None)
-        ≡ Some end
-    by_some end is true way number = cc (rw way at is)
-    by_some end is false way number =
-        some_then n endpoint end (rw way at is) number
+        → (if not b && endpoint_number endpoint == n
+        then as_usable kind.Bulk interface (bulk_described endpoint) else None)
+        ≡ as_usable kind.Bulk interface (Some end)
+    by_some end true h number = cc h
+    by_some end false h number = then_some n interface endpoint end h number
 
-in_with : (n : ℕ) (endpoint : List ℕ)
-    → (bulk_in_at endpoint ≡ None → bulk_with true n endpoint ≡ None)
+in_with : (n interface : ℕ) (endpoint : List ℕ)
+    → (bulk_in_at endpoint ≡ None → bulk_with false true n interface endpoint ≡ None)
     × ((end : ℕ × ℕ) → bulk_in_at endpoint ≡ Some end → end.0 ≡ n
-    → bulk_with true n endpoint ≡ Some end)
+    → bulk_with false true n interface endpoint ≡ as_usable kind.Bulk interface (Some end))
 unfolding bulk_in_at bulk_with
-in_with n endpoint =
-    (by_none (is_in endpoint), λ end is. by_some end is (is_in endpoint) refl)
+in_with n interface endpoint = (by_none (is_in endpoint), λ end. by_some end (is_in endpoint))
   where
     by_none : (b : Bool) → (if b then bulk_described endpoint else None) ≡ None
-        → (if b && endpoint_number endpoint == n then bulk_described endpoint else None) ≡ None
+        → (if b && endpoint_number endpoint == n
+        then as_usable kind.Bulk interface (bulk_described endpoint) else None) ≡ None
     by_none false h = refl
-    by_none true h = none_then (endpoint_number endpoint == n) (bulk_described endpoint) h
+    by_none true h =
+        then_none interface (endpoint_number endpoint == n) (bulk_described endpoint) h
 
-    by_some : (end : ℕ × ℕ) → bulk_in_at endpoint ≡ Some end → (b : Bool) → is_in endpoint ≡ b
+    by_some : (end : ℕ × ℕ) (b : Bool) → (if b then bulk_described endpoint else None) ≡ Some end
         → end.0 ≡ n
-        → (if b && endpoint_number endpoint == n then bulk_described endpoint else None) ≡ Some end
-    by_some end is false way number = cc (rw way at is)
-    by_some end is true way number = some_then n endpoint end (rw way at is) number
+        → (if b && endpoint_number endpoint == n
+        then as_usable kind.Bulk interface (bulk_described endpoint) else None)
+        ≡ as_usable kind.Bulk interface (Some end)
+    by_some end false h number = cc h
+    by_some end true h number = then_some n interface endpoint end h number
+
+or_bulk : (max : ℕ) (a b : Option UsableEndpoint) → IsBulkOf max a → IsBulkOf max (option_or a b)
+or_bulk max None b h = cc h.1
+or_bulk max (Some end) b h = h
 
 pub usable_of-bulk_out : (e max : ℕ) (bytes : List ℕ) → bulk_out_of bytes ≡ Some (e, max)
-    → usable_of false false e bytes ≡ Some (record { kind = kind.Bulk; max = max })
-unfolding usable_of usable_at bulk_out_of first_counting
+    → IsBulkOf max (usable_of false false e bytes)
+unfolding usable_under usable_at bulk_out_of first_counting
 usable_of-bulk_out e max bytes h = by_text (config_of bytes) h
   where
     by_text : (text : Result (List ℕ) DescriptorFault) → in_config bulk_out_at text ≡ Some (e, max)
-        → usable_in false false e text ≡ Some (record { kind = kind.Bulk; max = max })
+        → IsBulkOf max (usable_in default_settings false false e text)
     by_text (Err fault) g = cc g
-    by_text (Ok text) g =
-        rw (first_with false bulk_out_at e max (out_with e) false (items_of text) g) refl
+    by_text (Ok text) g = or_bulk max
+        (first_inside default_settings (bulk_with false false e) None (items_of text)) _
+        (first_with false bulk_out_at e max (out_with e) None (items_of text) g)
 
 pub usable_of-bulk_in : (e max : ℕ) (bytes : List ℕ) → bulk_in_of bytes ≡ Some (e, max)
-    → usable_of false true e bytes ≡ Some (record { kind = kind.Bulk; max = max })
-unfolding usable_of usable_at bulk_in_of first_counting
+    → IsBulkOf max (usable_of false true e bytes)
+unfolding usable_under usable_at bulk_in_of first_counting
 usable_of-bulk_in e max bytes h = by_text (config_of bytes) h
   where
     by_text : (text : Result (List ℕ) DescriptorFault) → in_config bulk_in_at text ≡ Some (e, max)
-        → usable_in false true e text ≡ Some (record { kind = kind.Bulk; max = max })
+        → IsBulkOf max (usable_in default_settings false true e text)
     by_text (Err fault) g = cc g
-    by_text (Ok text) g =
-        rw (first_with true bulk_in_at e max (in_with e) false (items_of text) g) refl
+    by_text (Ok text) g = or_bulk max
+        (first_inside default_settings (bulk_with false true e) None (items_of text)) _
+        (first_with true bulk_in_at e max (in_with e) None (items_of text) g)
+
+pub usable_under-no_text : (settings : List ℕ) (low to_host : Bool) (e : ℕ) (bytes : List ℕ)
+    (fault : DescriptorFault) → config_of bytes ≡ Err fault
+    → usable_under settings low to_host e bytes ≡ None
+unfolding usable_under
+usable_under-no_text settings low to_host e bytes fault h = ap (usable_in settings low to_host e) h
 
 pub usable_of-no_text : (low to_host : Bool) (e : ℕ) (bytes : List ℕ) (fault : DescriptorFault)
     → config_of bytes ≡ Err fault → usable_of low to_host e bytes ≡ None
-unfolding usable_of
-usable_of-no_text low to_host e bytes fault h = ap (usable_in low to_host e) h
+usable_of-no_text low to_host e bytes fault h =
+    usable_under-no_text default_settings low to_host e bytes fault h

@@ -1,14 +1,16 @@
 //! The endpoints of a configuration that a pipe can use, each by its number and its direction
 //! (sections 5.7.3, 5.8.3, 9.6.6).
-ghost use Rattle.std.specs.Prelude.{◌≡◌, ◌≤◌};
+ghost use Rattle.std.specs.Prelude.{◌≡◌, ◌≤◌, None};
 ghost use Rattle.std.specs.Option.{IfSome};
 ghost use Rattle.usb_descriptor.specs.Item.{items_of};
+ghost use Rattle.usb_descriptor.specs.declared.item.Item.TheVariants.{Interface as AnInterface};
 ghost use Rattle.usb_descriptor.specs.Choice.{IsUsable};
-ghost use Rattle.usb_descriptor.specs.Usable.{IsPipeMost, IsTableOf, TakesItem, as_usable, counting_of, interrupt_described, usable_at, usable_item, usable_of};
+ghost use Rattle.usb_descriptor.specs.Usable.{IsPipeMost, IsTableOf, TakesItem, as_usable, counting_of, inside_after, interrupt_described, usable_at, usable_item, usable_under};
 
 use crate::choice::bulk_at;
 use crate::config::ConfigView;
-use crate::item::{EndpointView, Item, TransferType};
+use crate::item::{EndpointView, InterfaceView, Item, TransferType};
+use crate::settings::Settings;
 use std::marker::Model;
 
 /// How an endpoint moves data.
@@ -27,6 +29,8 @@ pub struct UsableEndpoint {
     pub kind: EndpointKind,
     /// The most data bytes of its packets, 1 to 64.
     pub max: u8,
+    /// The number of the interface that it belongs to.
+    pub interface: u8,
 }
 
 /// How many endpoints a direction has room for, endpoint 0 included (section 9.6.6).
@@ -71,26 +75,31 @@ fn interrupt_at(low: bool, endpoint: &EndpointView<'_>) -> Option<(u8, u8)>
     }
 }
 
-/// An endpoint with its number and its maximum, as a pipe can use it.
-fn as_usable(kind: EndpointKind, end: Option<(u8, u8)>) -> Option<UsableEndpoint>
+/// An endpoint of an interface, with its number and its maximum, as a pipe can use it.
+fn as_usable(kind: EndpointKind, interface: u8, end: Option<(u8, u8)>) -> Option<UsableEndpoint>
     requires { IfSome end IsUsable }
-    ensures value { result ≡ as_usable kind end }
+    ensures value { result ≡ as_usable kind interface end }
     ensures most { IfSome result IsPipeMost }
 {
     let (_, max) = end?;
-    Some(UsableEndpoint { kind, max })
+    Some(UsableEndpoint {
+        kind,
+        max,
+        interface,
+    })
 }
 
-/// What an endpoint is to a pipe, whatever its address.
-fn usable_item(low: bool, endpoint: &EndpointView<'_>) -> Option<UsableEndpoint>
-    ensures value { result ≡ usable_item low endpoint.now }
+/// What an endpoint of an interface is to a pipe, whatever its address.
+fn usable_item(low: bool, interface: u8, endpoint: &EndpointView<'_>) -> Option<UsableEndpoint>
+    ensures value { result ≡ usable_item low interface endpoint.now }
     ensures most { IfSome result IsPipeMost }
 {
-    let interrupt = as_usable(EndpointKind::Interrupt, interrupt_at(low, endpoint));
+    let kind = EndpointKind::Interrupt;
+    let interrupt = as_usable(kind, interface, interrupt_at(low, endpoint));
     if low {
         return interrupt;
     }
-    match as_usable(EndpointKind::Bulk, bulk_at(endpoint)) {
+    match as_usable(EndpointKind::Bulk, interface, bulk_at(endpoint)) {
         Some(bulk) => Some(bulk),
         None => interrupt,
     }
@@ -144,12 +153,12 @@ impl UsableEndpoints {
         }
     }
 
-    /// Takes another endpoint of the text into the table.
-    fn take(&mut self, low: bool, endpoint: &EndpointView<'_>)
-        ensures { TakesItem low endpoint.now self.old self.new }
+    /// Takes another endpoint of an interface into the table.
+    fn take(&mut self, low: bool, interface: u8, endpoint: &EndpointView<'_>)
+        ensures { TakesItem low interface endpoint.now self.old self.new }
     {
         let number = usize::from(endpoint.number());
-        let found = usable_item(low, endpoint);
+        let found = usable_item(low, interface, endpoint);
         if endpoint.is_in() {
             self.ins[number] = counting_of(self.ins[number], found);
         } else {
@@ -158,22 +167,38 @@ impl UsableEndpoints {
     }
 }
 
+/// The interface to which the endpoints after an interface item belong, if they count.
+fn inside_after(settings: &Settings, interface: &InterfaceView<'_>) -> Option<u8>
+    ensures { result ≡ inside_after settings.now None (AnInterface interface.now) }
+{
+    if interface.alternate_setting() == settings.get(interface.number()) {
+        Some(interface.number())
+    } else {
+        None
+    }
+}
+
 impl ConfigView<'_> {
-    /// The endpoints that a pipe can use, of a device of low or of full speed, while each interface
-    /// has alternate setting 0. Of the items with one address the first bulk item counts, else the
-    /// first interrupt item.
-    pub fn usable_endpoints(&self, low: bool) -> UsableEndpoints
-        ensures items { IsTableOf (λ to_host e. usable_at low to_host e (items_of self.now))
-            result }
-        ensures text { IsTableOf (λ to_host e. usable_of low to_host e self.now) result }
+    /// The endpoints that a pipe can use, of a device of low or of full speed, while its interfaces
+    /// have these alternate settings. Of the items with one address the first bulk item counts,
+    /// else the first interrupt item.
+    pub fn usable_endpoints(&self, low: bool, settings: &Settings) -> UsableEndpoints
+        ensures items { IsTableOf (λ to_host e.
+            usable_at settings.now low to_host e (items_of self.now)) result }
+        ensures text { IsTableOf (λ to_host e.
+            usable_under settings.now low to_host e self.now) result }
     {
         let mut table = UsableEndpoints::none();
-        let mut counts = false;
+        let mut inside = None;
         for item in self.items() {
             match item {
-                Item::Interface(interface) => counts = interface.alternate_setting() == 0,
-                Item::Endpoint(endpoint) if counts => table.take(low, &endpoint),
-                _ => {}
+                Item::Interface(interface) => inside = inside_after(settings, &interface),
+                Item::Endpoint(endpoint) => {
+                    if let Some(interface) = inside {
+                        table.take(low, interface, &endpoint);
+                    }
+                }
+                Item::Other(_) => {}
             }
         }
         table

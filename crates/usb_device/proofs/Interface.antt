@@ -1,9 +1,15 @@
 -- The lemmas that crates above cite. All others are for this crate alone.
 pub use Rattle.usb_device.proofs.Attempts.{in_is, out_is, same_number, setup_is, silent-stays}
 pub use Rattle.usb_device.proofs.Attempts.{silent-unread}
-pub use Rattle.usb_device.proofs.RowsOfEnds.{at_each, at_mapped, at_other, at_same}
+pub use Rattle.usb_device.proofs.RowsOfEnds.{at_each, at_mapped, at_numbered, at_other, at_same}
 pub use Rattle.usb_device.proofs.ServedNumbers.{in_max-is, in_max-small, out_max-is, out_max-small}
 pub use Rattle.usb_device.proofs.ServedNumbers.{served-in, served-out}
+pub use Rattle.usb_device.proofs.TakenSettings.{fresh-settings, in_end-setting, in_max-elsewhere}
+pub use Rattle.usb_device.proofs.TakenSettings.{is_of_setting-elsewhere, out_end-setting}
+pub use Rattle.usb_device.proofs.TakenSettings.{out_max-elsewhere, reset_state-settings}
+pub use Rattle.usb_device.proofs.TakenSettings.{served_at-elsewhere, served_at-named}
+pub use Rattle.usb_device.proofs.TakenSettings.{served_at-settings}
+pub use Rattle.usb_device.proofs.Repeated.{begun-twice, outcome-again, with_interface-twice}
 pub use Rattle.usb_device.proofs.EndpointPackets.{gives-append, joined_bytes, place_of_joined}
 pub use Rattle.usb_device.proofs.EndpointPackets.{source_within}
 pub use Rattle.usb_device.proofs.progress.BulkProgress.{bulk_law_is, other-other, source_on}

@@ -6,6 +6,8 @@ pub mod Hubs
 pub mod Endpoints
 pub mod RowsOfEnds
 pub mod ServedNumbers
+pub mod TakenSettings
+pub mod Repeated
 pub mod EndpointPackets
 pub mod Attempts
 pub mod Deliveries

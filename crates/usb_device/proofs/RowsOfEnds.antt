@@ -1,9 +1,10 @@
 -- Rows of endpoints: what stands at a number after another one was put there.
-use Rattle.std.proofs.Common.{◌≡◌, ℕ, zero, suc, ◌<◌, ◌==◌, true, false, List, [], ◌∷◌, length, map}
-use Rattle.std.proofs.Common.{get_or, slice_set, refl, ap, sym, ◌∙◌, arith}
+use Rattle.std.proofs.Common.{◌≡◌, ℕ, zero, suc, ◌+◌, ◌<◌, ◌==◌, ◌||◌, true, false, List, []}
+use Rattle.std.proofs.Common.{◌∷◌, length, map}
+use Rattle.std.proofs.Common.{get_or, slice_set, refl, ap, ap₂, sym, ◌∙◌, arith}
 use Rattle.std.proofs.Common.{Bool, Result, Ok, Err, IfOk, eqb-true}
 use Rattle.std.proofs.lemmas.Bool.Decides.{nat_tests}
-use Rattle.usb_device.specs.{with_at}
+use Rattle.usb_device.specs.{begun_if, numbered_from, with_at}
 
 none_less : {P : Type 0} (n : ℕ) → n < 0 → P
 none_less n h = absurd (lt_zero n h)
@@ -59,6 +60,52 @@ module _ {A : Type 0} (none : A) where
   at_mapped f e n [] = sym e
   at_mapped f e zero (y ∷ row) = refl
   at_mapped f e (suc n) (y ∷ row) = at_mapped f e n row
+
+  -- each is changed by its number, as those beyond the row are
+  numbered-at : (change : ℕ → A → A) → ((e : ℕ) → change e none ≡ none) → (first e : ℕ)
+      (row : List A) → get_or (numbered_from change first row) e none
+      ≡ change (first + e) (get_or row e none)
+  unfolding numbered_from
+  numbered-at change same first e [] = sym (same (first + e))
+  numbered-at change same first zero (y ∷ row) = ap (λ k. change k y) (omega arith)
+  numbered-at change same first (suc e) (y ∷ row) = numbered-at change same (first + 1) e row
+      ∙ ap (λ k. change k (get_or row e none)) (omega arith)
+
+  pub at_numbered : (change : ℕ → A → A) → ((e : ℕ) → change e none ≡ none) → (e : ℕ)
+      (row : List A) → get_or (numbered_from change 0 row) e none ≡ change e (get_or row e none)
+  at_numbered change same e row = numbered-at change same 0 e row
+      ∙ ap (λ k. change k (get_or row e none)) (omega arith)
+
+-- each of a row, changed by its number: by what does the same, and again
+module _ {A : Type 0} where
+  pub numbered_from-same : (f g : ℕ → A → A) → ((e : ℕ) (x : A) → f e x ≡ g e x) → (first : ℕ)
+      (row : List A) → numbered_from f first row ≡ numbered_from g first row
+  unfolding numbered_from
+  numbered_from-same f g same first [] = refl
+  numbered_from-same f g same first (y ∷ row) = ap₂ (λ x more. x ∷ more) (same first y)
+      (numbered_from-same f g same (first + 1) row)
+
+  pub numbered_from-twice : (f g : ℕ → A → A) → ((e : ℕ) (x : A) → g e (f e x) ≡ f e x)
+      → (first : ℕ) (row : List A)
+      → numbered_from g first (numbered_from f first row) ≡ numbered_from f first row
+  unfolding numbered_from
+  numbered_from-twice f g same first [] = refl
+  numbered_from-twice f g same first (y ∷ row) = ap₂ (λ x more. x ∷ more) (same first y)
+      (numbered_from-twice f g same (first + 1) row)
+
+  -- what begins again is as if it began once
+  pub begun_if-twice : (rested : A → A) → ((x : A) → rested (rested x) ≡ rested x)
+      → (before after : Bool) (x : A)
+      → begun_if (after || after) rested (begun_if (before || after) rested x)
+      ≡ begun_if (before || after) rested x
+  begun_if-twice rested same true true x = same x
+  begun_if-twice rested same false true x = same x
+  begun_if-twice rested same before false x = refl
+
+  pub begun_if-none : (rested : A → A) (none : A) → rested none ≡ none → (b : Bool)
+      → begun_if b rested none ≡ none
+  begun_if-none rested none same true = same
+  begun_if-none rested none same false = refl
 
 pub if_ok-so : {T E P Q : Type 0} (r : Result T E) → (P → Q) → IfOk r (λ done. P)
     → IfOk r (λ done. Q)

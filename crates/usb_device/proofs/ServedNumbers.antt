@@ -4,14 +4,18 @@ use Rattle.std.proofs.Common.{List}
 use Rattle.std.proofs.Common.{if◌then◌else◌, Option, None, Some, is_some, refl, ap, subst, arith}
 use Rattle.std.proofs.lemmas.Bool.Decides.{nat_tests}
 use Rattle.usb_request.specs.{DIRECTION_IN, STATUS_ENDPOINT}
-use Rattle.usb_descriptor.specs.{UsableEndpoint, bulk_in_of, bulk_out_of, max_of_usable, usable_of}
-use Rattle.usb_descriptor.proofs.Interface.{usable_of-bulk_in, usable_of-bulk_out, usable_of-small}
+use Rattle.usb_descriptor.specs.{UsableEndpoint, bulk_in_of, bulk_out_of, default_settings}
+use Rattle.usb_descriptor.specs.{max_of_usable, usable_of, usable_under}
+use Rattle.usb_descriptor.proofs.Interface.{usable_of-bulk_in, usable_of-bulk_out}
+use Rattle.usb_descriptor.proofs.Interface.{usable_under-small}
 use Rattle.usb_device.specs.{Registers, Spec, State, bulk_of, in_max, out_max, served, served_at}
 use Rattle.usb_device.specs.{text_of, IsSink, IsSource, BulkIn, BulkOut}
 
--- the first bulk endpoint of a direction is served with its own maximum
-pub in_max-is : (e most : ℕ) (s : State) → bulk_of s true ≡ Some (e, most) → in_max s e ≡ Some most
-in_max-is e most s h = by_speed s.spec.low (s.registers.configuration == 0) h
+-- while each interface has setting 0, the first bulk endpoint of a direction is served with its own
+-- maximum
+pub in_max-is : (e most : ℕ) (s : State) → s.registers.settings ≡ default_settings
+    → bulk_of s true ≡ Some (e, most) → in_max s e ≡ Some most
+in_max-is e most s zeros h = rw zeros (by_speed s.spec.low (s.registers.configuration == 0) h)
   where
     text : List ℕ
     text = text_of s.spec s.registers
@@ -20,11 +24,11 @@ in_max-is e most s h = by_speed s.spec.low (s.registers.configuration == 0) h
         → max_of_usable (if none then None else usable_of low true e text) ≡ Some most
     by_speed true none h = cc h
     by_speed false true h = cc h
-    by_speed false false h = ap max_of_usable (usable_of-bulk_in e most text h)
+    by_speed false false h = ap max_of_usable (usable_of-bulk_in e most text h).1
 
-pub out_max-is : (e most : ℕ) (s : State) → bulk_of s false ≡ Some (e, most)
-    → out_max s e ≡ Some most
-out_max-is e most s h = by_speed s.spec.low (s.registers.configuration == 0) h
+pub out_max-is : (e most : ℕ) (s : State) → s.registers.settings ≡ default_settings
+    → bulk_of s false ≡ Some (e, most) → out_max s e ≡ Some most
+out_max-is e most s zeros h = rw zeros (by_speed s.spec.low (s.registers.configuration == 0) h)
   where
     text : List ℕ
     text = text_of s.spec s.registers
@@ -34,34 +38,35 @@ out_max-is e most s h = by_speed s.spec.low (s.registers.configuration == 0) h
         → max_of_usable (if none then None else usable_of low false e text) ≡ Some most
     by_speed true none h = cc h
     by_speed false true h = cc h
-    by_speed false false h = ap max_of_usable (usable_of-bulk_out e most text h)
+    by_speed false false h = ap max_of_usable (usable_of-bulk_out e most text h).1
 
 -- numbers and maximums
-small_at : (e most : ℕ) (low is_in none : Bool) (text : List ℕ)
-    → max_of_usable (if none then None else usable_of low is_in e text) ≡ Some most
+small_at : (e most : ℕ) (settings : List ℕ) (low is_in none : Bool) (text : List ℕ)
+    → max_of_usable (if none then None else usable_under settings low is_in e text) ≡ Some most
     → (1 ≤ e) × (e ≤ 15) × (1 ≤ most) × (most ≤ 64)
-small_at e most low is_in true text h = cc h
-small_at e most low is_in false text h = by_end (usable_of low is_in e text) refl h
+small_at e most settings low is_in true text h = cc h
+small_at e most settings low is_in false text h =
+    by_end (usable_under settings low is_in e text) refl h
   where
     max_or : Option ℕ → ℕ
     max_or None = 0
     max_or (Some n) = n
 
-    by_end : (o : Option UsableEndpoint) → usable_of low is_in e text ≡ o
+    by_end : (o : Option UsableEndpoint) → usable_under settings low is_in e text ≡ o
         → max_of_usable o ≡ Some most → (1 ≤ e) × (e ≤ 15) × (1 ≤ most) × (most ≤ 64)
     by_end None is g = cc g
     by_end (Some end) is g = subst (λ m. (1 ≤ e) × (e ≤ 15) × (1 ≤ m) × (m ≤ 64)) (ap max_or g)
-        (usable_of-small low is_in e text end is)
+        (usable_under-small settings low is_in e text end is)
 
 pub in_max-small : (e most : ℕ) (s : State) → in_max s e ≡ Some most
     → (1 ≤ e) × (e ≤ 15) × (1 ≤ most) × (most ≤ 64)
-in_max-small e most s h = small_at e most s.spec.low true (s.registers.configuration == 0)
-    (text_of s.spec s.registers) h
+in_max-small e most s h = small_at e most s.registers.settings s.spec.low true
+    (s.registers.configuration == 0) (text_of s.spec s.registers) h
 
 pub out_max-small : (e most : ℕ) (s : State) → out_max s e ≡ Some most
     → (1 ≤ e) × (e ≤ 15) × (1 ≤ most) × (most ≤ 64)
-out_max-small e most s h = small_at e most s.spec.low false (s.registers.configuration == 0)
-    (text_of s.spec s.registers) h
+out_max-small e most s h = small_at e most s.registers.settings s.spec.low false
+    (s.registers.configuration == 0) (text_of s.spec s.registers) h
 
 -- it is there where it has a maximum, and not where its number is too large
 is_some-max : (o : Option UsableEndpoint) (most : ℕ) → max_of_usable o ≡ Some most
@@ -76,7 +81,7 @@ none_above s g is_in n large = by_end (served_at s g is_in n) refl
     by_end : (o : Option UsableEndpoint) → served_at s g is_in n ≡ o → is_some o ≡ false
     by_end None is = refl
     by_end (Some end) is =
-        let small = small_at n end.max s.low is_in (g.configuration == 0) (text_of s g)
+        let small = small_at n end.max g.settings s.low is_in (g.configuration == 0) (text_of s g)
         (ap max_of_usable is) in
         absurd (omega (arith, large, small.1))
 

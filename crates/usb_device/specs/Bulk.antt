@@ -6,7 +6,8 @@ use Rattle.std.specs.Prelude.{Option, None, Some, is_some}
 use Rattle.usb_packet.specs.{other, Zero}
 use Rattle.usb_request.specs.{DIRECTION_IN, STATUS_ENDPOINT}
 use Rattle.usb_descriptor.specs.{bulk_out_of, bulk_in_of, configuration_value, total_length}
-use Rattle.usb_descriptor.specs.{usable_of, UsableEndpoint}
+use Rattle.usb_descriptor.specs.{usable_under, EndpointTable, UsableEndpoint, belongs_to, end_at}
+use Rattle.usb_descriptor.specs.{with_setting}
 use Rattle.usb_device.specs.declared.bulk.EndpointState.{EndpointState}
 use Rattle.usb_device.specs.declared.bulk.ServedEndpoint.{ServedEndpoint}
 use Rattle.usb_device.specs.declared.bulk.ServedEndpoint.TheVariants.{BulkOut, BulkIn, Changes}
@@ -58,16 +59,33 @@ text_of s g =
     let text = text_with g.configuration s.configs in
     take (min (total_of text) (length text)) text
 
--- number and maximum of the first bulk endpoint of a direction; a device of low speed or without a
--- configuration has none
+-- number and maximum of the first bulk endpoint of a direction, where each interface has setting 0;
+-- a device of low speed or without a configuration has none
 abbrev pub bulk_at : Spec → Registers → Bool → Option (ℕ × ℕ)
 bulk_at s g is_in =
     if s.low || g.configuration == 0 then None else bulk_in is_in (text_of s g)
 
--- the endpoint with this direction and this number, if the configuration has a usable one
+-- the endpoint with this direction and this number, if the configuration has a usable one under the
+-- settings of its interfaces
 abbrev pub served_at : Spec → Registers → Bool → ℕ → Option UsableEndpoint
 served_at s g is_in e =
-    if g.configuration == 0 then None else usable_of s.low is_in e (text_of s g)
+    if g.configuration == 0 then None else usable_under g.settings s.low is_in e (text_of s g)
+
+-- an interface has another setting
+abbrev pub with_interface : ℕ → ℕ → Registers → Registers
+with_interface interface setting g =
+    record g { settings = with_setting interface setting g.settings }
+
+-- the interface has the endpoint before or after that
+abbrev pub is_of_setting : Spec → Registers → ℕ → ℕ → Bool → ℕ → Bool
+is_of_setting s g interface setting is_in e =
+    belongs_to interface (served_at s g is_in e)
+    || belongs_to interface (served_at s (with_interface interface setting g) is_in e)
+
+-- so it is of two tables
+abbrev pub is_of_either : ℕ → EndpointTable → EndpointTable → Bool → ℕ → Bool
+is_of_either interface before after is_in e =
+    belongs_to interface (end_at before is_in e) || belongs_to interface (end_at after is_in e)
 
 -- IN 1 of a configured hub tells which of its ports changed (11.12.1)
 abbrev pub tells_changes : Spec → Registers → Bool

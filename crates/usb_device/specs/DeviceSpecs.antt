@@ -93,6 +93,7 @@ no_stalls = record {
       false;
   hub = false;
   string = false;
+  interface = false;
 }
 
 -- a full-speed function without strings that does nothing special

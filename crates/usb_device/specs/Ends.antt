@@ -1,7 +1,7 @@
 -- The two rows of endpoints besides endpoint 0: each is kept by its number and its direction, from
 -- the plug on, whether a configuration has it or not (9.6.6).
-use Rattle.std.specs.Prelude.{ℕ, zero, suc, ◌+◌, ◌-◌, List, [], ◌∷◌, ◌++◌, ◌&&◌, Bool, Option, None}
-use Rattle.std.specs.Prelude.{Some}
+use Rattle.std.specs.Prelude.{ℕ, zero, suc, ◌+◌, ◌-◌, if◌then◌else◌, List, [], ◌∷◌, ◌++◌, ◌&&◌}
+use Rattle.std.specs.Prelude.{Bool, Option, None, Some}
 use Rattle.usb_request.specs.{DIRECTION_IN}
 use Rattle.usb_device.specs.declared.bulk.EndpointState.{EndpointState}
 use Rattle.usb_device.specs.declared.endpoint_spec.EndpointSpec.{EndpointSpec}
@@ -72,6 +72,15 @@ rested_out end = record end { state = rested; pace = renewed end.pace }
 
 abbrev pub rested_in : InEnd → InEnd
 rested_in end = record end { state = rested; pace = renewed end.pace }
+
+-- the endpoint begins again, if this is so
+abbrev pub begun_if : {A : Type 0} → Bool → (A → A) → A → A
+begun_if begins rested end = if begins then rested end else end
+
+-- each end of a row, changed by its number; the first one has the number that is given
+unfoldable pub numbered_from : {A : Type 0} → (ℕ → A → A) → ℕ → List A → List A
+numbered_from change e [] = []
+numbered_from change e (end ∷ row) = change e end ∷ numbered_from change (e + 1) row
 
 -- the endpoint after a packet that joined its sink; its plan may say that it halts
 abbrev pub taken_on : Bool → List ℕ → OutEnd → OutEnd

@@ -35,27 +35,31 @@ pub use DeviceSpecs.{hub_fits, is_named, names_differ, no_stalls, usual_hub}
 unfoldable pub use SaidLengths.{said_length, said_lengths}
 pub use EndpointSpecs.{GivesOn, endpoint_row, if_some, packet_in, place_behind}
 pub use Bulk.{advanced, bulk_at, bulk_in, changed_bit, count_down, halted, has_value, is_last}
-pub use Bulk.{is_numbered, rested, served, served_at, tells_changes, text_of, text_with, total_of}
-pub use Bulk.{turned}
+pub use Bulk.{is_numbered, is_of_either, is_of_setting, rested, served, served_at}
+pub use Bulk.{tells_changes, text_of, text_with, total_of, turned, with_interface}
 unfoldable pub use Bulk.{change_bits}
-pub use Ends.{OutEnd, end_numbers, given_on, hesitated, no_in, no_out, pace_by, paced_on}
+pub use Ends.{OutEnd, begun_if, end_numbers, given_on, hesitated, no_in, no_out, pace_by, paced_on}
 pub use Ends.{plugged_in_end, plugged_out, renewed, rested_in, rested_out, steady, taken_on}
-unfoldable pub use Ends.{with_at}
+unfoldable pub use Ends.{numbered_from, with_at}
 pub use ServedBulk.{AreServed}
 pub use OwnRequests.{bytes_given, fits, goes_so, is_or_any, is_to_host, own_bytes, own_place}
 pub use OwnRequests.{row_bytes}
 pub use Request.{answers_taken, asked_at, asked_by_answer, asked_by_row, asked_own, takes}
 pub use Request.{Is, Outcome, address_at_end, asked_address, asked_configuration, asked_descriptor}
-pub use Request.{asked_hub_descriptor, asked_port_status, asked_status, called_at, calls_port}
-pub use Request.{endpoint_of, halts, is_value, on_endpoint, port_feature, port_named}
+pub use Request.{asked_endpoint_status, asked_hub_descriptor, asked_interface}
+pub use Request.{asked_interface_status, asked_port_status, asked_setting, asked_status, called_at}
+pub use Request.{calls_port, endpoint_of, flag_bytes, halts, is_endpoint_0, items_at, items_in_text}
+pub use Request.{takes_setting, tells_halt, told_halt}
+pub use Request.{is_value, on_endpoint, port_feature, port_named}
 pub use Request.{registers_at_setup, stalled, status_bytes, takes_address, takes_configuration}
 pub use Request.{tells_port, text_asked, told_port, unhalts, unless}
 unfoldable pub use Request.{outcome}
 pub use Transfer.{Write, ends_if, first_write, has_all, is_done, is_next, judged, taken_with}
 pub use Transfer.{writes, writing, written_on}
-pub use Transfer.{Stage, ending, first_stage, idle, max_packet, packet_at, packet_count}
+pub use Transfer.{Stage, ending, idle, max_packet, packet_at, packet_count}
 pub use Transfer.{packets_joined, put_if, read, reading, reads, reads_port, refused, toggle_at}
 pub use Rows.{Reply, State, accepted, ack_row, acknowledged, after_memory, answered, awaits_control}
+pub use Rows.{at_reset, first_stage, ins_set, outs_set, set_to, told_bytes}
 pub use Rows.{begun, begun_again, bulk_of, changes_row, configured, data_by, data_row, end_sinks}
 pub use Rows.{given_row, in_data, in_hesitates, next_packet, next_place, out_halts, out_hesitates}
 pub use Rows.{taken_row}

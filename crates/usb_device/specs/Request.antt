@@ -2,11 +2,17 @@
 -- refusal (9.4, 11.24).
 use Rattle.std.specs.Prelude.{ℕ, ◌-◌, ◌/◌, ◌%◌, ◌==◌, nat_lt, nat_le, if◌then◌else◌, ◌&&◌, ◌||◌}
 use Rattle.std.specs.Prelude.{not, Bool, true, false, List, [], ◌∷◌, slice_get, Option, None, Some}
+use Rattle.std.specs.Prelude.{Result, Ok, Err}
 use Rattle.std.specs.List.{list_any}
 use Rattle.usb_request.specs.{DEVICE, CONFIGURATION, STRING, HUB, GET_STATUS, CLEAR_FEATURE}
 use Rattle.usb_request.specs.{SET_FEATURE, SET_ADDRESS, GET_DESCRIPTOR, GET_CONFIGURATION}
-use Rattle.usb_request.specs.{SET_CONFIGURATION, DEVICE_IN, DEVICE_OUT, ENDPOINT_OUT, HUB_IN}
-use Rattle.usb_request.specs.{PORT_IN, PORT_OUT, ENDPOINT_HALT, descriptor_value, Setup}
+use Rattle.usb_request.specs.{SET_CONFIGURATION, GET_INTERFACE, SET_INTERFACE, DEVICE_IN}
+use Rattle.usb_request.specs.{DEVICE_OUT, INTERFACE_IN, INTERFACE_OUT, ENDPOINT_IN, ENDPOINT_OUT}
+use Rattle.usb_request.specs.{HUB_IN, PORT_IN, PORT_OUT, DIRECTION_IN, ENDPOINT_HALT}
+use Rattle.usb_request.specs.{descriptor_value, Setup}
+use Rattle.usb_descriptor.specs.{DescriptorFault, config_of, default_settings, has_interface}
+use Rattle.usb_descriptor.specs.{has_setting, items_of, setting_of}
+use Rattle.usb_descriptor.specs.declared.item.Item.{Item}
 use Rattle.usb_port.specs.{PortCall, set_call, clear_call}
 use Rattle.usb_device.specs.declared.request.Registers.{Registers}
 use Rattle.usb_device.specs.declared.own_request.OwnAnswer.{OwnAnswer}
@@ -16,7 +22,7 @@ use Rattle.usb_device.specs.declared.own_request.OwnRequest.{OwnRequest}
 use Rattle.usb_device.specs.OwnRequests.{own_place}
 use Rattle.usb_device.specs.DeviceSpecs.{Spec, Hub}
 use Rattle.usb_device.specs.declared.bulk.ServedEndpoint.{ServedEndpoint}
-use Rattle.usb_device.specs.Bulk.{has_value, served}
+use Rattle.usb_device.specs.Bulk.{has_value, served, text_of, with_interface}
 
 pub data Outcome : Type 0 where
   -- the request is refused by STALL
@@ -38,6 +44,11 @@ pub data Outcome : Type 0 where
   answers_taken : Outcome
   -- the host's data are taken, and kept, or refused at the status stage
   takes : Bool → Outcome
+  -- an interface takes an alternate setting at once (9.4.10)
+  takes_setting : ℕ → ℕ → Outcome
+  -- the answer is whether an endpoint is halted; without one it is endpoint 0, which never is
+  -- (9.4.5)
+  tells_halt : Option ServedEndpoint → Outcome
 
 -- the request has this type and this code
 abbrev pub Is : Setup → ℕ → ℕ → Bool
@@ -58,6 +69,10 @@ asked_descriptor s value =
     (text_asked s.configs (value % 256))
     else if value / 256 == STRING then unless s.stalls.string (text_asked s.strings (value % 256))
     else stalled
+
+-- two bytes, of which bit 0 of the first is this (9.4.5)
+abbrev pub flag_bytes : Bool → List ℕ
+flag_bytes flag = (if flag then 1 else 0) ∷ 0 ∷ []
 
 -- 9.4.5: two bytes, and bit 0 of the first says that the device has its own power
 abbrev pub status_bytes : Spec → List ℕ
@@ -86,6 +101,47 @@ endpoint_of s g r = if r.value == ENDPOINT_HALT && r.length == 0 then served s g
 abbrev pub on_endpoint : (ServedEndpoint → Outcome) → Option ServedEndpoint → Outcome
 on_endpoint f None = stalled
 on_endpoint f (Some endpoint) = f endpoint
+
+-- 9.4.5: an endpoint that is served, or endpoint 0, which is named with either direction
+abbrev pub is_endpoint_0 : ℕ → Bool
+is_endpoint_0 index = index == 0 || index == DIRECTION_IN
+
+abbrev pub told_halt : Option ServedEndpoint → Outcome
+told_halt None = stalled
+told_halt (Some endpoint) = tells_halt (Some endpoint)
+
+abbrev pub asked_endpoint_status : Spec → Registers → Setup → Outcome
+asked_endpoint_status s g r =
+    if not (r.value == 0) then stalled
+    else if is_endpoint_0 r.index then tells_halt None
+    else told_halt (served s g r.index)
+
+-- the items of the configuration; none where there is none, or where its text is no good
+abbrev pub items_in_text : Result (List ℕ) DescriptorFault → List Item
+items_in_text (Err fault) = []
+items_in_text (Ok text) = items_of text
+
+abbrev pub items_at : Spec → Registers → List Item
+items_at s g =
+    if g.configuration == 0 then [] else items_in_text (config_of (text_of s g))
+
+-- 9.4.5: of an interface all bits of the status are 0
+abbrev pub asked_interface_status : Spec → Registers → Setup → Outcome
+asked_interface_status s g r =
+    if r.value == 0 && has_interface r.index (items_at s g) then answers (flag_bytes false)
+    else stalled
+
+-- 9.4.4
+abbrev pub asked_setting : Spec → Registers → Setup → Outcome
+asked_setting s g r =
+    if r.value == 0 && has_interface r.index (items_at s g)
+    then answers (setting_of g.settings r.index ∷ []) else stalled
+
+-- 9.4.10: wIndex names the interface, wValue its setting
+abbrev pub asked_interface : Spec → Registers → Setup → Outcome
+asked_interface s g r =
+    if r.length == 0 && has_setting r.index r.value (items_at s g)
+    then takes_setting r.index r.value else stalled
 
 -- 11.24.2.5
 abbrev pub asked_hub_descriptor : Option Hub → Setup → Outcome
@@ -146,6 +202,10 @@ outcome s g r =
     else if Is r DEVICE_OUT SET_ADDRESS then unless s.stalls.address (asked_address r)
     else if Is r DEVICE_OUT SET_CONFIGURATION then unless s.stalls.set_config
     (asked_configuration s g r)
+    else if Is r INTERFACE_IN GET_STATUS then asked_interface_status s g r
+    else if Is r INTERFACE_IN GET_INTERFACE then asked_setting s g r
+    else if Is r INTERFACE_OUT SET_INTERFACE then unless s.stalls.interface (asked_interface s g r)
+    else if Is r ENDPOINT_IN GET_STATUS then asked_endpoint_status s g r
     else if Is r ENDPOINT_OUT CLEAR_FEATURE then on_endpoint unhalts (endpoint_of s g r)
     else if Is r ENDPOINT_OUT SET_FEATURE then on_endpoint halts (endpoint_of s g r)
     else if Is r HUB_IN GET_DESCRIPTOR then unless s.stalls.hub (asked_hub_descriptor s.hub r)
@@ -156,7 +216,9 @@ outcome s g r =
 
 -- the registers once the setup data is accepted
 abbrev pub registers_at_setup : Registers → Outcome → Registers
-registers_at_setup g (takes_configuration c) = record g { configuration = c }
+registers_at_setup g (takes_configuration c) =
+    record g { configuration = c; settings = default_settings }
+registers_at_setup g (takes_setting interface setting) = with_interface interface setting g
 registers_at_setup g o = g
 
 -- the address that is taken at the end of the status stage

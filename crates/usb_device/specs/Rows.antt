@@ -1,12 +1,12 @@
 -- What a device answers to each packet, and what it is then (8.5).
 use Rattle.std.specs.Prelude.{ℕ, true, false, ◌+◌, ◌-◌, ◌==◌, nat_lt, not}
 use Rattle.std.specs.Prelude.{if◌then◌else◌, ◌&&◌, ◌||◌, Bool, List, [], ◌∷◌, length, Option, None}
-use Rattle.std.specs.Prelude.{Some, is_some, map, get_or}
+use Rattle.std.specs.Prelude.{Some, is_some, map, get_or, slice_get}
 use Rattle.usb_packet.specs.{TokenKind, OutTok, InTok, SetupTok, Toggle, Zero, One, Packet, Token}
 use Rattle.usb_packet.specs.{Payload, is_same}
 use Rattle.usb_packet.specs.declared.Packet.TheVariants as packet
 use Rattle.usb_request.specs.{DIRECTION_IN, Setup, setup_of}
-use Rattle.usb_descriptor.specs.{max_of_usable}
+use Rattle.usb_descriptor.specs.{default_settings, max_of_usable}
 use Rattle.usb_device.specs.declared.answer.Answer.{Answer}
 use Rattle.usb_device.specs.declared.answer.Answer.TheVariants.{Ack, Nak, Stall, Data}
 use Rattle.usb_device.specs.declared.request.Registers.{Registers}
@@ -25,19 +25,22 @@ use Rattle.usb_device.specs.declared.endpoint_spec.EndpointData.{EndpointData}
 use Rattle.usb_device.specs.declared.endpoint_spec.EndpointData.TheVariants as content
 use Rattle.usb_device.specs.declared.endpoint_spec.EndpointSpec.{EndpointSpec}
 use Rattle.usb_device.specs.Bulk.{rested, turned, halted, bulk_at}
-use Rattle.usb_device.specs.Bulk.{served_at, is_numbered, tells_changes, change_bits}
+use Rattle.usb_device.specs.Bulk.{served_at, is_numbered, is_of_setting, tells_changes}
+use Rattle.usb_device.specs.Bulk.{change_bits, with_interface}
 use Rattle.usb_device.specs.EndpointSpecs.{endpoint_row, packet_in, place_behind}
 use Rattle.usb_device.specs.Ends.{OutEnd, no_out, no_in, rested_out, rested_in, with_at, taken_on}
-use Rattle.usb_device.specs.Ends.{given_on, hesitated, plugged_out, plugged_in_end, end_numbers}
+use Rattle.usb_device.specs.Ends.{begun_if, given_on, hesitated, numbered_from, plugged_out}
+use Rattle.usb_device.specs.Ends.{plugged_in_end, end_numbers}
 use Rattle.usb_device.specs.Request.{Outcome, stalled, answers, takes_address, takes_configuration}
 use Rattle.usb_device.specs.Request.{halts, unhalts, tells_port, calls_port, outcome}
-use Rattle.usb_device.specs.Request.{answers_taken, takes}
-use Rattle.usb_device.specs.Request.{registers_at_setup}
+use Rattle.usb_device.specs.Request.{answers_taken, takes, takes_setting, tells_halt}
+use Rattle.usb_device.specs.Request.{address_at_end, flag_bytes, registers_at_setup}
 use Rattle.usb_device.specs.declared.write.WriteData.{WriteData}
 use Rattle.usb_device.specs.declared.write.WriteData.TheVariants.{Wrong, TooLong, Repeat, Next}
-use Rattle.usb_device.specs.Transfer.{Stage, idle, refused, reading, read, ending, first_stage}
+use Rattle.usb_device.specs.Transfer.{Stage, idle, refused, reading, read, ending}
 use Rattle.usb_device.specs.Transfer.{max_packet, packet_at, toggle_at, Write, writing, judged}
-use Rattle.usb_device.specs.Transfer.{is_next, is_done, written_on, taken_with}
+use Rattle.usb_device.specs.Transfer.{is_next, is_done, reads, reads_port, writes, written_on}
+use Rattle.usb_device.specs.Transfer.{taken_with}
 
 pub record State : Type 0 where
   pub spec : Spec
@@ -96,6 +99,31 @@ begun_again d (BulkOut e) = with_out d e (rested_out (out_end d e))
 begun_again d (BulkIn e) = with_in d e (rested_in (in_end d e))
 begun_again d Changes = record d { changes = rested }
 
+-- the status of an endpoint, or of endpoint 0 (9.4.5)
+abbrev pub told_bytes : State → Option ServedEndpoint → List ℕ
+told_bytes d None = flag_bytes false
+told_bytes d (Some endpoint) = flag_bytes (endpoint_state d endpoint).halted
+
+-- the stage that a request begins, by the ports of the device and what the device was before
+abbrev pub first_stage : List PortState → State → ℕ → Outcome → Stage
+first_stage row d wanted stalled = refused
+first_stage row d wanted (answers bytes) = reads wanted bytes
+first_stage row d wanted (tells_port i) = reads_port wanted (slice_get row i)
+first_stage row d wanted answers_taken = reads wanted d.taken
+first_stage row d wanted (takes kept) = writes wanted kept
+first_stage row d wanted (tells_halt endpoint) = reads wanted (told_bytes d endpoint)
+first_stage row d wanted o = ending (address_at_end o)
+
+-- each endpoint that the interface has before or after it takes a setting begins again, and no
+-- other
+abbrev pub outs_set : State → ℕ → ℕ → List OutEnd
+outs_set d interface setting = numbered_from (λ e.
+    begun_if (is_of_setting d.spec d.registers interface setting false e) rested_out) 0 d.outs
+
+abbrev pub ins_set : State → ℕ → ℕ → List InEnd
+ins_set d interface setting = numbered_from (λ e.
+    begun_if (is_of_setting d.spec d.registers interface setting true e) rested_in) 0 d.ins
+
 -- what a request makes of the endpoints (9.1.1.5, 9.4.5)
 abbrev pub with_endpoints : State → Outcome → State
 with_endpoints d stalled = d
@@ -115,17 +143,27 @@ with_endpoints d (tells_port i) = d
 with_endpoints d (calls_port c i) = d
 with_endpoints d answers_taken = d
 with_endpoints d (takes kept) = d
+with_endpoints d (takes_setting interface setting) =
+    record d { outs = outs_set d interface setting; ins = ins_set d interface setting }
+with_endpoints d (tells_halt endpoint) = d
 
--- the configuration is taken
+-- the configuration is taken, and each interface has setting 0
 abbrev pub configured : State → ℕ → State
-configured d c = record d { registers = record d.registers { configuration = c } }
+configured d c = record d {
+  registers = record d.registers { configuration = c; settings = default_settings };
+}
+
+-- an interface takes a setting
+abbrev pub set_to : State → ℕ → ℕ → State
+set_to d interface setting =
+    record d { registers = with_interface interface setting d.registers }
 
 -- a request begins a transfer, and ends the one before
 abbrev pub begun : State → List PortState → ℕ → Outcome → State
 begun d row wanted o = record (with_endpoints d o) {
   registers = registers_at_setup d.registers o;
   naks = d.spec.naks;
-  stage = first_stage row d.taken wanted o;
+  stage = first_stage row d wanted o;
 }
 
 -- the setup data is accepted
@@ -399,11 +437,15 @@ received d row p = if d.spec.silent then (None, d) else answered (forgotten d) r
 unfoldable pub unread : State → State
 unread d = if d.spec.silent then d else forgotten d
 
+-- no address, no configuration, and no setting but 0
+abbrev pub at_reset : Registers
+at_reset = record { address = 0; configuration = 0; settings = default_settings }
+
 -- a device that was just plugged
 unfoldable pub fresh : Spec → State
 fresh s = record {
   spec = s;
-  registers = record { address = 0; configuration = 0 };
+  registers = at_reset;
   memory =
       Nothing;
   naks = 0;
@@ -419,7 +461,7 @@ fresh s = record {
 -- a bus reset (9.1.1.3); the endpoints besides endpoint 0, and what control writes have taken, stay
 unfoldable pub reset_state : State → State
 reset_state d = record d {
-  registers = record { address = 0; configuration = 0 };
+  registers = at_reset;
   memory = Nothing;
   naks = 0;
   stage = idle;

@@ -1,7 +1,7 @@
 -- Where a control transfer stands, and the packets of an answer (8.5.3).
 use Rattle.std.specs.Prelude.{ℕ, zero, suc, ◌+◌, ◌*◌, ◌/◌, ◌%◌, ◌==◌, nat_lt, if◌then◌else◌, ◌&&◌}
 use Rattle.std.specs.Prelude.{◌||◌, not, Bool, true, false, List, [], ◌++◌, length, take, drop}
-use Rattle.std.specs.Prelude.{slice_get, Option, None, Some, unwrap_or}
+use Rattle.std.specs.Prelude.{Option, None, Some, unwrap_or}
 use Rattle.arrayvec.specs.ArrayVec.{ArrayVec}
 use Rattle.usb_packet.specs.{Toggle, Zero, One, other, is_same}
 use Rattle.usb_descriptor.specs.{max_packet_0}
@@ -9,8 +9,6 @@ use Rattle.usb_device.specs.DeviceSpecs.{Spec}
 use Rattle.usb_port.specs.{PortState, status_of}
 use Rattle.usb_device.specs.declared.write.WriteData.{WriteData}
 use Rattle.usb_device.specs.declared.write.WriteData.TheVariants.{Wrong, TooLong, Repeat, Next}
-use Rattle.usb_device.specs.Request.{Outcome, stalled, answers, tells_port, answers_taken, takes}
-use Rattle.usb_device.specs.Request.{address_at_end}
 
 -- a control write (8.5.3)
 pub record Write : Type 0 where
@@ -56,15 +54,6 @@ ends_if kept = if kept then ending None else refused
 
 abbrev pub writes : ℕ → Bool → Stage
 writes wanted kept = if wanted == 0 then ends_if kept else writing (first_write wanted kept)
-
--- the stage that a request begins, by the ports of the device and what control writes have brought
-abbrev pub first_stage : List PortState → List ℕ → ℕ → Outcome → Stage
-first_stage row taken wanted stalled = refused
-first_stage row taken wanted (answers bytes) = reads wanted bytes
-first_stage row taken wanted (tells_port i) = reads_port wanted (slice_get row i)
-first_stage row taken wanted answers_taken = reads wanted taken
-first_stage row taken wanted (takes kept) = writes wanted kept
-first_stage row taken wanted o = ending (address_at_end o)
 
 -- the most data bytes of a packet on endpoint 0 (5.5.3): what the device descriptor says, where the
 -- speed allows it

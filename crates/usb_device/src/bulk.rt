@@ -1,7 +1,9 @@
 //! The endpoints of a device besides endpoint 0 (5.8, 11.12): which ones there are, their toggles
 //! and their halts.
-ghost use Rattle.std.specs.Prelude.{◌≡◌, ◌≤◌};
-ghost use Rattle.usb_descriptor.specs.Usable.{IsTableOf, usable_of};
+ghost use Rattle.std.specs.Prelude.{◌≡◌, ◌≤◌, [], IfNone, IfSome};
+ghost use Rattle.usb_descriptor.specs.Item.{items_of};
+ghost use Rattle.usb_device.specs.Request.{items_at};
+ghost use Rattle.usb_descriptor.specs.Usable.{IsTableOf, usable_under};
 ghost use Rattle.usb_device.specs.Bulk.{turned, halted, count_down, is_last, text_with, total_of, text_of, bulk_in, bulk_at, is_numbered, served, served_at, advanced, tells_changes};
 ghost use Rattle.usb_device.specs.ServedBulk.{AreServed};
 
@@ -9,7 +11,7 @@ use crate::ends::EndpointNumber;
 use crate::lists::Bytes;
 use crate::request::{Registers, has_value};
 use crate::spec::DeviceSpec;
-use usb_descriptor::{UsableEndpoints, read_config};
+use usb_descriptor::{ConfigView, Settings, UsableEndpoints, read_config};
 use usb_packet::Toggle;
 use usb_request::endpoint_address::{DIRECTION_IN, STATUS_ENDPOINT};
 
@@ -118,12 +120,23 @@ fn total_of(text: &[u8]) -> usize
 }
 
 /// The text of the configuration, as long as it says and is.
-fn text_of(spec: &DeviceSpec, registers: Registers) -> &[u8]
-    ensures { result.now ≡ text_of spec.now registers }
+fn text_of<'a>(spec: &'a DeviceSpec, registers: &Registers) -> &'a [u8]
+    ensures { result.now ≡ text_of spec.now registers.now }
 {
     let text = text_with(u16::from(registers.configuration), spec.configs());
     let total = total_of(text).min(text.len());
     &text[..total]
+}
+
+/// The text of the configuration, if there is one and its text is good.
+pub(crate) fn config_at<'a>(spec: &'a DeviceSpec, registers: &Registers) -> Option<ConfigView<'a>>
+    ensures some { IfSome result (λ config. items_at spec.now registers.now ≡ items_of config) }
+    ensures none { IfNone result (items_at spec.now registers.now ≡ []) }
+{
+    if registers.configuration == 0 {
+        return None;
+    }
+    read_config(text_of(spec, registers)).ok()
 }
 
 /// The first bulk endpoint of a direction in a text, if it is a configuration.
@@ -140,8 +153,8 @@ fn bulk_in(is_in: bool, text: &[u8]) -> Option<(u8, u8)>
 }
 
 /// The first bulk endpoint of a direction that is served: its number and its maximum packet.
-fn bulk_at(spec: &DeviceSpec, registers: Registers, is_in: bool) -> Option<(u8, u8)>
-    ensures { result ≡ bulk_at spec.now registers is_in }
+fn bulk_at(spec: &DeviceSpec, registers: &Registers, is_in: bool) -> Option<(u8, u8)>
+    ensures { result ≡ bulk_at spec.now registers.now is_in }
 {
     if spec.is_low() || registers.configuration == 0 {
         return None;
@@ -149,30 +162,30 @@ fn bulk_at(spec: &DeviceSpec, registers: Registers, is_in: bool) -> Option<(u8, 
     bulk_in(is_in, text_of(spec, registers))
 }
 
-/// All endpoints of a text that pipes can use, if it is a configuration.
+/// All endpoints of a text that pipes can use under these settings, if it is a configuration.
 #[tactic(auto, using(crate::proofs::Endpoints::endpoints))]
-fn table_of(low: bool, text: &[u8]) -> UsableEndpoints
-    ensures { IsTableOf (λ is_in e. usable_of low is_in e text.now) result }
+fn table_of(low: bool, settings: &Settings, text: &[u8]) -> UsableEndpoints
+    ensures { IsTableOf (λ is_in e. usable_under settings.now low is_in e text.now) result }
 {
     match read_config(text) {
-        Ok(config) => config.usable_endpoints(low),
+        Ok(config) => config.usable_endpoints(low, settings),
         Err(_) => UsableEndpoints::none(),
     }
 }
 
 /// All endpoints that are served.
-fn table_at(spec: &DeviceSpec, registers: Registers) -> UsableEndpoints
-    ensures { IsTableOf (served_at spec.now registers) result }
+fn table_at(spec: &DeviceSpec, registers: &Registers) -> UsableEndpoints
+    ensures { IsTableOf (served_at spec.now registers.now) result }
 {
     if registers.configuration == 0 {
         return UsableEndpoints::none();
     }
-    table_of(spec.is_low(), text_of(spec, registers))
+    table_of(spec.is_low(), &registers.settings, text_of(spec, registers))
 }
 
 /// The endpoints that are served by a device with these registers.
-pub fn served_endpoints(spec: &DeviceSpec, registers: Registers) -> ServedEndpoints
-    ensures { AreServed spec.now registers result }
+pub fn served_endpoints(spec: &DeviceSpec, registers: &Registers) -> ServedEndpoints
+    ensures { AreServed spec.now registers.now result }
 {
     ServedEndpoints {
         bulk_out: bulk_at(spec, registers, false),
@@ -192,16 +205,16 @@ pub(crate) fn is_numbered(number: u8, end: Option<(u8, u8)>) -> bool
 }
 
 /// Whether IN 1 reports which ports changed (11.12.1): it does of a configured hub.
-pub fn tells_changes(spec: &DeviceSpec, registers: Registers) -> bool
-    ensures { result ≡ tells_changes spec.now registers }
+pub fn tells_changes(spec: &DeviceSpec, registers: &Registers) -> bool
+    ensures { result ≡ tells_changes spec.now registers.now }
 {
     spec.hub().is_some() && registers.configuration != 0
 }
 
 /// The served endpoint that wIndex of a request names (9.3.4).
 #[tactic(auto, using(crate::proofs::ServedNumbers::far))]
-pub fn served(spec: &DeviceSpec, registers: Registers, index: u16) -> Option<ServedEndpoint>
-    ensures { result ≡ served spec.now registers index }
+pub fn served(spec: &DeviceSpec, registers: &Registers, index: u16) -> Option<ServedEndpoint>
+    ensures { result ≡ served spec.now registers.now index }
 {
     if index == u16::from(STATUS_ENDPOINT) && tells_changes(spec, registers) {
         return Some(ServedEndpoint::Changes);

@@ -1,13 +1,16 @@
 //! The endpoints of a device besides endpoint 0, from the plug on: one row of those that take data,
 //! and one of those that give them.
-ghost use Rattle.std.specs.Prelude.{◌≡◌, ◌<◌, map, get_or, None, option_copied, IfOk, OnErr};
-ghost use Rattle.usb_device.specs.Ends.{no_out, no_in, rested_out, rested_in, with_at, taken_on, given_on, hesitated, renewed, paced_on, pace_by, plugged_out, plugged_in_end, end_numbers};
+ghost use Rattle.std.specs.Prelude.{◌≡◌, ◌<◌, ◌≤◌, ◌+◌, true, false, length, map, get_or, None, option_copied, IfOk, OnErr};
+ghost use Rattle.usb_descriptor.specs.Usable.{belongs_to, end_at};
+ghost use Rattle.usb_device.specs.Bulk.{is_of_either};
+ghost use Rattle.usb_device.specs.Ends.{begun_if, no_out, no_in, rested_out, rested_in, with_at, taken_on, given_on, hesitated, numbered_from, renewed, paced_on, pace_by, plugged_out, plugged_in_end, end_numbers};
 
 use crate::bulk::{EndpointState, RESTED, counted_down, is_last, turned};
 use crate::endpoint_spec::EndpointSpec;
 use crate::spec::DeviceSpec;
 use std::alloc::{AllocError, Global};
 use std::marker::Model;
+use usb_descriptor::{UsableEndpoint, UsableEndpoints};
 use usb_request::endpoint_address::DIRECTION_IN;
 
 /// How many endpoints a direction has room for, endpoint 0 included (9.6.6).
@@ -202,6 +205,15 @@ impl OutEnd {
         self.pace = renewed(self.pace);
     }
 
+    /// It begins again, if this is so.
+    fn begin_again_if(&mut self, begins: bool)
+        ensures { self.new ≡ begun_if begins rested_out self.old }
+    {
+        if begins {
+            self.begin_again();
+        }
+    }
+
     /// A packet joins what it has taken.
     fn take(&mut self, halts: bool, bytes: &[u8]) -> Result<(), AllocError>
         ensures taken { IfOk result (λ done. self.new ≡ taken_on halts bytes.now self.old) }
@@ -214,6 +226,30 @@ impl OutEnd {
         };
         self.pace = paced_on(self.pace);
         Ok(())
+    }
+}
+
+/// Whether an interface has an endpoint before or after it takes a setting.
+fn is_of_either(
+    interface: u8,
+    before: &UsableEndpoints,
+    after: &UsableEndpoints,
+    number: u8,
+    is_in: bool,
+) -> bool
+    ensures { result ≡ is_of_either interface before.now after.now is_in number }
+{
+    belongs_to(interface, before.get(number, is_in))
+        || belongs_to(interface, after.get(number, is_in))
+}
+
+/// Whether an endpoint belongs to this interface.
+fn belongs_to(interface: u8, end: Option<UsableEndpoint>) -> bool
+    ensures { result ≡ belongs_to interface end }
+{
+    match end {
+        None => false,
+        Some(end) => end.interface == interface,
     }
 }
 
@@ -235,6 +271,49 @@ fn rest_outs(row: &mut [OutEnd])
     if let Some((end, more)) = row.split_first_mut() {
         end.begin_again();
         rest_outs(more);
+    }
+}
+
+/// Each endpoint that an interface has before or after it takes a setting begins again; the first
+/// has this number.
+#[cycle(begin_ins)]
+#[tactic(auto, unfolding(crate::specs::Ends::numbered_from))]
+fn begin_ins(
+    row: &mut [InEnd],
+    number: u8,
+    interface: u8,
+    before: &UsableEndpoints,
+    after: &UsableEndpoints,
+)
+    requires { number + length row.old ≤ 16 }
+    ensures { row.new ≡ numbered_from (λ e. begun_if
+        (is_of_either interface before.now after.now true e) rested_in) number row.old }
+{
+    if let Some((end, more)) = row.split_first_mut() {
+        if is_of_either(interface, before, after, number, true) {
+            end.state = RESTED;
+            end.pace = renewed(end.pace);
+        }
+        begin_ins(more, number + 1, interface, before, after);
+    }
+}
+
+#[cycle(begin_outs)]
+#[tactic(auto, unfolding(crate::specs::Ends::numbered_from))]
+fn begin_outs(
+    row: &mut [OutEnd],
+    number: u8,
+    interface: u8,
+    before: &UsableEndpoints,
+    after: &UsableEndpoints,
+)
+    requires { number + length row.old ≤ 16 }
+    ensures { row.new ≡ numbered_from (λ e. begun_if
+        (is_of_either interface before.now after.now false e) rested_out) number row.old }
+{
+    if let Some((end, more)) = row.split_first_mut() {
+        end.begin_again_if(is_of_either(interface, before, after, number, false));
+        begin_outs(more, number + 1, interface, before, after);
     }
 }
 
@@ -326,6 +405,20 @@ impl InEnds {
         ensures { self.new ≡ with_at no_in number end self.old }
     {
         self.row[number.place()] = end;
+    }
+
+    /// An interface takes a setting: each endpoint that it has before or after begins again
+    /// (9.1.1.5).
+    pub fn begin_setting(
+        &mut self,
+        interface: u8,
+        before: &UsableEndpoints,
+        after: &UsableEndpoints,
+    )
+        ensures { self.new ≡ numbered_from (λ e. begun_if
+            (is_of_either interface before.now after.now true e) rested_in) 0 self.old }
+    {
+        begin_ins(&mut self.row, 0, interface, before, after);
     }
 
     /// A configuration is taken (9.4.7): what they gave stays.
@@ -432,6 +525,20 @@ impl OutEnds {
         ensures refused { OnErr result (self.new ≡ self.old) }
     {
         self.row[number.place()].take(halts, bytes)
+    }
+
+    /// An interface takes a setting: each endpoint that it has before or after begins again
+    /// (9.1.1.5).
+    pub fn begin_setting(
+        &mut self,
+        interface: u8,
+        before: &UsableEndpoints,
+        after: &UsableEndpoints,
+    )
+        ensures { self.new ≡ numbered_from (λ e. begun_if
+            (is_of_either interface before.now after.now false e) rested_out) 0 self.old }
+    {
+        begin_outs(self.row.as_mut_slice(), 0, interface, before, after);
     }
 
     /// A configuration is taken (9.4.7): what they took stays.

@@ -1,12 +1,15 @@
 //! A device without its ports: its transfers, packet by packet (8.5).
-ghost use Rattle.std.specs.Prelude.{◌≡◌, ◌≤◌, ◌==◌, ℕ, List, None, Some, nat_lt, if◌then◌else◌, is_some, length};
-ghost use Rattle.usb_device.specs.Bulk.{is_numbered};
+ghost use Rattle.std.specs.Prelude.{◌≡◌, ◌≤◌, ◌==◌, ℕ, List, Option, None, Some, nat_lt, if◌then◌else◌, is_some, length};
+ghost use Rattle.usb_device.specs.Bulk.{is_numbered, with_interface};
 ghost use Rattle.usb_device.specs.EndpointSpecs.{packet_in, place_behind};
 ghost use Rattle.usb_device.specs.declared.endpoint_spec.EndpointData.TheVariants as EndpointData;
 ghost use Rattle.usb_device.specs.DeviceSpecs.{Spec};
 ghost use Rattle.usb_device.specs.Code.{source_bytes, hub_text, text_at, meaning_of, stage_of};
 ghost use Rattle.usb_device.specs.OwnRequests.{own_bytes};
-ghost use Rattle.usb_device.specs.Transfer.{max_packet, packet_at, put_if, reads, first_stage, Write};
+ghost use Rattle.usb_device.specs.Transfer.{max_packet, packet_at, put_if, reads, Write};
+ghost use Rattle.usb_device.specs.Rows.{State, first_stage, told_bytes};
+ghost use Rattle.usb_device.specs.Request.{flag_bytes, registers_at_setup, takes_setting, tells_halt};
+ghost use Rattle.usb_device.specs.declared.bulk.ServedEndpoint.{ServedEndpoint as AnEndpoint};
 ghost use Rattle.usb_device.specs.StrayPackets.{awaits_data, awaits_ack};
 ghost use Rattle.usb_device.specs.Tree.{row_of};
 ghost use Rattle.usb_device.specs.Effects.{effect_of_request};
@@ -24,7 +27,7 @@ use crate::endpoint_spec::EndpointData;
 use crate::ends::{EndpointNumber, InEnd, InEnds, OutEnds, given_on};
 use crate::lists::Bytes;
 use crate::ports::Ports;
-use crate::request::{AT_RESET, Reaction, Registers, Source, react};
+use crate::request::{Reaction, Registers, Source, at_reset, react};
 use crate::spec::DeviceSpec;
 use crate::transfer::{
     InEndpoint, Progress, RememberedPacket, fill, has_packet, put_packet, toggle_at,
@@ -34,6 +37,7 @@ use arrayvec::ArrayVec;
 use std::alloc::{AllocError, Global};
 use std::marker::Model;
 use std::rc::Rc;
+use usb_descriptor::Settings;
 use usb_packet::{Packet, Toggle, TokenKind};
 use usb_request::Setup;
 use usb_request::endpoint_address::DIRECTION_IN;
@@ -140,9 +144,13 @@ fn first_progress(
     write: &mut ControlWrite,
     wanted: u16,
     reaction: &Reaction,
+    halted: bool,
 ) -> Progress
-    ensures { (s : Spec) (taken : List ℕ) → stage_of s taken write.new result
-        ≡ first_stage (row_of ports.now) taken wanted (meaning_of s reaction.now) }
+    ensures { (d : State)
+        → ((which : Option AnEndpoint) → meaning_of d.spec reaction.now ≡ tells_halt which
+        → told_bytes d which ≡ flag_bytes halted)
+        → stage_of d.spec d.taken write.new result
+        ≡ first_stage (row_of ports.now) d wanted (meaning_of d.spec reaction.now) }
 {
     match reaction {
         Reaction::Refuse => Progress::Refused,
@@ -155,8 +163,10 @@ fn first_progress(
         Reaction::TakeConfiguration(_)
         | Reaction::Halt(_)
         | Reaction::Unhalt(_)
-        | Reaction::CallPort(..) => Progress::Ending(None),
+        | Reaction::CallPort(..)
+        | Reaction::TakeSetting(..) => Progress::Ending(None),
         Reaction::Take(kept) => write.begin(wanted, *kept),
+        Reaction::TellHalt(_) => reading(Source::Flag(halted), wanted),
     }
 }
 
@@ -243,7 +253,7 @@ impl FunctionState {
     ghost use Rattle.std.specs.Prelude.{IfOk, OnErr, true, false, not, ◌&&◌, [], ◌∷◌};
     ghost use Rattle.usb_device.specs.declared.transfer.InEndpoint.TheVariants as by;
     ghost use Rattle.usb_device.specs.Effects.{asks, asked_by_data, asked_by_setup};
-    ghost use Rattle.usb_device.specs.Rows.{State, received, unread, forgotten, awaits_address, ends_with_address, fresh, reset_state, accepted, configured, begun, is_busy, nak_row, gives, in_row, status_row, out_row, ack_row, token_row, setup_row, payload_row, answered, unless_busy, endpoint_state, with_endpoint_state, bulk_of, in_end, out_end, in_max, out_max, next_packet, next_place, out_halts, taken_row, begun_again, source_row, in_ack_row, acknowledged, sink_row, sinks, in_end_row, out_end_row, end_sinks, data_row, payload_sinks, out_sinks, stage_takes, sink_grows, is_other_out, after_memory, with_endpoints, in_other_row, changes_row, new_changes_row};
+    ghost use Rattle.usb_device.specs.Rows.{received, unread, forgotten, awaits_address, ends_with_address, fresh, reset_state, accepted, configured, set_to, begun, is_busy, nak_row, gives, in_row, status_row, out_row, ack_row, token_row, setup_row, payload_row, answered, unless_busy, endpoint_state, with_endpoint_state, bulk_of, in_end, out_end, in_max, out_max, next_packet, next_place, out_halts, taken_row, begun_again, source_row, in_ack_row, acknowledged, sink_row, sinks, in_end_row, out_end_row, end_sinks, data_row, payload_sinks, out_sinks, stage_takes, sink_grows, is_other_out, after_memory, with_endpoints, in_other_row, changes_row, new_changes_row};
 
     /// A device that was just plugged; it shares its description.
     ///
@@ -256,8 +266,8 @@ impl FunctionState {
     {
         Ok(FunctionState {
             spec: spec.clone()?,
-            registers: AT_RESET,
-            served: served_endpoints(spec, AT_RESET),
+            registers: at_reset(),
+            served: served_endpoints(spec, &at_reset()),
             memory: RememberedPacket::Nothing,
             naks: 0,
             progress: Progress::Idle,
@@ -336,8 +346,7 @@ impl FunctionState {
         ensures { self.new ≡ reset_state self.old }
     {
         self.attempt_over();
-        self.registers = AT_RESET;
-        self.served = served_endpoints(&self.spec, AT_RESET);
+        self.take_registers(at_reset());
         self.naks = 0;
         self.progress = Progress::Idle;
         self.held = None;
@@ -629,7 +638,7 @@ impl FunctionState {
         ensures begun { self.new ≡ accepted self.old (row_of ports.now) setup.now }
         ensures asked { result ≡ asked_by_setup self.old setup.now }
     {
-        let reaction = react(&self.spec, self.registers, setup);
+        let reaction = react(&self.spec, &self.registers, setup);
         self.begin(ports, setup.length, &reaction);
         effect_of(&reaction)
     }
@@ -639,20 +648,87 @@ impl FunctionState {
         ensures { self.new
             ≡ begun self.old (row_of ports.now) wanted (meaning_of self.old.spec reaction.now) }
     {
+        let halted = self.tells_halt(reaction);
         self.set_endpoints(reaction);
-        if let Reaction::TakeConfiguration(value) = reaction {
-            self.configure(*value);
-        }
+        self.set_registers(reaction);
         self.naks = self.spec.naks();
-        self.progress = first_progress(ports, &mut self.write, wanted, reaction);
+        self.progress = first_progress(ports, &mut self.write, wanted, reaction, halted);
     }
 
-    /// A configuration is taken, and its endpoints are served from here on (9.4.7).
+    /// Whether the endpoint that a request asks about is halted.
+    fn tells_halt(&self, reaction: &Reaction) -> bool
+        ensures { (which : Option AnEndpoint)
+            → meaning_of self.now.spec reaction.now ≡ tells_halt which
+            → told_bytes self.now which ≡ flag_bytes result }
+    {
+        match reaction {
+            Reaction::TellHalt(Some(endpoint)) => self.endpoint(endpoint).halted,
+            _ => false,
+        }
+    }
+
+    /// The device has these registers, and serves the endpoints of these, from here on.
+    fn take_registers(&mut self, registers: Registers)
+        ensures { self.new ≡ record self.old { registers = registers } }
+    {
+        self.served = served_endpoints(&self.spec, &registers);
+        self.registers = registers;
+    }
+
+    /// What a request makes of the registers at once.
+    fn set_registers(&mut self, reaction: &Reaction)
+        ensures { self.new ≡ record self.old {
+          registers = registers_at_setup self.old.registers
+              (meaning_of self.old.spec reaction.now);
+        } }
+    {
+        match reaction {
+            Reaction::TakeConfiguration(value) => self.configure(*value),
+            Reaction::TakeSetting(interface, setting) => self.set_interface(*interface, *setting),
+            _ => {}
+        }
+    }
+
+    /// A configuration is taken, and its endpoints are served from here on (9.4.7). Each interface
+    /// has setting 0 (9.1.1.5).
     fn configure(&mut self, value: u8)
         ensures { self.new ≡ configured self.old value }
     {
-        self.registers.configuration = value;
-        self.served = served_endpoints(&self.spec, self.registers);
+        self.take_registers(Registers {
+            configuration: value,
+            settings: Settings::all_zero(),
+            ..self.registers
+        });
+    }
+
+    /// An interface takes a setting, and the endpoints of that are served from here on (9.4.10).
+    fn set_interface(&mut self, interface: u8, setting: u8)
+        ensures { self.new ≡ set_to self.old interface setting }
+    {
+        let registers = self.registers_set(interface, setting);
+        self.take_registers(registers);
+    }
+
+    /// The registers once an interface has a setting.
+    fn registers_set(&self, interface: u8, setting: u8) -> Registers
+        ensures { result ≡ with_interface interface setting self.now.registers }
+    {
+        let mut registers = self.registers;
+        registers.settings.set(interface, setting);
+        registers
+    }
+
+    /// Each endpoint that an interface has before or after it takes a setting begins again
+    /// (9.1.1.5).
+    fn begin_setting(&mut self, interface: u8, setting: u8)
+        ensures { self.new ≡ with_endpoints self.old (takes_setting interface setting) }
+    {
+        let registers = self.registers_set(interface, setting);
+        let after = served_endpoints(&self.spec, &registers);
+        self.outs
+            .begin_setting(interface, &self.served.table, &after.table);
+        self.ins
+            .begin_setting(interface, &self.served.table, &after.table);
     }
 
     /// What a request makes of the endpoints.
@@ -671,12 +747,16 @@ impl FunctionState {
                 self.set_endpoint(endpoint, state);
             }
             Reaction::Unhalt(endpoint) => self.begin_again(endpoint),
+            Reaction::TakeSetting(interface, setting) => {
+                self.begin_setting(*interface, *setting);
+            }
             Reaction::Refuse
             | Reaction::Answer(_)
             | Reaction::TakeAddress(_)
             | Reaction::TellPort(_)
             | Reaction::CallPort(..)
-            | Reaction::Take(_) => {}
+            | Reaction::Take(_)
+            | Reaction::TellHalt(_) => {}
         }
     }
 
@@ -708,7 +788,7 @@ impl FunctionState {
     fn asks_by_setup(&self, setup: &Setup) -> Effect
         ensures { result ≡ asked_by_setup self.now setup.now }
     {
-        effect_of(&react(&self.spec, self.registers, setup))
+        effect_of(&react(&self.spec, &self.registers, setup))
     }
 
     /// Puts a packet of the answer that the host reads into the room, and returns whether there is
@@ -730,7 +810,8 @@ impl FunctionState {
                 k,
                 room,
             ),
-            Source::Configuration(value) => put_packet(max, wanted, &[value], k, room),
+            Source::Byte(value) => put_packet(max, wanted, &[value], k, room),
+            Source::Flag(flag) => put_packet(max, wanted, &[u8::from(flag), 0], k, room),
             Source::Port(bytes) => put_packet(max, wanted, &bytes, k, room),
             Source::Own(i) => put_packet(max, wanted, own_bytes(&self.spec, i), k, room),
             Source::Taken => put_packet(max, wanted, self.taken.as_slice(), k, room),
@@ -746,8 +827,8 @@ impl FunctionState {
             Source::Config(i) => text_at(self.spec.configs(), i).len(),
             Source::Text(i) => text_at(self.spec.strings(), i).len(),
             Source::Hub => hub_text(&self.spec).len(),
-            Source::Status => 2,
-            Source::Configuration(_) => 1,
+            Source::Status | Source::Flag(_) => 2,
+            Source::Byte(_) => 1,
             Source::Port(bytes) => bytes.len(),
             Source::Own(i) => own_bytes(&self.spec, i).len(),
             Source::Taken => self.taken.len(),
@@ -953,7 +1034,7 @@ impl FunctionState {
         ensures { (answer_with result room.new, self.new)
             ≡ in_other_row self.old (row_of ports.now) ep }
     {
-        if ep == 1 && tells_changes(&self.spec, self.registers) {
+        if ep == 1 && tells_changes(&self.spec, &self.registers) {
             self.give_changes(ports, room)
         } else {
             self.give_end(ep, room)

@@ -1,23 +1,30 @@
 //! What a device makes of each request (9.4).
-ghost use Rattle.std.specs.Prelude.{◌≡◌};
+ghost use Rattle.std.specs.Prelude.{◌≡◌, ◌<◌, true};
 ghost use Rattle.std.specs.List.{list_any};
 ghost use Rattle.usb_device.specs.DeviceSpecs.{Spec};
-ghost use Rattle.usb_device.specs.Request.{outcome, asked_at, asked_by_answer, asked_own, unless, asked_descriptor, asked_status, asked_address, is_value, asked_configuration, endpoint_of, on_endpoint, halts, unhalts, asked_hub_descriptor, port_named, called_at, asked_port_status, port_feature};
+ghost use Rattle.usb_device.specs.Request.{outcome, asked_at, asked_by_answer, asked_own, unless, asked_descriptor, asked_status, asked_address, is_value, asked_configuration, endpoint_of, on_endpoint, halts, unhalts, asked_hub_descriptor, port_named, called_at, asked_port_status, port_feature, is_endpoint_0, told_halt, asked_endpoint_status, items_at, asked_interface_status, asked_setting, asked_interface};
+ghost use Rattle.usb_device.specs.Rows.{at_reset};
+ghost use Rattle.usb_descriptor.specs.Interfaces.{has_interface, has_setting};
 ghost use Rattle.usb_device.specs.Bulk.{has_value};
 ghost use Rattle.usb_device.specs.OwnRequests.{bytes_given, own_bytes};
 ghost use Rattle.usb_device.specs.Code.{meaning_of};
 
-use crate::bulk::{ServedEndpoint, served};
+use crate::bulk::{ServedEndpoint, config_at, served};
 use crate::lists::Bytes;
 use crate::own_request::{OwnAnswer, OwnRequest};
 use crate::spec::DeviceSpec;
+use usb_descriptor::Settings;
 use usb_port::PortCall;
+use usb_request::endpoint_address::DIRECTION_IN;
 use usb_request::feature::ENDPOINT_HALT;
 use usb_request::request_code::{
-    CLEAR_FEATURE, GET_CONFIGURATION, GET_DESCRIPTOR, GET_STATUS, SET_ADDRESS, SET_CONFIGURATION,
-    SET_FEATURE,
+    CLEAR_FEATURE, GET_CONFIGURATION, GET_DESCRIPTOR, GET_INTERFACE, GET_STATUS, SET_ADDRESS,
+    SET_CONFIGURATION, SET_FEATURE, SET_INTERFACE,
 };
-use usb_request::request_type::{DEVICE_IN, DEVICE_OUT, ENDPOINT_OUT, HUB_IN, PORT_IN, PORT_OUT};
+use usb_request::request_type::{
+    DEVICE_IN, DEVICE_OUT, ENDPOINT_IN, ENDPOINT_OUT, HUB_IN, INTERFACE_IN, INTERFACE_OUT, PORT_IN,
+    PORT_OUT,
+};
 use usb_request::{Setup, descriptor_type};
 
 /// What the host can set in a device.
@@ -27,13 +34,20 @@ pub struct Registers {
     pub address: u8,
     /// The value of a configuration, or 0 if none is set.
     pub configuration: u8,
+    /// The alternate settings of its interfaces.
+    pub settings: Settings,
 }
 
 /// The registers of a device that was just plugged or reset.
-pub const AT_RESET: Registers = Registers {
-    address: 0,
-    configuration: 0,
-};
+pub fn at_reset() -> Registers
+    ensures { result ≡ at_reset }
+{
+    Registers {
+        address: 0,
+        configuration: 0,
+        settings: Settings::all_zero(),
+    }
+}
 
 /// Where the bytes of an answer are.
 #[derive(Clone, Copy, Debug)]
@@ -48,8 +62,10 @@ pub enum Source {
     Hub,
     /// The two bytes of GET_STATUS.
     Status,
-    /// The one byte of GET_CONFIGURATION.
-    Configuration(u8),
+    /// The one byte of GET_CONFIGURATION or GET_INTERFACE.
+    Byte(u8),
+    /// The two bytes of GET_STATUS of an interface or an endpoint, by bit 0 of the first.
+    Flag(bool),
     /// The status of a port as it was asked for.
     Port([u8; 4]),
     /// The bytes of a request of the device's own, by its place.
@@ -79,6 +95,10 @@ pub enum Reaction {
     CallPort(PortCall, usize),
     /// It takes the host's data, and keeps them or refuses them at the status stage.
     Take(bool),
+    /// An interface takes an alternate setting.
+    TakeSetting(u8, u8),
+    /// It gives whether an endpoint is halted; without one it is endpoint 0.
+    TellHalt(Option<ServedEndpoint>),
 }
 
 fn unless(refused: bool, reaction: Reaction) -> Reaction
@@ -146,8 +166,8 @@ fn is_value(configs: &[Bytes<65535>], value: u16) -> bool
     value < 256 && (value == 0 || any_has_value(configs, value))
 }
 
-fn set_configuration(spec: &DeviceSpec, registers: Registers, setup: &Setup) -> Reaction
-    ensures { meaning_of spec.now result ≡ asked_configuration spec.now registers setup.now }
+fn set_configuration(spec: &DeviceSpec, registers: &Registers, setup: &Setup) -> Reaction
+    ensures { meaning_of spec.now result ≡ asked_configuration spec.now registers.now setup.now }
 {
     if registers.address != 0 && is_value(spec.configs(), setup.value) && setup.length == 0 {
         Reaction::TakeConfiguration(setup.value as u8)
@@ -157,8 +177,8 @@ fn set_configuration(spec: &DeviceSpec, registers: Registers, setup: &Setup) -> 
 }
 
 /// The endpoint that a CLEAR_FEATURE or SET_FEATURE of ENDPOINT_HALT names, if it is served.
-fn endpoint_of(spec: &DeviceSpec, registers: Registers, setup: &Setup) -> Option<ServedEndpoint>
-    ensures { result ≡ endpoint_of spec.now registers setup.now }
+fn endpoint_of(spec: &DeviceSpec, registers: &Registers, setup: &Setup) -> Option<ServedEndpoint>
+    ensures { result ≡ endpoint_of spec.now registers.now setup.now }
 {
     if setup.value == ENDPOINT_HALT && setup.length == 0 {
         served(spec, registers, setup.index)
@@ -185,6 +205,91 @@ fn unhalt(endpoint: Option<ServedEndpoint>) -> Reaction
     }
 }
 
+/// Whether wIndex names endpoint 0, with either direction (9.3.4).
+fn is_endpoint_0(index: u16) -> bool
+    ensures { result ≡ is_endpoint_0 index }
+{
+    index == 0 || index == u16::from(DIRECTION_IN)
+}
+
+fn told_halt(endpoint: Option<ServedEndpoint>) -> Reaction
+    ensures { (s : Spec) → meaning_of s result ≡ told_halt endpoint }
+{
+    match endpoint {
+        Some(endpoint) => Reaction::TellHalt(Some(endpoint)),
+        None => Reaction::Refuse,
+    }
+}
+
+fn get_endpoint_status(spec: &DeviceSpec, registers: &Registers, setup: &Setup) -> Reaction
+    ensures { (s : Spec) → meaning_of s result
+        ≡ asked_endpoint_status spec.now registers.now setup.now }
+{
+    if setup.value != 0 {
+        Reaction::Refuse
+    } else if is_endpoint_0(setup.index) {
+        Reaction::TellHalt(None)
+    } else {
+        told_halt(served(spec, registers, setup.index))
+    }
+}
+
+/// Whether the configuration has the interface that wIndex names.
+fn has_interface(spec: &DeviceSpec, registers: &Registers, index: u16) -> bool
+    ensures value { result ≡ has_interface index (items_at spec.now registers.now) }
+    ensures bound { result ≡ true → index < 256 }
+{
+    match config_at(spec, registers) {
+        Some(config) => config.has_interface(index),
+        None => false,
+    }
+}
+
+/// Whether it has that interface with the setting that wValue names.
+fn has_setting(spec: &DeviceSpec, registers: &Registers, setup: &Setup) -> bool
+    ensures value { result
+        ≡ has_setting setup.now.index setup.now.value (items_at spec.now registers.now) }
+    ensures bounds { result ≡ true → (setup.now.index < 256) × (setup.now.value < 256) }
+{
+    match config_at(spec, registers) {
+        Some(config) => config.has_setting(setup.index, setup.value),
+        None => false,
+    }
+}
+
+fn get_interface_status(spec: &DeviceSpec, registers: &Registers, setup: &Setup) -> Reaction
+    ensures { (s : Spec) → meaning_of s result
+        ≡ asked_interface_status spec.now registers.now setup.now }
+{
+    if setup.value == 0 && has_interface(spec, registers, setup.index) {
+        Reaction::Answer(Source::Flag(false))
+    } else {
+        Reaction::Refuse
+    }
+}
+
+fn get_interface(spec: &DeviceSpec, registers: &Registers, setup: &Setup) -> Reaction
+    ensures { (s : Spec) → meaning_of s result
+        ≡ asked_setting spec.now registers.now setup.now }
+{
+    if setup.value == 0 && has_interface(spec, registers, setup.index) {
+        Reaction::Answer(Source::Byte(registers.settings.get(setup.index as u8)))
+    } else {
+        Reaction::Refuse
+    }
+}
+
+fn set_interface(spec: &DeviceSpec, registers: &Registers, setup: &Setup) -> Reaction
+    ensures { (s : Spec) → meaning_of s result
+        ≡ asked_interface spec.now registers.now setup.now }
+{
+    if setup.length == 0 && has_setting(spec, registers, setup) {
+        Reaction::TakeSetting(setup.index as u8, setup.value as u8)
+    } else {
+        Reaction::Refuse
+    }
+}
+
 fn get_hub_descriptor(spec: &DeviceSpec, setup: &Setup) -> Reaction
     ensures { meaning_of spec.now result ≡ asked_hub_descriptor spec.now.hub setup.now }
 {
@@ -197,8 +302,8 @@ fn get_hub_descriptor(spec: &DeviceSpec, setup: &Setup) -> Reaction
 }
 
 /// The port of a configured hub that wIndex names, counted from 0.
-fn port_named(spec: &DeviceSpec, registers: Registers, index: u16) -> Option<usize>
-    ensures { result ≡ port_named spec.now.hub registers index }
+fn port_named(spec: &DeviceSpec, registers: &Registers, index: u16) -> Option<usize>
+    ensures { result ≡ port_named spec.now.hub registers.now index }
 {
     let ports = u16::from(spec.hub()?.ports());
     if registers.configuration != 0 && (1..=ports).contains(&index) {
@@ -208,8 +313,9 @@ fn port_named(spec: &DeviceSpec, registers: Registers, index: u16) -> Option<usi
     }
 }
 
-fn get_port_status(spec: &DeviceSpec, registers: Registers, setup: &Setup) -> Reaction
-    ensures { (s : Spec) → meaning_of s result ≡ asked_port_status spec.now registers setup.now }
+fn get_port_status(spec: &DeviceSpec, registers: &Registers, setup: &Setup) -> Reaction
+    ensures { (s : Spec) → meaning_of s result
+        ≡ asked_port_status spec.now registers.now setup.now }
 {
     match port_named(spec, registers, setup.index) {
         Some(port) => Reaction::TellPort(port),
@@ -230,10 +336,11 @@ fn called_at(call: Option<PortCall>, port: Option<usize>) -> Reaction
 fn port_feature(
     call: Option<PortCall>,
     spec: &DeviceSpec,
-    registers: Registers,
+    registers: &Registers,
     setup: &Setup,
 ) -> Reaction
-    ensures { (s : Spec) → meaning_of s result ≡ port_feature call spec.now registers setup.now }
+    ensures { (s : Spec) → meaning_of s result
+        ≡ port_feature call spec.now registers.now setup.now }
 {
     if setup.length == 0 {
         called_at(call, port_named(spec, registers, setup.index))
@@ -270,8 +377,8 @@ fn reaction_at(spec: &DeviceSpec, place: Option<usize>) -> Reaction
 }
 
 /// What a configured device does about a request of its own.
-fn react_own(spec: &DeviceSpec, registers: Registers, setup: &Setup) -> Reaction
-    ensures { meaning_of spec.now result ≡ asked_own spec.now.requests registers setup.now }
+fn react_own(spec: &DeviceSpec, registers: &Registers, setup: &Setup) -> Reaction
+    ensures { meaning_of spec.now result ≡ asked_own spec.now.requests registers.now setup.now }
 {
     if registers.configuration == 0 {
         Reaction::Refuse
@@ -282,21 +389,27 @@ fn react_own(spec: &DeviceSpec, registers: Registers, setup: &Setup) -> Reaction
 
 /// What a device with these registers does about a request.
 #[tactic(auto, unfolding(crate::specs::Request::outcome))]
-pub fn react(spec: &DeviceSpec, registers: Registers, setup: &Setup) -> Reaction
-    ensures { meaning_of spec.now result ≡ outcome spec.now registers setup.now }
+pub fn react(spec: &DeviceSpec, registers: &Registers, setup: &Setup) -> Reaction
+    ensures { meaning_of spec.now result ≡ outcome spec.now registers.now setup.now }
 {
     let stalls = spec.stalls();
     match (setup.request_type, setup.request) {
         (DEVICE_IN, GET_DESCRIPTOR) => get_descriptor(spec, setup.value),
         (DEVICE_IN, GET_STATUS) => unless(stalls.status, get_status(setup)),
         (DEVICE_IN, GET_CONFIGURATION) => {
-            Reaction::Answer(Source::Configuration(registers.configuration))
+            Reaction::Answer(Source::Byte(registers.configuration))
         }
         (DEVICE_OUT, SET_ADDRESS) => unless(stalls.address, set_address(setup)),
         (DEVICE_OUT, SET_CONFIGURATION) => unless(
             stalls.set_config,
             set_configuration(spec, registers, setup),
         ),
+        (INTERFACE_IN, GET_STATUS) => get_interface_status(spec, registers, setup),
+        (INTERFACE_IN, GET_INTERFACE) => get_interface(spec, registers, setup),
+        (INTERFACE_OUT, SET_INTERFACE) => {
+            unless(stalls.interface, set_interface(spec, registers, setup))
+        }
+        (ENDPOINT_IN, GET_STATUS) => get_endpoint_status(spec, registers, setup),
         (ENDPOINT_OUT, CLEAR_FEATURE) => unhalt(endpoint_of(spec, registers, setup)),
         (ENDPOINT_OUT, SET_FEATURE) => halt(endpoint_of(spec, registers, setup)),
         (HUB_IN, GET_DESCRIPTOR) => unless(stalls.hub, get_hub_descriptor(spec, setup)),

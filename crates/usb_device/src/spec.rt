@@ -26,6 +26,8 @@ pub struct Stalls {
     pub hub: bool,
     /// GET_DESCRIPTOR of a string.
     pub string: bool,
+    /// SET_INTERFACE.
+    pub interface: bool,
 }
 
 impl Stalls {
@@ -41,6 +43,7 @@ impl Stalls {
             status: false,
             hub: false,
             string: false,
+            interface: false,
         }
     }
 }

@@ -43,6 +43,8 @@ pub(crate) enum PlanKey {
     InEndpoint,
     AnyEndpoint,
     PolledEndpoint,
+    Interface,
+    Setting,
     Attempt,
     Packet,
     How,
@@ -134,6 +136,14 @@ const INTERRUPT_KEYS: [PlanKey; 4] = [
     PlanKey::PolledEndpoint,
 ];
 
+const INTERFACE_KEYS: [PlanKey; 5] = [
+    PlanKey::Do,
+    PlanKey::After,
+    PlanKey::Path,
+    PlanKey::Interface,
+    PlanKey::Setting,
+];
+
 const CONTROL_KEYS: [PlanKey; 5] = [
     PlanKey::Do,
     PlanKey::After,
@@ -146,7 +156,7 @@ const CONTROL_KEYS: [PlanKey; 5] = [
 const SPEEDS: [&str; 2] = ["full", "low"];
 
 /// The words of `stalls`.
-const STALLS: [&str; 7] = [
+const STALLS: [&str; 8] = [
     "device",
     "address",
     "config",
@@ -154,10 +164,11 @@ const STALLS: [&str; 7] = [
     "status",
     "hub",
     "string",
+    "interface",
 ];
 
 /// The words of `do`.
-const VERBS: [&str; 10] = [
+const VERBS: [&str; 11] = [
     "plug",
     "unplug",
     "show",
@@ -166,6 +177,7 @@ const VERBS: [&str; 10] = [
     "clear",
     "interrupt",
     "control",
+    "interface",
     "look",
     "news",
 ];
@@ -185,7 +197,8 @@ const HUB_BYTES: &str =
     "two hexadecimal digits for each of at most 255 bytes, of a hub with as many `ports`";
 
 const STALL_WORDS: &str =
-    "an array of \"device\", \"address\", \"config\", \"set_config\", \"status\", \"hub\", \"string\"";
+    "an array of \"device\", \"address\", \"config\", \"set_config\", \"status\", \"hub\", \
+    \"string\", \"interface\"";
 
 const ENDPOINT_TABLES: &str =
     "at most 30 tables, each with an `address`, and what the endpoint gives or how it hesitates";
@@ -194,7 +207,8 @@ const REQUEST_TABLES: &str =
     "at most 64 tables, each with `type`, `request`, and what the device does about it";
 
 const VERB_WORDS: &str =
-    "\"plug\", \"unplug\", \"show\", \"send\", \"receive\", \"clear\", \"interrupt\", \"control\", \"look\" or \"news\"";
+    "\"plug\", \"unplug\", \"show\", \"send\", \"receive\", \"clear\", \"interrupt\", \
+    \"control\", \"interface\", \"look\" or \"news\"";
 
 const ADDRESSES: &str =
     "a number from 1 to 15 for OUT or from 129 to 143 for IN, not that of an earlier table";
@@ -202,7 +216,8 @@ const ADDRESSES: &str =
 const IN_BYTES: &str = "two hexadecimal digits for each of at most 65535 bytes, at an IN endpoint";
 
 const IN_PACKETS: &str =
-    "at most 1000 texts, each of two hexadecimal digits for each of at most 64 bytes, at an IN endpoint without `source`";
+    "at most 1000 texts, each of two hexadecimal digits for each of at most 64 bytes, at an IN \
+    endpoint without `source`";
 
 /// What stands at a key.
 #[derive(Clone, Copy, Debug, PartialEq, Eq)]
@@ -275,6 +290,8 @@ impl PlanKey {
             PlanKey::InEndpoint => "endpoint",
             PlanKey::AnyEndpoint => "endpoint",
             PlanKey::PolledEndpoint => "endpoint",
+            PlanKey::Interface => "interface",
+            PlanKey::Setting => "setting",
             PlanKey::Attempt => "attempt",
             PlanKey::Packet => "packet",
             PlanKey::How => "how",
@@ -309,6 +326,7 @@ impl PlanKey {
             PlanKey::Setup => Kind::Setup,
             PlanKey::OutEndpoint => Kind::Number(1, 15),
             PlanKey::InEndpoint | PlanKey::PolledEndpoint => Kind::Number(129, 143),
+            PlanKey::Interface | PlanKey::Setting => Kind::Number(0, 255),
             PlanKey::Attempt => Kind::Number(1, (1 << 63) - 1),
             PlanKey::Packet => Kind::Number(1, 3),
             PlanKey::Bit => Kind::Number(0, 535),
@@ -362,6 +380,7 @@ impl PlanKey {
             PlanKey::Setup => "two hexadecimal digits for each of 8 bytes",
             PlanKey::OutEndpoint => "a number from 1 to 15",
             PlanKey::InEndpoint | PlanKey::PolledEndpoint => "a number from 129 to 143",
+            PlanKey::Interface | PlanKey::Setting => "a number from 0 to 255",
             PlanKey::AnyEndpoint => "a number from 1 to 15 for OUT or from 129 to 143 for IN",
             PlanKey::Attempt => "a number above 0 and above that of the damage before it",
             PlanKey::Packet => "1, 2 or 3",
@@ -387,6 +406,8 @@ impl PlanKey {
             PlanKey::Packets => Some("packets = 1"),
             PlanKey::Setup => Some("setup = \"8006000100001200\""),
             PlanKey::PolledEndpoint => Some("endpoint = 0x81"),
+            PlanKey::Interface => Some("interface = 0"),
+            PlanKey::Setting => Some("setting = 1"),
             PlanKey::Attempt => Some("attempt = 1"),
             PlanKey::Packet => Some("packet = 1"),
             PlanKey::How => Some("how = \"lose\""),
@@ -410,6 +431,7 @@ fn verb_keys(verb: &str) -> &'static [PlanKey]
         "clear" => &CLEAR_KEYS,
         "interrupt" => &INTERRUPT_KEYS,
         "control" => &CONTROL_KEYS,
+        "interface" => &INTERFACE_KEYS,
         _ => &NO_VERB_KEYS,
     }
 }

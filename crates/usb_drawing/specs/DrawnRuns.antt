@@ -8,7 +8,7 @@ use Rattle.usb_table.specs.{tree_after}
 use Rattle.usb_host.specs.{HostState}
 use Rattle.usb_plan.specs.{spelled_plan}
 use Rattle.usb_run.specs.{Item, Listing, Sent, Received, Cleared, Read, Written, Looked, Tree}
-use Rattle.usb_run.specs.{SentTo, ReceivedFrom, Polled, ClearedOf}
+use Rattle.usb_run.specs.{SentTo, ReceivedFrom, Polled, ClearedOf, InterfaceSet}
 use Rattle.usb_run.specs.declared.runs.Item.TheVariants.{News}
 use Rattle.usb_run.specs.{ListsRight, item_lines}
 use Rattle.usb_run.specs.{number_of, Opens, RunsTo, listings, never}
@@ -38,6 +38,8 @@ drawn_lines style plan number (Polled path endpoint polled) =
     item_lines number (Polled path endpoint polled)
 drawn_lines style plan number (ClearedOf path endpoint cleared) =
     item_lines number (ClearedOf path endpoint cleared)
+drawn_lines style plan number (InterfaceSet path interface setting set) =
+    item_lines number (InterfaceSet path interface setting set)
 
 -- the text of an item; those made before it are given, the newest first
 abbrev pub drawn_item : Style → PlanData → List Item → Item → List ℕ

@@ -96,5 +96,6 @@ fn drawn_lines(
         }
         Item::SentTo(_, _, _) | Item::ReceivedFrom(_, _, _) => item_lines(alloc, number, item),
         Item::Polled(_, _, _) | Item::ClearedOf(_, _, _) => item_lines(alloc, number, item),
+        Item::InterfaceSet(_, _, _, _) => item_lines(alloc, number, item),
     }
 }

@@ -1,36 +1,19 @@
-//! A driver of a disk by Bulk-Only Transport: a command goes out in a wrapper, its data follow, and
-//! then its status comes back.
-ghost use Rattle.std.specs.Prelude.{◌≡◌, false, None, Ok, Err, IsErr, if◌then◌else◌};
+//! A driver of a disk by Bulk-Only Transport.
+ghost use Rattle.std.specs.Prelude.{◌≡◌, ◌*◌, true, false, None, Ok, Err, if◌then◌else◌};
 ghost use Rattle.usb_host.specs.Numbers.{device_in};
 ghost use Rattle.usb_host.specs.Progress.{known_in};
+ghost use Rattle.usb_drivers.specs.Disks.{AsksSize, DiskOpens, SizeTold, WritesBlocks, is_failed, next_disk};
 ghost use Rattle.usb_drivers.specs.Places.{is_there};
+ghost use Rattle.usb_drivers.specs.Transports.{Recovers, Takes, transport_at};
 ghost use Rattle.usb_drivers.specs.declared.fault.DriverFault.TheVariants.{Gone};
+ghost use Rattle.usb_drivers.specs.declared.command.Command.TheVariants.{Read};
 
 use crate::capacity::{Capacity, capacity_of};
 use crate::command::Command;
 use crate::fault::DriverFault;
-use crate::found::{End, Kind};
-use crate::interface::interface_of;
-use crate::place::Place;
-use crate::status::{Outcome, Status, status_of};
+use crate::transport::Transport;
 use usb_bus::Bus;
-use usb_descriptor::EndpointKind;
-use usb_host::{Host, HostFault, PortPath, TransferFault};
-use usb_request::Setup;
-
-/// A disk's interface: transparent SCSI commands by Bulk-Only Transport.
-const DISK: Kind = Kind {
-    class: 8,
-    subclass: 6,
-    protocol: 0x50,
-    transfer: EndpointKind::Bulk,
-};
-
-/// Class requests to an interface.
-const TO_INTERFACE: u8 = 0x21;
-
-/// Bulk-Only Mass Storage Reset (Bulk-Only Transport, 3.1).
-const RESET: u8 = 0xff;
+use usb_host::{Host, PortPath};
 
 /// How often a disk is asked for its size.
 const TRIES: u8 = 3;
@@ -38,13 +21,8 @@ const TRIES: u8 = 3;
 /// A disk.
 #[derive(Debug, Drop)]
 pub struct Disk {
-    place: Place,
-    interface: u8,
-    out: End,
-    into: End,
+    transport: Transport,
     capacity: Capacity,
-    /// The tag of the next command.
-    tag: u32,
 }
 
 impl Disk {
@@ -58,30 +36,12 @@ impl Disk {
     pub fn open<B: Bus>(host: &mut Host<B>, path: &PortPath) -> Result<Disk, DriverFault>
         ensures gone { device_in path.now (known_in host.old) ≡ None
             → (result ≡ Err Gone) × (host.new ≡ host.old) }
+        ensures opens { DiskOpens B.modelled
+            (transport_at path.now (device_in path.now (known_in host.old)))
+            host.old result host.new }
     {
-        let place = Place::of(host, path).ok_or(DriverFault::Gone)?;
-        let found = interface_of(host, path, DISK).ok_or(DriverFault::Alien)?;
-        let mut disk = Disk {
-            place,
-            interface: found.number,
-            out: found.out.ok_or(DriverFault::Alien)?,
-            into: found.into.ok_or(DriverFault::Alien)?,
-            capacity: Capacity::none(),
-            tag: 1,
-        };
-        disk.capacity = disk.ask_capacity(host)?;
-        Ok(disk)
-    }
-
-    /// Asks how large it is. A disk that is new fails its first command, to say so.
-    fn ask_capacity<B: Bus>(&mut self, host: &mut Host<B>) -> Result<Capacity, DriverFault> {
-        'tries: for _ in 0..TRIES {
-            match self.take(host, Command::Capacity, 8) {
-                Err(DriverFault::Failed) => {}
-                told => return capacity_of(told?.as_slice()).ok_or(DriverFault::Alien),
-            }
-        }
-        Err(DriverFault::Failed)
+        let transport = Transport::of(host, path)?;
+        Disk::sized(host, transport)
     }
 
     /// How large it is.
@@ -99,7 +59,8 @@ impl Disk {
     /// - `Host`: a call of the host failed.
     /// - `Failed`: the disk could not do it, as if it has no such block.
     /// - `Short`: it gave fewer bytes.
-    /// - `OutOfStep`: what came is no status of the command, or the disk says that it is out of step.
+    /// - `OutOfStep`: what came is no status of the command, the disk says that it is out of step, or it
+    ///   gave more bytes.
     ///
     /// After `Host` and `OutOfStep` the disk has to be recovered.
     pub fn read<B: Bus>(
@@ -108,25 +69,29 @@ impl Disk {
         first: u32,
         blocks: u8,
     ) -> Result<Vec<u8>, DriverFault>
-        ensures gone { is_there self.old.place host.old ≡ false
+        ensures gone { is_there self.old.transport.place host.old ≡ false
             → (result ≡ Err Gone) × (host.new ≡ host.old) }
+        ensures takes { is_there self.old.transport.place host.old ≡ true
+            → Takes B.modelled self.old.transport (Read first blocks)
+            (blocks * self.old.capacity.block) host.old result host.new }
+        ensures tag { self.new ≡ (if is_there self.old.transport.place host.old
+            then next_disk self.old else self.old) }
     {
+        self.transport.place.check(host)?;
         let command = Command::Read {
             first,
             blocks: u16::from(blocks),
         };
-        self.take(
-            host,
-            command,
-            u32::from(blocks) * u32::from(self.capacity.block),
-        )
+        let length = u32::from(blocks) * u32::from(self.capacity.block);
+        self.transport.take(host, command, length)
     }
 
     /// Writes up to 255 blocks, whose bytes these are.
     ///
     /// # Errors
     ///
-    /// - `Short`: these are not the bytes of whole blocks, or more than 255. Nothing is attempted.
+    /// - `Short`: these are not the bytes of whole blocks, or more than 255, and nothing is attempted.
+    ///   Or the disk took fewer bytes.
     /// - The others as for `read`. What a failed write left of the blocks only the disk can say.
     pub fn write<B: Bus>(
         &mut self,
@@ -134,24 +99,20 @@ impl Disk {
         first: u32,
         bytes: &[u8],
     ) -> Result<(), DriverFault>
-        ensures gone { is_there self.old.place host.old ≡ false
-            → IsErr result × (host.new ≡ host.old) }
+        ensures gone { is_there self.old.transport.place host.old ≡ false
+            → (result ≡ Err Gone) × (host.new ≡ host.old) × (self.new ≡ self.old) }
+        ensures writes { is_there self.old.transport.place host.old ≡ true
+            → WritesBlocks B.modelled self.old first bytes.now host.old result self.new host.new }
     {
-        let blocks = self
-            .capacity
-            .blocks_of(bytes.len())
-            .ok_or(DriverFault::Short)?;
+        self.transport.place.check(host)?;
+        let Some(blocks) = self.capacity.blocks_of(bytes.len()) else {
+            return Err(DriverFault::Short);
+        };
         let command = Command::Write {
             first,
             blocks: u16::from(blocks),
         };
-        let length = u32::from(blocks) * u32::from(self.capacity.block);
-        let tag = self.ask(host, command, length)?;
-        self.give(host, bytes)?;
-        match self.status(host, tag)? {
-            0 => Ok(()),
-            _ => Err(DriverFault::Short),
-        }
+        self.transport.put(host, command, bytes)
     }
 
     /// Lets disk and host begin again with the next command, whatever went wrong (Bulk-Only
@@ -162,119 +123,52 @@ impl Disk {
     /// - `Gone`: another device is there, or none. Nothing is attempted.
     /// - `Host`: a call of the host failed.
     pub fn recover<B: Bus>(&self, host: &mut Host<B>) -> Result<(), DriverFault>
-        ensures gone { is_there self.now.place host.old ≡ false
+        ensures gone { is_there self.now.transport.place host.old ≡ false
             → (result ≡ Err Gone) × (host.new ≡ host.old) }
+        ensures recovers { is_there self.now.transport.place host.old ≡ true
+            → Recovers B.modelled self.now.transport host.old result host.new }
     {
-        self.check(host)?;
-        let reset = Setup {
-            request_type: TO_INTERFACE,
-            request: RESET,
-            value: 0,
-            index: u16::from(self.interface),
-            length: 0,
-        };
-        host.control_out(&self.place.path, reset, &[])?;
-        host.clear_halt_of(&self.place.path, self.into.address)?;
-        host.clear_halt_of(&self.place.path, self.out.address)?;
-        Ok(())
+        self.transport.place.check(host)?;
+        self.transport.recover(host)
     }
 
-    /// Sends a command, takes its data, and then its status.
-    fn take<B: Bus>(
-        &mut self,
-        host: &mut Host<B>,
-        command: Command,
-        length: u32,
-    ) -> Result<Vec<u8>, DriverFault>
-        ensures gone { is_there self.old.place host.old ≡ false
-            → (result ≡ Err Gone) × (host.new ≡ host.old) }
+    /// Asks how large a disk is. One that is new fails its first command, to say so.
+    fn sized<B: Bus>(host: &mut Host<B>, transport: Transport) -> Result<Disk, DriverFault>
+        ensures { AsksSize B.modelled transport host.old result host.new }
     {
-        let tag = self.ask(host, command, length)?;
-        let came = self.data(host, length)?;
-        self.status(host, tag)?;
-        match came {
-            Some(bytes) if bytes.len() == length as usize => Ok(bytes),
-            _ => Err(DriverFault::Short),
-        }
-    }
-
-    /// Sends a command, and returns its tag.
-    fn ask<B: Bus>(
-        &mut self,
-        host: &mut Host<B>,
-        command: Command,
-        length: u32,
-    ) -> Result<u32, DriverFault>
-        ensures gone { is_there self.old.place host.old ≡ false
-            → (result ≡ Err Gone) × (host.new ≡ host.old) }
-    {
-        self.check(host)?;
-        let tag = self.tag;
-        self.tag = tag.wrapping_add(1);
-        host.send_to(
-            &self.place.path,
-            self.out.address,
-            &command.wrapper(tag, length),
-        )?;
-        Ok(tag)
-    }
-
-    /// Takes data; `None` if the endpoint halted, which is cleared (Bulk-Only Transport, 6.7.2).
-    fn data<B: Bus>(
-        &self,
-        host: &mut Host<B>,
-        length: u32,
-    ) -> Result<Option<Vec<u8>>, DriverFault> {
-        let packets = length.div_ceil(u32::from(self.into.most));
-        let packets = u16::try_from(packets).unwrap_or(u16::MAX);
-        match host.receive_from(&self.place.path, self.into.address, packets) {
-            Ok(bytes) => Ok(Some(bytes)),
-            Err(HostFault::Transfer(TransferFault::Stalled)) => {
-                host.clear_halt_of(&self.place.path, self.into.address)?;
-                Ok(None)
+        let mut transport = transport;
+        'tries: for tries in 0..TRIES {
+            let told = transport.take(host, Command::Capacity, 8);
+            if !is_failed(&told) {
+                return size_told(transport, told);
             }
-            Err(fault) => Err(DriverFault::Host(fault)),
         }
+        Err(DriverFault::Failed)
     }
+}
 
-    /// Sends data; an endpoint that halted is cleared (Bulk-Only Transport, 6.7.3).
-    fn give<B: Bus>(&self, host: &mut Host<B>, bytes: &[u8]) -> Result<(), DriverFault> {
-        match host.send_to(&self.place.path, self.out.address, bytes) {
-            Err(HostFault::Transfer(TransferFault::Stalled)) => {
-                Ok(host.clear_halt_of(&self.place.path, self.out.address)?)
-            }
-            sent => Ok(sent?),
-        }
+/// Whether a disk could not do a command.
+fn is_failed<T>(told: &Result<T, DriverFault>) -> bool
+    ensures { result ≡ is_failed told.now }
+{
+    match told {
+        Err(DriverFault::Failed) => true,
+        _ => false,
     }
+}
 
-    /// Takes the status of the command with this tag: how many bytes were not moved.
-    fn status<B: Bus>(&self, host: &mut Host<B>, tag: u32) -> Result<u32, DriverFault> {
-        let bytes = host.receive_from(&self.place.path, self.into.address, 1)?;
-        match status_of(bytes.as_slice(), tag) {
-            Some(
-                Status {
-                    outcome: Outcome::Passed,
-                    residue,
-                },
-            ) => Ok(residue),
-            Some(
-                Status {
-                    outcome: Outcome::Failed,
-                    ..
-                },
-            ) => Err(DriverFault::Failed),
-            _ => Err(DriverFault::OutOfStep),
-        }
-    }
-
-    /// Whether the device that the driver was given is still there.
-    fn check<B: Bus>(&self, host: &Host<B>) -> Result<(), DriverFault>
-        ensures { result ≡ (if is_there self.now.place host.now then Ok tt else Err Gone) }
-    {
-        if self.place.is_there(host) {
-            Ok(())
-        } else {
-            Err(DriverFault::Gone)
-        }
+/// The disk, if it gave its size.
+fn size_told(transport: Transport, told: Result<Vec<u8>, DriverFault>) -> Result<Disk, DriverFault>
+    ensures { SizeTold transport told result }
+{
+    match told {
+        Ok(bytes) => match capacity_of(bytes.as_slice()) {
+            Some(capacity) => Ok(Disk {
+                transport,
+                capacity,
+            }),
+            None => Err(DriverFault::Alien),
+        },
+        Err(fault) => Err(fault),
     }
 }

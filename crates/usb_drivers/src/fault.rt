@@ -1,9 +1,10 @@
 //! Why a driver's call failed.
 ghost use Rattle.std.specs.Prelude.{◌≡◌};
+ghost use Rattle.usb_drivers.specs.Faults.{driver_told, is_stalled};
 ghost use Rattle.usb_drivers.specs.declared.fault.DriverFault.TheVariants.{Host};
 
 use thiserror::Error;
-use usb_host::HostFault;
+use usb_host::{HostFault, TransferFault};
 
 /// Why a driver's call failed.
 #[derive(Clone, Copy, Debug, PartialEq, Eq, Error)]
@@ -34,5 +35,25 @@ impl From<HostFault> for DriverFault {
 
     fn from(fault: HostFault) -> DriverFault {
         DriverFault::Host(fault)
+    }
+}
+
+/// What a call of the host gave, as a driver reports it.
+pub(crate) fn driver_told<T>(told: Result<T, HostFault>) -> Result<T, DriverFault>
+    ensures { result ≡ driver_told told }
+{
+    match told {
+        Ok(done) => Ok(done),
+        Err(fault) => Err(DriverFault::Host(fault)),
+    }
+}
+
+/// Whether an endpoint or a device answered STALL.
+pub(crate) fn is_stalled<T>(told: &Result<T, HostFault>) -> bool
+    ensures { result ≡ is_stalled told.now }
+{
+    match told {
+        Err(HostFault::Transfer(TransferFault::Stalled)) => true,
+        _ => false,
     }
 }

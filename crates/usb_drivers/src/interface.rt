@@ -1,31 +1,37 @@
 //! What a driver looks for in a configuration: an interface, and its endpoints (9.6.5, 9.6.6).
+ghost use Rattle.std.specs.Prelude.{◌≡◌, None};
+ghost use Rattle.usb_descriptor.specs.Item.{items_of};
+ghost use Rattle.usb_host.specs.Numbers.{device_in};
+ghost use Rattle.usb_host.specs.Progress.{known_in};
+ghost use Rattle.usb_drivers.specs.Interfaces.{end_of, found_from, interface_at, moves_as, opened, with_end};
 
-use crate::found::{End, Interface, Kind};
+use crate::found::{End, Interface, Kind, PacketSize};
 use usb_bus::Bus;
 use usb_descriptor::{ConfigView, EndpointKind, EndpointView, InterfaceView, Item, TransferType};
 use usb_host::{Host, PortPath};
 use usb_request::EndpointAddress;
 
 /// The first interface of a kind, in its setting 0, of the device at a path.
-pub(crate) fn interface_of<B: Bus>(
-    host: &Host<B>,
-    path: &PortPath,
-    kind: Kind,
-) -> Option<Interface> {
+pub(crate) fn interface_of<B: Bus>(host: &Host<B>, path: &PortPath, kind: Kind) -> Option<Interface>
+    ensures { result ≡ interface_at kind (device_in path.now (known_in host.now)) }
+{
     let device = host.device(path)?;
     let text = device.accepted().configuration();
     interface_in(&ConfigView::known(text.as_slice()), kind)
 }
 
 /// The first interface of a kind, in its setting 0, of a configuration.
-fn interface_in(text: &ConfigView<'_>, kind: Kind) -> Option<Interface> {
+#[tactic(auto, unfolding(crate::specs::Interfaces::found_from))]
+fn interface_in(text: &ConfigView<'_>, kind: Kind) -> Option<Interface>
+    ensures { result ≡ found_from kind None (items_of text.now) }
+{
     let mut found = None;
     'items: for item in text.items() {
         match (item, found) {
             (Item::Interface(_), Some(_)) => return found,
             (Item::Interface(interface), None) => found = opened(kind, &interface),
             (Item::Endpoint(endpoint), Some(interface)) => {
-                found = Some(interface.with(kind, &endpoint));
+                found = Some(interface.with(end_of(kind.transfer, &endpoint)));
             }
             _ => {}
         }
@@ -34,7 +40,9 @@ fn interface_in(text: &ConfigView<'_>, kind: Kind) -> Option<Interface> {
 }
 
 /// An interface of the kind, in its setting 0, with no endpoint so far.
-fn opened(kind: Kind, interface: &InterfaceView<'_>) -> Option<Interface> {
+fn opened(kind: Kind, interface: &InterfaceView<'_>) -> Option<Interface>
+    ensures { result ≡ opened kind interface.now }
+{
     let is_kind = interface.class() == kind.class
         && interface.subclass() == kind.subclass
         && interface.protocol() == kind.protocol
@@ -52,8 +60,10 @@ fn opened(kind: Kind, interface: &InterfaceView<'_>) -> Option<Interface> {
 
 impl Interface {
     /// The interface with another endpoint, unless it has one of its direction.
-    fn with(self, kind: Kind, endpoint: &EndpointView<'_>) -> Interface {
-        match end_of(kind, endpoint) {
+    fn with(self, end: Option<End>) -> Interface
+        ensures { result ≡ with_end end self }
+    {
+        match end {
             Some(end) if end.address.is_in() => Interface {
                 into: self.into.or(Some(end)),
                 ..self
@@ -67,25 +77,22 @@ impl Interface {
     }
 }
 
-/// An endpoint that moves data as was looked for.
-fn end_of(kind: Kind, endpoint: &EndpointView<'_>) -> Option<End> {
-    if !is_as(kind.transfer, endpoint.transfer_type()) {
+/// An endpoint, if it moves data as was looked for.
+fn end_of(transfer: EndpointKind, endpoint: &EndpointView<'_>) -> Option<End>
+    ensures { result ≡ end_of transfer endpoint.now }
+{
+    if !moves_as(transfer, endpoint.transfer_type()) {
         return None;
     }
+    let most = PacketSize::new(endpoint.max_packet())?;
     let address = EndpointAddress::new(endpoint.address())?;
-    let most = endpoint.max_packet();
-    if (1..=64).contains(&most) {
-        Some(End {
-            address,
-            most: most as u8,
-        })
-    } else {
-        None
-    }
+    Some(End { address, most })
 }
 
 /// Whether an endpoint moves data as was looked for.
-fn is_as(wanted: EndpointKind, transfer: TransferType) -> bool {
+fn moves_as(wanted: EndpointKind, transfer: TransferType) -> bool
+    ensures { result ≡ moves_as wanted transfer }
+{
     match transfer {
         TransferType::Bulk => wanted == EndpointKind::Bulk,
         TransferType::Interrupt => wanted == EndpointKind::Interrupt,

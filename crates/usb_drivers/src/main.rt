@@ -1,8 +1,24 @@
 //! Drivers over a host: a boot keyboard and a disk. The program lets them meet their devices: those of a
 //! plan, or with the word `live` those of a far end on standard input and output (`docs/LIVE.md`).
 //!
-//! Proved is that once its device is gone, a driver says so and attempts nothing (clause `gone`); all functions
-//! are safe and return. `docs/DRIVERS.md` goes through the drivers.
+//! # What is proved
+//!
+//! Each call of a driver says which calls of the host it made, in their order, and how its answer comes from
+//! theirs. Of each of those it has what the host says, over any bus and over a modelled one
+//! (`specs/Calls.antt`). So the drivers lose nothing and repeat nothing that the host does not.
+//!
+//! - **A report is one poll** (`Keyboard::report`, *AsksReport*). After a STALL that endpoint is cleared once.
+//!   A poll without an answer loses nothing, and nothing is cleared.
+//! - **A command goes out once, with a tag of its own** (`Disk::read`, `Disk::write`; *Takes*, *Puts*). Then its
+//!   data move once, and then its status is asked for. The call returns `Ok` only if that status says so and
+//!   all the bytes moved. A fault is that of the step that failed.
+//! - **A STALL in place of a status** is cleared, and the status is asked for once more (*Concludes*).
+//! - `Disk::open` asks for the size until the disk does not fail, three times at most (*AsksSize*).
+//!   `Disk::recover` resets it and clears both halts (*Recovers*).
+//! - A driver takes the first interface of its kind, and is refused where there is none (*KeyboardOpens*,
+//!   *DiskOpens*). Once its device is gone, it says so and attempts nothing (clause `gone`).
+//!
+//! *Only tested*: what the program prints.
 #![tactic(auto)]
 
 mod capacity;
@@ -16,7 +32,9 @@ mod keyboard;
 mod live;
 mod place;
 mod report;
+mod request;
 mod status;
+mod transport;
 
 use crate::disk::Disk;
 use crate::fault::DriverFault;
@@ -31,7 +49,8 @@ use usb_host::{Host, HostFault, News, PortPath, Round};
 use usb_plan::read_plan;
 use usb_sim::{SimBus, Untraced};
 
-/// The world, as a plan: a keyboard at the first root port, and a disk at the second one.
+/// The world, as a plan: a keyboard at the first root port, and a disk at the second one. The disk halts once
+/// where its status is awaited.
 const WORLD: &str = r#"
 limit = 10000
 roots = 2
@@ -59,6 +78,7 @@ request = [{ type = 0x21, request = 0xFF, value = 0, index = 0 }]
 
 [[device.endpoint]]
 address = 0x81
+halt_after = 3
 packets = [
   "000007FF00000040", "55534253010000000000000000",
   "48656C6C6F2C20626C6F636B206F66203634206279746573202D2D2D2D2D2D2D2D2D2D2D2D2D2D2D2D2D2D2D2D2D2D2D2D2D2D2D2D2D2D2D2D2D2D2D2D2D2D2D",

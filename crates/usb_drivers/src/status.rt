@@ -1,7 +1,9 @@
 //! The wrapper in which the status of a command comes back (Bulk-Only Transport, 5.2).
 ghost use Rattle.std.specs.Prelude.{◌≡◌, ◌≢◌, IfSome, IfNone};
-ghost use Rattle.usb_drivers.specs.Statuses.{outcome_byte};
+ghost use Rattle.usb_drivers.specs.Statuses.{IsNoStatus, StatusTold, outcome_byte, residue_told, status_bytes};
 ghost use Rattle.usb_drivers.specs.declared.status.Outcome.{Outcome as AnOutcome};
+
+use crate::fault::DriverFault;
 
 /// What became of a command.
 #[derive(Clone, Copy, Debug, PartialEq, Eq)]
@@ -27,7 +29,10 @@ pub struct Status {
 const SIGNATURE: [u8; 4] = [0x55, 0x53, 0x42, 0x53];
 
 /// The status that these bytes are of the command with this tag; `None` if they are none.
-pub(crate) fn status_of(bytes: &[u8], tag: u32) -> Option<Status> {
+fn status_of(bytes: &[u8], tag: u32) -> Option<Status>
+    ensures some { IfSome result (λ status. bytes.now ≡ status_bytes tag status) }
+    ensures none { IfNone result (IsNoStatus tag bytes.now) }
+{
     let [u, s, b, t, t0, t1, t2, t3, r0, r1, r2, r3, last] = bytes else {
         return None;
     };
@@ -38,6 +43,31 @@ pub(crate) fn status_of(bytes: &[u8], tag: u32) -> Option<Status> {
         residue: u32::from_le_bytes([*r0, *r1, *r2, *r3]),
         outcome: outcome_of(*last)?,
     })
+}
+
+/// What the status of the command with this tag, and with so many data bytes, says: how many of them
+/// were not moved, if it was done.
+pub(crate) fn residue_of(bytes: &[u8], tag: u32, length: u32) -> Result<u32, DriverFault>
+    ensures { StatusTold tag length bytes.now result }
+{
+    match status_of(bytes, tag) {
+        Some(status) => residue_told(length, status),
+        None => Err(DriverFault::OutOfStep),
+    }
+}
+
+/// The same of a status. If more bytes were not moved than there are, it means nothing (6.3.2).
+fn residue_told(length: u32, status: Status) -> Result<u32, DriverFault>
+    ensures { result ≡ residue_told length status }
+{
+    if status.residue > length {
+        return Err(DriverFault::OutOfStep);
+    }
+    match status.outcome {
+        Outcome::Passed => Ok(status.residue),
+        Outcome::Failed => Err(DriverFault::Failed),
+        Outcome::PhaseError => Err(DriverFault::OutOfStep),
+    }
 }
 
 /// The outcome that a byte tells, if it tells one.

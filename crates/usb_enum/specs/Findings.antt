@@ -69,7 +69,8 @@ pub record IsListed (addressed : Addressed) (tier : ℕ) (old new : World) (devi
   pub strings : EndsWithStrings addressed.target (string_indexes addressed.bytes) old new
       device.strings
 
--- it is the device's own finding, the device is set as it says, and its endpoints begin again
+-- it is the device's own finding, and the device is set as it says; each interface is at setting 0,
+-- and its endpoints begin again
 abbrev pub IsOwn : ℕ → ℕ → Accepted → State → Type 0
 IsOwn tier supply device s = IsFindingOf s.spec tier supply (Device device) × IsSet device s
     × IsFresh s

@@ -135,7 +135,7 @@ pub record HasReadings (bytes : List ℕ) (device : Accepted) (spec : Spec) : Ty
   pub strings : device.strings ≡ strings_by spec (string_indexes bytes)
 
 -- a device has the description and the address that it had; of the target's device this is so, it
--- has this configuration, and its endpoints began again
+-- has this configuration with each interface at setting 0, and its endpoints began again
 pub record LearnedSet (So : Spec → Type 0) (t : Target) (value : ℕ) (x : Location) (s v : State) :
     Type 0 where
   pub spec : v.spec ≡ s.spec

@@ -14,7 +14,8 @@ use Rattle.usb_bus.specs.{lines_between, next_due, step_lines, Attempts, TakesEv
 use Rattle.usb_wire.specs.{Answer, Done, Roots, Question}
 use Rattle.usb_wire.specs.declared.question.Question.TheVariants.{Hello}
 use Rattle.usb_far.specs.{LongSend, Far, IsDone, Played, SendsTooMuch, attempt_done, call_done}
-use Rattle.usb_far.specs.{came_in, done, due_answer, hello_done, is_poll, outcome_answer, wait_done}
+use Rattle.usb_far.specs.{came_in, done, due_answer, hello_done, is_poll, outcome_answer}
+use Rattle.usb_far.specs.{restart_done, wait_done}
 
 pub played_attempt : (a : Attempt) (old new : Played) (o : Outcome) (answer : Answer)
     (poll came : Bool) (before now : ℕ)
@@ -112,6 +113,16 @@ port_called number call old new world far same = record {
   made = λ (by : false ≡ true). absurd (false≢true by);
   far = far ∙ ap (λ w. record old.far { world = w; came = false }) world;
   traced = subst (λ t. Appends old.trace.bytes t []) (sym same) (Appends-nil old.trace.bytes);
+}
+
+pub endpoint_restarted : (old new : Played) → new.far ≡ record old.far { came = false }
+    → new.trace ≡ old.trace → IsDone (restart_done old.far) old Done new
+unfolding restart_done
+endpoint_restarted old new far same = record {
+  answered = refl;
+  made = λ (by : false ≡ true). absurd (false≢true by);
+  far = far;
+  traced = subst (λ t. Appends old.trace.bytes t.bytes []) (sym same) (Appends-nil old.trace.bytes);
 }
 
 pub hello_answered : (f : Played) (q : Question) (roots : ℕ) → q ≡ Hello

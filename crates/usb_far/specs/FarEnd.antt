@@ -20,9 +20,10 @@ use Rattle.usb_lines.specs.declared.line.LineFault.TheVariants as line
 use Rattle.usb_wire.specs.{said_line, send_limit, send_to_limit, write_limit, kind_asked, Answer}
 use Rattle.usb_wire.specs.{Roots, Ack, Nak, Stall, ControlOut, ClearOf, Poll, ReceiveFrom, SendTo}
 use Rattle.usb_wire.specs.{Nothing, Data, Done, Show, End, Send, Receive, Clear, ControlIn, Look}
-use Rattle.usb_wire.specs.{News, Said, Changed, Answered, Asked, DataPacket, Endpoint, Question}
+use Rattle.usb_wire.specs.{Interface, News, Said, Changed, Answered, Asked, DataPacket, Endpoint, Question}
 use Rattle.usb_wire.specs.declared.question.Asked.TheVariants as asked
-use Rattle.usb_wire.specs.declared.question.Question.TheVariants.{Hello, Setup, Out, In, Port, Wait}
+use Rattle.usb_wire.specs.declared.question.Question.TheVariants.{Hello, Setup, Out, In, Port}
+use Rattle.usb_wire.specs.declared.question.Question.TheVariants.{Restart, Wait}
 use Rattle.usb_far.specs.declared.far_end.FarEnd.{FarEnd}
 use Rattle.usb_far.specs.declared.far_end.Phase.{Phase}
 use Rattle.usb_far.specs.declared.far_end.Phase.TheVariants.{New, Asks, Tells}
@@ -165,6 +166,16 @@ call_done number call f = record {
   by_bus = false;
 }
 
+-- each attempt has its toggle from the host: nothing is done
+unfoldable pub restart_done : Far → Deed
+restart_done f = record {
+  answer = Some Done;
+  world = f.world;
+  came = false;
+  traced = [];
+  by_bus = false;
+}
+
 -- as many bytes as a line has room for
 unfoldable pub send_wanted : List ℕ → List ℕ → Option Answer
 send_wanted path bytes = if nat_lt send_limit (length bytes) then None else Some
@@ -189,6 +200,7 @@ asked_answer (ask.SendTo path endpoint bytes) = send_to_wanted path endpoint byt
 asked_answer (ask.ReceiveFrom path endpoint packets) = Some (ReceiveFrom path endpoint packets)
 asked_answer (ask.Poll path endpoint) = Some (Poll path endpoint)
 asked_answer (ask.ClearOf path endpoint) = Some (ClearOf path endpoint)
+asked_answer (ask.SetInterface path interface setting) = Some (Interface path interface setting)
 asked_answer (ask.ControlIn path request) = Some (ControlIn path request)
 asked_answer (ask.ControlOut path request) = write_wanted path request
 asked_answer (ask.Look path) = Some (Look path)
@@ -233,6 +245,7 @@ done (Setup speed endpoint setup) f = attempt_done (attempt_of_setup speed endpo
 done (Out speed endpoint sent) f = attempt_done (attempt_of_out speed endpoint sent) f
 done (In speed endpoint most) f = attempt_done (attempt_of_in speed endpoint most) f
 done (Port number call) f = call_done number call f
+done (Restart endpoint is_in) f = restart_done f
 done Wait f = wait_done f
 
 -- a deed was done, with this answer, and traced
@@ -284,6 +297,7 @@ IsUnanswered (Out speed endpoint sent) old f new =
 IsUnanswered (In speed endpoint most) old f new =
     IsGivenUp (attempt_of_in speed endpoint most) old f new
 IsUnanswered (Port number call) old f new = HasNoPort number old f new
+IsUnanswered (Restart endpoint is_in) old f new = ⊥
 IsUnanswered Wait old f new = IsEventGivenUp old f new ⊎ SendsTooMuch old f new
 
 -- ---- the lines behind a question

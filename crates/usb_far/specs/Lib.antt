@@ -8,7 +8,7 @@ pub use FarEnd.{destination_at, done, due_answer, far_after, far_begun, far_done
 pub use FarEnd.{brings_nothing, is_in_token, is_poll, line_of, may_ask, may_ask_as}
 pub use FarEnd.{outcome_answer, played_of, push_of}
 pub use FarEnd.{reading_fault, status_lines, told_behind}
-unfoldable pub use FarEnd.{attempt_done, call_done, hello_done, pushes, send_to_wanted}
+unfoldable pub use FarEnd.{attempt_done, call_done, hello_done, pushes, restart_done, send_to_wanted}
 unfoldable pub use FarEnd.{send_wanted, statuses, wait_done, write_wanted}
 pub use Serving.{AllReplied, CauseOf, HasNoQuestion, HasQuestion, InTurn, IsLastLine, IsUnwritten}
 pub use Serving.{MayGoOn, OnlyReads, OnlyReadsLine, Passed, Passes, ReadsOn, ReadsQuestion, Replied}

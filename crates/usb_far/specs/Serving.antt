@@ -31,6 +31,7 @@ is_report line =
     || begins_with line (codes "receive ")
     || begins_with line (codes "interrupt ")
     || begins_with line (codes "clear ")
+    || begins_with line (codes "interface ")
     || begins_with line (codes "control ")
     || begins_with line (codes "look ")
 

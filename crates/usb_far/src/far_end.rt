@@ -1,13 +1,13 @@
 //! What the controller side does at each question.
-ghost use Rattle.std.specs.Prelude.{◌≡◌, ◌⊎◌, ◌∷◌, [], false, true, IfErr, IfOk};
+ghost use Rattle.std.specs.Prelude.{◌≡◌, ◌≤◌, ◌⊎◌, ◌∷◌, [], false, true, IfErr, IfOk};
 ghost use Rattle.usb_world.specs.Steps.{after, opening, root_call};
 ghost use Rattle.usb_world.specs.PlainAttempts.{attempt_data};
 ghost use Rattle.usb_world.specs.Worlds.{IsAttempt, IsRootPort};
 ghost use Rattle.usb_bus.specs.Watch.{has_failed};
 ghost use Rattle.usb_sim.specs.Sim.{trace_of, world_of};
 ghost use Rattle.usb_lines.specs.Pipes.{pipe_of};
-ghost use Rattle.usb_wire.specs.Questions.{IsQuestion};
-ghost use Rattle.usb_far.specs.FarEnd.{IsEventGivenUp, IsGivenUp, HasNoPort, IsDone, IsUnanswered, SendsTooMuch, attempt_done, call_done, asked_answer, came_in, done, due_answer, send_to_wanted, send_wanted, statuses, wait_done, write_wanted};
+ghost use Rattle.usb_wire.specs.Questions.{IsEndpoint, IsQuestion};
+ghost use Rattle.usb_far.specs.FarEnd.{IsEventGivenUp, IsGivenUp, HasNoPort, IsDone, IsUnanswered, SendsTooMuch, attempt_done, call_done, asked_answer, came_in, done, due_answer, restart_done, send_to_wanted, send_wanted, statuses, wait_done, write_wanted};
 
 use crate::attempt::{answer_of, in_attempt, is_poll, out_attempt, setup_attempt};
 use crate::fault::FarFault;
@@ -21,7 +21,7 @@ use usb_request::feature::{
     C_PORT_CONNECTION, C_PORT_ENABLE, C_PORT_RESET, PORT_ENABLE, PORT_POWER, PORT_RESET,
 };
 use usb_sim::{Ask, Plan, SentBytes, SimBus, Trace, Tracer, WriteRequest};
-use usb_wire::{Answer, ControlWrite, Question, SEND_LIMIT, SEND_TO_LIMIT, WRITE_LIMIT};
+use usb_wire::{Answer, ControlWrite, Endpoint, Question, SEND_LIMIT, SEND_TO_LIMIT, WRITE_LIMIT};
 
 /// The statuses of root ports, port 1 first.
 pub(crate) type Statuses = ArrayVec<[u8; 4], 7>;
@@ -104,6 +104,7 @@ impl<T: Trace> FarEnd<T> {
                 most,
             } => self.attempt(&in_attempt(speed, endpoint, most)),
             Question::Port { number, call } => self.call(number, call),
+            Question::Restart { endpoint, is_in } => Ok(self.restart(endpoint, is_in)),
             Question::Wait => self.wait(),
         }
     }
@@ -141,6 +142,19 @@ impl<T: Trace> FarEnd<T> {
         call_root(&mut self.bus, number, call);
         self.came = false;
         Ok(Answer::Done)
+    }
+
+    /// Makes an endpoint begin again.
+    fn restart(&mut self, endpoint: Endpoint, is_in: bool) -> Answer
+        requires endpoint { IsEndpoint endpoint }
+        requires least { 1 ≤ endpoint.number }
+        ensures { IsDone (restart_done (far_of self.old)) (played_of self.old) result
+            (played_of self.new) }
+    {
+        self.bus
+            .restart_endpoint(endpoint.address, endpoint.number, is_in);
+        self.came = false;
+        Answer::Done
     }
 
     /// Returns what is requested: nothing if an event came that the host may not have seen, else what the next event
@@ -232,6 +246,11 @@ fn asked_answer(ask: Ask) -> Option<Answer>
         }),
         Ask::Poll(path, endpoint) => Some(Answer::Poll { path, endpoint }),
         Ask::ClearOf(path, endpoint) => Some(Answer::ClearOf { path, endpoint }),
+        Ask::SetInterface(path, interface, setting) => Some(Answer::Interface {
+            path,
+            interface,
+            setting,
+        }),
         Ask::ControlIn(path, request) => Some(Answer::ControlIn { path, request }),
         Ask::ControlOut(path, request) => write_answer(path, &request),
         Ask::Look(path) => Some(Answer::Look(path)),

@@ -191,6 +191,7 @@ fn is_report(line: &[u8]) -> bool
         || begins_with(line, b"receive ")
         || begins_with(line, b"interrupt ")
         || begins_with(line, b"clear ")
+        || begins_with(line, b"interface ")
         || begins_with(line, b"control ")
         || begins_with(line, b"look ")
 }

@@ -4,12 +4,13 @@ use Rattle.std.proofs.Common.{Option, Some, None, Result, Ok, Err, IfOk, IfSome,
 use Rattle.std.specs.BTreeMap.{is_at}
 use Rattle.arrayvec.specs.ArrayVec.{ArrayVec}
 use Rattle.usb_port.specs.{path_cmp}
+use Rattle.usb_transaction.specs.{Target}
 use Rattle.usb_pipe.specs.{PipeState}
-use Rattle.usb_table.specs.{Entries, GoesThrough, MovedOrRefused, Table, TableFault}
-use Rattle.usb_table.specs.{TransferFault, pipes_at}
+use Rattle.usb_table.specs.{Entries, GoesThrough, MovedOrRefused, SetOrRefused, Table, TableFault}
+use Rattle.usb_table.specs.{TransferFault, accepted_device_at, is_below_hub, pipes_at, pipes_set}
 use Rattle.usb_table.proofs.Interface.{path_tied}
 use Rattle.usb_host.specs.{FitsPipe, HostFault, HostState, MovesOrRefuses, NothingTried, host_told}
-use Rattle.usb_host.specs.{is_final, table_in}
+use Rattle.usb_host.specs.{SetsOrRefuses, is_final, table_in}
 use Rattle.usb_host.specs.declared.fault.HostFault.TheVariants as host
 
 -- where the pipes at the path of a call stay, all do
@@ -55,6 +56,21 @@ module _ {A W : Type 0} (path : List ℕ) (base : W → HostState) (bus after : 
           pipes = pipes_stay path old new goes x.1;
         },
       )
+
+-- so it is of an interface that is set
+pub sets_or_refuses : {W : Type 0} (path : List ℕ) (base : W → HostState) (bus after : W)
+    {old new : Table} → GoesThrough path old new → (answer : Result (Unit {0}) TableFault)
+    {result : Result (Unit {0}) HostFault} {before ends : Bool} → result ≡ host_told answer
+    → before ≡ false → ends ≡ is_final result → (interface setting : ℕ)
+    (asked : Result Target TransferFault)
+    → SetOrRefused asked (pipes_set (accepted_device_at path old.entries) (is_below_hub path)
+    interface setting) (pipes_at path old) bus answer (pipes_at path new) after
+    → SetsOrRefuses path interface setting asked (host_of base bus old before) result
+    (host_of base after new ends)
+sets_or_refuses path base bus after goes answer is going final interface setting (Ok target) x =
+    (x.0, is ∙ ap host_told x.1, x.2)
+sets_or_refuses path base bus after goes answer is going final interface setting (Err fault) x =
+    moves_or_refuses path base bus after goes answer is going final (Err fault) x
 
 -- a packet that came is no longer than the maximum of its pipe
 pub fits_told : (pipe : Option PipeState) (answer : Result (Option (ArrayVec ℕ)) TableFault)

@@ -6,7 +6,7 @@ use Rattle.std.specs.Global.{Vec}
 use Rattle.std.specs.Int.{div_ceil}
 use Rattle.arrayvec.specs.ArrayVec.{ArrayVec}
 use Rattle.usb_world.specs.{BusFault, World}
-use Rattle.usb_transaction.specs.{AttemptsMade}
+use Rattle.usb_transaction.specs.{AttemptsMade, Target}
 use Rattle.usb_pipe.specs.{PipeFault, FaultAfter, PipeState, Sends, Receives, Clears, packets_of}
 use Rattle.usb_pipe.specs.{IsNoBusFault, PipePolls, Condition}
 use Rattle.usb_pipe.specs.declared.condition.Condition.TheVariants.{Ready, Halted, Broken}
@@ -17,10 +17,11 @@ use Rattle.usb_hub.proofs.Interface.{failed_works}
 use Rattle.usb_table.specs.{TableFault, TransferFault, Pipes, Hub, Function, Absent, PipesPolled}
 use Rattle.usb_table.specs.{EndpointChoice, FunctionPipes, PipesThrough, PipesSent, PipesReceived}
 use Rattle.usb_table.specs.{PipesReported, PipesCleared, PipesClearedOf, PipeDid, NotTried}
-use Rattle.usb_table.specs.{ThroughIf, SentThrough, ReceivedThrough, ReportedThrough}
+use Rattle.usb_table.specs.{InterfaceSetIf, Table, ThroughIf, SentThrough, ReceivedThrough, ReportedThrough}
 use Rattle.usb_table.specs.{ClearedOfThrough, ClearedBy, ClearedAfter, ClearedIf, first_pipe}
 use Rattle.usb_table.specs.{pipe_to, polls_through, receives_through, sends_through, table_answer}
-use Rattle.usb_table.specs.{NoDevice, NoEndpoint}
+use Rattle.usb_table.specs.{NoDevice, NoEndpoint, clear_miss, clears_miss, first_unclear, polls_miss}
+use Rattle.usb_table.specs.{receives_miss, sends_miss}
 use Rattle.usb_table.specs.declared.fault.TableFault.TheVariants as table
 use Rattle.usb_enum.specs.{EnumFault, EnumWorks, ParentLost, Bus, Memory}
 use Rattle.usb_host.specs.{EndsAs, HostFault, HostNotOfBus, HostState, HostWorks, host_told}
@@ -120,23 +121,24 @@ untried_works why pipes old result left new x = rw x.0 (λ sound. same_works old
 if_works : {A : Type 0} (So : PipeDid A) → ((pipe : PipeState) (old : World) (result : Result A
     TableFault)
     (left : PipeState) (new : World) → So pipe old result left new → TableWorks old result new)
-    → (pipe : Option PipeState) (old : World) (result : Result A TableFault) (left : Option PipeState)
-    (new : World) → ThroughIf So pipe old result left new → TableWorks old result new
-if_works So each None old result left new x =
-    untried_works NoEndpoint None old result left new x
-if_works So each (Some pipe) old result None new x = absurd x
-if_works So each (Some pipe) old result (Some left) new x = each pipe old result left new x
+    → (miss : TransferFault) (pipe : Option PipeState) (old : World) (result : Result A TableFault)
+    (left : Option PipeState) (new : World) → ThroughIf So miss pipe old result left new
+    → TableWorks old result new
+if_works So each miss None old result left new x = untried_works miss None old result left new x
+if_works So each miss (Some pipe) old result None new x = absurd x
+if_works So each miss (Some pipe) old result (Some left) new x = each pipe old result left new x
 
-through_works : {A : Type 0} (pick : FunctionPipes → Option PipeState) (So : PipeDid A)
+through_works : {A : Type 0} (pick : FunctionPipes → Option PipeState)
+    (miss : FunctionPipes → TransferFault) (So : PipeDid A)
     → ((pipe : PipeState) (old : World) (result : Result A TableFault) (left : PipeState)
     (new : World) → So pipe old result left new → TableWorks old result new) → (pipes : Pipes)
     (old : World) (result : Result A TableFault) (left : Pipes) (new : World)
-    → PipesThrough pick So pipes old result left new → TableWorks old result new
-through_works pick So each (Hub pipe) old result left new x =
+    → PipesThrough pick miss So pipes old result left new → TableWorks old result new
+through_works pick miss So each (Hub pipe) old result left new x =
     untried_works NoEndpoint (Hub pipe) old result left new x
-through_works pick So each (Function pipes) old result left new x =
-    if_works So each (pick pipes) old result x.0 new x.2
-through_works pick So each Absent old result left new x =
+through_works pick miss So each (Function pipes) old result left new x =
+    if_works So each (miss pipes) (pick pipes) old result x.0 new x.2
+through_works pick miss So each Absent old result left new x =
     untried_works NoDevice Absent old result left new x
 
 halt_works : (pipe left : Option PipeState) (old : World) (answer : Result (Unit {0}) PipeFault)
@@ -145,23 +147,26 @@ halt_works None left old answer new x = λ sound. same_works old new x.2
 halt_works (Some pipe) None old answer new x = absurd x
 halt_works (Some pipe) (Some left) old answer new x = clears_work old answer new x.clears
 
-second_works : (first : Result (Unit {0}) PipeFault) (pipe left : Option PipeState) (old mid : World)
-    (result : Result (Unit {0}) TableFault) (new : World) → WorksAfter first old mid
-    → ClearedAfter first pipe mid result left new → TableWorks old result new
-second_works (Ok done) pipe left old mid result new works x =
+second_works : (first : Result (Unit {0}) PipeFault) (why : Option TransferFault)
+    (pipe left : Option PipeState) (old mid : World) (result : Result (Unit {0}) TableFault)
+    (new : World) → WorksAfter first old mid
+    → ClearedAfter first why pipe mid result left new → TableWorks old result new
+second_works (Ok done) None pipe left old mid result new works x =
     table_works result x.0 old new x.1
     (λ sound none. halt_works pipe left mid x.0 new x.2 sound (works tt none))
-second_works (Err fault) pipe left old mid result new works x =
+second_works (Ok done) (Some why) pipe left old mid result new works x =
+    rw x.0 (λ sound none. same_works mid new x.2 (works tt none))
+second_works (Err fault) why pipe left old mid result new works x =
     table_works result (Err fault) old new x.0
     (λ sound none. same_works mid new x.2 (works sound none))
 
-both_work : (any : Bool) (pipes left : FunctionPipes) (old : World)
-    (result : Result (Unit {0}) TableFault) (new : World) → ClearedIf any pipes old result left new
+both_work : (why : Option TransferFault) (pipes left : FunctionPipes) (old : World)
+    (result : Result (Unit {0}) TableFault) (new : World) → ClearedIf why pipes old result left new
     → TableWorks old result new
-both_work false pipes left old result new x =
-    untried_works NoEndpoint pipes old result left new x
-both_work true pipes left old result new x =
-    second_works x.first (first_pipe true pipes) x.rest_in old x.mid result new
+both_work (Some why) pipes left old result new x =
+    untried_works why pipes old result left new x
+both_work None pipes left old result new x =
+    second_works x.first (first_unclear true pipes) (first_pipe true pipes) x.rest_in old x.mid result new
     (halt_works (first_pipe false pipes) x.rest_out old x.first x.mid x.out) x.into
 
 halts_work : (pipes : Pipes) (old : World) (result : Result (Unit {0}) TableFault) (left : Pipes)
@@ -169,8 +174,7 @@ halts_work : (pipes : Pipes) (old : World) (result : Result (Unit {0}) TableFaul
 halts_work (Hub pipe) old result left new x =
     untried_works NoEndpoint (Hub pipe) old result left new x
 halts_work (Function pipes) old result left new x =
-    both_work (is_some (first_pipe false pipes) || is_some (first_pipe true pipes)) pipes x.0 old
-    result new x.2
+    both_work (clear_miss pipes) pipes x.0 old result new x.2
 halts_work Absent old result left new x = untried_works NoDevice Absent old result left new x
 
 -- As the host tells it
@@ -193,21 +197,23 @@ host_works {A} result answer old new is works = rw is (by_answer answer works)
     by_answer (Err table.Memory) works = λ sound. works tt
 
 -- a call through one pipe
-pipe_works : {A : Type 0} (pick : FunctionPipes → Option PipeState) (So : PipeDid A)
+pipe_works : {A : Type 0} (pick : FunctionPipes → Option PipeState)
+    (miss : FunctionPipes → TransferFault) (So : PipeDid A)
     → ((pipe : PipeState) (old : World) (result : Result A TableFault) (left : PipeState)
     (new : World) → So pipe old result left new → TableWorks old result new) → (pipes left : Pipes)
     (old new : World) (answer : Result A TableFault) (result : Result A HostFault)
-    → result ≡ host_told answer → PipesThrough pick So pipes old answer left new
+    → result ≡ host_told answer → PipesThrough pick miss So pipes old answer left new
     → ToldWorks old result new
-pipe_works pick So each pipes left old new answer result is moves =
-    host_works result answer old new is (through_works pick So each pipes old answer left new moves)
+pipe_works pick miss So each pipes left old new answer result is moves =
+    host_works result answer old new is
+    (through_works pick miss So each pipes old answer left new moves)
 
 pub sent_works : (choice : EndpointChoice) (pipes left : Pipes) (bytes : List ℕ) (old new : World)
     (answer : Result (Unit {0}) TableFault) (result : Result (Unit {0}) HostFault)
     → result ≡ host_told answer → PipesSent choice pipes bytes old answer left new
     → ToldWorks old result new
 sent_works choice pipes left bytes =
-    pipe_works (sends_through choice) (λ p. SentThrough p bytes)
+    pipe_works (sends_through choice) (sends_miss choice) (λ p. SentThrough p bytes)
     (λ p old r left new y. table_works r y.answer old new y.told
     (sends_work old y.answer new y.sends)) pipes left
 
@@ -216,7 +222,7 @@ pub received_works : (choice : EndpointChoice) (pipes left : Pipes) (packets : �
     → result ≡ host_told answer → PipesReceived choice pipes packets old answer left new
     → ToldWorks old result new
 received_works choice pipes left packets =
-    pipe_works (receives_through choice) (λ p. ReceivedThrough p packets)
+    pipe_works (receives_through choice) (receives_miss choice) (λ p. ReceivedThrough p packets)
     (λ p old r left new y. table_works r y.answer old new y.told
     (receives_work old y.answer new y.receives)) pipes left
 
@@ -225,7 +231,7 @@ pub reported_works : (endpoint : ℕ) (pipes left : Pipes) (old new : World)
     (result : Result (Option (ArrayVec ℕ)) HostFault) → result ≡ host_told answer
     → PipesReported endpoint pipes old answer left new → ToldWorks old result new
 reported_works endpoint =
-    pipe_works (polls_through endpoint) ReportedThrough
+    pipe_works (polls_through endpoint) (polls_miss endpoint) ReportedThrough
     (λ p old r left new y. table_works r y.answer old new y.told
     (asks_work p.condition old y.answer new refl y.polls))
 
@@ -240,9 +246,29 @@ pub cleared_of_works : (endpoint : ℕ) (pipes left : Pipes) (old new : World)
     → result ≡ host_told answer → PipesClearedOf endpoint pipes old answer left new
     → ToldWorks old result new
 cleared_of_works endpoint =
-    pipe_works (pipe_to endpoint) ClearedOfThrough
+    pipe_works (pipe_to endpoint) (clears_miss endpoint) ClearedOfThrough
     (λ p old r left new y. table_works r y.answer old new y.told
     (clears_work old y.answer new y.cleared.clears))
+
+-- a request that sets an interface
+set_if_works : (path : List ℕ) (interface setting : ℕ) (table left : Table)
+    (target : Result Target TransferFault) (old new : World)
+    (answer : Result (Unit {0}) TableFault)
+    → InterfaceSetIf path interface setting table target old answer left new
+    → TableWorks old answer new
+set_if_works path interface setting table left (Ok target) old new answer x =
+    table_works answer x.answer old new x.told (made_works 2 1 x.answer old new x.is.ends)
+set_if_works path interface setting table left (Err fault) old new answer x =
+    rw x.0 (λ sound. same_works old new x.2)
+
+pub set_works : (path : List ℕ) (interface setting : ℕ) (table left : Table) (old new : World)
+    (answer : Result (Unit {0}) TableFault) (result : Result (Unit {0}) HostFault)
+    → result ≡ host_told answer → (target : Result Target TransferFault)
+    → InterfaceSetIf path interface setting table target old answer left new
+    → ToldWorks old result new
+set_works path interface setting table left old new answer result is target sets =
+    host_works result answer old new is
+    (set_if_works path interface setting table left target old new answer sets)
 
 -- One part after another
 

@@ -13,7 +13,7 @@ use Rattle.usb_enum.specs.declared.finding.Finding.TheVariants.{Device, Refused}
 use Rattle.usb_backlog.specs.{KeepsAll}
 use Rattle.usb_table.specs.{KnownPort, Entries, accepted_device_at, known_port, AllInSync, InSyncAt}
 use Rattle.usb_table.specs.{finding_at, hub_facts_at, IsListedPort, tier_of, ListsEach}
-use Rattle.usb_table.specs.{SameSettings}
+use Rattle.usb_table.specs.{SameDevice}
 use Rattle.usb_transaction.specs.{NoThreeDamaged}
 use Rattle.usb_host.specs.Agreement.{Agrees}
 use Rattle.usb_host.specs.Bounds.{hub_poll_bound, hubs_bound, looks_bound, round_bound}
@@ -87,13 +87,13 @@ CausesBut path w entries = Elsewhere path (IsJustifiedAt w entries)
 
 -- Between two worlds
 
--- each device that is reached keeps its description and its registers, and each that is reached
--- elsewhere
+-- each device that is reached keeps its description, its address and its configuration, and each
+-- that is reached elsewhere
 abbrev pub EachStill : World → World → Type 0
-EachStill = EachWas SameSettings
+EachStill = EachWas SameDevice
 
 abbrev pub EachStillBut : List ℕ → World → World → Type 0
-EachStillBut path = EachElsewhere path SameSettings
+EachStillBut path = EachElsewhere path SameDevice
 
 -- Entries
 

@@ -20,9 +20,9 @@ table_in h = record { entries = h.entries; pipes = h.pipes }
 -- Over any bus
 
 -- the pipe to the device at the path that a call goes through, or why there is none
-abbrev pub pipe_for : (FunctionPipes → Option PipeState) → List ℕ → HostState
-    → Result PipeState TransferFault
-pipe_for pick path h = asked_through pick (pipes_at path (table_in h))
+abbrev pub pipe_for : (FunctionPipes → Option PipeState) → (FunctionPipes → TransferFault) → List ℕ
+    → HostState → Result PipeState TransferFault
+pipe_for pick miss path h = asked_through pick miss (pipes_at path (table_in h))
 
 -- nothing was attempted, and each pipe is as it was
 pub record NothingTried (old new : HostState) : Type 0 where

@@ -12,7 +12,7 @@ impl<B: Bus> Host<B> {
     ghost use Rattle.usb_transaction.specs.Transactions.{transaction_bound};
     ghost use Rattle.usb_pipe.specs.Control.{write_bound};
     ghost use Rattle.usb_table.specs.declared.choice.EndpointChoice.TheVariants.{At};
-    ghost use Rattle.usb_table.specs.PipeRows.{pipe_to, polls_through, receives_through, sends_through, through, unless_broken};
+    ghost use Rattle.usb_table.specs.PipeRows.{clears_miss, pipe_to, polls_miss, polls_through, receives_miss, receives_through, sends_miss, sends_through, through, unless_broken};
     ghost use Rattle.usb_table.specs.Tables.{pipes_at};
     ghost use Rattle.usb_host.specs.HostCalls.{ClearOfTells, MovesAnyBus, ReceiveTells, ReportTells, SendTells};
     ghost use Rattle.usb_host.specs.ToldFaults.{StopsAsTransfer};
@@ -41,7 +41,8 @@ impl<B: Bus> Host<B> {
         bytes: &[u8],
     ) -> Result<(), HostFault>
         ensures any_bus { MovesAnyBus B.modelled (transaction_bound * length bytes.now)
-            (unless_broken (pipe_for (sends_through (At endpoint)) path.now self.old))
+            (unless_broken (pipe_for (sends_through (At endpoint)) (sends_miss (At endpoint))
+            path.now self.old))
             self.old result self.new }
         ensures stopped { StopsAsTransfer self.old result self.new }
         ensures tells { B.modelled ≡ true
@@ -70,7 +71,8 @@ impl<B: Bus> Host<B> {
         packets: u16,
     ) -> Result<Vec<u8>, HostFault>
         ensures any_bus { MovesAnyBus B.modelled (transaction_bound * packets)
-            (unless_broken (pipe_for (receives_through (At endpoint)) path.now self.old))
+            (unless_broken (pipe_for (receives_through (At endpoint)) (receives_miss (At endpoint))
+            path.now self.old))
             self.old result self.new }
         ensures stopped { StopsAsTransfer self.old result self.new }
         ensures tells { B.modelled ≡ true
@@ -101,7 +103,8 @@ impl<B: Bus> Host<B> {
         endpoint: EndpointAddress,
     ) -> Result<Option<ArrayVec<u8, 64>>, HostFault>
         ensures any_bus { MovesAnyBus B.modelled transaction_bound
-            (unless_broken (pipe_for (polls_through endpoint) path.now self.old))
+            (unless_broken (pipe_for (polls_through endpoint) (polls_miss endpoint)
+            path.now self.old))
             self.old result self.new }
         ensures most { FitsPipe
             (through (polls_through endpoint) (pipes_at path.now (table_in self.old))) result }
@@ -138,7 +141,8 @@ impl<B: Bus> Host<B> {
         endpoint: EndpointAddress,
     ) -> Result<(), HostFault>
         ensures any_bus { MovesAnyBus B.modelled write_bound
-            (pipe_for (pipe_to endpoint) path.now self.old) self.old result self.new }
+            (pipe_for (pipe_to endpoint) (clears_miss endpoint) path.now self.old)
+            self.old result self.new }
         ensures stopped { StopsAsTransfer self.old result self.new }
         ensures tells { B.modelled ≡ true
             → ClearOfTells path.now endpoint self.old result self.new }
@@ -159,7 +163,7 @@ impl<B: Bus> Host<B> {
         bytes: &[u8],
     ) -> Result<(), HostFault>
         ensures any_bus { MovesAnyBus B.modelled (transaction_bound * length bytes.now)
-            (unless_broken (pipe_for (sends_through choice) path.now self.old))
+            (unless_broken (pipe_for (sends_through choice) (sends_miss choice) path.now self.old))
             self.old result self.new }
         ensures stopped { StopsAsTransfer self.old result self.new }
         ensures tells { B.modelled ≡ true
@@ -181,7 +185,8 @@ impl<B: Bus> Host<B> {
         packets: u16,
     ) -> Result<Vec<u8>, HostFault>
         ensures any_bus { MovesAnyBus B.modelled (transaction_bound * packets)
-            (unless_broken (pipe_for (receives_through choice) path.now self.old))
+            (unless_broken (pipe_for (receives_through choice) (receives_miss choice)
+            path.now self.old))
             self.old result self.new }
         ensures stopped { StopsAsTransfer self.old result self.new }
         ensures tells { B.modelled ≡ true

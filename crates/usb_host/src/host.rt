@@ -4,7 +4,7 @@ ghost use Rattle.std.specs.Borrow.{Lends, sem};
 ghost use Rattle.usb_host.specs.Agreement.{Agrees};
 ghost use Rattle.usb_host.specs.HostCalls.{ClearTells, MovesAnyBus, NewTells, ReceiveTells, RoundTells, RoundsAnyBus, SendTells, TransfersAnyBus};
 ghost use Rattle.usb_transaction.specs.Transactions.{transaction_bound};
-ghost use Rattle.usb_table.specs.PipeRows.{receives_through, sends_through, unless_broken};
+ghost use Rattle.usb_table.specs.PipeRows.{receives_miss, receives_through, sends_miss, sends_through, unless_broken};
 ghost use Rattle.usb_table.specs.declared.choice.EndpointChoice.TheVariants.{FirstBulk};
 ghost use Rattle.usb_host.specs.Bounds.{clear_bound};
 ghost use Rattle.usb_host.specs.HostStates.{counts_after, counts_of};
@@ -216,7 +216,8 @@ impl<B: Bus> Host<B> {
     /// - `Bus`: the bus has failed; the host then stops.
     pub fn send(&mut self, path: &PortPath, bytes: &[u8]) -> Result<(), HostFault>
         ensures any_bus { MovesAnyBus B.modelled (transaction_bound * length bytes.now)
-            (unless_broken (pipe_for (sends_through FirstBulk) path.now self.old))
+            (unless_broken (pipe_for (sends_through FirstBulk) (sends_miss FirstBulk)
+            path.now self.old))
             self.old result self.new }
         ensures stopped { StopsAsTransfer self.old result self.new }
         ensures tells { B.modelled ≡ true → SendTells path.now FirstBulk bytes.now
@@ -241,7 +242,8 @@ impl<B: Bus> Host<B> {
     /// - `Bus`: the bus has failed. `Memory`: the bytes find no room. After both the host stops.
     pub fn receive(&mut self, path: &PortPath, packets: u16) -> Result<Vec<u8>, HostFault>
         ensures any_bus { MovesAnyBus B.modelled (transaction_bound * packets)
-            (unless_broken (pipe_for (receives_through FirstBulk) path.now self.old))
+            (unless_broken (pipe_for (receives_through FirstBulk) (receives_miss FirstBulk)
+            path.now self.old))
             self.old result self.new }
         ensures stopped { StopsAsTransfer self.old result self.new }
         ensures tells { B.modelled ≡ true → ReceiveTells path.now FirstBulk packets

@@ -40,6 +40,7 @@ mod pool;
 mod ports;
 mod reported;
 mod rounds;
+mod setting;
 mod tree;
 
 pub use device::Device;

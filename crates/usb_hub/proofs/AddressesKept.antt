@@ -4,7 +4,7 @@ use Rattle.std.proofs.Common.{if◌then◌else◌, ℕ, List, None, Some, option
 use Rattle.std.specs.Global.{Vec}
 use Rattle.usb_request.specs.{PORT_ENABLE, PORT_RESET, PORT_POWER, SET_ADDRESS, DEVICE_OUT}
 use Rattle.usb_request.specs.{IsToHost, clear_hub_feature, Setup, get_port_status, set_port_feature}
-use Rattle.usb_request.specs.{clear_port_feature, set_address, set_configuration}
+use Rattle.usb_request.specs.{clear_port_feature, set_address, set_configuration, set_interface}
 use Rattle.usb_port.specs.{seen, status_in, PortStatus, PortCall, SetPower, SetReset, clear_call}
 use Rattle.usb_port.specs.{is_reset, IsClearFeature}
 use Rattle.usb_port.proofs.Interface.{call_is, clear_no-reset}
@@ -71,6 +71,13 @@ pub configured : (target : Target) (value : ℕ) (old : World) (result : Result 
 unfolding set_configuration
 configured target value old result new = ordered_keeps target (set_configuration value) old result
     new refl refl
+
+pub interface_set : (target : Target) (interface setting : ℕ) (old : World)
+    (result : Result (Unit {0}) PipeFault) (new : World)
+    → Commanded target (set_interface interface setting) old result new → KeepsAddresses old new
+unfolding set_interface
+interface_set target interface setting old result new =
+    ordered_keeps target (set_interface interface setting) old result new refl refl
 
 pub address_given : (target : Target) (address : ℕ) (old : World)
     (result : Result (Unit {0}) PipeFault) (new : World)

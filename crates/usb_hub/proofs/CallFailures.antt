@@ -81,9 +81,9 @@ module _ (t : Target) (number : ℕ) (new : World) (x : HubServes t number new) 
 
 -- A call at a port
 
-no_refusal : (c : PortCall) (i : ℕ) (row : List PortState) (taken : List ℕ) (n : ℕ)
-    → first_stage row taken n (called_at (Some c) (Some i)) ≡ refused → ⊥
-no_refusal c i row taken n e = cc e
+no_refusal : (c : PortCall) (i : ℕ) (row : List PortState) (d : State) (n : ℕ)
+    → first_stage row d n (called_at (Some c) (Some i)) ≡ refused → ⊥
+no_refusal c i row d n e = cc e
 
 module _ (t : Target) (number : ℕ) (request : Setup) (c : PortCall)
     (asked : AsksFor request c number) (old new : World) (three : NoThreeDamaged old)
@@ -122,11 +122,11 @@ module _ (t : Target) (number : ℕ) (request : Setup) (c : PortCall)
       not_refused : result ≡ Err Stalled → ⊥
       not_refused e =
           let r : WasRefused t request old new x.spot left.before = left.so.refused heard.at e in
-          no_refusal c (number - 1) r.row left.before.taken request.length
-          (subst (λ o. first_stage r.row left.before.taken request.length (called_at (Some c) o)
+          no_refusal c (number - 1) r.row left.before request.length
+          (subst (λ o. first_stage r.row left.before request.length (called_at (Some c) o)
           ≡ refused)
           (was_named t number new x left.before stayed)
-          (subst (λ o. first_stage r.row left.before.taken request.length o ≡ refused)
+          (subst (λ o. first_stage r.row left.before request.length o ≡ refused)
           (asked.calls left.before.spec left.before.registers) r.is))
 
   pub call_served : (result : Result (Unit {0}) PipeFault) → Commanded t request old result new
@@ -148,9 +148,9 @@ status_of-length : (b : PortState) → length (status_of b) ≡ 4
 unfolding status_of
 status_of-length b = refl
 
-no_row : (row : List PortState) (taken : List ℕ) (i : ℕ)
-    → first_stage row taken 4 (told_port (Some i)) ≡ refused → slice_get row i ≡ None
-no_row row taken i e = pick (slice_get row i) e
+no_row : (row : List PortState) (d : State) (i : ℕ)
+    → first_stage row d 4 (told_port (Some i)) ≡ refused → slice_get row i ≡ None
+no_row row d i e = pick (slice_get row i) e
   where
     pick : (o : Option PortState) → reads_port 4 o ≡ refused → o ≡ None
     pick None e = refl
@@ -214,12 +214,12 @@ module _ (t : Target) (i : ℕ) (old new : World) (three : NoThreeDamaged old)
 
         missing : slice_get r.row i ≡ None
         missing =
-            no_row r.row read.before.taken i
-            (subst (λ o. first_stage r.row read.before.taken 4 (told_port o) ≡ refused)
+            no_row r.row read.before i
+            (subst (λ o. first_stage r.row read.before 4 (told_port o) ≡ refused)
             named_before
-            (subst (λ o. first_stage r.row read.before.taken 4 o ≡ refused)
+            (subst (λ o. first_stage r.row read.before 4 o ≡ refused)
             (asks_status read.before.spec read.before.registers)
-            (subst (λ n. first_stage r.row read.before.taken n
+            (subst (λ n. first_stage r.row read.before n
             (outcome read.before.spec read.before.registers request) ≡ refused)
             (status_length (suc i)) r.is)))
 

@@ -139,12 +139,12 @@ behind_about t p c course =
 -- A call at a hub's port
 
 -- where something was done, a port was named
-port_is_named : (c : PortCall) (o : Option ℕ) (n : ℕ) (row : List PortState) (taken : List ℕ)
+port_is_named : (c : PortCall) (o : Option ℕ) (n : ℕ) (row : List PortState) (d : State)
     (address : Option ℕ) → (o ≡ None) ⊎ (o ≡ Some n)
-    → first_stage row taken 0 (called_at (Some c) o) ≡ ending address → o ≡ Some n
-port_is_named c None n row taken address x h = absurd (cc h)
-port_is_named c (Some m) n row taken address (inl x) h = absurd (cc x)
-port_is_named c (Some m) n row taken address (inr x) h = x
+    → first_stage row d 0 (called_at (Some c) o) ≡ ending address → o ≡ Some n
+port_is_named c None n row d address x h = absurd (cc h)
+port_is_named c (Some m) n row d address (inl x) h = absurd (cc x)
+port_is_named c (Some m) n row d address (inr x) h = x
 
 module _ (t : Target) (j : Location) (i : ℕ) (request : Setup) (c : PortCall)
     (asked : AsksFor request c (suc i)) (P : World → Type 0)
@@ -236,13 +236,13 @@ module _ (t : Target) (j : Location) (i : ℕ) (request : Setup) (c : PortCall)
     is_named : port_named was.before.spec.hub was.before.registers (suc i) ≡ Some i
     is_named =
         port_is_named c (port_named was.before.spec.hub was.before.registers (suc i)) i done.row
-        was.before.taken done.address
+        was.before done.address
         (subst (λ m. (port_named was.before.spec.hub was.before.registers (suc i) ≡ None)
         ⊎ (port_named was.before.spec.hub was.before.registers (suc i) ≡ Some m))
         (less_one i) (port_named-cases was.before.spec.hub was.before.registers (suc i)))
-        (subst (λ o. first_stage done.row was.before.taken 0 o ≡ ending done.address)
+        (subst (λ o. first_stage done.row was.before 0 o ≡ ending done.address)
         (asked.calls was.before.spec was.before.registers)
-        (subst (λ n. first_stage done.row was.before.taken n
+        (subst (λ n. first_stage done.row was.before n
         (outcome was.before.spec was.before.registers request) ≡ ending done.address)
         asked.nothing done.is))
 

@@ -77,11 +77,11 @@ port_begun_stays (calls_port c i) is s v row n j frame same = control_stays j s 
 port_begun_stays o is s v row n j frame same = absurd is
 
 port_takes_no_address : (o : Outcome) → IsOfPort o
-    → (row : List PortState) (taken : List ℕ) (n : ℕ) (address : Option ℕ)
-    → first_stage row taken n o ≡ ending address → address ≡ None
-port_takes_no_address stalled is row taken n address e = absurd cc
-port_takes_no_address (calls_port c i) is row taken n address e = cc
-port_takes_no_address o is row taken n address e = absurd is
+    → (row : List PortState) (d : State) (n : ℕ) (address : Option ℕ)
+    → first_stage row d n o ≡ ending address → address ≡ None
+port_takes_no_address stalled is row d n address e = absurd cc
+port_takes_no_address (calls_port c i) is row d n address e = cc
+port_takes_no_address o is row d n address e = absurd is
 
 module _ (t : Target) (request : Setup) (of_port : (spec : Spec) (g : Registers)
     → IsOfPort (outcome spec g request)) (old new : World) (j : Location) (s v : State) where
@@ -97,7 +97,7 @@ module _ (t : Target) (request : Setup) (of_port : (spec : Spec) (g : Registers)
       (λ row address is frame given. accepted_stays row frame
       (given_registers address (accepted s row request) v
       (port_takes_no_address (outcome s.spec s.registers request)
-      (of_port s.spec s.registers) row s.taken request.length address is) given))
+      (of_port s.spec s.registers) row s request.length address is) given))
       (λ frame same. control_stays j s v frame same)
 
 ordered_stays : (t : Target) (request : Setup)

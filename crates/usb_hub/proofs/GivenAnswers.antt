@@ -106,22 +106,22 @@ same_answer : (d a : List ℕ) (n : ℕ) → reading d n 0 ≡ reading a n 0 →
 same_answer d a n h = cc
 
 -- the stage that an answer begins
-reads_text : (text : List ℕ) (n : ℕ) (row : List PortState) (taken : List ℕ) → 1 ≤ n
-    → first_stage row taken n (answers text) ≡ reading text n 0
-reads_text text n row taken h = ap (λ b. if b then ending None else reading text n 0) (is_some_byte n h)
+reads_text : (text : List ℕ) (n : ℕ) (row : List PortState) (d : State) → 1 ≤ n
+    → first_stage row d n (answers text) ≡ reading text n 0
+reads_text text n row d h = ap (λ b. if b then ending None else reading text n 0) (is_some_byte n h)
 
 -- a read that an answer came of was given it
-read_of : (o : Option (List ℕ)) (answer : List ℕ) (n : ℕ) (row : List PortState) (taken : List ℕ)
-    → 1 ≤ n → first_stage row taken n (answer_of o) ≡ reading answer n 0 → o ≡ Some answer
-read_of None answer n row taken h e = elim (stages_differ answer n e) [ ]
-read_of (Some text) answer n row taken h e =
-    ap Some (same_answer text answer n (sym (reads_text text n row taken h) ∙ e))
+read_of : (o : Option (List ℕ)) (answer : List ℕ) (n : ℕ) (row : List PortState) (d : State)
+    → 1 ≤ n → first_stage row d n (answer_of o) ≡ reading answer n 0 → o ≡ Some answer
+read_of None answer n row d h e = elim (stages_differ answer n e) [ ]
+read_of (Some text) answer n row d h e =
+    ap Some (same_answer text answer n (sym (reads_text text n row d h) ∙ e))
 
-refused_of : (o : Option (List ℕ)) (n : ℕ) (row : List PortState) (taken : List ℕ) → 1 ≤ n
-    → first_stage row taken n (answer_of o) ≡ refused → o ≡ None
-refused_of None n row taken h e = refl
-refused_of (Some text) n row taken h e =
-    elim (stages_differ text n (sym e ∙ reads_text text n row taken h)) [ ]
+refused_of : (o : Option (List ℕ)) (n : ℕ) (row : List PortState) (d : State) → 1 ≤ n
+    → first_stage row d n (answer_of o) ≡ refused → o ≡ None
+refused_of None n row d h e = refl
+refused_of (Some text) n row d h e =
+    elim (stages_differ text n (sym e ∙ reads_text text n row d h)) [ ]
 
 module _ (given : Spec → Option (List ℕ)) (t : Target) (request : Setup)
     (gives : AnswersRequest given request) (some : 1 ≤ request.length)
@@ -130,15 +130,15 @@ module _ (given : Spec → Option (List ℕ)) (t : Target) (request : Setup)
       → AnswerRead t request bytes old new j s v → HasText (given s.spec) t request.length s bytes
   text_done j s v bytes x = record {
     text = x.answer;
-    is = read_of (given s.spec) x.answer request.length x.row s.taken some
-        (ap (first_stage x.row s.taken request.length) (sym (gives s.spec s.registers)) ∙ x.is);
+    is = read_of (given s.spec) x.answer request.length x.row s some
+        (ap (first_stage x.row s request.length) (sym (gives s.spec s.registers)) ∙ x.is);
     first = x.came;
   }
 
   pub text_refused : (j : Location) (s : State) → WasRefused t request old new j s
       → given s.spec ≡ None
-  text_refused j s x = refused_of (given s.spec) request.length x.row s.taken some
-      (ap (first_stage x.row s.taken request.length) (sym (gives s.spec s.registers)) ∙ x.is)
+  text_refused j s x = refused_of (given s.spec) request.length x.row s some
+      (ap (first_stage x.row s request.length) (sym (gives s.spec s.registers)) ∙ x.is)
 
   text_leaves : (j : Location) (s v : State) → ReadLeaves t request result old new j s v
       → TextAsked given t request.length result j s v

@@ -1,17 +1,21 @@
--- What a device makes of a new address and of a configuration.
+-- What a device makes of a new address, of a configuration and of an interface's setting.
 use Rattle.std.proofs.Common.{◌≡◌, ℕ, ◌≤◌, ◌⊎◌, inl, inr, nat_le, Bool, true, false, List, Option}
 use Rattle.std.proofs.Common.{Some, Result, Ok, Err, refl, ap, sym, subst, ◌∙◌, arith, ◌==◌, ◌&&◌}
 use Rattle.std.proofs.Common.{not, None, if◌then◌else◌, map}
 use Rattle.std.proofs.lemmas.Bool.Decides.{nat_tests}
 use Rattle.usb_port.specs.{PortState}
-use Rattle.usb_request.specs.{Setup, set_address, set_configuration, setup_of, bytes_of}
+use Rattle.usb_request.specs.{Setup, set_address, set_configuration, set_interface, setup_of}
+use Rattle.usb_request.specs.{bytes_of}
+use Rattle.usb_descriptor.specs.{default_settings}
 use Rattle.usb_device.specs.{Registers, Spec, State, begun, accepted, takes_address, unless}
 use Rattle.usb_device.specs.{outcome, Outcome, stalled, takes_configuration, is_value, refused}
 use Rattle.usb_device.specs.{ending, first_stage, StatusGiven, seen, unseen, address_then}
 use Rattle.usb_device.specs.{OnlyControl, PortsOff, EndpointState, rested, asked_by_setup}
 use Rattle.usb_device.specs.{effect_of_request, full, acted, Location, place_on, OutEnd, InEnd}
 use Rattle.usb_device.specs.{in_end, out_end, no_in, no_out, rested_in, rested_out, NothingMoved}
-use Rattle.usb_device.proofs.Interface.{at_mapped}
+use Rattle.usb_device.specs.{OnlyStage, takes_setting, outs_set, ins_set, begun_if}
+use Rattle.usb_device.specs.{is_of_setting}
+use Rattle.usb_device.proofs.Interface.{at_mapped, in_end-setting, out_end-setting}
 use Rattle.usb_world.specs.{World, is_harmless, Relation, EachWas}
 use Rattle.usb_world.proofs.Interface.{each_both, each_wider}
 use Rattle.usb_tree.proofs.Interface.{decided}
@@ -24,7 +28,7 @@ use Rattle.usb_pipe.proofs.Interface.{given_registers, write_leaves, write_losse
 use Rattle.usb_address.proofs.Interface.{settled_attempt, same_setup}
 use Rattle.usb_tree.specs.{IsSettled}
 use Rattle.usb_hub.specs.{Commanded, AddressAsked, takes_value, OnlySet, IsConfigured, WentOff}
-use Rattle.usb_hub.specs.{ConfigurationAsked}
+use Rattle.usb_hub.specs.{ConfigurationAsked, InterfaceAsked, TookSetting, offers_setting}
 use Rattle.usb_hub.proofs.RestingRequests.{behind_asks_nothing}
 
 -- A request that resets no port, of every device
@@ -49,7 +53,7 @@ module _ (t : Target) (request : Setup) (old new : World) (j : Location) (s v : 
     (accepts : (row : List PortState) → OnlyControl (accepted s row request) v
     → v.registers ≡ (accepted s row request).registers → Q)
     (ends : (row : List PortState) (address : Option ℕ)
-    → first_stage row s.taken request.length (outcome s.spec s.registers request) ≡ ending address
+    → first_stage row s request.length (outcome s.spec s.registers request) ≡ ending address
     → OnlyControl (accepted s row request) v → StatusGiven address (accepted s row request) v → Q)
     (rests : OnlyControl s v → v.registers ≡ s.registers → Q) where
   failed_so : (fault : PipeFault) → EffectOrNone t request fault old j s v → Q
@@ -136,16 +140,16 @@ asked_registers true a row s = refl
 asked_registers false a row s = refl
 
 -- a status stage is given by one that does not refuse
-asked_ends : (b : Bool) (a : ℕ) (row : List PortState) (taken : List ℕ) (address : Option ℕ)
-    → first_stage row taken 0 (unless b (takes_address a)) ≡ ending address → (b ≡ false)
+asked_ends : (b : Bool) (a : ℕ) (row : List PortState) (d : State) (address : Option ℕ)
+    → first_stage row d 0 (unless b (takes_address a)) ≡ ending address → (b ≡ false)
     × (address ≡ Some a)
-asked_ends true a row taken address e = absurd cc
-asked_ends false a row taken address e = (refl, cc)
+asked_ends true a row d address e = absurd cc
+asked_ends false a row d address e = (refl, cc)
 
-asked_refuses : (b : Bool) (a : ℕ) (row : List PortState) (taken : List ℕ)
-    → first_stage row taken 0 (unless b (takes_address a)) ≡ refused → b ≡ true
-asked_refuses true a row taken e = refl
-asked_refuses false a row taken e = absurd cc
+asked_refuses : (b : Bool) (a : ℕ) (row : List PortState) (d : State)
+    → first_stage row d 0 (unless b (takes_address a)) ≡ refused → b ≡ true
+asked_refuses true a row d e = refl
+asked_refuses false a row d e = absurd cc
 
 abbrev Either : ℕ → State → State → Type 0
 Either a s v = (v.registers ≡ s.registers) ⊎ (v.registers ≡ record s.registers { address = a })
@@ -168,10 +172,10 @@ module _ (t : Target) (a : ℕ) (most : a ≤ 127) (old new : World) where
   begun_is s row = ap (begun s row 0) (address_outcome s.spec s.registers a most)
 
   stage_is : (s : State) (row : List PortState)
-      → first_stage row s.taken request.length (outcome s.spec s.registers request)
-      ≡ first_stage row s.taken 0 (unless s.spec.stalls.address (takes_address a))
+      → first_stage row s request.length (outcome s.spec s.registers request)
+      ≡ first_stage row s 0 (unless s.spec.stalls.address (takes_address a))
   unfolding set_address
-  stage_is s row = ap (first_stage row s.taken 0) (address_outcome s.spec s.registers a most)
+  stage_is s row = ap (first_stage row s 0) (address_outcome s.spec s.registers a most)
 
   frame_of : (s v : State) (row : List PortState) → OnlyControl (accepted s row request) v
       → OnlyControl s v
@@ -184,11 +188,11 @@ module _ (t : Target) (a : ℕ) (most : a ≤ 127) (old new : World) where
       ∙ asked_registers s.spec.stalls.address a row s
 
   ended_of : (s v : State) (row : List PortState) (address : Option ℕ)
-      → first_stage row s.taken request.length (outcome s.spec s.registers request) ≡ ending address
+      → first_stage row s request.length (outcome s.spec s.registers request) ≡ ending address
       → StatusGiven address (accepted s row request) v → (s.spec.stalls.address ≡ false)
       × Either a s v
   ended_of s v row address e x =
-      let ends : _ = asked_ends s.spec.stalls.address a row s.taken address
+      let ends : _ = asked_ends s.spec.stalls.address a row s address
       (sym (stage_is s row) ∙ e) in (
         ends.0,
         given_either s.spec.stalls.address a row address s v ends.1
@@ -247,7 +251,7 @@ module _ (t : Target) (a : ℕ) (most : a ≤ 127) (old new : World) where
       either = address_either result x.0;
       done = address_done result x.0 x.1;
       stalled = λ at e. let r : WasRefused t request old new j s = x.0.refused at e in
-          asked_refuses s.spec.stalls.address a r.row s.taken (sym (stage_is s r.row) ∙ r.is);
+          asked_refuses s.spec.stalls.address a r.row s (sym (stage_is s r.row) ∙ r.is);
       failed = address_failed result x.0 x.1;
       could = x.0.could;
     }
@@ -275,20 +279,20 @@ address_why t a result old new ordered three single =
 -- SET_CONFIGURATION
 
 -- what the request makes of a device that takes the value, or does not
-abbrev set_to : Bool → ℕ → Outcome
-set_to takes value = if takes then takes_configuration value else stalled
+abbrev set_if : Bool → ℕ → Outcome
+set_if takes value = if takes then takes_configuration value else stalled
 
 abbrev takes_it : State → ℕ → Bool
 takes_it s value = not s.spec.stalls.set_config && takes_value s value
 
 configuration_outcome : (s : State) (value : ℕ)
-    → outcome s.spec s.registers (set_configuration value) ≡ set_to (takes_it s value) value
+    → outcome s.spec s.registers (set_configuration value) ≡ set_if (takes_it s value) value
 unfolding outcome set_configuration
 configuration_outcome s value = split s.spec.stalls.set_config (not (s.registers.address == 0))
     (is_value s.spec.configs value)
   where
     split : (a b c : Bool) → unless a (if b && c && true then takes_configuration value
-        else stalled) ≡ set_to (not a && (b && c)) value
+        else stalled) ≡ set_if (not a && (b && c)) value
     split true b c = refl
     split false true true = refl
     split false true false = refl
@@ -313,16 +317,16 @@ accepts_value s value e = split s.spec.stalls.set_config e
     split true e = absurd cc
     split false e = (refl, e)
 
-first_stage-set : (b : Bool) (value : ℕ) (row : List PortState) (taken : List ℕ)
-    (address : Option ℕ) → first_stage row taken 0 (set_to b value) ≡ ending address → (b ≡ true)
+first_stage-set : (b : Bool) (value : ℕ) (row : List PortState) (d : State)
+    (address : Option ℕ) → first_stage row d 0 (set_if b value) ≡ ending address → (b ≡ true)
     × (address ≡ None)
-first_stage-set true value row taken address e = (refl, cc)
-first_stage-set false value row taken address e = absurd cc
+first_stage-set true value row d address e = (refl, cc)
+first_stage-set false value row d address e = absurd cc
 
-set_refuses : (b : Bool) (value : ℕ) (row : List PortState) (taken : List ℕ)
-    → first_stage row taken 0 (set_to b value) ≡ refused → b ≡ false
-set_refuses true value row taken e = absurd cc
-set_refuses false value row taken e = refl
+set_refuses : (b : Bool) (value : ℕ) (row : List PortState) (d : State)
+    → first_stage row d 0 (set_if b value) ≡ refused → b ≡ false
+set_refuses true value row d e = absurd cc
+set_refuses false value row d e = refl
 
 abbrev with_settings : State → State → Registers → List OutEnd → List InEnd → EndpointState
     → Option ℕ → State
@@ -340,12 +344,14 @@ with_settings s v g outs ins changes held =
 
 -- it is as it was but for its settings, which are these
 settings_frame : (s v : State) (outs : List OutEnd) (ins : List InEnd) (changes : EndpointState)
-    (held : Option ℕ) (value : ℕ) → v ≡ with_settings s v v.registers outs ins changes held
-    → v.registers ≡ record s.registers { configuration = value } → NothingMoved s v → OnlySet s v
-settings_frame s v outs ins changes held value h r moved = record {
+    (held : Option ℕ) (value : ℕ) (settings : List ℕ)
+    → v ≡ with_settings s v v.registers outs ins changes held
+    → v.registers ≡ record s.registers { configuration = value; settings = settings }
+    → NothingMoved s v → OnlySet s v
+settings_frame s v outs ins changes held value settings h r moved = record {
   rest = h
       ∙ ap (λ g. with_settings s v g outs ins changes held) (r
-      ∙ ap (λ (g : Registers). record s.registers { configuration = g.configuration }) (sym r))
+      ∙ ap registers_set (sym r))
       ∙ ap (λ x. with_settings s v set x ins changes held) (sym (ap (λ y. y.outs) h))
       ∙ ap (λ x. with_settings s v set v.outs x changes held) (sym (ap (λ y. y.ins) h))
       ∙ ap (λ x. with_settings s v set v.outs v.ins x held) (sym (ap (λ y. y.changes) h))
@@ -353,14 +359,19 @@ settings_frame s v outs ins changes held value h r moved = record {
   moved = moved;
 }
   where
+    registers_set : Registers → Registers
+    registers_set g =
+        record s.registers { configuration = g.configuration; settings = g.settings }
+
     set : Registers
-    set = record s.registers { configuration = v.registers.configuration }
+    set = registers_set v.registers
 
 -- its endpoints are as they were
 settings_kept : (s v : State) → v ≡ with_settings s v v.registers s.outs s.ins s.changes s.held
     → v.registers ≡ s.registers → OnlySet s v
 settings_kept s v h r =
-    settings_frame s v s.outs s.ins s.changes s.held s.registers.configuration h r (record {
+    settings_frame s v s.outs s.ins s.changes s.held s.registers.configuration
+    s.registers.settings h r (record {
       taken = λ e. (
         ap (λ (y : State). (out_end y e).sink) h,
         ap (λ (y : State). (out_end y e).pace.until_halt) h,
@@ -380,17 +391,19 @@ module _ (s v : State) (h : v ≡ with_settings s v v.registers (map rested_out 
   in_rests : (e : ℕ) → in_end v e ≡ rested_in (in_end s e)
   in_rests e = ap (λ (y : State). in_end y e) h ∙ at_mapped no_in rested_in refl e s.ins
 
-  settings_rest : (value : ℕ) → v.registers ≡ record s.registers { configuration = value }
+  settings_rest : (value : ℕ)
+      → v.registers ≡ record s.registers { configuration = value; settings = default_settings }
       → OnlySet s v × IsConfigured value s v
   settings_rest value r = (
-    settings_frame s v (map rested_out s.outs) (map rested_in s.ins) rested None value h r
-        (record {
+    settings_frame s v (map rested_out s.outs) (map rested_in s.ins) rested None value
+        default_settings h r (record {
           taken = λ e. (ap (λ x. x.sink) (out_rests e), ap (λ x. x.pace.until_halt) (out_rests e));
           given = λ e. (ap (λ x. x.place) (in_rests e), ap (λ x. x.pace.until_halt) (in_rests e));
         }),
     record {
       registers = r;
       fresh = record {
+        settings = ap (λ (g : Registers). g.settings) r;
         outs = λ e. ap (λ x. x.state) (out_rests e);
         ins = λ e. ap (λ x. x.state) (in_rests e);
         changes = ap (λ y. y.changes) h;
@@ -401,7 +414,7 @@ module _ (s v : State) (h : v ≡ with_settings s v v.registers (map rested_out 
 
 -- what a device is once it has accepted the request
 abbrev set_from : State → List PortState → Bool → ℕ → State
-set_from s row b value = begun s row 0 (set_to b value)
+set_from s row b value = begun s row 0 (set_if b value)
 
 -- as it was, or set
 abbrev Set : Bool → ℕ → State → State → Type 0
@@ -429,10 +442,10 @@ module _ (t : Target) (value : ℕ) (old new : World) where
   set_is s row = ap (begun s row 0) (configuration_outcome s value)
 
   set_stage : (s : State) (row : List PortState)
-      → first_stage row s.taken order.length (outcome s.spec s.registers order)
-      ≡ first_stage row s.taken 0 (set_to (takes_it s value) value)
+      → first_stage row s order.length (outcome s.spec s.registers order)
+      ≡ first_stage row s 0 (set_if (takes_it s value) value)
   unfolding set_configuration
-  set_stage s row = ap (first_stage row s.taken 0) (configuration_outcome s value)
+  set_stage s row = ap (first_stage row s 0) (configuration_outcome s value)
 
   set_of : (s v : State) (row : List PortState) → OnlyControl (accepted s row order) v
       → v.registers ≡ (accepted s row order).registers → OnlySet s v
@@ -445,11 +458,11 @@ module _ (t : Target) (value : ℕ) (old new : World) where
     none_set h r = settings_kept s v h r
 
     whole_set : (row : List PortState) (address : Option ℕ)
-        → first_stage row s.taken order.length (outcome s.spec s.registers order) ≡ ending address
+        → first_stage row s order.length (outcome s.spec s.registers order) ≡ ending address
         → OnlyControl (accepted s row order) v → StatusGiven address (accepted s row order) v
         → (takes_it s value ≡ true) × OnlySet s v × IsConfigured value s v
     whole_set row address e h given =
-        let ends : _ = first_stage-set (takes_it s value) value row s.taken address
+        let ends : _ = first_stage-set (takes_it s value) value row s address
         (sym (set_stage s row) ∙ e) in
         let parts : _ = set_of s v row h (given_registers address (accepted s row order) v ends.1
         given) in
@@ -480,7 +493,7 @@ module _ (t : Target) (value : ℕ) (old new : World) where
         effect : asked_by_setup s (setup_of (bytes_of order)) ≡ PortsOff
         effect = ap (asked_by_setup s) (same_setup order)
             ∙ ap effect_of_request (configuration_outcome s value)
-            ∙ ap (λ b. effect_of_request (set_to b value)) (done_set d).0
+            ∙ ap (λ b. effect_of_request (set_if b value)) (done_set d).0
 
     set_parts : (result : Result (Unit {0}) PipeFault) → WriteLeaves t order result old new j s v
         → OnlySet s v × ((v.registers ≡ s.registers) ⊎ IsConfigured value s v)
@@ -504,7 +517,7 @@ module _ (t : Target) (value : ℕ) (old new : World) where
           let yes : _ = accepts_value s value parts.0 in
           (yes.0, yes.1, parts.2, went_off d);
       stalled = λ at e. let r : WasRefused t order old new j s = x.refused at e in
-          refuses_value s value (set_refuses (takes_it s value) value r.row s.taken
+          refuses_value s value (set_refuses (takes_it s value) value r.row s
           (sym (set_stage s r.row) ∙ r.is));
       could = x.could;
     }
@@ -525,3 +538,223 @@ pub configuration_why : (t : Target) (value : ℕ) (result : Result (Unit {0}) P
 unfolding set_configuration
 configuration_why t value result old new ordered three single =
     each_why t (set_configuration value) refl refl old new single result ordered three
+
+-- SET_INTERFACE
+
+-- what the request makes of a device that takes the setting, or does not
+abbrev given_if : Bool → ℕ → ℕ → Outcome
+given_if takes interface setting = if takes then takes_setting interface setting else stalled
+
+abbrev takes_interface : State → ℕ → ℕ → Bool
+takes_interface s interface setting =
+    not s.spec.stalls.interface && offers_setting s interface setting
+
+interface_outcome : (s : State) (interface setting : ℕ)
+    → outcome s.spec s.registers (set_interface interface setting)
+    ≡ given_if (takes_interface s interface setting) interface setting
+unfolding outcome set_interface
+interface_outcome s interface setting =
+    split s.spec.stalls.interface (offers_setting s interface setting)
+  where
+    split : (a b : Bool) → unless a (if b then takes_setting interface setting else stalled)
+        ≡ given_if (not a && b) interface setting
+    split true b = refl
+    split false true = refl
+    split false false = refl
+
+refuses_setting : (s : State) (interface setting : ℕ) → takes_interface s interface setting ≡ false
+    → (s.spec.stalls.interface ≡ true) ⊎ (offers_setting s interface setting ≡ false)
+refuses_setting s interface setting e = split s.spec.stalls.interface e
+  where
+    split : (a : Bool) → not a && offers_setting s interface setting ≡ false → (a ≡ true)
+        ⊎ (offers_setting s interface setting ≡ false)
+    split true e = inl refl
+    split false e = inr e
+
+accepts_setting : (s : State) (interface setting : ℕ) → takes_interface s interface setting ≡ true
+    → (s.spec.stalls.interface ≡ false) × (offers_setting s interface setting ≡ true)
+accepts_setting s interface setting e = split s.spec.stalls.interface e
+  where
+    split : (a : Bool) → not a && offers_setting s interface setting ≡ true → (a ≡ false)
+        × (offers_setting s interface setting ≡ true)
+    split true e = absurd cc
+    split false e = (refl, e)
+
+first_stage-given : (b : Bool) (interface setting : ℕ) (row : List PortState) (d : State)
+    (address : Option ℕ) → first_stage row d 0 (given_if b interface setting) ≡ ending address
+    → (b ≡ true) × (address ≡ None)
+first_stage-given true interface setting row d address e = (refl, cc)
+first_stage-given false interface setting row d address e = absurd cc
+
+given_refuses : (b : Bool) (interface setting : ℕ) (row : List PortState) (d : State)
+    → first_stage row d 0 (given_if b interface setting) ≡ refused → b ≡ false
+given_refuses true interface setting row d e = absurd cc
+given_refuses false interface setting row d e = refl
+
+-- its transfer stands as v's does, and these are its registers and endpoints
+abbrev with_stage : State → State → Registers → List OutEnd → List InEnd → State
+with_stage s v g outs ins = record s {
+  memory = v.memory;
+  naks = v.naks;
+  stage = v.stage;
+  registers = g;
+  outs = outs;
+  ins = ins;
+}
+
+-- what beginning again keeps of an endpoint
+begun_if-keeps : {A B : Type 0} (again : A → A) (part : A → B)
+    → ((x : A) → part (again x) ≡ part x) → (begins : Bool) (x : A)
+    → part (begun_if begins again x) ≡ part x
+begun_if-keeps again part same true x = same x
+begun_if-keeps again part same false x = refl
+
+-- what each endpoint took and gave stays
+pub setting_moves-none : (interface setting : ℕ) (s v : State)
+    → TookSetting interface setting s v → NothingMoved s v
+setting_moves-none interface setting s v x = record {
+  taken = λ e. (
+    ap (λ end. end.sink) (taken_out e) ∙ begun_if-keeps rested_out (λ end. end.sink) (λ end. refl)
+        (is_of_setting s.spec s.registers interface setting false e) (out_end s e),
+    ap (λ end. end.pace.until_halt) (taken_out e)
+        ∙ begun_if-keeps rested_out (λ end. end.pace.until_halt) (λ end. refl)
+        (is_of_setting s.spec s.registers interface setting false e) (out_end s e),
+  );
+  given = λ e. (
+    ap (λ end. end.place) (given_in e) ∙ begun_if-keeps rested_in (λ end. end.place) (λ end. refl)
+        (is_of_setting s.spec s.registers interface setting true e) (in_end s e),
+    ap (λ end. end.pace.until_halt) (given_in e)
+        ∙ begun_if-keeps rested_in (λ end. end.pace.until_halt) (λ end. refl)
+        (is_of_setting s.spec s.registers interface setting true e) (in_end s e),
+  );
+}
+  where
+    taken_out : (e : ℕ) → out_end v e ≡ begun_if
+        (is_of_setting s.spec s.registers interface setting false e) rested_out (out_end s e)
+    taken_out e = ap (λ (y : State). out_end y e) x.is ∙ out_end-setting s interface setting e
+
+    given_in : (e : ℕ) → in_end v e ≡ begun_if
+        (is_of_setting s.spec s.registers interface setting true e) rested_in (in_end s e)
+    given_in e = ap (λ (y : State). in_end y e) x.is ∙ in_end-setting s interface setting e
+
+-- what a device is once it has accepted the request
+abbrev given_from : State → List PortState → Bool → ℕ → ℕ → State
+given_from s row b interface setting = begun s row 0 (given_if b interface setting)
+
+-- as it was, or set
+abbrev Given : Bool → ℕ → ℕ → State → State → Type 0
+Given true interface setting s v = TookSetting interface setting s v
+Given false interface setting s v = OnlyStage s v
+
+stage_kept : (s v : State) → OnlyControl s v → v.registers ≡ s.registers → OnlyStage s v
+stage_kept s v h r = h ∙ ap (λ g. with_stage s v g s.outs s.ins) r
+
+given_frame : (b : Bool) (interface setting : ℕ) (row : List PortState) (s v : State)
+    → OnlyControl (given_from s row b interface setting) v
+    → v.registers ≡ (given_from s row b interface setting).registers
+    → Given b interface setting s v
+given_frame true interface setting row s v h r = record {
+  is = h
+      ∙ ap (λ g. with_stage s v g (outs_set s interface setting) (ins_set s interface setting)) r;
+}
+given_frame false interface setting row s v h r = stage_kept s v h r
+
+module _ (t : Target) (interface setting : ℕ) (old new : World) where
+  abbrev chosen : Setup
+  chosen = set_interface interface setting
+
+  given_is : (s : State) (row : List PortState) → accepted s row chosen
+      ≡ given_from s row (takes_interface s interface setting) interface setting
+  unfolding set_interface
+  given_is s row = ap (begun s row 0) (interface_outcome s interface setting)
+
+  given_stage : (s : State) (row : List PortState)
+      → first_stage row s chosen.length (outcome s.spec s.registers chosen)
+      ≡ first_stage row s 0 (given_if (takes_interface s interface setting) interface setting)
+  unfolding set_interface
+  given_stage s row = ap (first_stage row s 0) (interface_outcome s interface setting)
+
+  module _ (j : Location) (s v : State) where
+    -- it stays, or it takes the setting, which it has
+    abbrev StaysOrTakes : Type 0
+    StaysOrTakes = OnlyStage s v
+        ⊎ ((takes_interface s interface setting ≡ true) × TookSetting interface setting s v)
+
+    stays_or_takes : (b : Bool) → takes_interface s interface setting ≡ b
+        → Given b interface setting s v → StaysOrTakes
+    stays_or_takes true e x = inr (e, x)
+    stays_or_takes false e x = inl x
+
+    given_of : (row : List PortState) → OnlyControl (accepted s row chosen) v
+        → v.registers ≡ (accepted s row chosen).registers
+        → Given (takes_interface s interface setting) interface setting s v
+    given_of row h r = given_frame (takes_interface s interface setting) interface setting row s v
+        (subst (λ y. OnlyControl y v) (given_is s row) h)
+        (r ∙ ap (λ y. y.registers) (given_is s row))
+
+    whole_given : (row : List PortState) (address : Option ℕ)
+        → first_stage row s chosen.length (outcome s.spec s.registers chosen) ≡ ending address
+        → OnlyControl (accepted s row chosen) v → StatusGiven address (accepted s row chosen) v
+        → (takes_interface s interface setting ≡ true) × TookSetting interface setting s v
+    whole_given row address e h given =
+        let ends : _ = first_stage-given (takes_interface s interface setting) interface setting row
+        s address (sym (given_stage s row) ∙ e) in (
+          ends.0,
+          subst (λ b. Given b interface setting s v) ends.0
+              (given_of row h (given_registers address (accepted s row chosen) v ends.1 given)),
+        )
+
+    given_parts : (result : Result (Unit {0}) PipeFault)
+        → WriteLeaves t chosen result old new j s v → StaysOrTakes
+    given_parts =
+        write_so t chosen old new j s v StaysOrTakes
+        (λ row h r. stays_or_takes (takes_interface s interface setting) refl (given_of row h r))
+        (λ row address is h given. inr (whole_given row address is h given))
+        (λ h r. inl (stage_kept s v h r))
+
+    either_given : StaysOrTakes → OnlyStage s v ⊎ TookSetting interface setting s v
+    either_given (inl x) = inl x
+    either_given (inr x) = inr x.1
+
+    stays_refused : takes_interface s interface setting ≡ false → StaysOrTakes → OnlyStage s v
+    stays_refused refuses (inl x) = x
+    stays_refused refuses (inr x) = absurd (cc (refuses, x.0))
+
+    interface_leaves : (result : Result (Unit {0}) PipeFault)
+        → WriteLeaves t chosen result old new j s v
+        → InterfaceAsked t interface setting result j s v
+    interface_leaves result x = record {
+      others = x.others;
+      either = either_given (given_parts result x);
+      done = λ at e.
+          let d : EffectDone t chosen old new j s v = x.done at tt e in
+          let parts : _ = whole_given d.row d.address d.is d.rest d.given in
+          let yes : _ = accepts_setting s interface setting parts.0 in
+          (yes.0, yes.1, parts.1);
+      stalled = λ at e.
+          let r : WasRefused t chosen old new j s = x.refused at e in
+          let refuses : takes_interface s interface setting ≡ false =
+          given_refuses (takes_interface s interface setting) interface setting r.row s
+          (sym (given_stage s r.row) ∙ r.is) in (
+            stays_refused refuses (given_parts result x),
+            refuses_setting s interface setting refuses,
+          );
+      could = x.could;
+    }
+
+pub interface_asked : (t : Target) (interface setting : ℕ) (result : Result (Unit {0}) PipeFault)
+    (old new : World) → Commanded t (set_interface interface setting) old result new
+    → new.shared ≡ false → EachWas (InterfaceAsked t interface setting result) old new
+unfolding set_interface
+interface_asked t interface setting result old new ordered single =
+    each_wider (WriteLeaves t (set_interface interface setting) result old new)
+    (InterfaceAsked t interface setting result)
+    (λ j s v. interface_leaves t interface setting old new j s v result) old new
+    (each_leaves t (set_interface interface setting) refl refl result old new ordered single)
+
+pub interface_why : (t : Target) (interface setting : ℕ) (result : Result (Unit {0}) PipeFault)
+    (old new : World) → Commanded t (set_interface interface setting) old result new
+    → NoThreeDamaged old → new.shared ≡ false → EachWas (WriteFailure t result) old new
+unfolding set_interface
+interface_why t interface setting result old new ordered three single =
+    each_why t (set_interface interface setting) refl refl old new single result ordered three

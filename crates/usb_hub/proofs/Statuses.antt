@@ -55,12 +55,12 @@ pub record StatusOf (row : List PortState) (i : ℕ) (answer : List ℕ) (o : Ef
   pub told : answer ≡ status_of port
   pub nothing : o ≡ Leaves
 
-pub get_port_status-outcome : (sp : Spec) (g : Registers) (row : List PortState) (brought : List ℕ)
+pub get_port_status-outcome : (sp : Spec) (g : Registers) (row : List PortState) (d : State)
     (n : ℕ) (answer : List ℕ)
-    → first_stage row brought 4 (outcome sp g (get_port_status n)) ≡ reading answer 4 0
+    → first_stage row d 4 (outcome sp g (get_port_status n)) ≡ reading answer 4 0
     → StatusOf row (n - 1) answer (effect_of_request (outcome sp g (get_port_status n)))
 unfolding outcome get_port_status
-get_port_status-outcome sp g row brought n answer h =
+get_port_status-outcome sp g row d n answer h =
     by_port (port_named sp.hub g n) (port_named-cases sp.hub g n) h
   where
     by_row : (i : ℕ) (o : Option PortState) → slice_get row i ≡ o
@@ -74,7 +74,7 @@ get_port_status-outcome sp g row brought n answer h =
     }
 
     by_port : (o : Option ℕ) → (o ≡ None) ⊎ (o ≡ Some (n - 1))
-        → first_stage row brought 4 (told_port o) ≡ reading answer 4 0
+        → first_stage row d 4 (told_port o) ≡ reading answer 4 0
         → StatusOf row (n - 1) answer (effect_of_request (told_port o))
     by_port None x h = absurd (cc h)
     by_port (Some i) (inl x) h = absurd (cc x)
@@ -86,8 +86,8 @@ module _ {t : Target} (n : ℕ) {bytes : List ℕ} {old new : World} {j : Locati
     (done : AnswerRead t (get_port_status n) bytes old new j s v) where
   pub read_status : StatusOf done.row (n - 1) done.answer
       (effect_of_request (outcome s.spec s.registers (get_port_status n)))
-  read_status = get_port_status-outcome s.spec s.registers done.row s.taken n done.answer
-      (subst (λ m. first_stage done.row s.taken m (outcome s.spec s.registers (get_port_status n))
+  read_status = get_port_status-outcome s.spec s.registers done.row s n done.answer
+      (subst (λ m. first_stage done.row s m (outcome s.spec s.registers (get_port_status n))
       ≡ reading done.answer m 0) (status_length n) done.is)
 
   pub came_status : bytes ≡ status_of read_status.port

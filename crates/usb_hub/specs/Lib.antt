@@ -20,8 +20,8 @@ pub use Port.{IsAsked, IsPort, PortCleared, PortRead, PortSet, RootCleared, Root
 pub use Port.{SetSteps, TakesNoTime, order_bound, status_bound}
 pub use Requests.{Commanded, EndsAfter, Queried, ReadAs, StillWorks, TouchesNoPort}
 pub use Requests.{TouchesPortsBelow, WorksAfter, device_status, said_in}
-pub use Settings.{AddressAsked, ConfigurationAsked, IsConfigured, IsFresh, OnlySet, WentOff}
-pub use Settings.{takes_value}
+pub use Settings.{AddressAsked, ConfigurationAsked, InterfaceAsked, IsConfigured, IsFresh, OnlySet}
+pub use Settings.{TookSetting, WentOff, offers_setting, takes_value}
 pub use CallFailures.{HasPort, HubServes, NoHubFailed}
 pub use Changes.{ClearsEach, ClearsHubChange, ClearsIfReported, ClearsOfHub, ClearsOfPort, ToldBus}
 pub use ControlSteps.{ControlCourse, IsControlStep}

@@ -27,6 +27,7 @@ pub use external::{clear_hub_port, hub_port_status, set_hub_port};
 pub use port::{HubPort, clear_port, has_root, port_status, set_port};
 pub use requests::{
     get_config, get_device, get_status, get_string, hub_descriptor, set_address, set_configuration,
+    set_interface,
 };
 pub use status::DeviceStatus;
 pub use usb_pipe::{Bus, BusFault, PipeFault, Target};

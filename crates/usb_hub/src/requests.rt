@@ -8,12 +8,12 @@ ghost use Rattle.usb_transaction.specs.Failures.{NoThreeDamaged};
 ghost use Rattle.usb_pipe.specs.Control.{BusToldIt, control_bound, write_bound};
 ghost use Rattle.usb_pipe.specs.Uses.{UsesBus};
 ghost use Rattle.usb_pipe.specs.Failures.{WriteFailure};
-ghost use Rattle.usb_request.specs.Requests.{get_device_descriptor, get_configuration_descriptor, get_string_descriptor, get_hub_descriptor, get_status as status_request, set_address as address_request, set_configuration as configuration_request};
+ghost use Rattle.usb_request.specs.Requests.{get_device_descriptor, get_configuration_descriptor, get_string_descriptor, get_hub_descriptor, get_status as status_request, set_address as address_request, set_configuration as configuration_request, set_interface as interface_request};
 ghost use Rattle.usb_address.specs.Ownership.{KeepsAddresses};
 ghost use Rattle.usb_hub.specs.Addresses.{KeepsAnswered, GivesAddress};
 ghost use Rattle.usb_hub.specs.GivenAnswers.{DeviceAsked, ConfigAsked, StringAsked, HubAsked, StatusAsked, ReadFailure};
 ghost use Rattle.usb_hub.specs.Requests.{Queried, ReadAs, Commanded, device_status};
-ghost use Rattle.usb_hub.specs.Settings.{AddressAsked, ConfigurationAsked};
+ghost use Rattle.usb_hub.specs.Settings.{AddressAsked, ConfigurationAsked, InterfaceAsked};
 
 use crate::DeviceStatus;
 use crate::asking::{ask, ask_all, order};
@@ -215,7 +215,7 @@ pub fn set_address<B: Bus>(bus: &mut B, target: Target, address: u8) -> Result<(
 }
 
 /// Configures the device with the configuration whose bConfigurationValue this is; 0 unconfigures
-/// it (9.4.7).
+/// it (9.4.7). Each interface has setting 0 then.
 ///
 /// # Errors
 ///
@@ -238,4 +238,34 @@ pub fn set_configuration<B: Bus>(bus: &mut B, target: Target, value: u8) -> Resu
     ensures keeps { B.modelled ≡ true → KeepsAddresses (B.world bus.old) (B.world bus.new) }
 {
     order(bus, target, Setup::set_configuration(value))
+}
+
+/// Gives an interface of the configuration one of its alternate settings (9.4.10).
+///
+/// # Errors
+///
+/// - `Stalled`: the device refused the request, and no interface has another setting.
+/// - `Busy`, `NoAnswer`: a transaction ended so ([`PipeFault`]). The interface may have it.
+/// - `Bus`: the bus has failed.
+#[tactic(auto, using(crate::proofs::AddressesKept::interface_set, crate::proofs::Settings::interface_asked, crate::proofs::Settings::interface_why))]
+pub fn set_interface<B: Bus>(
+    bus: &mut B,
+    target: Target,
+    interface: u8,
+    setting: u8,
+) -> Result<(), PipeFault>
+    requires target { IsTarget target }
+    ensures uses { UsesBus B.modelled (Steps B.world B.trace) B.spent B.ports B.failed
+        write_bound (BusToldIt result) bus.old bus.new }
+    ensures ordered { B.modelled ≡ true → Commanded target (interface_request interface setting)
+        (B.world bus.old) result (B.world bus.new) }
+    ensures what { B.modelled ≡ true → (B.world bus.new).shared ≡ false
+        → EachWas (InterfaceAsked target interface setting result)
+        (B.world bus.old) (B.world bus.new) }
+    ensures why { B.modelled ≡ true
+        → NoThreeDamaged (B.world bus.old) → (B.world bus.new).shared ≡ false
+        → EachWas (WriteFailure target result) (B.world bus.old) (B.world bus.new) }
+    ensures keeps { B.modelled ≡ true → KeepsAddresses (B.world bus.old) (B.world bus.new) }
+{
+    order(bus, target, Setup::set_interface(interface, setting))
 }

@@ -14,6 +14,7 @@ use Rattle.usb_wire.specs.declared.question.Question.TheVariants.{Hello, Wait, P
 use Rattle.usb_lines.specs.{OutPipe, Pipe}
 use Rattle.usb_run.specs.{Item, Listing, Sent, Received, Cleared, number_of}
 use Rattle.usb_stream.specs.{AsksNoQuestion, AsksOnce, AttemptsByLine, AttemptsBy, Calls, Kept}
+use Rattle.usb_stream.specs.{Restarts, restart_of}
 use Rattle.usb_stream.specs.{SaysHello, WritesLines, bus_fault, greeted, kept_of, question_for}
 use Rattle.usb_stream.specs.{roots_if, streams, unasked, unread_of, written_of, StreamBus}
 use Rattle.usb_stream.specs.{LiveFault}
@@ -203,6 +204,22 @@ call_on rem con limit m u b old new st ow port call again asks c =
     (λ f e. again (λ none. let clash : Some f ≡ None = sym e ∙ none in cc))
     (λ e. calls_by (unread_of rem old) (unread_of rem new) (written_of con old) (written_of con new)
     (kept_of old) (kept_of new) port call c e (asks e)) c
+
+pub restart_on : {R W : Type 0} (rem : R → Option (List ℕ)) (con : W → Option (List ℕ)) (limit m :
+    ℕ)
+    (u : Pipe) (b : OutPipe) (old new : StreamBus R W) (st : Stage)
+    (ow : Owed) (address number : ℕ) (is_in : Bool) → ((kept_of old).fault ≢ None → new ≡ old)
+    → ((kept_of old).fault ≡ None → Restarts address number is_in
+    (streams (unread_of rem old) (unread_of rem new) (written_of con old)
+    (written_of con new)) (kept_of old) (kept_of new))
+    → CourseTo st ow limit m u b (unread_of rem old) (written_of con old) (kept_of old)
+    → CourseTo Asks ow limit m u b (unread_of rem new) (written_of con new) (kept_of new)
+restart_on rem con limit m u b old new st ow address number is_in again asks c =
+    by_fault rem con limit m u b old new st ow (kept_of old).fault refl
+    (λ f e. again (λ none. let clash : Some f ≡ None = sym e ∙ none in cc))
+    (λ e. let one = asks e in
+    asked_on (unread_of rem old) (unread_of rem new) (written_of con old) (written_of con new)
+    (kept_of old) (kept_of new) (restart_of address number is_in) one.result c e refl one.asked) c
 
 -- ---- what is wanted, and what is told
 

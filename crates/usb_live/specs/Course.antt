@@ -12,7 +12,7 @@ use Rattle.usb_host.specs.{Agrees, Round, Quiet, Worked}
 use Rattle.usb_lines.specs.{OutPipe, Pipe}
 use Rattle.usb_resources.specs.{Addresses}
 use Rattle.usb_run.specs.{Item, Listing, Sent, Received, Cleared, Read, Written, Looked}
-use Rattle.usb_run.specs.{SentTo, ReceivedFrom, Polled, ClearedOf}
+use Rattle.usb_run.specs.{SentTo, ReceivedFrom, Polled, ClearedOf, InterfaceSet}
 use Rattle.usb_run.specs.{item_lines, number_of}
 use Rattle.usb_run.specs.declared.runs.Item.TheVariants.{News}
 use Rattle.usb_stream.specs.{AskedWell, AsksNoQuestion, AsksOnce, Kept, WritesLines, greeted}
@@ -39,6 +39,7 @@ owed_by (Ok (answer.SendTo path endpoint bytes)) = owed.SendTo path endpoint (le
 owed_by (Ok (answer.ReceiveFrom path endpoint packets)) = owed.ReceiveFrom path endpoint
 owed_by (Ok (answer.Poll path endpoint)) = owed.Poll path endpoint
 owed_by (Ok (answer.ClearOf path endpoint)) = owed.ClearOf path endpoint
+owed_by (Ok (answer.Interface path interface setting)) = owed.Interface path interface setting
 owed_by (Ok (answer.ControlIn path request)) = owed.Read path request.length
 owed_by (Ok (answer.ControlOut path write)) = owed.Write path (length write.bytes)
 owed_by (Ok (answer.Look path)) = owed.Look path
@@ -61,9 +62,9 @@ is_within most (Err fault) = true
 abbrev pub is_there : List ℕ → ℕ → List ℕ → ℕ → Bool
 is_there path endpoint at named = bytes_eq path at && (endpoint == named)
 
--- the item is the one that is owed: a listing, or news; a look at that path; or that transfer at
--- that path, through that endpoint. If it did not fail, a send or a write moved all bytes, and a
--- read at most those asked for
+-- the item is the one that is owed: a listing, or news; a look at that path; that setting of that
+-- interface; or that transfer at that path, through that endpoint. If it did not fail, a send or a
+-- write moved all bytes, and a read at most those asked for
 abbrev pub settles : Owed → Item → Bool
 settles owed.Listing (Listing entries taken) = true
 settles (owed.Send path count) (Sent at sent) = bytes_eq path at && is_count count sent
@@ -75,6 +76,8 @@ settles (owed.ReceiveFrom path endpoint) (ReceivedFrom at named received) =
     is_there path endpoint at named
 settles (owed.Poll path endpoint) (Polled at named polled) = is_there path endpoint at named
 settles (owed.ClearOf path endpoint) (ClearedOf at named cleared) = is_there path endpoint at named
+settles (owed.Interface path interface setting) (InterfaceSet at number chosen done) =
+    bytes_eq path at && (interface == number) && (setting == chosen)
 settles (owed.Read path most) (Read at bytes) = bytes_eq path at && is_within most bytes
 settles (owed.Write path count) (Written at written) = bytes_eq path at && is_count count written
 settles (owed.Look path) (Looked at looked) = bytes_eq path at

@@ -23,6 +23,7 @@ ask_of (answer.SendTo path endpoint bytes) = Some (ask.SendTo path endpoint byte
 ask_of (answer.ReceiveFrom path endpoint packets) = Some (ask.ReceiveFrom path endpoint packets)
 ask_of (answer.Poll path endpoint) = Some (ask.Poll path endpoint)
 ask_of (answer.ClearOf path endpoint) = Some (ask.ClearOf path endpoint)
+ask_of (answer.Interface path interface setting) = Some (ask.SetInterface path interface setting)
 ask_of (answer.ControlIn path request) = Some (ask.ControlIn path request)
 ask_of (answer.ControlOut path write) =
     Some (ask.ControlOut path (record { setup = write.setup; bytes = write.bytes }))

@@ -54,7 +54,7 @@ impl<R: Read, W: Write, B: Begun> Bus for CourseBus<R, W, B> {
     ghost use Rattle.std.specs.Prelude.{◌≢◌, ◌≤◌, Some, Err, IfErr, IfOk};
     ghost use Rattle.usb_bus.specs.Traces.{Spends};
     ghost use Rattle.usb_port.specs.Calls.{IsClearFeature, IsSetFeature, clear_call, set_call};
-    ghost use Rattle.usb_stream.specs.Stream.{AttemptsByLine, Calls, bus_fault, kept_status, no_world, streams};
+    ghost use Rattle.usb_stream.specs.Stream.{AttemptsByLine, Calls, Restarts, bus_fault, kept_status, no_world, streams};
     ghost use Rattle.usb_stream.specs.declared.fault.LiveFault.{LiveFault as AFault};
     ghost use Rattle.usb_world.specs.PlainAttempts.{attempt_data};
     ghost use Rattle.usb_world.specs.Worlds.{FitsMaximum, IsAttempt};
@@ -131,6 +131,22 @@ impl<R: Read, W: Write, B: Begun> Bus for CourseBus<R, W, B> {
     {
         self.stage = Stage::Asks;
         self.bus.root_clear(port, feature);
+    }
+
+    fn restart_endpoint(&mut self, address: u8, number: u8, is_in: bool)
+        requires address { address ≤ 127 }
+        requires least { 1 ≤ number }
+        requires most { number ≤ 15 }
+        ensures again { (kept_of self.old.bus).fault ≢ None → self.new.bus ≡ self.old.bus }
+        ensures asks { (kept_of self.old.bus).fault ≡ None → Restarts address number is_in
+            (streams (unread_of R.remaining self.old.bus) (unread_of R.remaining self.new.bus)
+            (written_of W.contents self.old.bus) (written_of W.contents self.new.bus))
+            (kept_of self.old.bus) (kept_of self.new.bus) }
+        ensures unspent { Spends (λ bus. (kept_of bus.bus).attempts)
+            (λ bus. (kept_of bus.bus).roots) 0 self.old self.new }
+    {
+        self.stage = Stage::Asks;
+        self.bus.restart_endpoint(address, number, is_in);
     }
 
     ghost counted = { λ known bus. Prim.cc known };

@@ -29,6 +29,8 @@ pub(crate) enum Owed {
     Poll(PortPath, EndpointAddress),
     /// That the halt of an endpoint of the device at a path was cleared.
     ClearOf(PortPath, EndpointAddress),
+    /// That a setting of an interface of the device at a path was chosen.
+    Interface(PortPath, u8, u8),
     /// What was read from the device at a path, at most this number of bytes.
     Read(PortPath, u16),
     /// The number of bytes that were written to endpoint 0 of the device at a path.
@@ -60,6 +62,13 @@ pub(crate) fn owed_by(answer: &Result<Answer, LiveFault>) -> Owed
         }
         Ok(Answer::Poll { path, endpoint }) => Owed::Poll(path.duplicate(), *endpoint),
         Ok(Answer::ClearOf { path, endpoint }) => Owed::ClearOf(path.duplicate(), *endpoint),
+        Ok(
+            Answer::Interface {
+                path,
+                interface,
+                setting,
+            },
+        ) => Owed::Interface(path.duplicate(), *interface, *setting),
         Ok(Answer::ControlIn { path, request }) => {
             Owed::Read(path.duplicate(), request.setup().length)
         }
@@ -102,6 +111,8 @@ pub(crate) fn settles(owed: &Owed, item: &Item) -> bool
         (Owed::ClearOf(path, endpoint), Item::ClearedOf(at, named, _)) => {
             is_there(path, *endpoint, at, *named)
         }
+        (Owed::Interface(path, interface, setting), Item::InterfaceSet(at, number, chosen, _)) =>
+            path.numbers() == at.numbers() && interface == number && setting == chosen,
         (Owed::Read(path, most), Item::Read(at, read)) => {
             path.numbers() == at.numbers() && is_within(*most, read)
         }

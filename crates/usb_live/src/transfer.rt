@@ -1,4 +1,4 @@
-//! Transfers of endpoint 0 and of endpoints by their addresses, made over any bus.
+//! Transfers of endpoint 0 and of endpoints by their addresses, and settings of interfaces, over any bus.
 ghost use Rattle.std.specs.Prelude.{◌≡◌, IfOk, length, true};
 ghost use Rattle.usb_run.specs.Transfers.{Gives};
 ghost use Rattle.usb_world.specs.declared.event.Ask.{Ask};
@@ -101,4 +101,21 @@ pub(crate) fn clear_of<B: Bus>(
 {
     let cleared = answered(host.clear_halt_of(&path, endpoint))?;
     Ok(Item::ClearedOf(path, endpoint, cleared))
+}
+
+/// Chooses an alternate setting of an interface of the device at a path.
+pub(crate) fn set_interface<B: Bus>(
+    host: &mut Host<B>,
+    path: PortPath,
+    interface: u8,
+    setting: u8,
+) -> Result<Item, RunFault>
+    ensures owed { IfOk result (λ item.
+        settles (Owed.Interface path interface setting) item ≡ true) }
+    ensures shown { IfOk result IsShown }
+    ensures does { B.modelled ≡ true
+        → Gives (Ask.SetInterface path interface setting) host.old result host.new }
+{
+    let set = answered(host.set_interface(&path, interface, setting))?;
+    Ok(Item::InterfaceSet(path, interface, setting, set))
 }

@@ -3,7 +3,7 @@ ghost use Rattle.std.specs.Prelude.{◌≡◌, IfOk, IfSome, true};
 ghost use Rattle.usb_live.specs.Course.{IsShown, ListsEntries};
 ghost use Rattle.usb_live.specs.Wanted.{DoesWanted, IsOwed};
 
-use crate::transfer::{clear_of, poll, read, receive_from, send_to, write};
+use crate::transfer::{clear_of, poll, read, receive_from, send_to, set_interface, write};
 use std::alloc::Global;
 use usb_bus::Bus;
 use usb_host::Host;
@@ -57,6 +57,11 @@ pub(crate) fn item_of<B: Bus>(
         } => Ok(Some(receive_from(host, path, endpoint, packets)?)),
         Answer::Poll { path, endpoint } => Ok(Some(poll(host, path, endpoint)?)),
         Answer::ClearOf { path, endpoint } => Ok(Some(clear_of(host, path, endpoint)?)),
+        Answer::Interface {
+            path,
+            interface,
+            setting,
+        } => Ok(Some(set_interface(host, path, interface, setting)?)),
         Answer::ControlIn { path, request } => Ok(Some(read(host, path, request)?)),
         Answer::ControlOut { path, request } => Ok(Some(write(host, path, &request)?)),
         Answer::Look(path) => {

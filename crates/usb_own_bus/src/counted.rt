@@ -134,6 +134,10 @@ impl<B: Bus> Bus for CountedBus<B> {
         self.bus.root_clear(port, feature);
     }
 
+    fn restart_endpoint(&mut self, address: u8, number: u8, is_in: bool) {
+        self.bus.restart_endpoint(address, number, is_in);
+    }
+
     ghost counted = { λ known counted. B.counted known counted.bus };
 
     ghost settled = { λ known counted. B.settled known counted.bus };

@@ -49,6 +49,10 @@ report_forms =
     ∷ (word (codes "clear ") ∷ path ∷ word (codes " ") ∷ endpoint ∷ word (codes " done") ∷ [])
     ∷ (one_of (codes "send " ∷ codes "receive " ∷ codes "interrupt " ∷ codes "clear " ∷ []) ∷ path ∷
     word (codes " ") ∷ endpoint ∷ word (codes " failed ") ∷ one_of failures ∷ [])
+    ∷ (word (codes "interface ") ∷ path ∷ word (codes " ") ∷ number ∷ word (codes " ") ∷ number ∷
+    one_of (codes " done" ∷ codes " failed no interface" ∷ []) ∷ [])
+    ∷ (word (codes "interface ") ∷ path ∷ word (codes " ") ∷ number ∷ word (codes " ") ∷ number ∷
+    word (codes " failed ") ∷ one_of failures ∷ [])
     ∷ (word (codes "control ") ∷ path ∷ word (codes " in done ") ∷ bytes ∷ [])
     ∷ (word (codes "control ") ∷ path ∷ one_of (codes " in failed " ∷ codes " out failed " ∷ []) ∷
     one_of failures ∷ [])

@@ -36,7 +36,7 @@ const FAILURES: [&str; 6] = [
 const PLUG: [Part; 4] = [Word("plug "), Path, Word(" "), Name];
 
 /// An unplug, the lines of a listing, the lines of transfers, looks and news, a bound.
-const REPORTS: [&[Part]; 30] = [
+const REPORTS: [&[Part]; 32] = [
     &[Word("unplug "), Path],
     &[Word("listing "), Number],
     &[Word("end")],
@@ -103,6 +103,25 @@ const REPORTS: [&[Part]; 30] = [
         Path,
         Word(" "),
         Endpoint,
+        Word(" failed "),
+        OneOf(&FAILURES),
+    ],
+    &[
+        Word("interface "),
+        Path,
+        Word(" "),
+        Number,
+        Word(" "),
+        Number,
+        OneOf(&[" done", " failed no interface"]),
+    ],
+    &[
+        Word("interface "),
+        Path,
+        Word(" "),
+        Number,
+        Word(" "),
+        Number,
         Word(" failed "),
         OneOf(&FAILURES),
     ],

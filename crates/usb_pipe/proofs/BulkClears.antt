@@ -212,11 +212,11 @@ module _ (request : Setup) (which : ServedEndpoint) (s : State)
   accepted_rests row v o e = grind (arith, only_stage, registers_kept)
 
   ended_rests : (row : List PortState) (address : Option ℕ) (v : State)
-      → first_stage row s.taken request.length (outcome s.spec s.registers request) ≡ ending address
+      → first_stage row s request.length (outcome s.spec s.registers request) ≡ ending address
       → StatusGiven address (accepted s row request) v
       → OnlyControl (accepted s row request) v → OnlyRested which s v
   ended_rests row address v h g o =
-      let none : address ≡ None = cc (sym (ap (first_stage row s.taken request.length) is) ∙ h) in
+      let none : address ≡ None = cc (sym (ap (first_stage row s request.length) is) ∙ h) in
       accepted_rests row v o (given_registers address (accepted s row request) v none g)
 
   failed_rests : {t : _} {fault : PipeFault} {old : World} {j : Location} (v : State)
@@ -226,7 +226,7 @@ module _ (request : Setup) (which : ServedEndpoint) (s : State)
   failed_rests v (whole why told row now m o a h g) = inr (ended_rests row a v h g o)
 
   not_refused : {t : _} {old new : World} {j : Location} → WasRefused t request old new j s → ⊥
-  not_refused r = cc (sym (ap (first_stage r.row s.taken request.length) is) ∙ r.is)
+  not_refused r = cc (sym (ap (first_stage r.row s request.length) is) ∙ r.is)
 
 -- One device and its pipe
 

@@ -18,6 +18,9 @@ use Rattle.usb_request.specs.{bytes_of, setup_of, IsToHost, Setup, DEVICE, CONFI
 use Rattle.usb_request.specs.{HUB, GET_STATUS, CLEAR_FEATURE, SET_FEATURE, SET_ADDRESS}
 use Rattle.usb_request.specs.{GET_DESCRIPTOR, GET_CONFIGURATION, SET_CONFIGURATION, DEVICE_IN}
 use Rattle.usb_request.specs.{DEVICE_OUT, ENDPOINT_OUT, HUB_IN, PORT_IN, PORT_OUT, descriptor_value}
+use Rattle.usb_request.specs.{INTERFACE_IN, INTERFACE_OUT, ENDPOINT_IN, GET_INTERFACE}
+use Rattle.usb_request.specs.{SET_INTERFACE}
+use Rattle.usb_descriptor.specs.{has_interface}
 use Rattle.usb_port.specs.{PortState, status_of}
 use Rattle.usb_device.specs.{OnlyControl, OnlyStage, ReadingAt, ReadOn, StatusGiven, Outcome}
 use Rattle.usb_device.specs.{stalled, tells_port, Is, asked_descriptor, asked_hub_descriptor}
@@ -25,7 +28,8 @@ use Rattle.usb_device.specs.{port_named, told_port, outcome, takes_address, regi
 use Rattle.usb_device.specs.{address_at_end, State, accepted, begun, Spec, reading, max_packet}
 use Rattle.usb_device.specs.{packet_at, Stage, ending, refused, packets_joined, first_stage}
 use Rattle.usb_device.specs.{reads_port, packet_count, row_of, Location, Registers, answers_taken}
-use Rattle.usb_device.specs.{takes, Write, writing, first_write, ends_if}
+use Rattle.usb_device.specs.{takes, Write, writing, first_write, ends_if, tells_halt, told_halt}
+use Rattle.usb_device.specs.{told_bytes, is_endpoint_0, items_at, served, ServedEndpoint}
 use Rattle.usb_device.specs.Request.{answers}
 use Rattle.usb_device.proofs.Interface.{packets_joined-is, packets_joined-whole, packet-further}
 use Rattle.usb_device.proofs.Interface.{packet-fits, asked_own-to_host}
@@ -72,6 +76,7 @@ IsReadingOutcome stalled = Unit {0}
 IsReadingOutcome (answers bytes) = Unit {0}
 IsReadingOutcome (tells_port i) = Unit {0}
 IsReadingOutcome answers_taken = Unit {0}
+IsReadingOutcome (tells_halt endpoint) = Unit {0}
 IsReadingOutcome o = ⊥
 
 tells_not : (b : Bool) (x y : Outcome) → b ≡ false → IsReadingOutcome y
@@ -93,6 +98,10 @@ tells_descriptor s value =
     (either_way IsReadingOutcome (value / 256 == STRING) _ _
     (either_way IsReadingOutcome s.stalls.string _ _ tt (tells_text _)) tt))
 
+tells_status : (o : Option ServedEndpoint) → IsReadingOutcome (told_halt o)
+tells_status None = tt
+tells_status (Some endpoint) = tt
+
 outcome-is_reading : (s : Spec) (g : Registers) (r : Setup) → IsToHost r
     → IsReadingOutcome (outcome s g r)
 unfolding outcome
@@ -107,6 +116,17 @@ outcome-is_reading s g r h =
     (tells_not (Is r DEVICE_OUT SET_CONFIGURATION) _ _
     (request_type-other r.request_type DEVICE_OUT (r.request == SET_CONFIGURATION) h
     (omega arith))
+    (either_way IsReadingOutcome (Is r INTERFACE_IN GET_STATUS) _ _
+    (either_way IsReadingOutcome (r.value == 0 && has_interface r.index (items_at s g)) _ _ tt tt)
+    (either_way IsReadingOutcome (Is r INTERFACE_IN GET_INTERFACE) _ _
+    (either_way IsReadingOutcome (r.value == 0 && has_interface r.index (items_at s g)) _ _ tt tt)
+    (tells_not (Is r INTERFACE_OUT SET_INTERFACE) _ _
+    (request_type-other r.request_type INTERFACE_OUT (r.request == SET_INTERFACE) h
+    (omega arith))
+    (either_way IsReadingOutcome (Is r ENDPOINT_IN GET_STATUS) _ _
+    (either_way IsReadingOutcome (not (r.value == 0)) _ _ tt
+    (either_way IsReadingOutcome (is_endpoint_0 r.index) _ _ tt
+    (tells_status (served s g r.index))))
     (tells_not (Is r ENDPOINT_OUT CLEAR_FEATURE) _ _
     (request_type-other r.request_type ENDPOINT_OUT (r.request == CLEAR_FEATURE) h
     (omega arith))
@@ -126,16 +146,17 @@ outcome-is_reading s g r h =
     (tells_not (Is r PORT_OUT CLEAR_FEATURE) _ _
     (request_type-other r.request_type PORT_OUT (r.request == CLEAR_FEATURE) h (omega arith))
     (asked_own-to_host IsReadingOutcome tt s.requests g r (grind (arith, nat_tests, h))
-    (λ bytes. tt) tt)))))))))))
+    (λ bytes. tt) tt)))))))))))))))
 
 -- nothing else comes of it
 asks_only : (s : State) (row : List PortState) (wanted : ℕ) (o : Outcome) → IsReadingOutcome o
     → begun s row wanted o
-    ≡ record s { naks = s.spec.naks; stage = first_stage row s.taken wanted o }
+    ≡ record s { naks = s.spec.naks; stage = first_stage row s wanted o }
 asks_only s row wanted stalled h = refl
 asks_only s row wanted (answers bytes) h = refl
 asks_only s row wanted (tells_port i) h = refl
 asks_only s row wanted answers_taken h = refl
+asks_only s row wanted (tells_halt endpoint) h = refl
 asks_only s row wanted o h = absurd h
 
 -- The stage that a request begins
@@ -167,26 +188,28 @@ first_write-kept wanted true true e = ends refl (λ h. absurd h)
 first_write-kept wanted false true e = refuses refl
 first_write-kept wanted kept false e = writes_from (first_write wanted kept) e refl (λ h. h)
 
-first_stage_of : (row : List PortState) (taken : List ℕ) (wanted : ℕ) (o : Outcome)
-    → FirstStage wanted o (first_stage row taken wanted o)
-first_stage_of row taken wanted stalled = refuses refl
-first_stage_of row taken wanted (answers bytes) =
+first_stage_of : (row : List PortState) (d : State) (wanted : ℕ) (o : Outcome)
+    → FirstStage wanted o (first_stage row d wanted o)
+first_stage_of row d wanted stalled = refuses refl
+first_stage_of row d wanted (answers bytes) =
     first_bytes wanted (answers bytes) bytes (wanted == 0) refl refl
-first_stage_of row taken wanted (tells_port i) =
+first_stage_of row d wanted (tells_port i) =
     first_port wanted (tells_port i) (slice_get row i) refl
-first_stage_of row taken wanted answers_taken =
-    first_bytes wanted answers_taken taken (wanted == 0) refl refl
-first_stage_of row taken wanted (takes kept) = first_write-kept wanted kept (wanted == 0) refl
-first_stage_of row taken wanted o = ends refl (λ h. absurd h)
+first_stage_of row d wanted answers_taken =
+    first_bytes wanted answers_taken d.taken (wanted == 0) refl refl
+first_stage_of row d wanted (tells_halt endpoint) =
+    first_bytes wanted (tells_halt endpoint) (told_bytes d endpoint) (wanted == 0) refl refl
+first_stage_of row d wanted (takes kept) = first_write-kept wanted kept (wanted == 0) refl
+first_stage_of row d wanted o = ends refl (λ h. absurd h)
 
 pub is_some_byte : (wanted : ℕ) → 1 ≤ wanted → (wanted == 0) ≡ false
 is_some_byte wanted h = grind (arith, nat_tests, h)
 
 -- where no data are wanted, it refuses or ends
-closes : (row : List PortState) (taken : List ℕ) (wanted : ℕ) (o : Outcome) → wanted ≡ 0
-    → (first_stage row taken wanted o ≡ refused)
-    ⊎ (first_stage row taken wanted o ≡ ending (address_at_end o))
-closes row taken wanted o e = elim (first_stage_of row taken wanted o) [
+closes : (row : List PortState) (d : State) (wanted : ℕ) (o : Outcome) → wanted ≡ 0
+    → (first_stage row d wanted o ≡ refused)
+    ⊎ (first_stage row d wanted o ≡ ending (address_at_end o))
+closes row d wanted o e = elim (first_stage_of row d wanted o) [
   | refuses h ↦ inl h
   | answers_with bytes f h ↦ cc (sym f ∙ ap (λ n. n == 0) e)
   | ends h g ↦ inr h
@@ -198,9 +221,9 @@ asks_for : (o : Outcome) (a : ℕ) → address_at_end o ≡ Some a → o ≡ tak
 asks_for (takes_address b) a e = cc e
 asks_for o a e = cc e
 
-pub first_stage-address : (row : List PortState) (taken : List ℕ) (wanted : ℕ) (o : Outcome)
-    (a : ℕ) → first_stage row taken wanted o ≡ ending (Some a) → o ≡ takes_address a
-first_stage-address row taken wanted o a e = elim (first_stage_of row taken wanted o) [
+pub first_stage-address : (row : List PortState) (d : State) (wanted : ℕ) (o : Outcome)
+    (a : ℕ) → first_stage row d wanted o ≡ ending (Some a) → o ≡ takes_address a
+first_stage-address row d wanted o a e = elim (first_stage_of row d wanted o) [
   | refuses h ↦ cc (sym h ∙ e)
   | answers_with bytes f h ↦ cc (sym h ∙ e)
   | ends h g ↦ asks_for o a (cc (sym h ∙ e))
@@ -363,7 +386,7 @@ record ReadTold (t : Target) (request : Setup) (n : ℕ) (got : List ℕ) (So : 
   naks : v.naks ≤ s.spec.naks
   losses : now.losses ≡ old.losses
   far : Far request.length n got (So s)
-      (first_stage row s.taken request.length (outcome s.spec s.registers request)) s v
+      (first_stage row s request.length (outcome s.spec s.registers request)) s v
 
 -- What a read tells of the device that it asked: what it leaves of it, why it fails, and what it
 -- loses
@@ -389,7 +412,7 @@ module _ (t : Target) (request : Setup) (host : IsToHost request) (some : 1 ≤ 
   accepted_is : {old now : World} {j : Location} (s u : State)
       (x : AcceptedAt t (bytes_of request) old now j s u) → u ≡ record s {
         naks = s.spec.naks;
-        stage = first_stage (row_of x.holder.below) s.taken Wants
+        stage = first_stage (row_of x.holder.below) s Wants
             (outcome s.spec s.registers request);
       }
   accepted_is s u x = x.is ∙ ap (λ r. accepted s (row_of x.holder.below) r) same
@@ -404,7 +427,7 @@ module _ (t : Target) (request : Setup) (host : IsToHost request) (some : 1 ≤ 
       let o : Outcome = outcome s.spec s.registers request in
       let e : u ≡ record s {
         naks = s.spec.naks;
-        stage = first_stage (row_of x.holder.below) s.taken Wants o;
+        stage = first_stage (row_of x.holder.below) s Wants o;
       } = accepted_is s u x in
       record {
         row = row_of x.holder.below;
@@ -412,7 +435,7 @@ module _ (t : Target) (request : Setup) (host : IsToHost request) (some : 1 ≤ 
         frame = subst (λ d. OnlyStage s d) (sym e) refl;
         naks = subst (λ d. d.naks ≤ s.spec.naks) (sym e) (omega arith);
         losses = y.kept (host_stretch request host) tt;
-        far = elim (first_stage_of (row_of x.holder.below) s.taken Wants o) [
+        far = elim (first_stage_of (row_of x.holder.below) s Wants o) [
           | refuses h ↦ refuses_at h (ap (λ d. d.stage) e ∙ h) refl
           | answers_with answer f h ↦ answers_at answer h
               (record { known = 0; stage = ap (λ d. d.stage) e ∙ h; near = inl refl }) refl
@@ -503,7 +526,7 @@ module _ (t : Target) (request : Setup) (host : IsToHost request) (some : 1 ≤ 
     refused = λ e.
         let down : Fell fault trans.Stalled = fell fault trans.Stalled e in
         let is_refused = elim x.far
-        as (λ _. first_stage x.row s.taken Wants (outcome s.spec s.registers request)
+        as (λ _. first_stage x.row s Wants (outcome s.spec s.registers request)
         ≡ refused) [
           | refuses_at f h none ↦ f
           | answers_at answer f r b so ↦
@@ -792,7 +815,7 @@ module _ (t : Target) (request : Setup) (same : setup_of (bytes_of request) ≡ 
     taken_accepts = record { state = u; at = x; had = refl }
 
     taken_stage : u.stage
-        ≡ first_stage (row_of x.holder.below) s.taken request.length taken_asked
+        ≡ first_stage (row_of x.holder.below) s request.length taken_asked
     taken_stage = ap (λ d. d.stage) taken_is
 
     taken_spec : u.spec ≡ s.spec
@@ -806,7 +829,7 @@ module _ (t : Target) (request : Setup) (same : setup_of (bytes_of request) ≡ 
 
     -- a status stage or a refusal
     taken_next : request.length ≡ 0 → HasNext t One u
-    taken_next nothing = elim (closes (row_of x.holder.below) s.taken request.length taken_asked
+    taken_next nothing = elim (closes (row_of x.holder.below) s request.length taken_asked
         nothing) [
           | inl h ↦ HasNext.refusal (taken_stage ∙ h)
           | inr h ↦ HasNext.status (address_at_end taken_asked) (taken_stage ∙ h) refl
@@ -822,7 +845,7 @@ module _ (t : Target) (request : Setup) (same : setup_of (bytes_of request) ≡ 
     effect_then : request.length ≡ 0 → (fault : TransFault) (v : State)
         → ControlIn t One (Err fault) j u v → EffectOrNone t request (as_pipe_fault fault) old j s v
     effect_then nothing (trans.Bus fault) v y =
-        elim (closes (row_of x.holder.below) s.taken request.length taken_asked nothing) [
+        elim (closes (row_of x.holder.below) s request.length taken_asked nothing) [
           | inl h ↦ kept_then (pipe_fault.Bus fault) v y.frame (y.rests (taken_stage ∙ h))
           | inr h ↦ EffectOrNone.whole fault refl (row_of x.holder.below) mid taken_accepts
               (subst (λ d. OnlyControl d v) taken_is y.frame) (address_at_end taken_asked) h
@@ -836,7 +859,7 @@ module _ (t : Target) (request : Setup) (same : setup_of (bytes_of request) ≡ 
       effect_done : (given : List ℕ) → Course (IsBehind t) mid new → request.length ≡ 0
           → ControlIn t One (Ok given) j u v → EffectDone t request old new j s v
       effect_done given since nothing y =
-          elim (closes (row_of x.holder.below) s.taken request.length taken_asked nothing) [
+          elim (closes (row_of x.holder.below) s request.length taken_asked nothing) [
             | inl h ↦ absurd ((y.refused (taken_stage ∙ h)).1 taken_at given refl)
             | inr h ↦ record {
               row = row_of x.holder.below;
@@ -854,7 +877,7 @@ module _ (t : Target) (request : Setup) (same : setup_of (bytes_of request) ≡ 
         none_counted : {result : Result (List ℕ) TransFault} → LossesIn t result mid new j u v
             → ((n : ℕ) → taken_asked ≢ takes_address n) → new.losses ≡ old.losses
         none_counted l unasked = l.none taken_at
-            (λ n e. unasked n (first_stage-address (row_of x.holder.below) s.taken
+            (λ n e. unasked n (first_stage-address (row_of x.holder.below) s
             request.length taken_asked n (sym taken_stage ∙ e))) ∙ before
 
         failed_counted : {fault : TransFault} → LossesIn t (Err fault) mid new j u v → (st : Stage)
@@ -868,7 +891,7 @@ module _ (t : Target) (request : Setup) (same : setup_of (bytes_of request) ≡ 
             let kept : u.registers ≡ s.registers = ap (λ d. d.registers) taken_is
             ∙ ap (registers_at_setup s.registers) o in
             elim (l.done taken_at n (taken_stage
-            ∙ ap (first_stage (row_of x.holder.below) s.taken request.length) o) given refl) [
+            ∙ ap (first_stage (row_of x.holder.below) s request.length) o) given refl) [
               | transaction.took idles registers losses ↦
                   TookItOrLost.took (registers ∙ ap {A = Registers} (λ g. record g { address = n })
                   kept) (losses ∙ before)
@@ -911,7 +934,7 @@ module _ (t : Target) (request : Setup) (same : setup_of (bytes_of request) ≡ 
         record {
           row = row_of x.holder.below;
           moment = record { now = mid; accepts = taken_accepts at x; since = since down };
-          is = elim (closes (row_of x.holder.below) s.taken request.length (taken_asked at x)
+          is = elim (closes (row_of x.holder.below) s request.length (taken_asked at x)
               nothing) [
                 | inl h ↦ h
                 | inr h ↦ cc (sym (ap refuses_in (taken_stage at x ∙ h))

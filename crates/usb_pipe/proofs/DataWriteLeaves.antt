@@ -13,7 +13,9 @@ use Rattle.usb_port.specs.{PortState}
 use Rattle.usb_request.specs.{Setup, bytes_of, setup_of, IsToDevice, DEVICE_IN, DEVICE_OUT}
 use Rattle.usb_request.specs.{ENDPOINT_OUT, HUB_IN, PORT_IN, PORT_OUT, GET_DESCRIPTOR, GET_STATUS}
 use Rattle.usb_request.specs.{GET_CONFIGURATION, SET_ADDRESS, SET_CONFIGURATION, CLEAR_FEATURE}
-use Rattle.usb_request.specs.{SET_FEATURE, ENDPOINT_HALT}
+use Rattle.usb_request.specs.{SET_FEATURE, ENDPOINT_HALT, INTERFACE_IN, INTERFACE_OUT, ENDPOINT_IN}
+use Rattle.usb_request.specs.{GET_INTERFACE, SET_INTERFACE}
+use Rattle.usb_descriptor.specs.{has_setting}
 use Rattle.usb_device.specs.declared.own_request.OwnAnswer.TheVariants.{RefuseData, RefuseStatus}
 use Rattle.usb_device.specs.declared.own_request.OwnAnswer.TheVariants.{Give, GiveTaken, Take}
 use Rattle.usb_device.specs.{OwnAnswer, OwnRequest, asked_at, asked_by_answer, asked_by_row, fits}
@@ -23,7 +25,7 @@ use Rattle.usb_device.specs.{stalled, takes, halts, unhalts, outcome, on_endpoin
 use Rattle.usb_device.specs.{first_stage, ends_if, writing, first_write, begun, accepted}
 use Rattle.usb_device.specs.{row_of, refused, Write, written_on, is_done, taken_with}
 use Rattle.usb_device.specs.{IsPacketOf, OnlyWrite, WritingAt, WriteAt, WriteEnded, level, ahead}
-use Rattle.usb_device.specs.{seen, unseen, OnlyControl, max_packet}
+use Rattle.usb_device.specs.{seen, unseen, OnlyControl, max_packet, items_at}
 use Rattle.usb_world.specs.{Course, World, is_harmless}
 use Rattle.usb_world.proofs.Interface.{course_joined}
 use Rattle.usb_tree.specs.{IsSettled}
@@ -124,6 +126,16 @@ module _ (s : Spec) (g : Registers) (r : Setup) (way : IsToDevice r)
       (either_way IsWriting s.stalls.set_config _ _ tt
       (not_so (not (g.address == 0) && is_value s.configs r.value && r.length == 0) _ _
       (grind (arith, some)) tt))
+      (not_so (Is r INTERFACE_IN GET_STATUS) _ _
+      (reads_not INTERFACE_IN r.request_type _ (omega arith) way)
+      (not_so (Is r INTERFACE_IN GET_INTERFACE) _ _
+      (reads_not INTERFACE_IN r.request_type _ (omega arith) way)
+      (either_way IsWriting (Is r INTERFACE_OUT SET_INTERFACE) _ _
+      (either_way IsWriting s.stalls.interface _ _ tt
+      (not_so (r.length == 0 && has_setting r.index r.value (items_at s g)) _ _
+      (ap (λ b. b && has_setting r.index r.value (items_at s g)) some) tt))
+      (not_so (Is r ENDPOINT_IN GET_STATUS) _ _
+      (reads_not ENDPOINT_IN r.request_type _ (omega arith) way)
       (either_way IsWriting (Is r ENDPOINT_OUT CLEAR_FEATURE) _ _
       (no_endpoint unhalts (served s g r.index))
       (either_way IsWriting (Is r ENDPOINT_OUT SET_FEATURE) _ _
@@ -136,13 +148,13 @@ module _ (s : Spec) (g : Registers) (r : Setup) (way : IsToDevice r)
       (not_so (r.length == 0) _ _ some tt)
       (either_way IsWriting (Is r PORT_OUT CLEAR_FEATURE) _ _
       (not_so (r.length == 0) _ _ some tt)
-      (own_is_writing s.requests r (grind (arith, nat_tests, way)) g)))))))))))
+      (own_is_writing s.requests r (grind (arith, nat_tests, way)) g)))))))))))))))
 
 -- nothing else comes of it
 asks_data_only : (s : State) (row : List PortState) (wanted : ℕ) (o : Outcome) → IsWriting o
     → begun s row wanted o ≡ record s {
       naks = s.spec.naks;
-      stage = first_stage row s.taken wanted o;
+      stage = first_stage row s wanted o;
     }
 asks_data_only s row wanted stalled h = refl
 asks_data_only s row wanted (takes kept) h = refl
@@ -154,12 +166,12 @@ data BeginsWrite (wanted : ℕ) (first : Stage) : Type 0 where
   begins_write : (kept : Bool) → first ≡ writing (first_write wanted kept)
       → BeginsWrite wanted first
 
-begins : (row : List PortState) (taken : List ℕ) (wanted : ℕ) (o : Outcome) → IsWriting o
-    → (wanted == 0) ≡ false → BeginsWrite wanted (first_stage row taken wanted o)
-begins row taken wanted stalled h e = begins_refused refl
-begins row taken wanted (takes kept) h e = begins_write kept
+begins : (row : List PortState) (d : State) (wanted : ℕ) (o : Outcome) → IsWriting o
+    → (wanted == 0) ≡ false → BeginsWrite wanted (first_stage row d wanted o)
+begins row d wanted stalled h e = begins_refused refl
+begins row d wanted (takes kept) h e = begins_write kept
     (ap (λ b. if b then ends_if kept else writing (first_write wanted kept)) e)
-begins row taken wanted o h e = absurd h
+begins row d wanted o h e = absurd h
 
 -- A device that accepted the request with these ports, as far as its transfer is
 
@@ -314,7 +326,7 @@ module _ (t : Target) (request : Setup) (way : IsToDevice request) (some : 1 ≤
         frame = subst (λ d. OnlyWrite s d) (sym e) refl;
         naks = subst (λ d. d.naks ≤ s.spec.naks) (sym e) (omega arith);
         losses = λ plain. y.kept plain tt;
-        far = elim (begins (row_of x.holder.below) s.taken request.length
+        far = elim (begins (row_of x.holder.below) s request.length
             (outcome s.spec s.registers request)
             (outcome-is_writing s.spec s.registers request way wants_some) wants_some) [
               | begins_refused h ↦ refuses_data h (ap (λ d. d.stage) e ∙ h) (ap (λ d. d.taken) e)

@@ -3,7 +3,7 @@
 use Rattle.std.proofs.Common.{◌≡◌, ◌≢◌, ◌∙◌, refl, sym, ap, subst, arith, true, false, ℕ, ◌≤◌, List}
 use Rattle.std.proofs.Common.{Option, None, Some, Result, Ok, Err, OnOk}
 use Rattle.arrayvec.specs.ArrayVec.{ArrayVec}
-use Rattle.usb_device.specs.{Location, State, IsSource, SourceAt, in_end, next_place}
+use Rattle.usb_device.specs.{Location, State, SourceAt, in_end, next_place}
 use Rattle.usb_tree.specs.{IsSettled}
 use Rattle.usb_world.specs.{World, EachWas}
 use Rattle.usb_world.proofs.Interface.{each_none, each_wider}

@@ -1,8 +1,8 @@
 -- Polls through one pipe, one after another: what they tell are the next packets of the endpoint.
-use Rattle.std.proofs.Common.{◌≡◌, ◌≢◌, ◌∙◌, ◌⊎◌, inl, inr, refl, sym, ap, subst, arith, true, false}
+use Rattle.std.proofs.Common.{◌≡◌, ◌≢◌, ◌∙◌, refl, sym, ap, subst, arith, true, false}
 use Rattle.std.proofs.Common.{ℕ, List, [], ◌++◌, Option, None, Some, Result, Ok, Err, append-nil}
 use Rattle.arrayvec.specs.ArrayVec.{ArrayVec}
-use Rattle.usb_device.specs.{GivesOn, IsSource, Location, OnlySource, State, in_data, in_end}
+use Rattle.usb_device.specs.{GivesOn, IsSource, Location, OnlySource, State, in_data}
 use Rattle.usb_device.proofs.Interface.{gives-append}
 use Rattle.usb_tree.specs.{IsSettled}
 use Rattle.usb_world.specs.{BusFault, EachWas, World}
@@ -11,8 +11,8 @@ use Rattle.usb_transaction.specs.{in_attempt, is_at, polled_as}
 use Rattle.usb_transaction.proofs.Interface.{others_stay_then, source_at_kept, source_kept}
 use Rattle.usb_transaction.proofs.Interface.{trail_unshared, transacted_unshared}
 use Rattle.usb_pipe.specs.{FaultAfter, GaveReports, InPipeInSync, Interrupt, PacketLeaves, PipeFault}
-use Rattle.usb_pipe.specs.{PipePoll, PipePolls, PipeState, PollAsked, PollsInTurn, ReportsLeave}
-use Rattle.usb_pipe.specs.{packet_target, pipe_known, polled_pipe, report_in}
+use Rattle.usb_pipe.specs.{PipePolls, PipeState, PollAsked, PollsInTurn, ReportsLeave}
+use Rattle.usb_pipe.specs.{pipe_known, polled_pipe, report_in}
 use Rattle.usb_pipe.specs.Reports.{start, poll}
 use Rattle.usb_pipe.specs.declared.fault.PipeFault.TheVariants as pipe_fault
 use Rattle.usb_pipe.proofs.BulkCalls.{poll_by}

@@ -13,7 +13,7 @@ use Rattle.usb_pipe.specs.Leaves.{AcceptedIn, CanEnd, IsBehindData}
 -- the stage that the request begins in a device with these ports
 abbrev pub stage_begun : List PortState → Setup → State → Stage
 stage_begun row request s =
-    first_stage row s.taken request.length (outcome s.spec s.registers request)
+    first_stage row s request.length (outcome s.spec s.registers request)
 
 -- the device accepted the request at a moment of the call; only its data and its status stage were
 -- attempted since

@@ -93,7 +93,7 @@ pub record WasRefused (t : Target) (request : Setup) (old new : World) (x : Loca
     Type 0 where
   pub row : List PortState
   pub moment : Moment t request old new x row s
-  pub is : first_stage row s.taken request.length (outcome s.spec s.registers request)
+  pub is : first_stage row s request.length (outcome s.spec s.registers request)
       ≡ stage_refused
 
 -- the target's maximum is the device's, or so little is wanted that one packet holds it
@@ -108,7 +108,7 @@ pub record AnswerRead (t : Target) (request : Setup) (bytes : List ℕ) (old new
   pub row : List PortState
   pub moment : Moment t request old new x row s
   pub answer : List ℕ
-  pub is : first_stage row s.taken request.length (outcome s.spec s.registers request)
+  pub is : first_stage row s request.length (outcome s.spec s.registers request)
       ≡ reading answer request.length 0
   pub came : IsMaximum t request.length s → bytes ≡ take request.length answer
   pub over : IsRead v
@@ -130,7 +130,7 @@ pub record EffectDone (t : Target) (request : Setup) (old new : World) (x : Loca
   pub row : List PortState
   pub moment : Moment t request old new x row s
   pub address : Option ℕ
-  pub is : first_stage row s.taken request.length (outcome s.spec s.registers request)
+  pub is : first_stage row s request.length (outcome s.spec s.registers request)
       ≡ ending address
   pub given : StatusGiven address (accepted s row request) v
   pub rest : OnlyControl (accepted s row request) v
@@ -146,7 +146,7 @@ pub data EffectOrNone (t : Target) (request : Setup) (fault : PipeFault) (old : 
   whole : (why : BusFault) → fault ≡ Bus why → (row : List PortState) (now : World)
       → AcceptedIn t request old now x row s → OnlyControl (accepted s row request) v
       → (address : Option ℕ)
-      → first_stage row s.taken request.length (outcome s.spec s.registers request)
+      → first_stage row s request.length (outcome s.spec s.registers request)
       ≡ ending address → StatusGiven address (accepted s row request) v
       → EffectOrNone t request fault old x s v
 

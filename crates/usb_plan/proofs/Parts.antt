@@ -23,7 +23,7 @@ use Rattle.usb_plan.specs.{EventValues, event_values, device_index_at, bytes_at,
 use Rattle.usb_plan.specs.{plug_of, unplug_of, send_of, receive_of, clear_of, control_of, look_of}
 use Rattle.usb_plan.specs.{asked, request_at, after_at, event_room, interrupt_of, any_endpoint}
 use Rattle.usb_plan.specs.{out_endpoint, in_endpoint, in_endpoint_at, send_to, receive_from}
-use Rattle.usb_plan.specs.{send_with, receive_with, clear_with, clear_end}
+use Rattle.usb_plan.specs.{send_with, receive_with, clear_with, clear_end, interface_of, byte_at}
 use Rattle.usb_plan.specs.declared.action.Request.{Request}
 use Rattle.usb_plan.specs.declared.action.Request.TheVariants.{Read, Write}
 use Rattle.usb_plan.specs.{event_with, event_of, event_in, attempt_at, packet_number, way_at}
@@ -34,7 +34,7 @@ use Rattle.usb_plan.specs.declared.quirks.Quirks.{Quirks}
 use Rattle.usb_plan.specs.declared.bulk.Bulk.{Bulk}
 use Rattle.usb_plan.specs.declared.fault.Place.{Place}
 use Rattle.usb_world.specs.{Event, Action, Plug, Unplug, Send, Receive, Clear, Look, SendTo}
-use Rattle.usb_world.specs.{ReceiveFrom, Poll, ClearOf}
+use Rattle.usb_world.specs.{ReceiveFrom, Poll, ClearOf, SetInterface}
 use Rattle.usb_world.specs.{Damage, Harm, Lose, LosePre, Flip, is_rooted, has_port, is_taken}
 use Rattle.usb_world.specs.{action_fits, event_fits, harm_fits, damage_fits}
 use Rattle.usb_world.specs.declared.event.Action.TheVariants.{Change, Ask}
@@ -495,6 +495,17 @@ interrupt_of_ok scene v a h =
     let way = in_endpoint_at_ok v.endpoint e2.value e2.good in
     rw (← same) (rw (read_path_ok scene v.path e1.value e1.good, way))
 
+interface_of_ok : (scene : SceneData) (v : EventValues) (a : Action)
+    → interface_of scene v ≡ Ok a → FitsScene scene a
+unfolding interface_of action.set_interface
+interface_of_ok scene v a h =
+    let e0 = bind_good (least_fault _) _ a h in
+    let e1 = bind_good (read_path scene v.path) _ a e0.rest in
+    let e2 = bind_good (byte_at v.interface) _ a e1.rest in
+    let e3 = bind_good (byte_at v.setting) _ a e2.rest in
+    let same : Ask (SetInterface e1.value e2.value e3.value) ≡ a = cc e3.rest in
+    rw (← same) (read_path_ok scene v.path e1.value e1.good)
+
 asked_fits : (scene : SceneData) (p : List ℕ) (r : Request) → is_rooted scene.roots p ≡ true
     → FitsScene scene (Ask (asked p r))
 unfolding asked
@@ -530,6 +541,7 @@ action_of_ok verb.Clear scene v a h = clear_of_ok scene v a h
 action_of_ok verb.Control scene v a h = control_of_ok scene v a h
 action_of_ok verb.Look scene v a h = look_of_ok scene v a h
 action_of_ok verb.Interrupt scene v a h = interrupt_of_ok scene v a h
+action_of_ok verb.Interface scene v a h = interface_of_ok scene v a h
 action_of_ok _ scene v a h = subst (λ r. IfOk r (FitsScene scene)) h refl
 
 -- the event may come where so much is plugged, and there is room for it

@@ -9,17 +9,18 @@ use Rattle.usb_plan.specs.declared.entry_fault.EntryFault.TheVariants.{UnknownDe
 use Rattle.usb_plan.specs.declared.action.OtherKeys.{OtherKeys}
 use Rattle.usb_plan.specs.declared.action.OtherKeys.TheVariants.{Alone, Path, PathDevice, PathBytes}
 use Rattle.usb_plan.specs.declared.action.OtherKeys.TheVariants.{PathPackets, PathSetup}
-use Rattle.usb_plan.specs.declared.action.OtherKeys.TheVariants.{PathEndpoint}
+use Rattle.usb_plan.specs.declared.action.OtherKeys.TheVariants.{PathEndpoint, PathSetting}
 use Rattle.usb_plan.specs.EntryFault.{fault_in_part, least_fault, ◌>>=◌}
 use Rattle.usb_plan.specs.Endpoints.{address_at}
 use Rattle.usb_plan.specs.EventMembers.{EventValues}
 use Rattle.usb_plan.specs.Keys.{keys_at}
-use Rattle.usb_plan.specs.Value.{read_text, number_at, hex_bytes}
+use Rattle.usb_plan.specs.Value.{read_text, byte_at, number_at, hex_bytes}
 use Rattle.usb_plan.specs.Path.{read_path, free_path, taken_path}
 use Rattle.usb_plan.specs.Scene.{SceneData}
 use Rattle.usb_request.specs.{Setup, DIRECTION_IN, setup_of}
 use Rattle.usb_world.specs.{Action, Plug, Unplug, Send, Receive, Clear, ControlIn, ControlOut}
-use Rattle.usb_world.specs.{Look, SendTo, ReceiveFrom, Poll, ClearOf, Write as Written}
+use Rattle.usb_world.specs.{Look, SendTo, ReceiveFrom, Poll, ClearOf, SetInterface}
+use Rattle.usb_world.specs.{Write as Written}
 use Rattle.usb_world.specs.declared.event.Ask.{Ask as Asked}
 use Rattle.usb_plan.specs.declared.action.Request.{Request}
 use Rattle.usb_plan.specs.declared.action.Request.TheVariants.{Read, Write}
@@ -150,6 +151,15 @@ clear_end path endpoint = do
   e ← endpoint
   Ok (Ask (ClearOf p e))
 
+unfoldable pub set_interface : Result (List ℕ) EntryFault → Result ℕ EntryFault
+    → Result ℕ EntryFault → Result Action EntryFault
+set_interface path interface setting = do
+  u ← least_fault (fault_in_part path ∷ fault_in_part interface ∷ fault_in_part setting ∷ [])
+  p ← path
+  i ← interface
+  s ← setting
+  Ok (Ask (SetInterface p i s))
+
 -- with the key `endpoint` it is to that endpoint, else to the first bulk OUT
 unfoldable pub send_with : Option Data → Result (List ℕ) EntryFault → Result (List ℕ) EntryFault
     → Result Action EntryFault
@@ -199,6 +209,10 @@ look_of scene v = read_path scene v.path >>= λ path. Ok (Ask (Look path))
 unfoldable pub interrupt_of : SceneData → EventValues → Result Action EntryFault
 interrupt_of scene v = poll (read_path scene v.path) (in_endpoint_at v.endpoint)
 
+unfoldable pub interface_of : SceneData → EventValues → Result Action EntryFault
+interface_of scene v =
+    set_interface (read_path scene v.path) (byte_at v.interface) (byte_at v.setting)
+
 abbrev pub event_keys : List (List ℕ) → List (List ℕ)
 event_keys others = codes "do" ∷ codes "after" ∷ others
 
@@ -210,30 +224,39 @@ other_names PathBytes = codes "path" ∷ codes "bytes" ∷ codes "endpoint" ∷ 
 other_names PathPackets = codes "path" ∷ codes "packets" ∷ codes "endpoint" ∷ []
 other_names PathEndpoint = codes "path" ∷ codes "endpoint" ∷ []
 other_names PathSetup = codes "path" ∷ codes "bytes" ∷ codes "setup" ∷ []
+other_names PathSetting = codes "path" ∷ codes "interface" ∷ codes "setting" ∷ []
 
 -- no key but these, `do` and `after`
 unfoldable pub keys_of : OtherKeys → Members → Result (Unit {0}) EntryFault
 keys_of keys ms = keys_at (event_keys (other_names keys)) ms
 
+-- no other key, and neither of those that `interface` alone has
+abbrev pub names_no_setting : EventValues → Bool
+names_no_setting v = not v.has_others && is_none v.setting && is_none v.interface
+
 -- the same by what stands at the keys: no other key, and nothing at those that do not go with `do`
 unfoldable pub verb_fits : OtherKeys → EventValues → Bool
 verb_fits Alone v =
-    not v.has_others && is_none v.endpoint && is_none v.setup && is_none v.packets &&
+    names_no_setting v && is_none v.endpoint && is_none v.setup && is_none v.packets &&
     is_none v.bytes && is_none v.device && is_none v.path
 verb_fits Path v =
-    not v.has_others && is_none v.endpoint && is_none v.setup && is_none v.packets &&
+    names_no_setting v && is_none v.endpoint && is_none v.setup && is_none v.packets &&
     is_none v.bytes && is_none v.device
 verb_fits PathDevice v =
-    not v.has_others && is_none v.endpoint && is_none v.setup && is_none v.packets &&
+    names_no_setting v && is_none v.endpoint && is_none v.setup && is_none v.packets &&
     is_none v.bytes
 verb_fits PathBytes v =
-    not v.has_others && is_none v.setup && is_none v.packets && is_none v.device
+    names_no_setting v && is_none v.setup && is_none v.packets && is_none v.device
 verb_fits PathPackets v =
-    not v.has_others && is_none v.setup && is_none v.bytes && is_none v.device
+    names_no_setting v && is_none v.setup && is_none v.bytes && is_none v.device
 verb_fits PathEndpoint v =
-    not v.has_others && is_none v.setup && is_none v.packets && is_none v.bytes && is_none v.device
+    names_no_setting v && is_none v.setup && is_none v.packets && is_none v.bytes &&
+    is_none v.device
 verb_fits PathSetup v =
-    not v.has_others && is_none v.endpoint && is_none v.packets && is_none v.device
+    names_no_setting v && is_none v.endpoint && is_none v.packets && is_none v.device
+verb_fits PathSetting v =
+    not v.has_others && is_none v.endpoint && is_none v.setup && is_none v.packets &&
+    is_none v.bytes && is_none v.device
 
 unfoldable pub keys_given : OtherKeys → EventValues → Result (Unit {0}) EntryFault
 keys_given keys v = if verb_fits keys v then Ok tt else Err BadValue

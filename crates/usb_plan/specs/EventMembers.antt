@@ -17,12 +17,14 @@ pub record EventValues : Type 0 where
   pub packets : Option Data
   pub setup : Option Data
   pub endpoint : Option Data
+  pub interface : Option Data
+  pub setting : Option Data
   pub has_others : Bool
 
 abbrev pub all_event_keys : List (List ℕ)
 all_event_keys =
     codes "do" ∷ codes "after" ∷ codes "path" ∷ codes "device" ∷ codes "bytes" ∷ codes "packets" ∷
-    codes "setup" ∷ codes "endpoint" ∷ []
+    codes "setup" ∷ codes "endpoint" ∷ codes "interface" ∷ codes "setting" ∷ []
 
 -- those of a table
 unfoldable pub event_values : Members → EventValues
@@ -35,6 +37,8 @@ event_values ms = record {
   packets = get_member (codes "packets") ms;
   setup = get_member (codes "setup") ms;
   endpoint = get_member (codes "endpoint") ms;
+  interface = get_member (codes "interface") ms;
+  setting = get_member (codes "setting") ms;
   has_others = not (only_named all_event_keys ms);
 }
 
@@ -49,6 +53,8 @@ found m = record {
   packets = option_map (λ v. view v.now) m.packets;
   setup = option_map (λ v. view v.now) m.setup;
   endpoint = option_map (λ v. view v.now) m.endpoint;
+  interface = option_map (λ v. view v.now) m.interface;
+  setting = option_map (λ v. view v.now) m.setting;
   has_others = m.has_others;
 }
 
@@ -63,4 +69,6 @@ with_value key d v =
     else if bytes_eq key (codes "packets") then record v { packets = Some d }
     else if bytes_eq key (codes "setup") then record v { setup = Some d }
     else if bytes_eq key (codes "endpoint") then record v { endpoint = Some d }
+    else if bytes_eq key (codes "interface") then record v { interface = Some d }
+    else if bytes_eq key (codes "setting") then record v { setting = Some d }
     else record v { has_others = true }

@@ -34,6 +34,7 @@ is_stall d =
     names (codes "device") d || names (codes "address") d || names (codes "config") d ||
     names (codes "set_config") d
     || names (codes "status") d || names (codes "hub") d || names (codes "string") d
+    || names (codes "interface") d
 
 -- the requests that the values name
 unfoldable pub stalls_named : List Data → Stalls
@@ -45,6 +46,7 @@ stalls_named ds = record {
   status = list_any (names (codes "status")) ds;
   hub = list_any (names (codes "hub")) ds;
   string = list_any (names (codes "string")) ds;
+  interface = list_any (names (codes "interface")) ds;
 }
 
 unfoldable pub stalls_in : Data → Result Stalls EntryFault

@@ -5,14 +5,15 @@ use Rattle.toml.specs.Data.{Data}
 use Rattle.usb_plan.specs.declared.action.OtherKeys.{OtherKeys}
 use Rattle.usb_plan.specs.declared.action.OtherKeys.TheVariants.{Alone, Path, PathDevice, PathBytes}
 use Rattle.usb_plan.specs.declared.action.OtherKeys.TheVariants.{PathPackets, PathSetup}
-use Rattle.usb_plan.specs.declared.action.OtherKeys.TheVariants.{PathEndpoint}
+use Rattle.usb_plan.specs.declared.action.OtherKeys.TheVariants.{PathEndpoint, PathSetting}
 use Rattle.usb_plan.specs.declared.entry_fault.EntryFault.{EntryFault}
 use Rattle.usb_plan.specs.declared.entry_fault.EntryFault.TheVariants.{BadValue}
 use Rattle.usb_plan.specs.declared.verb.Verb.{Verb}
 use Rattle.usb_plan.specs.declared.verb.Verb.TheVariants.{Plug, Unplug, Show, Send, Receive, Clear}
 use Rattle.usb_plan.specs.declared.verb.Verb.TheVariants.{Control, Look, News, Interrupt}
+use Rattle.usb_plan.specs.declared.verb.Verb.TheVariants.{Interface}
 use Rattle.usb_plan.specs.Action.{plug_of, unplug_of, send_of, receive_of, clear_of, control_of}
-use Rattle.usb_plan.specs.Action.{look_of, interrupt_of}
+use Rattle.usb_plan.specs.Action.{look_of, interrupt_of, interface_of}
 use Rattle.usb_plan.specs.EntryFault.{◌>>=◌}
 use Rattle.usb_plan.specs.EventMembers.{EventValues}
 use Rattle.usb_plan.specs.Scene.{SceneData}
@@ -33,6 +34,7 @@ verb_named text =
     else if bytes_eq text (codes "look") then Ok Look
     else if bytes_eq text (codes "news") then Ok News
     else if bytes_eq text (codes "interrupt") then Ok Interrupt
+    else if bytes_eq text (codes "interface") then Ok Interface
     else Err BadValue
 
 -- the key `do`
@@ -51,6 +53,7 @@ other_keys Control = PathSetup
 other_keys Look = Path
 other_keys News = Alone
 other_keys Interrupt = PathEndpoint
+other_keys Interface = PathSetting
 
 -- what an event with these values does in the scene
 unfoldable pub action_of : Verb → SceneData → EventValues → Result Action EntryFault
@@ -64,3 +67,4 @@ action_of Control scene v = control_of scene v
 action_of Look scene v = look_of scene v
 action_of News scene v = Ok (Ask ask.News)
 action_of Interrupt scene v = interrupt_of scene v
+action_of Interface scene v = interface_of scene v

@@ -2,7 +2,7 @@
 
 ghost use Rattle.std.specs.Prelude.{◌≡◌, ◌≤◌, option_map};
 ghost use Rattle.toml.specs.View.{view};
-ghost use Rattle.usb_plan.specs.Action.{device_index_at, bytes_at, packets_at, any_endpoint, out_endpoint, in_endpoint, in_endpoint_at, setup_in, setup_at, no_bytes, given, write_bytes, write_with, request_with, request_at, asked, plug, send, receive, send_to, receive_from, poll, clear_end, send_with, receive_with, clear_with, control, plug_of, unplug_of, send_of, receive_of, clear_of, control_of, look_of, interrupt_of, verb_fits, keys_given};
+ghost use Rattle.usb_plan.specs.Action.{device_index_at, bytes_at, packets_at, any_endpoint, out_endpoint, in_endpoint, in_endpoint_at, setup_in, setup_at, no_bytes, given, write_bytes, write_with, request_with, request_at, asked, plug, send, receive, send_to, receive_from, poll, clear_end, set_interface, send_with, receive_with, clear_with, control, plug_of, unplug_of, send_of, receive_of, clear_of, control_of, look_of, interrupt_of, interface_of, verb_fits, keys_given};
 ghost use Rattle.usb_plan.specs.EventMembers.{found};
 ghost use Rattle.usb_request.specs.Layout.{IsToDevice};
 ghost use Rattle.usb_plan.specs.EntryFault.{EqualUnless};
@@ -13,7 +13,7 @@ use crate::entry_fault::{EntryFault, fault_in_part, least_fault};
 use crate::members::EventMembers;
 use crate::path::{free_path, read_path, taken_path};
 use crate::scene::Scene;
-use crate::value::{hex_bytes, number_at, read_text};
+use crate::value::{byte_at, hex_bytes, number_at, read_text};
 use std::alloc::Global;
 use toml::Value;
 use usb_port::PortPath;
@@ -286,6 +286,22 @@ fn clear_end(
     Ok(Action::Ask(Ask::ClearOf(path?, endpoint?)))
 }
 
+#[tactic(auto, unfolding(crate::specs::Action::set_interface))]
+fn set_interface(
+    path: Result<PortPath, EntryFault>,
+    interface: Result<u8, EntryFault>,
+    setting: Result<u8, EntryFault>,
+) -> Result<Action, EntryFault>
+    ensures { result ≡ set_interface path interface setting }
+{
+    least_fault(&[
+        fault_in_part(&path),
+        fault_in_part(&interface),
+        fault_in_part(&setting),
+    ])?;
+    Ok(Action::Ask(Ask::SetInterface(path?, interface?, setting?)))
+}
+
 /// Sends to the endpoint at a key, without it to the first bulk OUT.
 #[tactic(auto, unfolding(crate::specs::Action::send_with))]
 fn send_with(
@@ -435,6 +451,18 @@ pub(crate) fn interrupt_of(
     poll(path, in_endpoint_at(members.endpoint))
 }
 
+/// Chooses an alternate setting of an interface.
+#[tactic(auto, unfolding(crate::specs::Action::interface_of))]
+pub(crate) fn interface_of(
+    scene: &Scene<'_>,
+    members: &EventMembers<'_>,
+) -> Result<Action, EntryFault>
+    ensures { result ≡ interface_of scene.now (found members.now) }
+{
+    let path = read_path(scene, members.path);
+    set_interface(path, byte_at(members.interface), byte_at(members.setting))
+}
+
 /// The keys that go with an event's `do` and `after`.
 #[derive(Clone, Copy)]
 pub(crate) enum OtherKeys {
@@ -452,6 +480,8 @@ pub(crate) enum OtherKeys {
     PathEndpoint,
     /// `path`, `setup` and maybe `bytes`.
     PathSetup,
+    /// `path`, `interface` and `setting`.
+    PathSetting,
 }
 
 /// Whether each key that is there is one of those, `do` or `after`.
@@ -459,7 +489,8 @@ pub(crate) enum OtherKeys {
 fn fits(keys: OtherKeys, members: &EventMembers<'_>) -> bool
     ensures { result ≡ verb_fits keys (found members.now) }
 {
-    let known = !members.has_others;
+    let no_others = !members.has_others;
+    let known = no_others && members.setting.is_none() && members.interface.is_none();
     let no_device = members.device.is_none();
     let no_bytes = members.bytes.is_none();
     let no_packets = members.packets.is_none();
@@ -476,6 +507,9 @@ fn fits(keys: OtherKeys, members: &EventMembers<'_>) -> bool
         OtherKeys::PathPackets => known && no_setup && no_bytes && no_device,
         OtherKeys::PathEndpoint => known && no_setup && no_packets && no_bytes && no_device,
         OtherKeys::PathSetup => known && no_end && no_packets && no_device,
+        OtherKeys::PathSetting => {
+            no_others && no_end && no_setup && no_packets && no_bytes && no_device
+        }
     }
 }
 

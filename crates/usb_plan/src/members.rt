@@ -18,6 +18,8 @@ pub(crate) struct EventMembers<'a> {
     pub packets: Option<&'a Value>,
     pub setup: Option<&'a Value>,
     pub endpoint: Option<&'a Value>,
+    pub interface: Option<&'a Value>,
+    pub setting: Option<&'a Value>,
     /// Whether there is any other key.
     pub has_others: bool,
 }
@@ -36,6 +38,8 @@ impl<'a> EventMembers<'a> {
             packets: None,
             setup: None,
             endpoint: None,
+            interface: None,
+            setting: None,
             has_others: false,
         };
         'entries: for (key, value) in table.iter() {
@@ -58,6 +62,8 @@ impl<'a> EventMembers<'a> {
             "packets" => self.packets = Some(value),
             "setup" => self.setup = Some(value),
             "endpoint" => self.endpoint = Some(value),
+            "interface" => self.interface = Some(value),
+            "setting" => self.setting = Some(value),
             _ => self.has_others = true,
         }
     }

@@ -59,6 +59,7 @@ fn is_stall(value: &Value) -> bool
         || names(value, "status")
         || names(value, "hub")
         || names(value, "string")
+        || names(value, "interface")
 }
 
 fn are_stalls(values: &[Value]) -> bool
@@ -87,6 +88,7 @@ fn stalls_named(values: &[Value]) -> Stalls
         status: some_names(values, "status"),
         hub: some_names(values, "hub"),
         string: some_names(values, "string"),
+        interface: some_names(values, "interface"),
     }
 }
 

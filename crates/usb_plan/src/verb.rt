@@ -8,7 +8,8 @@ ghost use Rattle.usb_plan.specs.Verb.{verb_named, verb_at, other_keys, action_of
 ghost use Rattle.usb_plan.specs.declared.entry_fault.EntryFault.TheVariants.{Memory};
 
 use crate::action::{
-    OtherKeys, clear_of, control_of, interrupt_of, look_of, plug_of, receive_of, send_of, unplug_of,
+    OtherKeys, clear_of, control_of, interface_of, interrupt_of, look_of, plug_of, receive_of,
+    send_of, unplug_of,
 };
 use crate::entry_fault::EntryFault;
 use crate::members::EventMembers;
@@ -31,6 +32,7 @@ pub(crate) enum Verb {
     Look,
     News,
     Interrupt,
+    Interface,
 }
 
 #[tactic(auto, unfolding(crate::specs::Verb::verb_named))]
@@ -48,6 +50,7 @@ fn verb_named(text: &str) -> Result<Verb, EntryFault>
         "look" => Ok(Verb::Look),
         "news" => Ok(Verb::News),
         "interrupt" => Ok(Verb::Interrupt),
+        "interface" => Ok(Verb::Interface),
         _ => Err(EntryFault::BadValue),
     }
 }
@@ -76,6 +79,7 @@ pub(crate) fn other_keys(verb: Verb) -> OtherKeys
         Verb::Look => OtherKeys::Path,
         Verb::News => OtherKeys::Alone,
         Verb::Interrupt => OtherKeys::PathEndpoint,
+        Verb::Interface => OtherKeys::PathSetting,
     }
 }
 
@@ -100,5 +104,6 @@ pub(crate) fn action_of(
         Verb::Look => look_of(scene, members),
         Verb::News => Ok(Action::Ask(Ask::News)),
         Verb::Interrupt => interrupt_of(scene, members),
+        Verb::Interface => interface_of(scene, members),
     }
 }

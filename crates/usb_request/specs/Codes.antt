@@ -11,8 +11,14 @@ DEVICE_OUT = 0x00
 abbrev pub INTERFACE_OUT : ℕ
 INTERFACE_OUT = 0x01
 
+abbrev pub INTERFACE_IN : ℕ
+INTERFACE_IN = 0x81
+
 abbrev pub ENDPOINT_OUT : ℕ
 ENDPOINT_OUT = 0x02
+
+abbrev pub ENDPOINT_IN : ℕ
+ENDPOINT_IN = 0x82
 
 abbrev pub HUB_IN : ℕ
 HUB_IN = 0xa0
@@ -44,6 +50,9 @@ GET_CONFIGURATION = 8
 
 abbrev pub SET_CONFIGURATION : ℕ
 SET_CONFIGURATION = 9
+
+abbrev pub GET_INTERFACE : ℕ
+GET_INTERFACE = 10
 
 abbrev pub SET_INTERFACE : ℕ
 SET_INTERFACE = 11

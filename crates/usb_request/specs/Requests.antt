@@ -2,8 +2,8 @@
 use Rattle.std.specs.Prelude.{ℕ, ◌+◌, ◌*◌}
 use Rattle.usb_request.specs.Codes.{DEVICE, CONFIGURATION, STRING, HUB, HUB_LENGTH, GET_STATUS}
 use Rattle.usb_request.specs.Codes.{CLEAR_FEATURE, SET_FEATURE, SET_ADDRESS, GET_DESCRIPTOR}
-use Rattle.usb_request.specs.Codes.{SET_CONFIGURATION, DEVICE_IN, DEVICE_OUT, ENDPOINT_OUT, HUB_IN}
-use Rattle.usb_request.specs.Codes.{PORT_IN, PORT_OUT}
+use Rattle.usb_request.specs.Codes.{SET_CONFIGURATION, SET_INTERFACE, DEVICE_IN, DEVICE_OUT}
+use Rattle.usb_request.specs.Codes.{INTERFACE_OUT, ENDPOINT_OUT, HUB_IN, PORT_IN, PORT_OUT}
 use Rattle.usb_request.specs.Features.{ENDPOINT_HALT}
 use Rattle.usb_request.specs.declared.setup.Setup.{Setup}
 
@@ -85,6 +85,15 @@ clear_endpoint_halt endpoint = record {
   request = CLEAR_FEATURE;
   value = ENDPOINT_HALT;
   index = endpoint;
+  length = 0;
+}
+
+unfoldable pub set_interface : ℕ → ℕ → Setup
+set_interface interface setting = record {
+  request_type = INTERFACE_OUT;
+  request = SET_INTERFACE;
+  value = setting;
+  index = interface;
   length = 0;
 }
 

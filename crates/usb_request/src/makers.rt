@@ -1,13 +1,16 @@
 //! A maker for each request that the host sends.
 ghost use Rattle.std.specs.Prelude.{◌≡◌, ◌≤◌, ◌<◌};
 ghost use Rattle.usb_request.specs.Layout.{IsToHost, IsToDevice};
-ghost use Rattle.usb_request.specs.Requests.{descriptor_value, get_device_descriptor, get_configuration_descriptor, get_string_descriptor, get_hub_descriptor, get_status, set_address, set_configuration, clear_endpoint_halt, get_port_status, set_port_feature, clear_port_feature};
+ghost use Rattle.usb_request.specs.Requests.{descriptor_value, get_device_descriptor, get_configuration_descriptor, get_string_descriptor, get_hub_descriptor, get_status, set_address, set_configuration, clear_endpoint_halt, set_interface, get_port_status, set_port_feature, clear_port_feature};
 
 use crate::descriptor_length::HUB_LENGTH;
 use crate::request_code::{
     CLEAR_FEATURE, GET_DESCRIPTOR, GET_STATUS, SET_ADDRESS, SET_CONFIGURATION, SET_FEATURE,
+    SET_INTERFACE,
 };
-use crate::request_type::{DEVICE_IN, DEVICE_OUT, ENDPOINT_OUT, HUB_IN, PORT_IN, PORT_OUT};
+use crate::request_type::{
+    DEVICE_IN, DEVICE_OUT, ENDPOINT_OUT, HUB_IN, INTERFACE_OUT, PORT_IN, PORT_OUT,
+};
 use crate::{Setup, descriptor_type, feature};
 
 impl Setup {
@@ -140,6 +143,22 @@ impl Setup {
             request: CLEAR_FEATURE,
             value: feature::ENDPOINT_HALT,
             index: u16::from(endpoint),
+            length: 0,
+        }
+    }
+
+    /// SET_INTERFACE (9.4.10): chooses an alternate setting of an interface.
+    #[tactic(auto, unfolding(crate::specs::Requests::set_interface))]
+    pub fn set_interface(interface: u8, setting: u8) -> Setup
+        ensures setup { result ≡ set_interface interface setting }
+        ensures direction { IsToDevice result }
+        ensures data_length { result.length ≡ 0 }
+    {
+        Setup {
+            request_type: INTERFACE_OUT,
+            request: SET_INTERFACE,
+            value: u16::from(setting),
+            index: u16::from(interface),
             length: 0,
         }
     }

@@ -11,8 +11,14 @@ pub const DEVICE_OUT: u8 = 0x00;
 /// To the device, standard, interface.
 pub const INTERFACE_OUT: u8 = 0x01;
 
+/// To the host, standard, interface.
+pub const INTERFACE_IN: u8 = 0x81;
+
 /// To the device, standard, endpoint.
 pub const ENDPOINT_OUT: u8 = 0x02;
+
+/// To the host, standard, endpoint.
+pub const ENDPOINT_IN: u8 = 0x82;
 
 /// To the host, class, device: a hub as a whole.
 pub const HUB_IN: u8 = 0xa0;

@@ -5,14 +5,15 @@ use Rattle.arrayvec.specs.ArrayVec.{ArrayVec}
 use Rattle.usb_world.specs.declared.event.Ask.{Ask}
 use Rattle.usb_world.specs.{Show, Send, Receive, Clear, ControlIn, ControlOut, IsWrite, Write}
 use Rattle.usb_world.specs.{Look as LookAt, News as AskNews, SendTo, ReceiveFrom, Poll, ClearOf}
+use Rattle.usb_world.specs.{SetInterface}
 use Rattle.usb_request.specs.{IsToHost, Setup}
 use Rattle.usb_host.specs.{HostFault, ClearTells, ReceiveTells, SendTells, ReadTells, WriteTells}
-use Rattle.usb_host.specs.{LookTells, ReportTells, ClearOfTells}
+use Rattle.usb_host.specs.{LookTells, ReportTells, ClearOfTells, InterfaceTells}
 use Rattle.usb_host.specs.{HostState, Look, News, ReportsNews}
 use Rattle.usb_host.specs.{Left, Arrived}
 use Rattle.usb_table.specs.{TransferFault, FirstBulk, At}
 use Rattle.usb_run.specs.{Item, Sent, Received, Cleared, Read, Written, Looked}
-use Rattle.usb_run.specs.{SentTo, ReceivedFrom, Polled, ClearedOf}
+use Rattle.usb_run.specs.{SentTo, ReceivedFrom, Polled, ClearedOf, InterfaceSet}
 use Rattle.usb_run.specs.{RunFault, listing_of}
 use Rattle.usb_run.specs.{AllNews, SomeNewsAre, no_news, one_news, IsItemOf, StopsAt, sent_count}
 use Rattle.usb_run.specs.declared.runs.Item.TheVariants.{News as ToldNews}
@@ -46,6 +47,11 @@ pub data AskAnswered (due : Option Ask) (item : Option Item) (old new : HostStat
   cleared_of : (path : List ℕ) (endpoint : ℕ) (told : Result (Unit {0}) TransferFault)
       → due ≡ Some (ClearOf path endpoint) → item ≡ Some (ClearedOf path endpoint told)
       → Transfers (ClearOfTells path endpoint) old told new → AskAnswered due item old new
+  interface_set : (path : List ℕ) (interface setting : ℕ) (told : Result (Unit {0}) TransferFault)
+      → due ≡ Some (SetInterface path interface setting)
+      → item ≡ Some (InterfaceSet path interface setting told)
+      → Transfers (InterfaceTells path interface setting) old told new
+      → AskAnswered due item old new
   read : (path : List ℕ) (request : Setup) (told : Result (Vec ℕ) TransferFault)
       → IsToHost request → due ≡ Some (ControlIn path request) → item ≡ Some (Read path told)
       → Transfers (ReadTells path request) old told new → AskAnswered due item old new
@@ -74,6 +80,8 @@ answered (Some (ReceiveFrom path endpoint packets)) item old new is =
 answered (Some (Poll path endpoint)) item old new is = polled path endpoint is.0 refl is.1 is.2
 answered (Some (ClearOf path endpoint)) item old new is =
     cleared_of path endpoint is.0 refl is.1 is.2
+answered (Some (SetInterface path interface setting)) item old new is =
+    interface_set path interface setting is.0 refl is.1 is.2
 answered (Some (ControlIn path request)) item old new is =
     read path request is.1.0 is.0 refl is.1.1 is.1.2
 answered (Some (ControlOut path write)) item old new is =
@@ -133,6 +141,9 @@ pub data Calls (due : Option Ask) (old new : HostState) : Type 0 where
   clears_of : (path : List ℕ) (endpoint : ℕ) (result : Result (Unit {0}) HostFault)
       → due ≡ Some (ClearOf path endpoint) → ClearOfTells path endpoint old result new
       → Calls due old new
+  sets_interface : (path : List ℕ) (interface setting : ℕ) (result : Result (Unit {0}) HostFault)
+      → due ≡ Some (SetInterface path interface setting)
+      → InterfaceTells path interface setting old result new → Calls due old new
   reads : (path : List ℕ) (request : Setup) (result : Result (Vec ℕ) HostFault)
       → due ≡ Some (ControlIn path request) → ReadTells path request old result new
       → Calls due old new
@@ -159,6 +170,8 @@ item_calls (polled path endpoint told asks is came) =
     polls path endpoint came.answer asks came.call
 item_calls (cleared_of path endpoint told asks is came) =
     clears_of path endpoint came.answer asks came.call
+item_calls (interface_set path interface setting told asks is came) =
+    sets_interface path interface setting came.answer asks came.call
 item_calls (read path request told host asks is came) =
     reads path request came.answer asks came.call
 item_calls (written path write told fits asks is came) =
@@ -184,6 +197,8 @@ stop_calls (Some (Poll path endpoint)) fault old new stops =
     polls path endpoint stops.answer refl stops.call
 stop_calls (Some (ClearOf path endpoint)) fault old new stops =
     clears_of path endpoint stops.answer refl stops.call
+stop_calls (Some (SetInterface path interface setting)) fault old new stops =
+    sets_interface path interface setting stops.answer refl stops.call
 stop_calls (Some (ControlIn path request)) fault old new stops =
     reads path request stops.answer refl stops.call
 stop_calls (Some (ControlOut path write)) fault old new stops =

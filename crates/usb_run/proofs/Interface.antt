@@ -2,6 +2,7 @@
 pub use Rattle.usb_run.proofs.AskedCalls.{AskAnswered, silent, listed, sent, received, cleared}
 pub use Rattle.usb_run.proofs.AskedCalls.{read, written, looked, news, answered}
 pub use Rattle.usb_run.proofs.AskedCalls.{sent_to, received_from, polled, cleared_of}
+pub use Rattle.usb_run.proofs.AskedCalls.{interface_set}
 pub use Rattle.usb_run.proofs.AskedCalls.{all_reported}
 pub use Rattle.usb_run.proofs.endings.Causes.{at_fault, run_limit, untold_fault}
 pub use Rattle.usb_run.proofs.endings.Ends.{answered_goes, knows_opened, limit_opened}
@@ -15,6 +16,7 @@ pub use Rattle.usb_run.proofs.courses.RunParts.{item_called, round_called}
 pub use Rattle.usb_run.proofs.items.ToldTransfers.{count_done, done_told, no_bus_fault}
 pub use Rattle.usb_run.proofs.items.ToldTransfers.{told_cleared, told_received, told_sent}
 pub use Rattle.usb_run.proofs.items.ToldTransfers.{report_told, told_cleared_of, told_reported}
+pub use Rattle.usb_run.proofs.items.ToldTransfers.{told_interface}
 pub use Rattle.usb_run.proofs.items.Transcripts.{appends_no_text, cut_next, cuts_line, ends_failed}
 pub use Rattle.usb_run.proofs.items.Transcripts.{flat_map-take, over_next, puts_line, stopped_next}
 pub use Rattle.usb_run.proofs.items.Transcripts.{texts_split, told_next, unwritten_next}

@@ -4,10 +4,11 @@ use Rattle.usb_run.specs.declared.runs.Item.{Item}
 use Rattle.usb_run.specs.declared.runs.Item.TheVariants.{Listing, Sent, Received, Cleared}
 use Rattle.usb_run.specs.declared.runs.Item.TheVariants.{Read, Written, Looked, News}
 use Rattle.usb_run.specs.declared.runs.Item.TheVariants.{SentTo, ReceivedFrom, Polled, ClearedOf}
+use Rattle.usb_run.specs.declared.runs.Item.TheVariants.{InterfaceSet}
 use Rattle.usb_run.specs.TransferLines.{sent_line, received_line, cleared_line, read_line}
 use Rattle.usb_run.specs.TransferLines.{look_line, news_lines, written_line}
 use Rattle.usb_run.specs.TransferLines.{cleared_of_line, polled_line, received_from_line}
-use Rattle.usb_run.specs.TransferLines.{sent_to_line}
+use Rattle.usb_run.specs.TransferLines.{interface_line, sent_to_line}
 use Rattle.usb_text.specs.{listing_lines}
 
 -- the lines of an item; the number is that of a listing
@@ -25,6 +26,8 @@ item_lines number (ReceivedFrom path endpoint received) =
     received_from_line path endpoint received ∷ []
 item_lines number (Polled path endpoint polled) = polled_line path endpoint polled ∷ []
 item_lines number (ClearedOf path endpoint cleared) = cleared_of_line path endpoint cleared ∷ []
+item_lines number (InterfaceSet path interface setting set) =
+    interface_line path interface setting set ∷ []
 
 -- listings alone are numbered
 abbrev pub number_of : Item → ℕ → ℕ
@@ -40,3 +43,4 @@ number_of (SentTo path endpoint sent) number = number
 number_of (ReceivedFrom path endpoint received) number = number
 number_of (Polled path endpoint polled) number = number
 number_of (ClearedOf path endpoint cleared) number = number
+number_of (InterfaceSet path interface setting set) number = number

@@ -8,11 +8,11 @@ pub mod Transcript
 pub mod Reports
 pub mod Moments
 -- the words of this crate, wherever one stands
-pub use TransferLines.{cleared_end, endpoint_text, failed_end, fault_word, polled_end}
-pub use TransferLines.{look_end, one_news_line, received_end, sent_end}
-unfoldable pub use TransferLines.{cleared_line, look_line, news_lines, read_line, received_line}
-unfoldable pub use TransferLines.{sent_line, written_line}
-unfoldable pub use TransferLines.{cleared_of_line, polled_line, received_from_line, sent_to_line}
+pub use TransferLines.{done_end, endpoint_text, failed_end, fault_word, look_end, one_news_line}
+pub use TransferLines.{polled_end, received_end, sent_end, setting_text}
+unfoldable pub use TransferLines.{cleared_line, cleared_of_line, interface_line, look_line}
+unfoldable pub use TransferLines.{news_lines, polled_line, read_line, received_from_line}
+unfoldable pub use TransferLines.{received_line, sent_line, sent_to_line, written_line}
 pub use Run.{IsBegun, IsCaused, RunsOn, Spent, items_left, listing_of, round_fault, run_fault}
 pub use ItemLines.{item_lines, number_of}
 pub use NewsCalls.{AllNews, SomeNews, SomeNewsAre, no_news, one_news}
@@ -26,13 +26,14 @@ pub use Transcript.{in_round, in_text, item_text, itself, last, never, on_the_wa
 pub use Transcript.{unwritten}
 unfoldable pub use Transcript.{items_text, listings}
 pub use Reports.{EndsWell, Finishes, Opens, RunsWell}
-pub use Moments.{ControlIfAsked, ControlTold, IsListingOf, ListsPlugged, ListsRight, LookShows}
-pub use Moments.{TellsRight, as_answer, table_told}
+pub use Moments.{ControlIfAsked, ControlTold, InterfaceIfAsked, InterfaceTold, IsListingOf}
+pub use Moments.{ListsPlugged, ListsRight, LookShows, TellsRight, as_answer, table_told}
 pub use declared.mode.Mode.{Mode}
 pub use declared.mode.Mode.TheVariants.{Tree}
 pub use declared.runs.Item.{Item}
 pub use declared.runs.Item.TheVariants.{Cleared, Listing, Looked, Read, Received, Sent}
-pub use declared.runs.Item.TheVariants.{ClearedOf, Polled, ReceivedFrom, SentTo, Written}
+pub use declared.runs.Item.TheVariants.{ClearedOf, InterfaceSet, Polled, ReceivedFrom, SentTo}
+pub use declared.runs.Item.TheVariants.{Written}
 pub use declared.runs.Report.{Report}
 pub use declared.runs.RunFault.{RunFault}
 pub use declared.runs.RunFault.TheVariants.{LimitReached, Memory, TraceFailed}

@@ -4,7 +4,7 @@ use Rattle.std.specs.Prelude.{true, is_ok}
 use Rattle.std.specs.List.{AllByRecursion}
 use Rattle.usb_world.specs.declared.event.Ask.{Ask}
 use Rattle.usb_world.specs.{Show, Send, Receive, Clear, ControlIn, ControlOut, Look as LookAt}
-use Rattle.usb_world.specs.{News as AskNews, SendTo, ReceiveFrom, Poll, ClearOf}
+use Rattle.usb_world.specs.{News as AskNews, SendTo, ReceiveFrom, Poll, ClearOf, SetInterface}
 use Rattle.usb_world.specs.{PlanData, AreOfDamages, AtMostTwoRunning, EachWas, World}
 use Rattle.usb_device.specs.{reach}
 use Rattle.usb_transaction.specs.{Target}
@@ -13,7 +13,9 @@ use Rattle.usb_enum.specs.{FewLosses}
 use Rattle.usb_table.specs.{ChangesAt, Delivered, Collected, ReadLeft, ReadMade, Restarted}
 use Rattle.usb_table.specs.{TransferFault, TransferIs, TransferLeaves, WriteLeft, WriteMade}
 use Rattle.usb_table.specs.{bytes_in, control_target, Lists, table_answer, tree_after, write_target}
-use Rattle.usb_table.specs.{FirstBulk, At, Reported, RestartedOf, TableFault, Transfer}
+use Rattle.usb_table.specs.{FirstBulk, At, Reported, RestartedOf, SettingLeft, TableFault}
+use Rattle.usb_table.specs.{Transfer, interface_target, pipes_at}
+use Rattle.usb_table.specs.{InterfaceSet}
 use Rattle.usb_host.specs.{HostFault, HostState, Look, LookDid, host_told, table_in}
 use Rattle.usb_host.specs.declared.fault.HostFault.TheVariants as host
 use Rattle.usb_run.specs.NewsCalls.{AllNews}
@@ -23,6 +25,7 @@ use Rattle.usb_run.specs.declared.runs.Item.{Item}
 use Rattle.usb_run.specs.declared.runs.Item.TheVariants.{Listing, Sent, Received, Cleared}
 use Rattle.usb_run.specs.declared.runs.Item.TheVariants.{Read, Written, Looked, News as ToldNews}
 use Rattle.usb_run.specs.declared.runs.Item.TheVariants.{SentTo, ReceivedFrom, Polled, ClearedOf}
+use Rattle.usb_run.specs.declared.runs.Item.TheVariants as item
 use Rattle.usb_run.specs.declared.runs.Report.{Report}
 
 -- a control transfer was made to a target, the device at a path: that did what this says, any other
@@ -43,15 +46,32 @@ ControlIfAsked Is Leaves path (Ok target) old told new =
     ControlTold Is Leaves path target old told new
 ControlIfAsked Is Leaves path (Err fault) old told new = (told ≡ Err fault) × (new ≡ old)
 
--- what a look came to, as the host told it
-abbrev pub as_answer : {A : Type 0} → Result A TransferFault → Result A HostFault
-as_answer (Ok done) = Ok done
-as_answer (Err fault) = Err (host.Transfer fault)
-
 -- what a transfer came to, as the table told it
 abbrev pub table_told : {A : Type 0} → Result A TransferFault → Result A TableFault
 table_told (Ok done) = Ok done
 table_told (Err fault) = Err (Transfer fault)
+
+-- SET_INTERFACE was sent to a target, the device at a path: that took the setting, or not, and each
+-- other device is as it was
+pub record InterfaceTold (path : List ℕ) (interface setting : ℕ) (target : Target) (old : HostState)
+    (told : Result (Unit {0}) TransferFault) (new : HostState) : Type 0 where
+  pub set : InterfaceSet path interface setting (table_in old) target old.world (table_told told)
+      (table_in new) new.world
+  pub each : EachWas (ChangesAt path (SettingLeft interface setting set.answer)) old.world new.world
+
+-- so it was if there is a target; else that is told, and nothing changed
+abbrev pub InterfaceIfAsked : List ℕ → ℕ → ℕ → Result Target TransferFault → HostState
+    → Result (Unit {0}) TransferFault → HostState → Type 0
+InterfaceIfAsked path interface setting (Ok target) old told new =
+    InterfaceTold path interface setting target old told new
+InterfaceIfAsked path interface setting (Err fault) old told new =
+    (told ≡ Err fault) × (pipes_at path (table_in new) ≡ pipes_at path (table_in old))
+    × (new.world ≡ old.world)
+
+-- what a look came to, as the host told it
+abbrev pub as_answer : {A : Type 0} → Result A TransferFault → Result A HostFault
+as_answer (Ok done) = Ok done
+as_answer (Err fault) = Err (host.Transfer fault)
 
 -- the port at a path was enumerated anew, and what is told is what is listed there then, or that no
 -- port has the path; what the host knows after it is so
@@ -63,7 +83,8 @@ pub record LookShows (path : List ℕ) (old : HostState) (told : Result Look Tra
 -- what an item tells of the event that asked for it is so: of a listing the host had settled; the
 -- device at the path took the bytes that were to be sent, gave those or the packet that is told,
 -- had its halts cleared, or answered or took what is told, at the endpoint that was asked for or at
--- its first bulk one; a look shows what is listed at its port; and the news are all there were
+-- its first bulk one; an interface took the setting that was asked for; a look shows what is listed
+-- at its port; and the news are all there were
 abbrev pub TellsRight : Option Ask → Item → HostState → HostState → Type 0
 TellsRight (Some Show) item old new = Settled new
 TellsRight (Some (Send path bytes)) (Sent to told) old new =
@@ -83,6 +104,10 @@ TellsRight (Some (Poll path endpoint)) (Polled from at told) old new =
     Reported path endpoint (table_told told) (table_in old) old.world (table_in new) new.world
 TellsRight (Some (ClearOf path endpoint)) (ClearedOf of at told) old new =
     RestartedOf path endpoint (is_ok told) (table_in old) old.world (table_in new) new.world
+TellsRight (Some (SetInterface path interface setting)) (item.InterfaceSet of number chosen told)
+    old new =
+    InterfaceIfAsked path interface setting (interface_target path interface setting old.entries)
+    old told new
 TellsRight (Some (ControlIn path request)) (Read from told) old new =
     ControlIfAsked (ReadMade request) (ReadLeft request) path (control_target path old.entries)
     old.world told new.world
@@ -110,6 +135,7 @@ IsListingOf plan (SentTo path endpoint sent) = ⊤
 IsListingOf plan (ReceivedFrom path endpoint received) = ⊤
 IsListingOf plan (Polled path endpoint polled) = ⊤
 IsListingOf plan (ClearedOf path endpoint cleared) = ⊤
+IsListingOf plan (item.InterfaceSet path interface setting set) = ⊤
 
 -- each listing of a run is right, whether it stopped at a fault or not, where no three attempts
 -- running are damaged and no address was lost three times up to its last world; and there is a

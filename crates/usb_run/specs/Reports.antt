@@ -4,7 +4,6 @@ use Rattle.std.specs.Prelude.{IfOk, IfErr}
 use Rattle.usb_world.specs.{PlanData, IsPlan, AtPorts, opening, World}
 use Rattle.usb_bus.specs.{Traced}
 use Rattle.usb_host.specs.{HostState, opening_host as host_opening, HostInvariant}
-use Rattle.usb_plan.specs.declared.fault.PlanFault.TheVariants as plan
 use Rattle.usb_run.specs.declared.runs.Item.{Item}
 use Rattle.usb_run.specs.declared.runs.Report.{Report}
 use Rattle.usb_run.specs.declared.runs.RunFault.{RunFault}

@@ -8,7 +8,7 @@ use Rattle.usb_port.specs.{path_text}
 use Rattle.usb_host.specs.{Look, News}
 use Rattle.usb_host.specs.{Arrived, Empty, Found, Left}
 use Rattle.usb_host.specs.declared.look.Look.TheVariants.{Refused}
-use Rattle.usb_table.specs.{TransferFault, NoDevice, NoEndpoint, NoPort, Reserved}
+use Rattle.usb_table.specs.{TransferFault, NoDevice, NoEndpoint, NoInterface, NoPort, Reserved}
 use Rattle.usb_table.specs.declared.fault.TransferFault.TheVariants.{Stalled as EndpointStalled}
 use Rattle.usb_table.specs.declared.fault.TransferFault.TheVariants.{Busy as EndpointBusy, NoAnswer}
 use Rattle.usb_table.specs.declared.fault.TransferFault.TheVariants.{Broken}
@@ -19,6 +19,7 @@ abbrev pub fault_word : TransferFault → List ℕ
 fault_word NoDevice = codes "no device"
 fault_word NoPort = codes "no port"
 fault_word Reserved = codes "reserved"
+fault_word NoInterface = codes "no interface"
 fault_word NoEndpoint = codes "no endpoint"
 fault_word EndpointStalled = codes "stalled"
 fault_word EndpointBusy = codes "busy"
@@ -38,9 +39,10 @@ abbrev pub received_end : Result (Vec ℕ) TransferFault → List ℕ
 received_end (Ok bytes) = codes " done " ++ hex_text bytes.items
 received_end (Err fault) = failed_end fault
 
-abbrev pub cleared_end : Result (Unit {0}) TransferFault → List ℕ
-cleared_end (Ok done) = codes " done"
-cleared_end (Err fault) = failed_end fault
+-- that it is done
+abbrev pub done_end : Result (Unit {0}) TransferFault → List ℕ
+done_end (Ok done) = codes " done"
+done_end (Err fault) = failed_end fault
 
 -- send PATH done N, or send PATH failed WORDS
 unfoldable pub sent_line : List ℕ → Result ℕ TransferFault → List ℕ
@@ -52,7 +54,7 @@ received_line path received = codes "receive " ++ path_text path ++ received_end
 
 -- clear PATH done, or clear PATH failed WORDS
 unfoldable pub cleared_line : List ℕ → Result (Unit {0}) TransferFault → List ℕ
-cleared_line path cleared = codes "clear " ++ path_text path ++ cleared_end cleared
+cleared_line path cleared = codes "clear " ++ path_text path ++ done_end cleared
 
 -- an endpoint's address in two digits, behind a path
 abbrev pub endpoint_text : ℕ → List ℕ
@@ -82,7 +84,16 @@ polled_line path endpoint polled =
 -- clear PATH EP done, or clear PATH EP failed WORDS
 unfoldable pub cleared_of_line : List ℕ → ℕ → Result (Unit {0}) TransferFault → List ℕ
 cleared_of_line path endpoint cleared =
-    codes "clear " ++ path_text path ++ endpoint_text endpoint ++ cleared_end cleared
+    codes "clear " ++ path_text path ++ endpoint_text endpoint ++ done_end cleared
+
+-- an interface's number and that of its alternate setting, behind a path
+abbrev pub setting_text : ℕ → ℕ → List ℕ
+setting_text interface setting = codes " " ++ decimal interface ++ codes " " ++ decimal setting
+
+-- interface PATH I A done, or interface PATH I A failed WORDS
+unfoldable pub interface_line : List ℕ → ℕ → ℕ → Result (Unit {0}) TransferFault → List ℕ
+interface_line path interface setting set =
+    codes "interface " ++ path_text path ++ setting_text interface setting ++ done_end set
 
 -- control PATH in done HEX, or control PATH in failed WORDS
 unfoldable pub read_line : List ℕ → Result (Vec ℕ) TransferFault → List ℕ

@@ -6,15 +6,17 @@ use Rattle.usb_world.specs.declared.event.Ask.{Ask}
 use Rattle.usb_request.specs.{IsToHost}
 use Rattle.usb_world.specs.{Show, Send, Receive, Clear, ControlIn, ControlOut, IsWrite}
 use Rattle.usb_world.specs.{Look as LookAt, News as AskNews, SendTo, ReceiveFrom, Poll, ClearOf}
+use Rattle.usb_world.specs.{SetInterface}
 use Rattle.usb_table.specs.{TransferFault, FirstBulk, At}
 use Rattle.usb_host.specs.{HostFault, ClearTells, ReceiveTells, SendTells, ReadTells, WriteTells}
-use Rattle.usb_host.specs.{LookTells, ReportTells, ClearOfTells}
+use Rattle.usb_host.specs.{LookTells, ReportTells, ClearOfTells, InterfaceTells}
 use Rattle.usb_host.specs.{HostState, Look, News}
 use Rattle.usb_host.specs.declared.fault.HostFault.TheVariants as host
 use Rattle.usb_run.specs.declared.runs.Item.{Item}
 use Rattle.usb_run.specs.declared.runs.Item.TheVariants.{Sent, Received, Cleared}
 use Rattle.usb_run.specs.declared.runs.Item.TheVariants.{Read, Written, Looked, News as ToldNews}
 use Rattle.usb_run.specs.declared.runs.Item.TheVariants.{SentTo, ReceivedFrom, Polled, ClearedOf}
+use Rattle.usb_run.specs.declared.runs.Item.TheVariants.{InterfaceSet}
 use Rattle.usb_run.specs.declared.runs.RunFault.{RunFault}
 use Rattle.usb_run.specs.declared.runs.RunFault.TheVariants.{Memory}
 use Rattle.usb_run.specs.NewsCalls.{AllNews, SomeNews}
@@ -80,6 +82,10 @@ IsItemOf (Some (Poll path endpoint)) item old new =
 IsItemOf (Some (ClearOf path endpoint)) item old new =
     (told : Result (Unit {0}) TransferFault) × (item ≡ Some (ClearedOf path endpoint told))
     × Transfers (ClearOfTells path endpoint) old told new
+IsItemOf (Some (SetInterface path interface setting)) item old new =
+    (told : Result (Unit {0}) TransferFault)
+    × (item ≡ Some (InterfaceSet path interface setting told))
+    × Transfers (InterfaceTells path interface setting) old told new
 IsItemOf (Some (ControlIn path request)) item old new = IsToHost request
     × ((told : Result (Vec ℕ) TransferFault) × (item ≡ Some (Read path told))
     × Transfers (ReadTells path request) old told new)
@@ -111,6 +117,8 @@ StopsAt (Some (Poll path endpoint)) fault old new =
     TransferStops (ReportTells path endpoint) old fault new
 StopsAt (Some (ClearOf path endpoint)) fault old new =
     TransferStops (ClearOfTells path endpoint) old fault new
+StopsAt (Some (SetInterface path interface setting)) fault old new =
+    TransferStops (InterfaceTells path interface setting) old fault new
 StopsAt (Some (ControlIn path request)) fault old new =
     TransferStops (ReadTells path request) old fault new
 StopsAt (Some (ControlOut path write)) fault old new =

@@ -1,5 +1,5 @@
 //! What a run makes of an event that asks for a transfer of endpoint 0 or of an endpoint by its
-//! address, for a look, or for news.
+//! address, for an alternate setting, for a look, or for news.
 ghost use Rattle.std.specs.Prelude.{◌≡◌, false};
 ghost use Rattle.usb_world.specs.declared.event.Ask.{Ask};
 ghost use Rattle.usb_host.specs.Ownership.{HostMapHolds};
@@ -101,6 +101,22 @@ pub(crate) fn clear_of<T: Trace>(
 {
     let cleared = answered(host.clear_halt_of(&path, endpoint))?;
     Ok(Item::ClearedOf(path, endpoint, cleared))
+}
+
+/// Chooses an alternate setting of an interface of the device at a path.
+pub(crate) fn set_interface<T: Trace>(
+    host: &mut Host<SimBus<T>>,
+    path: PortPath,
+    interface: u8,
+    setting: u8,
+) -> Result<Item, RunFault>
+    requires running { host.old.stopped ≡ false }
+    ensures on { RunsOn (Gives (Ask.SetInterface path interface setting)) host.old result
+        host.new }
+    ensures owning { HostMapHolds host.old → HostMapHolds host.new }
+{
+    let set = answered(host.set_interface(&path, interface, setting))?;
+    Ok(Item::InterfaceSet(path, interface, setting, set))
 }
 
 /// Looks once more at what is at a port.

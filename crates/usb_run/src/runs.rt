@@ -20,7 +20,7 @@ ghost use Rattle.usb_run.specs.Reports.{EndsWell, Finishes, Opens};
 ghost use Rattle.usb_run.specs.Transcript.{Next, NextAsked, NextEvent, PutsLine};
 ghost use Rattle.usb_run.specs.Transfers.{Does, Gives};
 
-use crate::asked::{clear_of, look, news, poll, read, receive_from, send_to, write};
+use crate::asked::{clear_of, look, news, poll, read, receive_from, send_to, set_interface, write};
 use crate::transfer::{answered, counted};
 use arrayvec::ArrayVec;
 use std::alloc::{AllocError, AllocFailed, Global};
@@ -59,6 +59,9 @@ pub enum Item {
     Polled(PortPath, EndpointAddress, Result<Option<ArrayVec<u8, 64>>, TransferFault>),
     /// That the halt of an endpoint of the device at a path was cleared.
     ClearedOf(PortPath, EndpointAddress, Result<(), TransferFault>),
+    /// That the device at a path took an alternate setting: the interface's number, then the
+    /// setting's.
+    InterfaceSet(PortPath, u8, u8, Result<(), TransferFault>),
 }
 
 /// Why a run ended early, in the order in which the reasons are reported.
@@ -475,6 +478,9 @@ fn asked_item<T: Trace>(
         }
         Ask::Poll(path, endpoint) => Ok(Some(poll(host, path, endpoint)?)),
         Ask::ClearOf(path, endpoint) => Ok(Some(clear_of(host, path, endpoint)?)),
+        Ask::SetInterface(path, interface, setting) => {
+            Ok(Some(set_interface(host, path, interface, setting)?))
+        }
         Ask::ControlIn(path, request) => Ok(Some(read(host, path, request)?)),
         Ask::ControlOut(path, request) => Ok(Some(write(host, path, &request)?)),
         Ask::Look(path) => Ok(Some(look(host, path)?)),

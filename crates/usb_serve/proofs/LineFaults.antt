@@ -5,7 +5,6 @@ use Rattle.usb_world.specs.{BusFault, LineEnds, PutLine, World}
 use Rattle.usb_host.specs.{HostState}
 use Rattle.usb_serve.specs.{ServeFault, report_fault}
 use Rattle.usb_serve.specs.declared.serving.ServeFault.TheVariants as serve
-use Rattle.usb_run.specs.{told}
 
 pub is_write : (fault : ServeFault) → (fault ≡ serve.Write) ⊎ (fault ≢ serve.Write)
 is_write serve.Read = inr (λ e. cc e)

@@ -12,7 +12,7 @@ use Rattle.usb_world.specs.{PlanData, World, to_come}
 use Rattle.usb_host.specs.{HostState}
 use Rattle.usb_plan.specs.{bound_of}
 use Rattle.usb_run.specs.{Item, Listing, Sent, Received, Cleared, Read, Written, Looked, RunFault}
-use Rattle.usb_run.specs.{SentTo, ReceivedFrom, Polled, ClearedOf}
+use Rattle.usb_run.specs.{SentTo, ReceivedFrom, Polled, ClearedOf, InterfaceSet}
 use Rattle.usb_run.specs.declared.runs.Item.TheVariants.{News}
 use Rattle.usb_run.specs.{Tree, IsCaused}
 use Rattle.usb_run.specs.{items_left, Opens, item_lines, number_of, Knows, CutsText, RunsTo, Next}
@@ -56,6 +56,7 @@ counts_one (SentTo path endpoint sent) n = omega arith
 counts_one (ReceivedFrom path endpoint received) n = omega arith
 counts_one (Polled path endpoint polled) n = omega arith
 counts_one (ClearedOf path endpoint cleared) n = omega arith
+counts_one (InterfaceSet path interface setting set) n = omega arith
 
 pub number_next : {items : List Item} {number : ℕ} {over : Bool} {w : World}
     (n : ItemsNumbered items number over w) (next : ℕ) (item : Item)

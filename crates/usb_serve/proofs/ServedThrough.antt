@@ -5,7 +5,7 @@ use Rattle.std.specs.Io.KnownBytes.{Keeps}
 use Rattle.usb_bus.specs.{WriteFailed}
 use Rattle.usb_world.specs.{PlanData}
 use Rattle.usb_run.specs.{Mode}
-use Rattle.usb_serve.specs.{IsOfRun, IsUnread, LeavesFront, LetsOut, MarksWriter, Reads, ServeFault}
+use Rattle.usb_serve.specs.{IsOfRun, IsUnread, LeavesFront, MarksWriter, Reads, ServeFault}
 use Rattle.usb_serve.specs.{Serves, ServesThrough, all, cut, unread, writer_fault}
 use Rattle.usb_serve.specs.declared.serving.ServeFault.TheVariants as serve
 

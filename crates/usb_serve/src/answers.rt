@@ -1,7 +1,7 @@
 //! The lines of each transfer, of looks and of news.
 ghost use Rattle.std.specs.Prelude.{◌≡◌, ◌++◌, map, OnOk, IfOk};
-ghost use Rattle.usb_run.specs.TransferLines.{fault_word, failed_end, sent_end, received_end, cleared_end, sent_line, received_line, cleared_line};
-ghost use Rattle.usb_run.specs.TransferLines.{look_end, look_line, news_lines, one_news_line, read_line, written_line};
+ghost use Rattle.usb_run.specs.TransferLines.{fault_word, failed_end, sent_end, received_end, done_end, sent_line, received_line, cleared_line};
+ghost use Rattle.usb_run.specs.TransferLines.{interface_line, look_end, look_line, news_lines, one_news_line, read_line, setting_text, written_line};
 ghost use Rattle.usb_run.specs.TransferLines.{cleared_of_line, endpoint_text, polled_end, polled_line, received_from_line, sent_to_line};
 
 use arrayvec::ArrayVec;
@@ -66,7 +66,7 @@ pub fn cleared_line(
     let mut line = Vec::new(alloc);
     line.extend_from_slice(b"clear ")?;
     push_path(&mut line, path)?;
-    push_cleared(&mut line, cleared)?;
+    push_done(&mut line, cleared)?;
     Ok(line)
 }
 
@@ -158,7 +158,32 @@ pub fn cleared_of_line(
     line.extend_from_slice(b"clear ")?;
     push_path(&mut line, path)?;
     push_endpoint(&mut line, endpoint)?;
-    push_cleared(&mut line, cleared)?;
+    push_done(&mut line, cleared)?;
+    Ok(line)
+}
+
+/// `interface PATH I A done`, or `interface PATH I A failed WORDS`; I is the number of the interface,
+/// and A that of its alternate setting.
+///
+/// # Errors
+///
+/// Memory was refused.
+#[tactic(auto, unfolding(usb_run::specs::TransferLines::interface_line))]
+pub fn interface_line(
+    alloc: Global,
+    path: &PortPath,
+    interface: u8,
+    setting: u8,
+    set: &Result<(), TransferFault>,
+) -> Result<Vec<u8>, AllocError>
+    ensures { IfOk result (λ line.
+        line.items ≡ interface_line path.now interface setting set.now) }
+{
+    let mut line = Vec::new(alloc);
+    line.extend_from_slice(b"interface ")?;
+    push_path(&mut line, path)?;
+    push_setting(alloc, &mut line, interface, setting)?;
+    push_done(&mut line, set)?;
     Ok(line)
 }
 
@@ -316,10 +341,10 @@ fn push_received(
     }
 }
 
-fn push_cleared(line: &mut Vec<u8>, cleared: &Result<(), TransferFault>) -> Result<(), AllocError>
-    ensures { OnOk result (line.new.items ≡ line.old.items ++ cleared_end cleared.now) }
+fn push_done(line: &mut Vec<u8>, told: &Result<(), TransferFault>) -> Result<(), AllocError>
+    ensures { OnOk result (line.new.items ≡ line.old.items ++ done_end told.now) }
 {
-    match cleared {
+    match told {
         Ok(()) => line.extend_from_slice(b" done"),
         Err(fault) => push_failed(line, *fault),
     }
@@ -349,6 +374,21 @@ fn push_endpoint(line: &mut Vec<u8>, endpoint: EndpointAddress) -> Result<(), Al
     push_hex(line, &[endpoint.get()])
 }
 
+/// Adds an interface's number and that of its alternate setting behind a path.
+fn push_setting(
+    alloc: Global,
+    line: &mut Vec<u8>,
+    interface: u8,
+    setting: u8,
+) -> Result<(), AllocError>
+    ensures { OnOk result (line.new.items ≡ line.old.items ++ setting_text interface setting) }
+{
+    line.extend_from_slice(b" ")?;
+    push_decimal(alloc, line, u64::from(interface))?;
+    line.extend_from_slice(b" ")?;
+    push_decimal(alloc, line, u64::from(setting))
+}
+
 fn push_failed(line: &mut Vec<u8>, fault: TransferFault) -> Result<(), AllocError>
     ensures { OnOk result (line.new.items ≡ line.old.items ++ failed_end fault) }
 {
@@ -364,6 +404,7 @@ fn fault_word(fault: TransferFault) -> &'static str
         TransferFault::NoDevice => "no device",
         TransferFault::NoPort => "no port",
         TransferFault::Reserved => "reserved",
+        TransferFault::NoInterface => "no interface",
         TransferFault::NoEndpoint => "no endpoint",
         TransferFault::Stalled => "stalled",
         TransferFault::Busy => "busy",

@@ -16,7 +16,7 @@ ghost use Rattle.usb_run.specs.Transcript.{Next, Prints};
 ghost use Rattle.usb_serve.specs.ServedTranscripts.{RunEnds};
 
 use crate::answers::{
-    cleared_line, cleared_of_line, look_line, news_lines, polled_line, read_line,
+    cleared_line, cleared_of_line, interface_line, look_line, news_lines, polled_line, read_line,
     received_from_line, received_line, sent_line, sent_to_line, written_line,
 };
 use crate::input::{InputFault, read_text};
@@ -280,6 +280,7 @@ pub fn number_of(item: &Item, number: u64) -> u64
         Item::Read(_, _) | Item::Written(_, _) | Item::Looked(_, _) | Item::News(_) => number,
         Item::SentTo(_, _, _) | Item::ReceivedFrom(_, _, _) => number,
         Item::Polled(_, _, _) | Item::ClearedOf(_, _, _) => number,
+        Item::InterfaceSet(_, _, _, _) => number,
     }
 }
 
@@ -311,6 +312,12 @@ pub fn item_lines(alloc: Global, number: u64, item: &Item) -> Result<Lines, Allo
         }
         Item::ClearedOf(path, endpoint, cleared) => {
             one_line(alloc, cleared_of_line(alloc, path, *endpoint, cleared)?)
+        }
+        Item::InterfaceSet(path, interface, setting, set) => {
+            one_line(
+                alloc,
+                interface_line(alloc, path, *interface, *setting, set)?,
+            )
         }
     }
 }

@@ -2,6 +2,7 @@
 mod endpoints;
 mod frail;
 mod hubs;
+mod interfaces;
 mod outputs;
 mod readers;
 mod rows;

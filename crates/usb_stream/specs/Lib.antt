@@ -3,11 +3,11 @@ pub mod Stream
 pub use Stream.{AnswerLinesRead, AskedWell, AsksCall, AsksNoMore, AsksNoQuestion, AsksOnce}
 pub use Stream.{AttemptsBy, AttemptsByLine, BadLine, Calls, CauseOf, CauseOfHearing, CauseOfLine}
 pub use Stream.{EndsEarly, FailsByLine, FailsOnce, FailsToRead, GivesAs, HeardTooMany, HeardUpTo}
-pub use Stream.{IsAtLimit, IsUnheard, IsUnwritten, Kept, PushesRead, SaidEnd, SaidLine, Says}
-pub use Stream.{SaysHello, StatusesRead, StreamPipes, WritesLines, asking, attempts_in, bus_fault}
+pub use Stream.{IsAtLimit, IsUnheard, IsUnwritten, Kept, PushesRead, Restarts, SaidEnd, SaidLine}
+pub use Stream.{Says, SaysHello, StatusesRead, StreamPipes, WritesLines, asking, attempts_in, bus_fault}
 pub use Stream.{counted_on, data_for, endpoint_of, greeted, greeted_by, kept_of, kept_status}
-pub use Stream.{no_world, outcome_for, question_for, questions, roots_if, streams, unasked}
-pub use Stream.{unread_of, written_of}
+pub use Stream.{no_world, outcome_for, question_for, questions, restart_of, roots_if, streams}
+pub use Stream.{unasked, unread_of, written_of}
 pub use declared.bus.StreamBus.{StreamBus}
 pub use declared.fault.LiveFault.{LiveFault}
 pub use declared.fault.LiveFault.TheVariants.{LimitReached, Write}

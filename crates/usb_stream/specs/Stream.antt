@@ -1,6 +1,6 @@
 -- A bus behind a stream of lines: what a question reads and writes, and what is kept of that.
 use Rattle.std.specs.Prelude.{◌≡◌, ◌≢◌, ◌⊎◌, ℕ, zero, suc, ◌+◌, ◌-◌, ◌^◌, min, ◌<◌, ◌≤◌}
-use Rattle.std.specs.Prelude.{nat_lt, true, false, if◌then◌else◌, List, [], ◌∷◌, ◌++◌, length}
+use Rattle.std.specs.Prelude.{nat_lt, Bool, true, false, if◌then◌else◌, List, [], ◌∷◌, ◌++◌, length}
 use Rattle.std.specs.Prelude.{replicate, slice_index_or, slice_set, Option, Some, None, Result, Ok}
 use Rattle.std.specs.Prelude.{Err}
 use Rattle.std.specs.Io.KnownBytes.{IsAtEnd}
@@ -14,6 +14,7 @@ use Rattle.usb_wire.specs.{Endpoint, Question}
 use Rattle.usb_wire.specs.declared.answer.Answer.TheVariants as answer
 use Rattle.usb_wire.specs.declared.question.Asked.TheVariants as asked
 use Rattle.usb_wire.specs.declared.question.Question.TheVariants.{Hello, Setup, Out, In, Port}
+use Rattle.usb_wire.specs.declared.question.Question.TheVariants.{Restart}
 use Rattle.usb_world.specs.{Destination, destination_of, Outcome, no_losses, World, BusFault}
 use Rattle.usb_world.specs.declared.types.Attempt.{Attempt}
 use Rattle.usb_world.specs.declared.types.Attempt.TheVariants as attempt
@@ -318,15 +319,23 @@ abbrev pub AttemptsByLine : Attempt → StreamPipes → Kept → Result Outcome 
 AttemptsByLine a s old result new =
     AttemptsBy (question_for a) (destination_of a).max s old result new
 
--- a call at a root port that there is is one question
-pub record AsksCall (port : ℕ) (c : PortCall) (s : StreamPipes) (old new : Kept) : Type 0 where
+-- a call is one question
+pub record AsksCall (q : Question) (s : StreamPipes) (old new : Kept) : Type 0 where
   pub result : Result Answer LiveFault
-  pub asked : AsksOnce (Port port c) s old result new
+  pub asked : AsksOnce q s old result new
 
+-- at a root port that there is
 abbrev pub Calls : ℕ → Option PortCall → StreamPipes → Kept → Kept → Type 0
 Calls port None s old new = AsksNoQuestion s old new
-Calls port (Some c) s old new = (1 ≤ port → port ≤ old.roots → AsksCall port c s old new)
+Calls port (Some c) s old new = (1 ≤ port → port ≤ old.roots → AsksCall (Port port c) s old new)
     × (port ≡ 0 → AsksNoQuestion s old new) × (old.roots < port → AsksNoQuestion s old new)
+
+-- an endpoint of the device at an address begins again
+abbrev pub restart_of : ℕ → ℕ → Bool → Question
+restart_of address number is_in = Restart (record { address = address; number = number }) is_in
+
+abbrev pub Restarts : ℕ → ℕ → Bool → StreamPipes → Kept → Kept → Type 0
+Restarts address number is_in s old new = AsksCall (restart_of address number is_in) s old new
 
 -- lines were told and flushed, or a front of them where the writer failed, and that is kept
 abbrev pub WritesLines : List ℕ → OutPipe → OutPipe → Kept → Result (Unit {0}) LiveFault → Kept

@@ -15,7 +15,7 @@ use std::io::{Read, Write};
 use usb_bus::{Attempt, Bus, BusFault, Outcome, Watched};
 use usb_lines::{Line, LineFault, put_lines, read_line};
 use usb_port::PortCall;
-use usb_wire::{Answer, Asked, Question, Said, WireFault, question_line, read_said};
+use usb_wire::{Answer, Asked, Endpoint, Question, Said, WireFault, question_line, read_said};
 
 /// The most root ports.
 const ROOTS: u8 = 7;
@@ -54,11 +54,11 @@ impl<R, W> StreamBus<R, W> {
     }
 }
 
-/// Nothing is said of a world: what the controller side does is its own. Root calls return no fault:
-/// it is kept, and the next question returns it.
+/// Nothing is said of a world: what the controller side does is its own. Root calls and restarts return
+/// no fault: it is kept, and the next question returns it.
 impl<R: Read, W: Write> Bus for StreamBus<R, W> {
     ghost use Rattle.std.specs.Prelude.{false};
-    ghost use Rattle.usb_stream.specs.Stream.{AttemptsByLine, Calls, bus_fault, kept_of, no_world, kept_status, streams, unread_of, written_of};
+    ghost use Rattle.usb_stream.specs.Stream.{AttemptsByLine, Calls, Restarts, bus_fault, kept_of, no_world, kept_status, streams, unread_of, written_of};
     ghost use Rattle.usb_stream.specs.declared.fault.LiveFault.{LiveFault as AFault};
 
     ghost modelled = { false };
@@ -143,6 +143,22 @@ impl<R: Read, W: Write> Bus for StreamBus<R, W> {
         if let Some(call) = PortCall::of_clear(feature) {
             self.call(port, call);
         }
+    }
+
+    fn restart_endpoint(&mut self, address: u8, number: u8, is_in: bool)
+        requires address { address ≤ 127 }
+        requires least { 1 ≤ number }
+        requires most { number ≤ 15 }
+        ensures again { (kept_of self.old).fault ≢ None → self.new ≡ self.old }
+        ensures asks { (kept_of self.old).fault ≡ None → Restarts address number is_in
+            (streams (unread_of R.remaining self.old) (unread_of R.remaining self.new)
+            (written_of W.contents self.old) (written_of W.contents self.new))
+            (kept_of self.old) (kept_of self.new) }
+        ensures unspent { Spends (λ bus. (kept_of bus).attempts) (λ bus. (kept_of bus).roots) 0
+            self.old self.new }
+    {
+        let endpoint = Endpoint { address, number };
+        let _kept = self.ask(&Question::Restart { endpoint, is_in });
     }
 
     ghost counted = { λ known bus. Prim.cc known };

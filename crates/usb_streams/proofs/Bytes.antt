@@ -8,7 +8,7 @@ use Rattle.usb_pipe.specs.{Condition, PipeState, report_in}
 use Rattle.usb_pipe.specs.declared.condition.Condition.TheVariants.{Ready, Halted, Broken}
 use Rattle.usb_table.specs.{FirstBulk, At, bytes_in}
 use Rattle.usb_run.specs.{Item, Listing, Sent, SentTo, Received, ReceivedFrom, Polled, Cleared}
-use Rattle.usb_run.specs.{ClearedOf, Read, Looked, Written}
+use Rattle.usb_run.specs.{ClearedOf, InterfaceSet, Read, Looked, Written}
 use Rattle.usb_run.specs.declared.runs.Item.TheVariants.{News}
 use Rattle.usb_streams.specs.{AreGiven, AreJoined, ArePackets, Endpoint, IsAtWork, IsFailedFront}
 use Rattle.usb_streams.specs.{Joins, ToldItem, TookSent, bytes_for, bytes_from, is_done, is_of}
@@ -50,6 +50,7 @@ packet_bytes end (ReceivedFrom from address told) packets are =
 packet_bytes end (Polled from address told) packets are =
     polled_bytes (is_of end from (At address)) (report_in told) packets are
 packet_bytes end (ClearedOf at address told) packets are = ap concat are
+packet_bytes end (InterfaceSet at interface setting told) packets are = ap concat are
 
 pub given_bytes : (end : Endpoint) (told : List ToldItem) (packets : List (List ℕ))
     → AreGiven end told packets → concat packets ≡ received_from end told

@@ -1,5 +1,5 @@
 -- What a clear leaves of the endpoints of a device: it moves nothing.
-use Rattle.std.proofs.Common.{◌≡◌, ◌∙◌, refl, sym, ap, subst, Bool, true, false, not, ◌&&◌, ◌||◌, ℕ}
+use Rattle.std.proofs.Common.{◌≡◌, ◌∙◌, refl, sym, ap, subst, Bool, true, false, not, ◌&&◌, ℕ}
 use Rattle.std.proofs.Common.{◌==◌, List, [], Option, None, Some, Result, Ok, Err}
 use Rattle.std.proofs.Common.{eqb-true, is_some, option_map}
 use Rattle.usb_device.specs.{EndpointState, NothingMoved, State, in_end, out_end}
@@ -9,17 +9,18 @@ use Rattle.usb_enum.specs.{Accepted}
 use Rattle.usb_table.specs.{AreFunctionPipes, ArePipesTo, At, ClearedAfter, ClearedBy, ClearedIf}
 use Rattle.usb_table.specs.{ClearedOfThrough, FunctionPipes, HaltClearedBy}
 use Rattle.usb_table.specs.{HaltClearedOf, HaltsCleared, Pipes, Hub, Function, Absent}
-use Rattle.usb_table.specs.{PipesCleared, PipesClearedOf, SameSettings, TableFault}
-use Rattle.usb_table.specs.{first_number, first_pipe, only_if, pipe_at, pipe_if, pipe_to, pipes_at}
-use Rattle.usb_table.specs.{through, way_to, with_pipe, with_rest}
+use Rattle.usb_table.specs.{PipesCleared, PipesClearedOf, SameSettings, TableFault, TransferFault}
+use Rattle.usb_table.specs.{clear_miss, clears_miss, first_number, first_pipe, first_unclear}
+use Rattle.usb_table.specs.{only_if, pipe_at, pipe_to, pipes_at, through, way_to, with_pipe}
+use Rattle.usb_table.specs.{with_rest}
 use Rattle.usb_table.proofs.Interface.{path_itself, root, still_source}
 use Rattle.usb_host.specs.{table_in}
 use Rattle.usb_streams.specs.{ArePackets, ClearsNone, Endpoint, FailsPlain, IsAtWork, ToldItem}
 use Rattle.usb_streams.specs.{bytes_for, endpoint_at, first_of, is_of, is_this, pipe_of}
-use Rattle.usb_streams.proofs.Devices.{DeviceMoves, gives_nothing}
+use Rattle.usb_streams.proofs.Devices.{DeviceMoves, gives_nothing, same_but, same_set}
 use Rattle.usb_streams.proofs.Moves.{out_rests}
-use Rattle.usb_streams.proofs.PipeEnds.{IsPut, OnlyPipe, is_put, numbered, only_put, picks_at}
-use Rattle.usb_streams.proofs.PipeEnds.{picks_first, put, through_cases, with_at_own}
+use Rattle.usb_streams.proofs.PipeEnds.{IsPut, OnlyPipe, first_stands, is_put, numbered, only_put}
+use Rattle.usb_streams.proofs.PipeEnds.{picks_at, picks_first, put, through_cases, with_at_own}
 
 -- Pipes over a clear
 
@@ -48,7 +49,7 @@ clear_moves path t pipes left s v clears moved same asks tells plain = record {
   outs = λ e.
       let end : Endpoint = endpoint_at path false e pipes in
       out_rests end t (pipe_of false e pipes) (pipe_of false e left) s v (asks end)
-      (none_there (pipe_of false e pipes) (pipe_of false e left) (clears.some false e))
+      (λ unset. none_there (pipe_of false e pipes) (pipe_of false e left) (clears.some false e))
       (clears.alone false e) (moved.taken e).0;
   ins = λ e alone.
       let end : Endpoint = endpoint_at path true e pipes in
@@ -59,7 +60,8 @@ clear_moves path t pipes left s v clears moved same asks tells plain = record {
       ∙ sym (ap (λ n. (in_end s n).state) (clears.number e p there))) f);
   first = clears.first;
   plain = λ d none. plain d;
-  settings = same;
+  device = same_but s v same;
+  settings = λ unset. same_set s v same;
 }
 
 -- the IN pipes have their numbers
@@ -105,12 +107,13 @@ same_made None left old new answer x = ap (option_map pipe_made) x.1
 same_made (Some pipe) None old new answer x = absurd x
 same_made (Some pipe) (Some left) old new answer x = ap Some x.same
 
-same_after : (first : Result (Unit {0}) PipeFault) (pipe left : Option PipeState)
-    (mid new : World) (result : Result (Unit {0}) TableFault)
-    → ClearedAfter first pipe mid result left new
+same_after : (first : Result (Unit {0}) PipeFault) (why : Option TransferFault)
+    (pipe left : Option PipeState) (mid new : World) (result : Result (Unit {0}) TableFault)
+    → ClearedAfter first why pipe mid result left new
     → option_map pipe_made left ≡ option_map pipe_made pipe
-same_after (Ok done) pipe left mid new result x = same_made pipe left mid new x.0 x.2
-same_after (Err fault) pipe left mid new result x = ap (option_map pipe_made) x.1
+same_after (Ok done) None pipe left mid new result x = same_made pipe left mid new x.0 x.2
+same_after (Ok done) (Some why) pipe left mid new result x = ap (option_map pipe_made) x.1
+same_after (Err fault) why pipe left mid new result x = ap (option_map pipe_made) x.1
 
 -- of the pipes to a function at most the one to the first bulk endpoint of a direction changed
 record OnlyFirst (d : Bool) (number : Option ℕ) (pipes left : FunctionPipes) : Type 0 where
@@ -157,89 +160,99 @@ this_number : (e : ℕ) (number : Option ℕ) → is_this e number ≡ true → 
 this_number e None is = absurd (cc is)
 this_number e (Some n) is = ap Some (sym (eqb-true e n is))
 
-same_some : (pipe left : Option PipeState) → is_some left ≡ is_some pipe → pipe ≡ None
-    → left ≡ None
-same_some pipe None same gone = refl
-same_some pipe (Some left) same gone =
-    let none : true ≡ false = same ∙ ap is_some gone in absurd (cc none)
+-- the number of the first bulk endpoint of a direction, while its pipe is one in bulk
+abbrev first_ep : Bool → FunctionPipes → Option ℕ
+first_ep d pipes = option_map (λ (p : PipeState). p.ep) (first_pipe d pipes)
 
 module _ (device : Accepted) (below : Bool) (path : List ℕ) (t : ToldItem) (asked : t.due
-    ≡ Some (Clear path)) (done : Bool) (s v : State) where
+    ≡ Some (Clear path)) (done : Bool) (known : Option Accepted) (s v : State) where
   module _ (pipes left : FunctionPipes) (are : AreFunctionPipes device below pipes)
       (here : pipes_at path (table_in t.asked) ≡ Function pipes)
-      (cleared : HaltsCleared done (Function pipes) (Function left) s v) where
+      (cleared : HaltsCleared done known (Function pipes) (Function left) s v) where
     is_first : (d : Bool) (pipe : PipeState) → first_pipe d pipes ≡ Some pipe
-        → IsFirst d (first_number d pipes) pipes pipe
-    is_first d pipe found =
-        let picks = picks_first device below pipes are d pipe found in
+        → IsFirst d (first_ep d pipes) pipes pipe
+    is_first d pipe stands =
+        let picks = picks_first device below pipes are d pipe stands in
         record {
           way = picks.way;
           there = picks.there;
-          of = λ e. sym (ap (λ b. b && is_this e (first_number d pipes)) (path_itself path))
-              ∙ picks.of path e;
+          of = λ e. ap (λ o. is_this e (option_map (λ (p : PipeState). p.ep) o)) stands;
         }
 
     -- the pipe to an endpoint that is the first one
-    module _ (d : Bool) (e : ℕ) (is : is_this e (first_number d pipes) ≡ true)
-        (before after : ℕ → EndpointState)
+    module _ (d : Bool) (e : ℕ) (before after : ℕ → EndpointState)
         (halt : HaltClearedBy needs_clear done (first_pipe d pipes) (first_pipe d left) before
         after)
         (first : first_number d left ≡ first_number d pipes)
-        (some : is_some (pipe_at d e left) ≡ is_some (pipe_at d e pipes))
         (alone : ClearsNone (endpoint_at path d e (Function pipes)) t) where
-      works : IsAtWork (pipe_at d e pipes)
-      works = subst (λ p. IsAtWork (pipe_of d e p)) here (alone.plain asked is)
+      abbrev Alone : Type 0
+      Alone = (pipe_at d e left ≡ pipe_at d e pipes) × ((n : ℕ) → after n ≡ before n)
 
-      first_alone : (pipe_at d e left ≡ pipe_at d e pipes) × ((n : ℕ) → after n ≡ before n)
-      first_alone =
-          let own : first_number d pipes ≡ Some e = this_number e (first_number d pipes) is in
-          clears_alone done (pipe_at d e pipes) (pipe_at d e left) before after
-          (subst (λ o. HaltClearedBy needs_clear done (pipe_if d o pipes) (pipe_at d e left) before
-          after) own
-          (subst (λ o. HaltClearedBy needs_clear done (first_pipe d pipes) (pipe_if d o left)
-          before after) (first ∙ own) halt))
-          works (same_some (pipe_at d e pipes) (pipe_at d e left) some)
+      -- where it is this one
+      this_alone : (pipe : PipeState) → first_pipe d pipes ≡ Some pipe → (e == pipe.ep) ≡ true
+          → Alone
+      this_alone pipe stands is =
+          let picks = picks_first device below pipes are d pipe stands in
+          let this : is_this e (first_number d pipes) ≡ true =
+          sym (ap (λ b. b && is_this e (first_number d pipes)) (path_itself path))
+          ∙ picks.of path e ∙ is in
+          let number : first_number d pipes ≡ Some e = this_number e (first_number d pipes) this in
+          let there : pipe_at d e pipes ≡ Some pipe = (first_stands d pipes e pipe number stands).0
+          in
+          let works : IsAtWork (Some pipe) =
+          subst IsAtWork there (subst (λ p. IsAtWork (pipe_of d e p)) here
+          (alone.plain asked this)) in
+          let stays = clears_alone done (Some pipe) (first_pipe d left) before after
+          (subst (λ o. HaltClearedBy needs_clear done o (first_pipe d left) before after) stands
+          halt) works (λ none. absurd (cc none)) in
+          let now : pipe_at d e left ≡ Some pipe =
+          (first_stands d left e pipe (first ∙ number) stays.0).0 in
+          (now ∙ sym there, stays.1)
+
+      first_alone : (o : Option PipeState) → first_pipe d pipes ≡ o
+          → is_this e (option_map (λ (p : PipeState). p.ep) o) ≡ true → Alone
+      first_alone None stands is = absurd (cc is)
+      first_alone (Some pipe) stands is = this_alone pipe stands is
 
     module _ (first : (d : Bool) → first_number d left ≡ first_number d pipes)
         (some : (d : Bool) (e : ℕ)
         → is_some (pipe_at d e left) ≡ is_some (pipe_at d e pipes))
-        (beside : (d : Bool) (e : ℕ) → is_this e (first_number d pipes) ≡ false
+        (beside : (d : Bool) (e : ℕ) → is_this e (first_ep d pipes) ≡ false
         → pipe_at d e left ≡ pipe_at d e pipes) where
-      out_alone : (e : ℕ) (b : Bool) → is_this e (first_number false pipes) ≡ b
+      out_alone : (e : ℕ) (b : Bool) → is_this e (first_ep false pipes) ≡ b
           → ClearsNone (endpoint_at path false e (Function pipes)) t
           → pipe_at false e left ≡ pipe_at false e pipes
-      out_alone e true is alone = (first_alone false e is (λ n. (out_end s n).state)
-          (λ n. (out_end v n).state) cleared.out (first false) (some false e) alone).0
+      out_alone e true is alone = (first_alone false e (λ n. (out_end s n).state)
+          (λ n. (out_end v n).state) cleared.out (first false) alone (first_pipe false pipes) refl
+          is).0
       out_alone e false apart alone = beside false e apart
 
-      in_alone : (e : ℕ) (b : Bool) → is_this e (first_number true pipes) ≡ b
+      in_alone : (e : ℕ) (b : Bool) → is_this e (first_ep true pipes) ≡ b
           → ClearsNone (endpoint_at path true e (Function pipes)) t
           → (pipe_at true e left ≡ pipe_at true e pipes)
           × ((in_end v e).state ≡ (in_end s e).state)
       in_alone e true is alone =
-          let stays = first_alone true e is (λ n. (in_end s n).state) (λ n. (in_end v n).state)
-          cleared.into (first true) (some true e) alone in
+          let stays = first_alone true e (λ n. (in_end s n).state) (λ n. (in_end v n).state)
+          cleared.into (first true) alone (first_pipe true pipes) refl is in
           (stays.0, stays.1 e)
       in_alone e false apart alone = (
         beside true e apart,
         apart_stays needs_clear done (first_pipe true pipes) (first_pipe true left)
             (λ n. (in_end s n).state) (λ n. (in_end v n).state) cleared.into e
-            (λ p found. let first_one = is_first true p found in
+            (λ p stands. let first_one = is_first true p stands in
             sym (first_one.of e) ∙ apart),
       )
 
       each_alone : (d : Bool) (e : ℕ) → ClearsNone (endpoint_at path d e (Function pipes)) t
           → pipe_at d e left ≡ pipe_at d e pipes
-      each_alone true e alone =
-          (in_alone e (is_this e (first_number true pipes)) refl alone).0
-      each_alone false e alone =
-          out_alone e (is_this e (first_number false pipes)) refl alone
+      each_alone true e alone = (in_alone e (is_this e (first_ep true pipes)) refl alone).0
+      each_alone false e alone = out_alone e (is_this e (first_ep false pipes)) refl alone
 
       both_clear : PipesClear path t (Function pipes) (Function left) s v
       both_clear = record {
         some = some;
         alone = each_alone;
-        state = λ e alone. (in_alone e (is_this e (first_number true pipes)) refl alone).1;
+        state = λ e alone. (in_alone e (is_this e (first_ep true pipes)) refl alone).1;
         number = λ e pipe there. numbered device below true e pipes pipe are there;
         first = first;
       }
@@ -248,15 +261,15 @@ module _ (device : Accepted) (below : Bool) (path : List ℕ) (t : ToldItem) (as
         (kept : left ≡ with_rest rest_in (with_rest rest_out pipes))
         (out : option_map pipe_made rest_out ≡ option_map pipe_made (first_pipe false pipes))
         (into : option_map pipe_made rest_in ≡ option_map pipe_made (first_pipe true pipes)) where
-      outs : OnlyFirst false (first_number false pipes) pipes (with_rest rest_out pipes)
-      outs = only_first false (first_number false pipes) pipes (first_pipe false pipes) rest_out out
+      outs : OnlyFirst false (first_ep false pipes) pipes (with_rest rest_out pipes)
+      outs = only_first false (first_ep false pipes) pipes (first_pipe false pipes) rest_out out
           (is_first false)
 
-      ins : OnlyFirst true (first_number true pipes) (with_rest rest_out pipes)
+      ins : OnlyFirst true (first_ep true pipes) (with_rest rest_out pipes)
           (with_rest rest_in (with_rest rest_out pipes))
-      ins = only_first true (first_number true pipes) (with_rest rest_out pipes)
+      ins = only_first true (first_ep true pipes) (with_rest rest_out pipes)
           (first_pipe true pipes) rest_in into
-          (λ p found. let first_one = is_first true p found in record {
+          (λ p stands. let first_one = is_first true p stands in record {
             way = first_one.way;
             there = outs.across p.ep ∙ first_one.there;
             of = first_one.of;
@@ -268,7 +281,7 @@ module _ (device : Accepted) (below : Bool) (path : List ℕ) (t : ToldItem) (as
       some_kept false e = ap (λ p. is_some (pipe_at false e p)) kept ∙ ap is_some (ins.across e)
           ∙ outs.some e
 
-      beside_kept : (d : Bool) (e : ℕ) → is_this e (first_number d pipes) ≡ false
+      beside_kept : (d : Bool) (e : ℕ) → is_this e (first_ep d pipes) ≡ false
           → pipe_at d e left ≡ pipe_at d e pipes
       beside_kept true e apart = ap (pipe_at true e) kept ∙ ins.beside e apart ∙ outs.across e
       beside_kept false e apart = ap (pipe_at false e) kept ∙ ins.across e ∙ outs.beside e apart
@@ -277,16 +290,17 @@ module _ (device : Accepted) (below : Bool) (path : List ℕ) (t : ToldItem) (as
       kept_clear = both_clear
           (λ d. ap (first_number d) kept ∙ ins.first d ∙ outs.first d) some_kept beside_kept
 
-    function_clear : (b : Bool) (old new : World) (result : Result (Unit {0}) TableFault)
-        → ClearedIf b pipes old result left new
+    function_clear : (why : Option TransferFault) (old new : World)
+        (result : Result (Unit {0}) TableFault) → ClearedIf why pipes old result left new
         → PipesClear path t (Function pipes) (Function left) s v
-    function_clear false old new result x =
+    function_clear (Some why) old new result x =
         both_clear (λ d. ap (first_number d) x.1) (λ d e. ap (λ p. is_some (pipe_at d e p)) x.1)
         (λ d e apart. ap (pipe_at d e) x.1)
-    function_clear true old new result x =
+    function_clear None old new result x =
         kept_clear x.rest_out x.rest_in x.left_is
         (same_made (first_pipe false pipes) x.rest_out old x.mid x.first x.out)
-        (same_after x.first (first_pipe true pipes) x.rest_in x.mid new result x.into)
+        (same_after x.first (first_unclear true pipes) (first_pipe true pipes) x.rest_in x.mid new
+        result x.into)
 
   -- no pipe changed
   none_clear : (pipes left : Pipes) → left ≡ pipes → ArePipesTo device below pipes
@@ -301,22 +315,22 @@ module _ (device : Accepted) (below : Bool) (path : List ℕ) (t : ToldItem) (as
 
   firsts_clear : (pipes left : Pipes) (old new : World) (result : Result (Unit {0}) TableFault)
       → PipesCleared pipes old result left new → ArePipesTo device below pipes
-      → pipes_at path (table_in t.asked) ≡ pipes → HaltsCleared done pipes left s v
+      → pipes_at path (table_in t.asked) ≡ pipes → HaltsCleared done known pipes left s v
       → PipesClear path t pipes left s v
   firsts_clear (Hub p) left old new result x are here cleared =
       none_clear (Hub p) left x.1 are cleared.into
   firsts_clear (Function pipes) left old new result x are here cleared =
       subst (λ l. PipesClear path t (Function pipes) l s v) (sym x.1)
       (function_clear pipes x.0 are here
-      (subst (λ l. HaltsCleared done (Function pipes) l s v) x.1 cleared)
-      (is_some (first_pipe false pipes) || is_some (first_pipe true pipes)) old new result x.2)
+      (subst (λ l. HaltsCleared done known (Function pipes) l s v) x.1 cleared)
+      (clear_miss pipes) old new result x.2)
   firsts_clear Absent left old new result x are here cleared =
       none_clear Absent left x.1 are cleared.into
 
   pub cleared_move : (pipes left : Pipes) (old new : World)
       (result : Result (Unit {0}) TableFault) → PipesCleared pipes old result left new
       → ArePipesTo device below pipes → pipes_at path (table_in t.asked) ≡ pipes
-      → HaltsCleared done pipes left s v → SameSettings root s v
+      → HaltsCleared done known pipes left s v → SameSettings root s v
       → ((end : Endpoint) → bytes_for end t.due ≡ [])
       → ((end : Endpoint) → ArePackets end t.item []) → ((d : Bool) → FailsPlain d path t)
       → DeviceMoves path t pipes left s v
@@ -328,10 +342,10 @@ module _ (device : Accepted) (below : Bool) (path : List ℕ) (t : ToldItem) (as
 -- One endpoint, by its address
 
 module _ (device : Accepted) (below : Bool) (path : List ℕ) (t : ToldItem) (a : ℕ) (asked : t.due
-    ≡ Some (ClearOf path a)) (done : Bool) (s v : State) where
+    ≡ Some (ClearOf path a)) (done : Bool) (known : Option Accepted) (s v : State) where
   -- another IN endpoint stays as it was
   way_stays : (pipes left : Pipes) → ArePipesTo device below pipes
-      → HaltClearedOf a done pipes left s v → (e : ℕ)
+      → HaltClearedOf a done known pipes left s v → (e : ℕ)
       → ClearsNone (endpoint_at path true e pipes) t → (in_end v e).state ≡ (in_end s e).state
   way_stays (Hub p) left are cleared e alone = cleared.into e
   way_stays (Function pipes) left are cleared e alone =
@@ -344,7 +358,7 @@ module _ (device : Accepted) (below : Bool) (path : List ℕ) (t : ToldItem) (a 
   way_stays Absent left are cleared e alone = cleared.into e
 
   abbrev Cleared : Pipes → Pipes → Type 0
-  Cleared left pipes = ArePipesTo device below pipes → HaltClearedOf a done pipes left s v
+  Cleared left pipes = ArePipesTo device below pipes → HaltClearedOf a done known pipes left s v
       → PipesClear path t pipes left s v
 
   -- of pipes of which one was put back
@@ -394,13 +408,13 @@ module _ (device : Accepted) (below : Bool) (path : List ℕ) (t : ToldItem) (a 
 
   pub cleared_of_move : (pipes left : Pipes) (old new : World)
       (result : Result (Unit {0}) TableFault) → PipesClearedOf a pipes old result left new
-      → ArePipesTo device below pipes → HaltClearedOf a done pipes left s v
+      → ArePipesTo device below pipes → HaltClearedOf a done known pipes left s v
       → SameSettings root s v → ((end : Endpoint) → bytes_for end t.due ≡ [])
       → ((end : Endpoint) → ArePackets end t.item []) → ((d : Bool) → FailsPlain d path t)
       → DeviceMoves path t pipes left s v
   cleared_of_move pipes left old new result x are cleared same asks tells plain =
       clear_moves path t pipes left s v
-      (through_cases (pipe_to a) ClearedOfThrough old result left new (Cleared left)
+      (through_cases (pipe_to a) (clears_miss a) ClearedOfThrough old result left new (Cleared left)
       (λ p none kept failed. untried_clear left p none kept)
       (λ function pipe rest found kept did.
       put_clear left function pipe rest found kept did.cleared.same) pipes x are cleared)

@@ -1,7 +1,8 @@
 -- One device over the parts of a stretch, one after the other.
 use Rattle.std.proofs.Common.{◌≡◌, ◌∙◌, refl, sym, ap, subst, Bool, true, false, ℕ, List, [], ◌∷◌}
 use Rattle.std.proofs.Common.{◌++◌, Option, None, Some, append-nil}
-use Rattle.usb_device.specs.{GivesOn, State, Location, in_data, in_end, out_end}
+use Rattle.std.specs.List.{AllByRecursion}
+use Rattle.usb_device.specs.{GivesOn, Registers, State, Location, in_data, in_end, out_end}
 use Rattle.usb_device.proofs.Interface.{gives-append}
 use Rattle.usb_world.specs.{Was}
 use Rattle.usb_pipe.specs.{PipeState, InPipeInSync}
@@ -10,6 +11,7 @@ use Rattle.usb_table.specs.{SameSettings, function_of}
 use Rattle.usb_table.proofs.Interface.{root, same_in_data, still_source}
 use Rattle.usb_host.specs.{SameFunction, HostState}
 use Rattle.usb_streams.specs.{AreGiven, ArePackets, AreTaken, ClearsNone, Endpoint, FailsPlain}
+use Rattle.usb_streams.specs.{SetsNone}
 use Rattle.usb_streams.specs.{GaveNextBy, GaveTold, InStream, Joins, OutStream, StreamsAt}
 use Rattle.usb_streams.specs.{ToldItem, bytes_for, endpoint_at, first_of, is_done, is_this}
 use Rattle.usb_streams.specs.{pipe_of}
@@ -138,10 +140,30 @@ pub record DeviceStays (pipes left : Pipes) (s v : State) : Type 0 where
   pub into : (pipe : PipeState) (got : ℕ) → InPipeInSync pipe got s → InPipeInSync pipe got v
   pub settings : SameSettings root s v
 
+-- the description and the registers stay, but for the alternate settings
+pub record SameButSettings (s v : State) : Type 0 where
+  pub spec : v.spec ≡ s.spec
+  pub registers : v.registers ≡ record s.registers { settings = v.registers.settings }
+
+pub same_but : (s v : State) → SameSettings root s v → SameButSettings s v
+same_but s v same = record {
+  spec = same.0;
+  registers = same.1 ∙ ap (λ (g : Registers). record s.registers { settings = g.settings })
+      (sym same.1);
+}
+
+pub same_set : (s v : State) → SameSettings root s v → v.registers.settings ≡ s.registers.settings
+same_set s v same = ap (λ (g : Registers). g.settings) same.1
+
+-- with the same settings all of them
+all_settings : (s v : State) → v.registers ≡ record s.registers { settings = v.registers.settings }
+    → v.registers.settings ≡ s.registers.settings → v.registers ≡ s.registers
+all_settings s v rest same = rest ∙ ap (λ x. record s.registers { settings = x }) same
+
 -- an item moves the bytes that it tells: through each OUT endpoint
 pub record OutMoves (end : Endpoint) (t : ToldItem) (pipe left : Option PipeState) (s v : State)
     : Type 0 where
-  pub there : left ≡ None → pipe ≡ None
+  pub there : SetsNone end.path t → left ≡ None → pipe ≡ None
   pub none : pipe ≡ None → (out_end v end.number).sink ≡ (out_end s end.number).sink
   pub sink : Joins (is_done t.item) (bytes_for end t.due) (out_end s end.number).sink
       (out_end v end.number).sink
@@ -158,7 +180,8 @@ pub record DeviceMoves (path : List ℕ) (t : ToldItem) (pipes left : Pipes) (s 
         (pipe_of true e left) s v
     pub first : (is_in : Bool) → first_of is_in left ≡ first_of is_in pipes
     pub plain : (is_in : Bool) → first_of is_in pipes ≡ None → FailsPlain is_in path t
-    pub settings : SameSettings root s v
+    pub device : SameButSettings s v
+    pub settings : SetsNone path t → v.registers.settings ≡ s.registers.settings
 
 -- the same function has the same pipes
 
@@ -212,7 +235,7 @@ streams_none path pipes s had = record {
   outs = λ e. record {
     took = λ all. took_none (endpoint_at path false e pipes) (pipe_of false e pipes) s;
     sink = ([], refl, sym (append-nil (out_end s e).sink));
-    none = λ none. refl;
+    none = λ unset none. refl;
   };
   ins = λ e. record {
     had = had e;
@@ -225,8 +248,20 @@ streams_none path pipes s had = record {
   first = λ is_in. refl;
   plain = λ is_in none. tt;
   spec = refl;
-  registers = refl;
+  registers = record { rest = refl; settings = λ unset. refl };
 }
+
+-- where an endpoint does not begin again no setting is asked for
+sets_none : (end : Endpoint) (told : List ToldItem) → AllByRecursion (ClearsNone end) told
+    → AllByRecursion (SetsNone end.path) told
+sets_none end [] all = tt
+sets_none end (t ∷ told) all = (all.0.set, sets_none end told all.1)
+
+-- and the device has the settings that it had
+same_settings : (end : Endpoint) (told : List ToldItem) (p q : Pipes) (s u : State)
+    → Streams end.path told p q s u → AllByRecursion (ClearsNone end) told → SameSettings root s u
+same_settings end told p q s u x all =
+    (x.spec, all_settings s u x.registers.rest (x.registers.settings (sets_none end told all)))
 
 pub streams_stay : (path : List ℕ) (told : List ToldItem) (p q r : Pipes) (s u v : State)
     → Streams path told p q s u → DeviceStays q r u v → Streams path told p r s v
@@ -236,7 +271,11 @@ streams_stay path told p q r s u v x y = record {
   first = λ is_in. y.first is_in ∙ x.first is_in;
   plain = x.plain;
   spec = y.settings.0 ∙ x.spec;
-  registers = y.settings.1 ∙ x.registers;
+  registers = record {
+    rest = (same_but u v y.settings).registers
+        ∙ ap (λ (g : Registers). record g { settings = v.registers.settings }) x.registers.rest;
+    settings = λ unset. same_set u v y.settings ∙ x.registers.settings unset;
+  };
 }
   where
     out_stays : (e : ℕ) → OutStream (endpoint_at path false e p) told (pipe_of false e q) s u
@@ -245,7 +284,7 @@ streams_stay path told p q r s u v x y = record {
       took = λ all. took_stay (endpoint_at path false e p) told (pipe_of false e q)
           (pipe_of false e r) s u v (y.kept false e) (y.sinks e) (o.took all);
       sink = (o.sink.0, o.sink.1, y.sinks e ∙ o.sink.2);
-      none = λ none. y.sinks e ∙ o.none (sym (y.kept false e) ∙ none);
+      none = λ unset none. y.sinks e ∙ o.none unset (sym (y.kept false e) ∙ none);
     }
 
     in_stays : (e : ℕ) → InStream (endpoint_at path true e p) told (pipe_of true e p)
@@ -260,7 +299,7 @@ streams_stay path told p q r s u v x y = record {
               (λ a b first none. subst (AreGiven end told)
               (sym (append-nil a) ∙ ap (λ l. a ++ l) (sym none)) first)
               e (pipe_of true e p) (pipe_of true e q) (pipe_of true e r) root s u v
-              (x.spec, x.registers)
+              (same_settings end told p q s u x all)
               (told_gives end told (pipe_of true e p) (pipe_of true e q) s u (i.gave all))
               (gives_nothing (λ l. l ≡ []) e (pipe_of true e q) (pipe_of true e r) u v refl
               (y.kept true e) (λ pipe got there f. y.into pipe got f)));
@@ -291,8 +330,12 @@ streams_move path t told p q r s u v x y = record {
       (same_endpoint path true e p q (x.first true)) (y.ins e));
   first = λ is_in. y.first is_in ∙ x.first is_in;
   plain = λ is_in none. (y.plain is_in (x.first is_in ∙ none), x.plain is_in none);
-  spec = y.settings.0 ∙ x.spec;
-  registers = y.settings.1 ∙ x.registers;
+  spec = y.device.spec ∙ x.spec;
+  registers = record {
+    rest = y.device.registers
+        ∙ ap (λ (g : Registers). record g { settings = v.registers.settings }) x.registers.rest;
+    settings = λ unset. y.settings unset.0 ∙ x.registers.settings unset.1;
+  };
 }
   where
     out_moves : (e : ℕ) → OutStream (endpoint_at path false e p) told (pipe_of false e q) s u
@@ -307,9 +350,9 @@ streams_move path t told p q r s u v x y = record {
           took = λ all. took_then end t told (pipe_of false e q) (pipe_of false e r) s u v
               (o.took all.1) (m.took all.0);
           sink = (went.0, taken, went.2);
-          none = λ none.
-              let before : pipe_of false e q ≡ None = m.there none in
-              m.none before ∙ o.none before;
+          none = λ unset none.
+              let before : pipe_of false e q ≡ None = m.there unset.0 none in
+              m.none before ∙ o.none unset.1 before;
         }
 
     in_moves : (e : ℕ) → InStream (endpoint_at path true e p) told (pipe_of true e p)
@@ -326,7 +369,7 @@ streams_move path t told p q r s u v x y = record {
               (gives_then (AreGiven end told) (ArePackets end t.item) (AreGiven end (t ∷ told))
               (λ a b first second. given_then end t told a b first second) e
               (pipe_of true e p) (pipe_of true e q) (pipe_of true e r) root s u v
-              (x.spec, x.registers)
+              (same_settings end told p q s u x all.1)
               (told_gives end told (pipe_of true e p) (pipe_of true e q) s u (i.gave all.1))
               (m all.0));
         }

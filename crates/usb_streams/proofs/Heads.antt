@@ -21,7 +21,8 @@ use Rattle.usb_device.specs.{in_end, no_in, no_out, out_end, rested_in, rested_o
 use Rattle.usb_device.specs.{takes_configuration, unhalts, with_endpoint_state, with_endpoints}
 use Rattle.usb_device.specs.{EndpointState, ServedEndpoint, InEnd, OutEnd, accepted, begun_again}
 use Rattle.usb_device.specs.{end_numbers, endpoint_state, halted, outcome, plugged_in_end}
-use Rattle.usb_device.specs.{plugged_out, with_in, with_out}
+use Rattle.usb_device.specs.{begun_if, is_of_setting, numbered_from, plugged_out, takes_setting}
+use Rattle.usb_device.specs.{with_in, with_out}
 use Rattle.usb_device.specs.declared.transfer.RememberedPacket.TheVariants.{Nothing, SetupSeen}
 use Rattle.usb_device.specs.declared.transfer.RememberedPacket.TheVariants.{OutSeen, AckAwaited}
 use Rattle.usb_device.specs.declared.transfer.InEndpoint.TheVariants as by
@@ -64,6 +65,24 @@ record StaysOut (s v : State) : Type 0 where
 
 rest : (d : State) → AwaitsControl d.memory → StaysOut d d
 rest d m = record { sink = λ e. refl; place = λ e. refl; memory = m }
+
+-- each end of a row was changed by its number
+pub numbered_each : {A : Type 0} (none : A) (R : A → A → Type 0) → ((x : A) → R x x)
+    → (change : ℕ → A → A) → ((k : ℕ) (x : A) → R x (change k x)) → (k n : ℕ) (row : List A)
+    → R (get_or row n none) (get_or (numbered_from change k row) n none)
+unfolding numbered_from
+numbered_each none R same change so k n [] = same none
+numbered_each none R same change so k zero (x ∷ row) = so k x
+numbered_each none R same change so k (suc n) (x ∷ row) =
+    numbered_each none R same change so (k + 1) n row
+
+pub begun_sink : (begins : Bool) (x : OutEnd) → (begun_if begins rested_out x).sink ≡ x.sink
+begun_sink true x = refl
+begun_sink false x = refl
+
+begun_place : (begins : Bool) (x : InEnd) → (begun_if begins rested_in x).place ≡ x.place
+begun_place true x = refl
+begun_place false x = refl
 
 module _ (d : State) (m : AwaitsControl d.memory) where
   in_stage : (stage : Stage) → StaysOut d (in_row d stage).1
@@ -116,6 +135,17 @@ module _ (d : State) (m : AwaitsControl d.memory) where
   }
   ends_out (halts which) = halts_out which (halted (endpoint_state d which))
   ends_out (unhalts which) = begins_out which
+  ends_out (takes_setting interface setting) = record {
+    sink = λ e. numbered_each no_out (λ x y. y.sink ≡ x.sink) (λ x. refl) (λ k.
+        begun_if (is_of_setting d.spec d.registers interface setting false k) rested_out)
+        (λ k x. begun_sink (is_of_setting d.spec d.registers interface setting false k) x) 0 e
+        d.outs;
+    place = λ e. numbered_each no_in (λ x y. y.place ≡ x.place) (λ x. refl) (λ k.
+        begun_if (is_of_setting d.spec d.registers interface setting true k) rested_in)
+        (λ k x. begun_place (is_of_setting d.spec d.registers interface setting true k) x) 0 e
+        d.ins;
+    memory = m;
+  }
   ends_out _ = rest d m
 
   begun_out : (row : List PortState) (wanted : ℕ) (o : Outcome) → StaysOut d (begun d row wanted o)

@@ -11,6 +11,7 @@ use Rattle.usb_device.specs.{State, Location, path_to, reach, reach_on, state_on
 use Rattle.usb_device.specs.{out_end, state_there}
 use Rattle.usb_world.specs.declared.event.Ask.{Ask}
 use Rattle.usb_world.specs.{Show, Send, SendTo, Receive, ReceiveFrom, Poll, Clear, ClearOf}
+use Rattle.usb_world.specs.{SetInterface}
 use Rattle.usb_world.specs.{ControlIn, ControlOut, Look as LookAt, News as AskNews, EachWas}
 use Rattle.usb_world.specs.{IsWrite, Was, World, Write}
 use Rattle.usb_request.specs.{IsToHost, Setup}
@@ -24,22 +25,24 @@ use Rattle.usb_table.specs.{GoesThrough, HaltClearedOf, HaltsCleared, PipesInSyn
 use Rattle.usb_table.specs.{ReadLeft, ReadMade, ReceivedThrough, ReportedBy, ReportedThrough}
 use Rattle.usb_table.specs.{SameSettings, SentThrough, SparesBulk, TookBytes, TransferIf, WriteLeft}
 use Rattle.usb_table.specs.{WriteMade, accepted_device_at, bytes_in, control_target}
-use Rattle.usb_table.specs.{function_of, is_below_hub, pipes_at, polls_through, receives_through}
-use Rattle.usb_table.specs.{sends_through, through, write_target}
+use Rattle.usb_table.specs.{function_of, interface_target, is_below_hub, pipes_at, polls_miss}
+use Rattle.usb_table.specs.{polls_through, receives_miss, receives_through, sends_miss}
+use Rattle.usb_table.specs.{sends_through, SettingLeft, through, write_target}
 use Rattle.usb_table.proofs.Interface.{cases_path, held_address, path_itself, path_tied}
 use Rattle.usb_table.proofs.Interface.{read_spares, spares-same, StillEnds, write_still}
 use Rattle.usb_host.specs.{HostState, claims, host_told, table_in, ClearOfTells, ClearTells}
 use Rattle.usb_host.specs.{ReadTells, ReceiveTells, RenewedAt, ReportTells, SendTells, StayedAt}
-use Rattle.usb_host.specs.{WriteTells}
-use Rattle.usb_run.specs.{Item, Knows, IsItemOf, sent_count, table_told, transfer_ended}
+use Rattle.usb_host.specs.{InterfaceTells, WriteTells}
+use Rattle.usb_run.specs.{InterfaceIfAsked, Item, Knows, IsItemOf, sent_count, table_told}
+use Rattle.usb_run.specs.{transfer_ended}
 use Rattle.usb_run.specs.declared.runs.Item.TheVariants as item
 use Rattle.usb_run.specs.Transfers.{Transfers}
 use Rattle.usb_run.proofs.Interface.{AskAnswered, silent, listed, sent, received, cleared, read}
 use Rattle.usb_run.proofs.Interface.{written, looked, news, answered, all_reported, answered_goes}
-use Rattle.usb_run.proofs.Interface.{cleared_of, polled, received_from, sent_to}
+use Rattle.usb_run.proofs.Interface.{cleared_of, interface_set, polled, received_from, sent_to}
 use Rattle.usb_run.proofs.Interface.{count_done, done_told, no_bus_fault, report_told}
 use Rattle.usb_run.proofs.Interface.{told_cleared, told_cleared_of, told_received, told_reported}
-use Rattle.usb_run.proofs.Interface.{told_sent}
+use Rattle.usb_run.proofs.Interface.{told_interface, told_sent}
 use Rattle.usb_streams.specs.{AreJoined, ArePackets, Endpoint, FailsPlain, StreamsAt, ToldItem}
 use Rattle.usb_streams.specs.{bytes_for, endpoint_at, first_of, is_done, is_of, pipe_of}
 use Rattle.usb_streams.proofs.Clears.{cleared_move, cleared_of_move}
@@ -47,6 +50,7 @@ use Rattle.usb_streams.proofs.Devices.{DeviceMoves, DeviceStays, spares_stays}
 use Rattle.usb_streams.proofs.Moves.{IsQuiet, gives_move, no_plain, one_stands, polls_pick}
 use Rattle.usb_streams.proofs.Moves.{quiet_moves, receives_pick, sends_move, settings_same}
 use Rattle.usb_streams.proofs.PipeEnds.{first_fails}
+use Rattle.usb_streams.proofs.Settings.{setting_moves}
 
 -- Devices at which nothing moved
 
@@ -330,7 +334,7 @@ module _ (path : List ℕ) (device : Accepted) (old new : HostState)
           let has : address_of s ≡ device.address =
           held_address (table_in old) old.world path device s (knows.sound.owned.so still) listed
           reached there in
-          let level : PipesInSync Before s = (knows.sound.level still path).level device s listed
+          let level : PipesInSync device Before s = (knows.sound.level still path).level device s listed
           reached there in
           sends_move device (is_below_hub path) path (Told due item) choice bytes asks tells
           old.world new.world x s v on stands stood has single hands.answer
@@ -350,7 +354,8 @@ module _ (path : List ℕ) (device : Accepted) (old new : HostState)
           let ends : transfer_ended (host_told hands.answer) ≡ Ok told =
           sym (ap transfer_ended hands.told) ∙ is.tells in
           sym (done_told hands.answer told ends ∙ done)
-          ∙ first_fails false (λ p. SentThrough p bytes) Before old.world hands.answer After
+          ∙ first_fails false (sends_miss FirstBulk) (λ p. SentThrough p bytes) Before old.world
+          hands.answer After
           new.world hands.moves none
 
       -- What an IN endpoint gives
@@ -373,7 +378,7 @@ module _ (path : List ℕ) (device : Accepted) (old new : HostState)
           (told_received path old new knows.sound still running choice packets told is).gave.each
           (λ x s v is_path was_on on stands stood gave.
           gives_move device (is_below_hub path) path (Told due item) choice
-          (receives_through choice) (λ p. ReceivedThrough p packets)
+          (receives_through choice) (receives_miss choice) (λ p. ReceivedThrough p packets)
           (λ came. concat came ≡ bytes_in told) asks
           (λ end came mine joined. tells end came
           (are_joined (is_of end path choice) (bytes_in told) came mine joined))
@@ -409,7 +414,8 @@ module _ (path : List ℕ) (device : Accepted) (old new : HostState)
           let ends : transfer_ended (host_told hands.answer) ≡ Ok told =
           sym (ap transfer_ended hands.told) ∙ is.tells in
           sym (done_told hands.answer told ends ∙ done)
-          ∙ first_fails true (λ p. ReceivedThrough p packets) Before old.world hands.answer After
+          ∙ first_fails true (receives_miss FirstBulk) (λ p. ReceivedThrough p packets) Before
+          old.world hands.answer After
           new.world hands.moves none
 
       polled_here : (a : ℕ) (told : Result (Option (ArrayVec ℕ)) TransferFault)
@@ -427,7 +433,7 @@ module _ (path : List ℕ) (device : Accepted) (old new : HostState)
           (told_reported path old new knows.sound still running a told is).gave.each
           (λ x s v is_path was_on on stands stood gave.
           gives_move device (is_below_hub path) path (Told due made) (At a) (polls_through a)
-          ReportedThrough (λ came. came ≡ report_in told) (λ end. refl)
+          (polls_miss a) ReportedThrough (λ came. came ≡ report_in told) (λ end. refl)
           (λ end came mine is_it. is_it
           ∙ sym (ap (λ b. if b then report_in told else []) mine))
           (λ end other. sym (ap (λ b. if b then report_in told else []) other))
@@ -464,15 +470,16 @@ module _ (path : List ℕ) (device : Accepted) (old new : HostState)
           (hands.keeps.worlds.addresses.kept (claims old.entries) knows.sound.owned).single in
           let due : Option Ask = Some (Clear path) in
           let made : Item = item.Cleared path told in
-          here due made (HaltsCleared (is_ok told) Before After) hands.through
+          let known : Option Accepted = accepted_device_at path old.entries in
+          here due made (HaltsCleared (is_ok told) known Before After) hands.through
           (told_cleared path old new knows.sound still running told is).each
           (λ x s v is_path was_on on stands stood cleared.
           let was : Was SameSettings old.world x v =
           hands.keeps.worlds.devices.same single x v on stands in
           let same : SameSettings x s v = subst (λ (d : State). SameSettings x d v)
           (one_stands old.world x s was.before stood was.stands) was.so in
-          cleared_move device (is_below_hub path) path (Told due made) refl (is_ok told) s v Before
-          After old.world new.world hands.answer hands.moves (pipes_to hands.through) refl cleared
+          cleared_move device (is_below_hub path) path (Told due made) refl (is_ok told) known s v
+          Before After old.world new.world hands.answer hands.moves (pipes_to hands.through) refl cleared
           same (λ end. refl) (λ end. refl)
           (plain_none due made (λ bytes asked. cc asked) (λ packets asked. cc asked)))
 
@@ -485,15 +492,16 @@ module _ (path : List ℕ) (device : Accepted) (old new : HostState)
           (hands.keeps.worlds.addresses.kept (claims old.entries) knows.sound.owned).single in
           let due : Option Ask = Some (ClearOf path a) in
           let made : Item = item.ClearedOf path a told in
-          here due made (HaltClearedOf a (is_ok told) Before After) hands.through
+          let known : Option Accepted = accepted_device_at path old.entries in
+          here due made (HaltClearedOf a (is_ok told) known Before After) hands.through
           (told_cleared_of path old new knows.sound still running a told is).each
           (λ x s v is_path was_on on stands stood cleared.
           let was : Was SameSettings old.world x v =
           hands.keeps.worlds.devices.same single x v on stands in
           let same : SameSettings x s v = subst (λ (d : State). SameSettings x d v)
           (one_stands old.world x s was.before stood was.stands) was.so in
-          cleared_of_move device (is_below_hub path) path (Told due made) a refl (is_ok told) s v
-          Before After old.world new.world hands.answer hands.moves (pipes_to hands.through) cleared
+          cleared_of_move device (is_below_hub path) path (Told due made) a refl (is_ok told) known
+          s v Before After old.world new.world hands.answer hands.moves (pipes_to hands.through) cleared
           same (λ end. refl) (λ end. refl)
           (plain_none due made (λ bytes asked. cc asked) (λ packets asked. cc asked)))
 
@@ -704,7 +712,8 @@ module _ (path : List ℕ) (device : Accepted) (old new : HostState)
           by_path (λ p. Transfers (ClearTells p) old told new) (λ p. Some (Clear p))
           (λ p. item.Cleared p told) to (cleared_here told)
           (λ away came. apart to (Some (Clear to)) (item.Cleared to told)
-          (HaltsCleared (is_ok told) (pipes_at to (table_in old)) (pipes_at to (table_in new))) away
+          (HaltsCleared (is_ok told) (accepted_device_at to old.entries) (pipes_at to (table_in old))
+          (pipes_at to (table_in new))) away
           (quiet_item (Some (Clear to)) (item.Cleared to told) (λ end. refl) (λ end. refl)
           (λ bytes asked. cc asked) (λ more asked. cc asked)) (came.call.did running).through
           (told_cleared to old new knows.sound still running told came).each) is
@@ -716,11 +725,73 @@ module _ (path : List ℕ) (device : Accepted) (old new : HostState)
           by_path (λ p. Transfers (ClearOfTells p a) old told new) (λ p. Some (ClearOf p a))
           (λ p. item.ClearedOf p a told) to (cleared_of_here a told)
           (λ away came. apart to (Some (ClearOf to a)) (item.ClearedOf to a told)
-          (HaltClearedOf a (is_ok told) (pipes_at to (table_in old)) (pipes_at to (table_in new)))
-          away
+          (HaltClearedOf a (is_ok told) (accepted_device_at to old.entries)
+          (pipes_at to (table_in old)) (pipes_at to (table_in new))) away
           (quiet_item (Some (ClearOf to a)) (item.ClearedOf to a told) (λ end. refl) (λ end. refl)
           (λ bytes asked. cc asked) (λ more asked. cc asked)) (came.call.did running).through
           (told_cleared_of to old new knows.sound still running a told came).each) is
+
+      -- An interface's setting
+
+      quiet_setting : (to : List ℕ) (i a : ℕ) (told : Result (Unit {0}) TransferFault)
+          → IsQuiet path (Told (Some (SetInterface to i a)) (item.InterfaceSet to i a told))
+      quiet_setting to i a told =
+          quiet_item (Some (SetInterface to i a)) (item.InterfaceSet to i a told) (λ end. refl)
+          (λ end. refl) (λ bytes asked. cc asked) (λ packets asked. cc asked)
+
+      -- in the same world each device is as it was
+      same_ends : new.world ≡ old.world → (x : Location) (v : State)
+          → reach_on new.world.roots x ≡ true → state_on new.world.roots x ≡ Some v
+          → Was (λ y s u. StillEnds s u) old.world x v
+      same_ends same x v on stands = record {
+        before = v;
+        on = ap (λ (w : World). reach_on w.roots x) (sym same) ∙ on;
+        stands = ap (λ (w : World). state_on w.roots x) (sym same) ∙ stands;
+        so = ends_same v v refl;
+      }
+
+      set_here : (i a : ℕ) (told : Result (Unit {0}) TransferFault)
+          → GoesThrough path (table_in old) (table_in new) → (asked : Result Target TransferFault)
+          → InterfaceIfAsked path i a asked old told new
+          → MovesAt path device (Some (SetInterface path i a)) (item.InterfaceSet path i a told) old
+          new
+      set_here i a told through (Ok target) did =
+          let due : Option Ask = Some (SetInterface path i a) in
+          let made : Item = item.InterfaceSet path i a told in
+          here due made (SettingLeft i a did.set.answer) through did.each
+          (λ x s v is_path was_on on stands stood left.
+          setting_moves path (Told due made) i a refl (accepted_device_at path old.entries)
+          (is_below_hub path) did.set.answer Before After s v did.set.pipes left (λ end. refl)
+          (plain_none due made (λ bytes asked. cc asked) (λ packets asked. cc asked)))
+      set_here i a told through (Err fault) refused =
+          still_moves (Some (SetInterface path i a)) (item.InterfaceSet path i a told)
+          (quiet_setting path i a told) (listed_before path through) refused.1
+          (same_ends refused.2)
+
+      set_apart : (to : List ℕ) (i a : ℕ) (told : Result (Unit {0}) TransferFault)
+          → ties (path_cmp to) path ≡ false → GoesThrough to (table_in old) (table_in new)
+          → (asked : Result Target TransferFault) → InterfaceIfAsked to i a asked old told new
+          → MovesAt path device (Some (SetInterface to i a)) (item.InterfaceSet to i a told) old new
+      set_apart to i a told away through (Ok target) did =
+          apart to (Some (SetInterface to i a)) (item.InterfaceSet to i a told)
+          (SettingLeft i a did.set.answer) away (quiet_setting to i a told) through did.each
+      set_apart to i a told away through (Err fault) refused =
+          still_moves (Some (SetInterface to i a)) (item.InterfaceSet to i a told)
+          (quiet_setting to i a told) (listed_before to through) (through.others path away)
+          (same_ends refused.2)
+
+      set_item : (to : List ℕ) (i a : ℕ) (told : Result (Unit {0}) TransferFault)
+          → Transfers (InterfaceTells to i a) old told new
+          → MovesAt path device (Some (SetInterface to i a)) (item.InterfaceSet to i a told) old new
+      set_item to i a told is =
+          by_path (λ p. Transfers (InterfaceTells p i a) old told new)
+          (λ p. Some (SetInterface p i a)) (λ p. item.InterfaceSet p i a told) to
+          (λ came. set_here i a told (came.call.did running).through
+          (interface_target path i a old.entries)
+          (told_interface path old new knows.sound still running i a told came))
+          (λ away came. set_apart to i a told away (came.call.did running).through
+          (interface_target to i a old.entries)
+          (told_interface to old new knows.sound still running i a told came)) is
 
       pub item_moves : (due : Option Ask) (made : Item) → IsItemOf due (Some made) old new
           → new.world.fault ≡ None → MovesAt path device due made old new
@@ -764,6 +835,8 @@ module _ (path : List ℕ) (device : Accepted) (old new : HostState)
               inl (told_as (Some (Poll from a)) _ asks e (polled_item from a told came))
           moves_as (cleared_of to a told asks e came) =
               inl (told_as (Some (ClearOf to a)) _ asks e (cleared_of_item to a told came))
+          moves_as (interface_set to i a told asks e came) =
+              inl (told_as (Some (SetInterface to i a)) _ asks e (set_item to i a told came))
           moves_as (read from request told host asks e came) =
               inl (still_as (Some (ControlIn from request)) (item.Read from told) asks e
               (quiet_item (Some (ControlIn from request)) (item.Read from told) (λ end. refl)

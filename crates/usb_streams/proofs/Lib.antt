@@ -6,6 +6,7 @@ mod Heads
 mod Items
 mod Moves
 mod PipeEnds
+mod Settings
 mod Starts
 mod Stretches
 mod Streams

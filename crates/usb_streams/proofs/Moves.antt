@@ -15,17 +15,19 @@ use Rattle.usb_enum.specs.{Accepted}
 use Rattle.usb_table.specs.{ArePipesTo, EndpointChoice, FirstBulk, At, FitsOut, FunctionPipes}
 use Rattle.usb_table.specs.{JoinsSink, PipeDid, Pipes, Function, PipesInSync}
 use Rattle.usb_table.specs.{PipesSent, PipesThrough, SameSettings, SentThrough, TableFault}
-use Rattle.usb_table.specs.{TookBytes, pipe_at, sends_through, table_answer}
+use Rattle.usb_table.specs.{TookBytes, TransferFault, pipe_at, sends_miss, sends_through}
+use Rattle.usb_table.specs.{table_answer}
 use Rattle.usb_table.specs.{gives_bytes, gives_reports, is_bulk_kind, polls_through}
 use Rattle.usb_table.specs.{receives_through, takes_bytes}
 use Rattle.usb_table.specs.{through, with_pipe}
 use Rattle.usb_table.proofs.Interface.{done_through, root, still_source}
-use Rattle.usb_streams.specs.{ArePackets, ClearsNone, Endpoint, FailsPlain, Joins, ToldItem}
+use Rattle.usb_streams.specs.{ArePackets, ClearsNone, Endpoint, FailsPlain, Joins, SetsNone}
+use Rattle.usb_streams.specs.{ToldItem}
 use Rattle.usb_streams.specs.{bytes_for, endpoint_at, first_of, is_done, is_of, pipe_of}
 use Rattle.usb_streams.proofs.Bytes.{SinkStep, joins_failed, joins_none, sink_step_failed}
 use Rattle.usb_streams.proofs.Bytes.{sink_step_none}
 use Rattle.usb_streams.proofs.Devices.{DeviceMoves, DeviceStays, GaveSome, GivesBy, OutMoves}
-use Rattle.usb_streams.proofs.Devices.{gives_nothing}
+use Rattle.usb_streams.proofs.Devices.{gives_nothing, same_but, same_set}
 use Rattle.usb_streams.proofs.HaltedSends.{NoneSent, empty_stuck, failed_stuck, none_sent}
 use Rattle.usb_streams.proofs.PipeEnds.{IsPut, OnlyRest, Picks, is_put, numbered, only_rest}
 use Rattle.usb_streams.proofs.PipeEnds.{picks_at, picks_first, through_cases}
@@ -34,7 +36,8 @@ use Rattle.usb_streams.proofs.PipeEnds.{picks_at, picks_first, through_cases}
 
 -- nothing was asked of an OUT endpoint
 pub out_rests : (end : Endpoint) (t : ToldItem) (pipe left : Option PipeState) (s v : State)
-    → bytes_for end t.due ≡ [] → (left ≡ None → pipe ≡ None) → (ClearsNone end t → left ≡ pipe)
+    → bytes_for end t.due ≡ [] → (SetsNone end.path t → left ≡ None → pipe ≡ None)
+    → (ClearsNone end t → left ≡ pipe)
     → (out_end v end.number).sink ≡ (out_end s end.number).sink → OutMoves end t pipe left s v
 out_rests end t pipe left s v none there kept same = record {
   there = there;
@@ -52,7 +55,7 @@ out_fails : (end : Endpoint) (t : ToldItem) (pipe left : Option PipeState) (s v 
     → is_done t.item ≡ false → left ≡ pipe
     → (out_end v end.number).sink ≡ (out_end s end.number).sink → OutMoves end t pipe left s v
 out_fails end t pipe left s v failed kept same = record {
-  there = λ gone. sym kept ∙ gone;
+  there = λ unset gone. sym kept ∙ gone;
   none = λ gone. same;
   sink = joins_failed (is_done t.item) (bytes_for end t.due) (out_end s end.number).sink
       (out_end v end.number).sink failed same;
@@ -85,14 +88,16 @@ pub quiet_moves : (path : List ℕ) (t : ToldItem) (pipes left : Pipes) (s v : S
     → IsQuiet path t → DeviceStays pipes left s v → DeviceMoves path t pipes left s v
 quiet_moves path t pipes left s v quiet stays = record {
   outs = λ e. out_rests (endpoint_at path false e pipes) t (pipe_of false e pipes)
-      (pipe_of false e left) s v (quiet.asks e pipes) (λ gone. sym (stays.kept false e) ∙ gone)
+      (pipe_of false e left) s v (quiet.asks e pipes)
+      (λ unset gone. sym (stays.kept false e) ∙ gone)
       (λ alone. stays.kept false e) (stays.sinks e);
   ins = λ e alone. gives_nothing (ArePackets (endpoint_at path true e pipes) t.item) e
       (pipe_of true e pipes) (pipe_of true e left) s v (quiet.tells e pipes) (stays.kept true e)
       (λ p got there f. stays.into p got f);
   first = stays.first;
   plain = λ d none. quiet.plain d;
-  settings = stays.settings;
+  device = same_but s v stays.settings;
+  settings = λ unset. same_set s v stays.settings;
 }
 
 -- A transfer that failed at once
@@ -110,7 +115,8 @@ device_fails path t pipes left s v kept same failed none = record {
       (λ p got there f. subst (InPipeInSync p got) (sym same) f);
   first = λ d. ap (first_of d) kept;
   plain = λ d none. fails_plain d path t failed;
-  settings = settings_same s v same;
+  device = same_but s v (settings_same s v same);
+  settings = λ unset. same_set s v (settings_same s v same);
 }
 
 -- A send
@@ -221,7 +227,7 @@ module _ (device : Accepted) (below : Bool) (path : List ℕ) (t : ToldItem)
     (done : is_ok result ≡ is_done t.item) (left : Pipes) where
   -- what it does to the device, as long as nothing is claimed that is not so of a plain one
   abbrev Moved : Pipes → Type 0
-  Moved pipes = ArePipesTo device below pipes → PipesInSync pipes s
+  Moved pipes = ArePipesTo device below pipes → PipesInSync device pipes s
       → TookBytes (through (sends_through choice) pipes) (is_done t.item) bytes s v
       → ((d : Bool) → first_of d pipes ≡ None → FailsPlain d path t)
       → DeviceMoves path t pipes left s v
@@ -236,7 +242,7 @@ module _ (device : Accepted) (below : Bool) (path : List ℕ) (t : ToldItem)
 
   module _ (function : FunctionPipes) (pipe rest : PipeState)
       (are : ArePipesTo device below (Function function))
-      (level : PipesInSync (Function function) s)
+      (level : PipesInSync device (Function function) s)
       (picks : Picks device below false choice (sends_through choice) function pipe)
       (puts : IsPut false pipe.ep rest function left)
       (sent : SentThrough pipe bytes old result rest new)
@@ -270,7 +276,7 @@ module _ (device : Accepted) (below : Bool) (path : List ℕ) (t : ToldItem)
 
     own_moves : OutMoves own t (Some pipe) (Some rest) s v
     own_moves = record {
-      there = λ gone. absurd (cc gone);
+      there = λ unset gone. absurd (cc gone);
       none = λ gone. absurd (cc gone);
       sink = subst (λ l. Joins (is_done t.item) l (out_end s pipe.ep).sink
           (out_end v pipe.ep).sink) (sym asks_own)
@@ -291,7 +297,7 @@ module _ (device : Accepted) (below : Bool) (path : List ℕ) (t : ToldItem)
         let end : Endpoint = endpoint_at path false e (Function function) in
         out_rests end t (pipe_at false e function) (pipe_of false e left) s v
         (asks end ∙ ap (λ b. if b then bytes else []) (picks.of path e ∙ apart))
-        (λ gone. sym (puts.beside e apart) ∙ gone) (λ alone. puts.beside e apart)
+        (λ unset gone. sym (puts.beside e apart) ∙ gone) (λ alone. puts.beside e apart)
         (ap (λ o. o.sink) (took.rest.others e apart))
 
     sent_moves : ((d : Bool) → first_of d (Function function) ≡ None → FailsPlain d path t)
@@ -309,7 +315,8 @@ module _ (device : Accepted) (below : Bool) (path : List ℕ) (t : ToldItem)
               (ap (λ row. (get_or row p.ep no_in).state) seen.ins) f);
           first = puts.first;
           plain = plain;
-          settings = (seen.spec, seen.registers);
+          device = same_but s v (seen.spec, seen.registers);
+          settings = λ unset. same_set s v (seen.spec, seen.registers);
         }
 
   went : (function : FunctionPipes) (pipe rest : PipeState)
@@ -323,13 +330,14 @@ module _ (device : Accepted) (below : Bool) (path : List ℕ) (t : ToldItem)
 
   pub sends_move : (pipes : Pipes) → PipesSent choice pipes bytes old result left new
       → Moved pipes
-  sends_move pipes did = through_cases (sends_through choice) (λ p. SentThrough p bytes) old result
-      left new Moved untried went pipes did
+  sends_move pipes did = through_cases (sends_through choice) (sends_miss choice)
+      (λ p. SentThrough p bytes) old result left new Moved untried went pipes did
 
 -- What an IN endpoint gives
 
 module _ {A : Type 0} (device : Accepted) (below : Bool) (path : List ℕ) (t : ToldItem)
-    (choice : EndpointChoice) (pick : FunctionPipes → Option PipeState) (So : PipeDid A)
+    (choice : EndpointChoice) (pick : FunctionPipes → Option PipeState)
+    (miss : FunctionPipes → TransferFault) (So : PipeDid A)
     (Are : List (List ℕ) → Type 0)
     (asks : (end : Endpoint) → bytes_for end t.due ≡ [])
     (tells : (end : Endpoint) (packets : List (List ℕ)) → is_of end path choice ≡ true
@@ -426,12 +434,13 @@ module _ {A : Type 0} (device : Accepted) (below : Bool) (path : List ℕ) (t : 
       outs = λ e.
           let end : Endpoint = endpoint_at path false e (Function function) in
           out_rests end t (pipe_at false e function) (pipe_of false e left) s v (asks end)
-          (λ gone. sym (puts.across e) ∙ gone) (λ alone. puts.across e)
+          (λ unset gone. sym (puts.across e) ∙ gone) (λ alone. puts.across e)
           (ap (λ (d : State). (out_end d e).sink) frame.rest);
       ins = λ e alone. in_moves e (e == pipe.ep) refl;
       first = puts.first;
       plain = plain;
-      settings = settings;
+      device = same_but s v settings;
+      settings = λ unset. same_set s v settings;
     }
 
   brought : (function : FunctionPipes) (pipe rest : PipeState) → pick function ≡ Some pipe
@@ -446,7 +455,7 @@ module _ {A : Type 0} (device : Accepted) (below : Bool) (path : List ℕ) (t : 
       (subst (λ o. By (pick function) o) (ap (through pick) puts.is ∙ picks.again rest same) by))
       plain
 
-  pub gives_move : (pipes : Pipes) → PipesThrough pick So pipes old result left new
+  pub gives_move : (pipes : Pipes) → PipesThrough pick miss So pipes old result left new
       → Brought pipes
-  gives_move pipes did = through_cases pick So old result left new Brought none_tried brought pipes
-      did
+  gives_move pipes did = through_cases pick miss So old result left new Brought none_tried brought
+      pipes did

@@ -5,15 +5,16 @@ use Rattle.std.proofs.Common.{if◌then◌else◌, eqb-true}
 use Rattle.usb_device.specs.{State, out_end, with_at}
 use Rattle.usb_device.proofs.Interface.{at_other, at_same}
 use Rattle.usb_request.specs.{DIRECTION_IN}
-use Rattle.usb_descriptor.specs.{UsableEndpoint}
+use Rattle.usb_descriptor.specs.{EndpointKind, UsableEndpoint}
 use Rattle.usb_world.specs.{World}
 use Rattle.usb_pipe.specs.declared.condition.Condition.TheVariants.{Ready, Halted, Broken}
 use Rattle.usb_pipe.specs.{PipeState, Condition, pipe_made}
 use Rattle.usb_enum.specs.{Accepted, target_of}
 use Rattle.usb_table.specs.{FunctionPipes, Pipes, Hub, Function, Absent, EndpointChoice, FirstBulk}
-use Rattle.usb_table.specs.{At, AreFunctionPipes, IsPipe, OnlySinkOf, PipeDid, PipesThrough}
-use Rattle.usb_table.specs.{TableFault, ThroughIf, first_number, first_pipe, only_if, pipe_at}
-use Rattle.usb_table.specs.{pipe_if, pipe_to, through, usable_end, with_pipe, with_rest}
+use Rattle.usb_table.specs.{At, AreFunctionPipes, IsPlace, OnlySinkOf, PipeDid, PipesThrough}
+use Rattle.usb_table.specs.{TableFault, ThroughIf, TransferFault, end_under, first_number}
+use Rattle.usb_table.specs.{first_pipe, lost_at, moves_bulk, only_if, pipe_at, pipe_if, pipe_to}
+use Rattle.usb_table.specs.{through, with_pipe, with_rest}
 use Rattle.usb_table.proofs.Interface.{path_itself}
 use Rattle.usb_streams.specs.{endpoint_at, first_of, has_way, is_of, is_this, pipe_of}
 
@@ -119,17 +120,20 @@ record IsAtPlace (device : Accepted) (below d : Bool) (e : ℕ) (pipe : PipeStat
   target : pipe.target ≡ target_of device below
 
 placed : (device : Accepted) (below d : Bool) (e : ℕ) (end : Option UsableEndpoint)
-    (pipe : PipeState) → IsPipe device below d e end (Some pipe) → IsAtPlace device below d e pipe
-placed device below d e None pipe is = absurd is
-placed device below d e (Some end) pipe is =
+    (lost : Option EndpointKind) (pipe : PipeState)
+    → IsPlace device below d e end lost (Some pipe) → IsAtPlace device below d e pipe
+placed device below d e None None pipe is = absurd is
+placed device below d e (Some end) None pipe is =
     record { number = is.number; way = is.way; target = is.target }
+placed device below d e end (Some kind) pipe gone = absurd (cc gone)
 
 at_place : (device : Accepted) (below d : Bool) (e : ℕ) (pipes : FunctionPipes)
     (pipe : PipeState) → AreFunctionPipes device below pipes → pipe_at d e pipes ≡ Some pipe
     → IsAtPlace device below d e pipe
 at_place device below d e pipes pipe are found =
-    placed device below d e (usable_end device d e) pipe
-    (subst (IsPipe device below d e (usable_end device d e)) found (are.each d e))
+    let end : Option UsableEndpoint = end_under are.settings device d e in
+    placed device below d e end (lost_at d e pipes) pipe
+    (subst (IsPlace device below d e end (lost_at d e pipes)) found (are.each d e))
 
 -- it is to the endpoint of its number
 pub numbered : (device : Accepted) (below d : Bool) (e : ℕ) (pipes : FunctionPipes)
@@ -137,6 +141,24 @@ pub numbered : (device : Accepted) (below d : Bool) (e : ℕ) (pipes : FunctionP
     → pipe.ep ≡ e
 numbered device below d e pipes pipe are found =
     let known = at_place device below d e pipes pipe are found in known.number
+
+-- a pipe that passes a test
+only_found : (test : PipeState → Bool) (o : Option PipeState) (pipe : PipeState)
+    → only_if test o ≡ Some pipe → (o ≡ Some pipe) × (test pipe ≡ true)
+only_found test None pipe found = absurd (cc found)
+only_found test (Some one) pipe found = by_test (test one) refl found
+  where
+    by_test : (b : Bool) → test one ≡ b → (if b then Some one else None) ≡ Some pipe
+        → (Some one ≡ Some pipe) × (test pipe ≡ true)
+    by_test true is same = let it : one ≡ pipe = cc same in (same, ap test (sym it) ∙ is)
+    by_test false is same = absurd (cc same)
+
+-- the first bulk one stands at the number of the first
+pub first_stands : (d : Bool) (pipes : FunctionPipes) (n : ℕ) (pipe : PipeState)
+    → first_number d pipes ≡ Some n → first_pipe d pipes ≡ Some pipe
+    → (pipe_at d n pipes ≡ Some pipe) × (moves_bulk pipe ≡ true)
+first_stands d pipes n pipe is found = only_found moves_bulk (pipe_at d n pipes) pipe
+    (subst (λ o. only_if moves_bulk (pipe_if d o pipes) ≡ Some pipe) is found)
 
 -- a transfer through the endpoint of a choice goes through this pipe, of a direction
 pub record Picks (device : Accepted) (below d : Bool) (choice : EndpointChoice)
@@ -160,11 +182,12 @@ module _ (device : Accepted) (below : Bool) (pipes : FunctionPipes)
       by_number : (first : Option ℕ) → first_number d pipes ≡ first
           → Picks device below d FirstBulk (first_pipe d) pipes pipe
       by_number None is =
-          let none : pipe_if d None pipes ≡ Some pipe =
-          subst (λ o. pipe_if d o pipes ≡ Some pipe) is found in absurd (cc none)
+          let none : only_if moves_bulk (pipe_if d None pipes) ≡ Some pipe =
+          subst (λ o. only_if moves_bulk (pipe_if d o pipes) ≡ Some pipe) is found in
+          absurd (cc none)
       by_number (Some n) is =
-          let at : pipe_at d n pipes ≡ Some pipe =
-          subst (λ o. pipe_if d o pipes ≡ Some pipe) is found in
+          let stands = first_stands d pipes n pipe is found in
+          let at : pipe_at d n pipes ≡ Some pipe = stands.0 in
           let known = at_place device below d n pipes pipe are at in
           let own : first_number d pipes ≡ Some pipe.ep = is ∙ ap Some (sym known.number) in
           record {
@@ -173,8 +196,11 @@ module _ (device : Accepted) (below : Bool) (pipes : FunctionPipes)
             there = subst (λ k. pipe_at d k pipes ≡ Some pipe) (sym known.number) at;
             of = λ path e. ap (λ b. b && is_this e (first_number d pipes)) (path_itself path)
                 ∙ ap (is_this e) own;
-            again = λ rest same. ap (λ o. pipe_if d o (put d pipe.ep rest pipes))
-                (put_first d d pipe.ep rest pipes ∙ own) ∙ put_same d pipe.ep rest pipes;
+            again = λ rest same.
+                ap (λ o. only_if moves_bulk (pipe_if d o (put d pipe.ep rest pipes)))
+                (put_first d d pipe.ep rest pipes ∙ own)
+                ∙ ap (only_if moves_bulk) (put_same d pipe.ep rest pipes)
+                ∙ ap (λ b. if b then Some rest else None) (ap moves_bulk same ∙ stands.1);
           }
 
   -- the one at an address, if it is of a kind
@@ -262,39 +288,41 @@ is_put d pipe rest pipes left way same there kept =
     }
 
 -- nothing was tried, or it went through one pipe, which is put back
-pub through_cases : {A : Type 0} (pick : FunctionPipes → Option PipeState) (So : PipeDid A)
-    (old : World) (result : Result A TableFault) (left : Pipes) (new : World)
-    (G : Pipes → Type 0)
+pub through_cases : {A : Type 0} (pick : FunctionPipes → Option PipeState)
+    (miss : FunctionPipes → TransferFault) (So : PipeDid A) (old : World)
+    (result : Result A TableFault) (left : Pipes) (new : World) (G : Pipes → Type 0)
     → ((pipes : Pipes) → through pick pipes ≡ None → left ≡ pipes → is_ok result ≡ false
     → G pipes)
     → ((function : FunctionPipes) (pipe rest : PipeState) → pick function ≡ Some pipe
     → left ≡ Function (with_pipe rest function) → So pipe old result rest new
     → G (Function function))
-    → (pipes : Pipes) → PipesThrough pick So pipes old result left new → G pipes
-through_cases pick So old result left new G untried went (Hub pipe) x =
+    → (pipes : Pipes) → PipesThrough pick miss So pipes old result left new → G pipes
+through_cases pick miss So old result left new G untried went (Hub pipe) x =
     untried (Hub pipe) refl x.1 (ap is_ok x.0)
-through_cases pick So old result left new G untried went (Function function) x =
+through_cases pick miss So old result left new G untried went (Function function) x =
     by_pipe (pick function) refl x.0 x.1 x.2
   where
     by_pipe : (o : Option PipeState) → pick function ≡ o → (rest : Option PipeState)
-        → left ≡ Function (with_rest rest function) → ThroughIf So o old result rest new
+        → left ≡ Function (with_rest rest function)
+        → ThroughIf So (miss function) o old result rest new
         → G (Function function)
     by_pipe None picked rest kept did = untried (Function function) picked
         (kept ∙ ap (λ o. Function (with_rest o function)) did.1) (ap is_ok did.0)
     by_pipe (Some pipe) picked None kept did = absurd did
     by_pipe (Some pipe) picked (Some rest) kept did = went function pipe rest picked kept did
-through_cases pick So old result left new G untried went Absent x =
+through_cases pick miss So old result left new G untried went Absent x =
     untried Absent refl x.1 (ap is_ok x.0)
 
 -- a transfer through the first bulk endpoint fails where there is none
-pub first_fails : {A : Type 0} (d : Bool) (So : PipeDid A) (pipes : Pipes) (old : World)
-    (result : Result A TableFault) (left : Pipes) (new : World)
-    → PipesThrough (first_pipe d) So pipes old result left new → first_of d pipes ≡ None
-    → is_ok result ≡ false
-first_fails d So pipes old result left new x none =
-    through_cases (first_pipe d) So old result left new
+pub first_fails : {A : Type 0} (d : Bool) (miss : FunctionPipes → TransferFault)
+    (So : PipeDid A) (pipes : Pipes) (old : World) (result : Result A TableFault) (left : Pipes)
+    (new : World) → PipesThrough (first_pipe d) miss So pipes old result left new
+    → first_of d pipes ≡ None → is_ok result ≡ false
+first_fails d miss So pipes old result left new x none =
+    through_cases (first_pipe d) miss So old result left new
     (λ p. first_of d p ≡ None → is_ok result ≡ false)
     (λ p untried kept failed none. failed)
     (λ function pipe rest picked kept did none.
-    let gone : None ≡ Some pipe = sym (ap (λ o. pipe_if d o function) none) ∙ picked in
+    let gone : None ≡ Some pipe =
+    sym (ap (λ o. only_if moves_bulk (pipe_if d o function)) none) ∙ picked in
     absurd (cc gone)) pipes x none

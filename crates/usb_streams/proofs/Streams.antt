@@ -29,16 +29,16 @@ use Rattle.usb_streams.proofs.Stretches.{between_knows, between_onward, item_onw
 
 -- Where a device stands
 
-level_in : (pipes : Pipes) (s : State) → PipesInSync pipes s → (e : ℕ)
+level_in : (device : Accepted) (pipes : Pipes) (s : State) → PipesInSync device pipes s → (e : ℕ)
     → FitsIn (pipe_of true e pipes) s
-level_in (Hub pipe) s level e = tt
-level_in (Function pipes) s level e = level.ins e
-level_in Absent s level e = tt
+level_in device (Hub pipe) s level e = tt
+level_in device (Function pipes) s level e = level.ins e
+level_in device Absent s level e = tt
 
 level_at : (path : List ℕ) (device : Accepted) (h : HostState) → Knows h → h.world.fault ≡ None
     → accepted_device_at path h.entries ≡ Some device
     → (x : Location) (s : State) → path ≡ path_to x → reach_on h.world.roots x ≡ true
-    → state_on h.world.roots x ≡ Some s → PipesInSync (pipes_at path (table_in h)) s
+    → state_on h.world.roots x ≡ Some s → PipesInSync device (pipes_at path (table_in h)) s
 level_at path device h knows still at x s is on stands =
     (knows.sound.level still path).level device s at (ap (reach h.world.roots) is
     ∙ on) (ap (state_there h.world.roots) is ∙ stands)
@@ -49,14 +49,14 @@ stood_none : (path : List ℕ) (device : Accepted) (h : HostState) → Knows h �
 stood_none path device h knows still at = record {
   listed = at;
   streams = λ x v is on stands.
-      let level : PipesInSync (pipes_at path (table_in h)) v =
+      let level : PipesInSync device (pipes_at path (table_in h)) v =
       level_at path device h knows still at x v is on stands in
       record {
         before = v;
         on = on;
         stands = stands;
         so = streams_none path (pipes_at path (table_in h)) v
-            (level_in (pipes_at path (table_in h)) v level);
+            (level_in device (pipes_at path (table_in h)) v level);
       };
 }
 
@@ -69,7 +69,7 @@ renewed_starts path device a b renewed knows still at x s e pipe is on stands fo
     (sym (pipe_of_function true e (new_pipes_to device (is_below_hub path))
     (pipes_at path (table_in b)) renewed.pipes.same) ∙ found) in
     let fits : FitsIn (Some pipe) s = subst (λ p. FitsIn p s) found
-    (level_in (pipes_at path (table_in b)) s
+    (level_in device (pipes_at path (table_in b)) s
     (level_at path device b knows still at x s is on stands) e) in (
       new.number,
       subst (λ n. InPipeInSync pipe (in_end s n).place s) new.number

@@ -1,6 +1,6 @@
 -- Which transfers of a run are of one endpoint of the device at a path, and what they bring (5.8,
 -- 5.7).
-use Rattle.std.specs.Prelude.{◌≡◌, ◌⊎◌, ⊤, ℕ, ◌==◌, ◌%◌, nat_le, List, [], ◌∷◌, ◌++◌}
+use Rattle.std.specs.Prelude.{◌≡◌, ◌≢◌, ◌⊎◌, ⊤, ℕ, ◌==◌, ◌%◌, nat_le, List, [], ◌∷◌, ◌++◌}
 use Rattle.std.specs.Prelude.{Bool, true, false, not, ◌&&◌, if◌then◌else◌, Option, None, Some}
 use Rattle.std.specs.Prelude.{is_ok}
 use Rattle.std.specs.BTreeMap.{is_at}
@@ -8,14 +8,14 @@ use Rattle.std.specs.List.{concat}
 use Rattle.usb_port.specs.{path_cmp}
 use Rattle.usb_request.specs.{DIRECTION_IN}
 use Rattle.usb_world.specs.declared.event.Ask.{Ask}
-use Rattle.usb_world.specs.{Send, SendTo, Receive, Clear, ClearOf}
+use Rattle.usb_world.specs.{Send, SendTo, Receive, Clear, ClearOf, SetInterface}
 use Rattle.usb_pipe.specs.declared.condition.Condition.TheVariants.{Ready}
 use Rattle.usb_pipe.specs.{PipeState, report_in}
 use Rattle.usb_table.specs.{Pipes, Hub, Function, Absent, EndpointChoice, FirstBulk, At}
 use Rattle.usb_table.specs.{bytes_in, first_number, pipe_at, pipes_at, through}
 use Rattle.usb_host.specs.{table_in}
 use Rattle.usb_run.specs.{Item, Listing, Sent, SentTo, Received, ReceivedFrom, Polled, Cleared}
-use Rattle.usb_run.specs.{ClearedOf, Read, Looked, Written}
+use Rattle.usb_run.specs.{ClearedOf, InterfaceSet, Read, Looked, Written}
 use Rattle.usb_run.specs.declared.runs.Item.TheVariants.{News}
 use Rattle.usb_streams.specs.Stretches.{ToldItem}
 
@@ -87,6 +87,7 @@ bytes_from end (ReceivedFrom from address told) =
 bytes_from end (Polled from address told) =
     if is_of end from (At address) then concat (report_in told) else []
 bytes_from end (ClearedOf at address told) = []
+bytes_from end (InterfaceSet at interface setting told) = []
 
 -- the packets of a transfer from the endpoint have these bytes, end to end; one from another brings
 -- none
@@ -119,6 +120,7 @@ is_done (SentTo to address told) = is_ok told
 is_done (ReceivedFrom from address told) = is_ok told
 is_done (Polled from address told) = is_ok told
 is_done (ClearedOf at address told) = is_ok told
+is_done (InterfaceSet at interface setting told) = is_ok told
 
 -- the bytes of the sends to an OUT endpoint that are told done, end to end
 unfoldable pub sent_to : Endpoint → List ToldItem → List ℕ
@@ -163,13 +165,18 @@ abbrev pub IsAtWork : Option PipeState → Type 0
 IsAtWork None = ⊤
 IsAtWork (Some pipe) = pipe.condition ≡ Ready
 
--- no halt of the endpoint was cleared: a clear that names no endpoint found its pipe at work, and
--- left it alone; one that names the endpoint was not asked for
+-- no alternate setting of an interface of the device at a path was asked for (9.4.10)
+abbrev pub SetsNone : List ℕ → ToldItem → Type 0
+SetsNone path t = (interface setting : ℕ) → t.due ≢ Some (SetInterface path interface setting)
+
+-- the endpoint did not begin again: a clear that names no endpoint found its pipe at work, and left
+-- it alone; one that names the endpoint was not asked for, and no alternate setting
 pub record ClearsNone (end : Endpoint) (t : ToldItem) : Type 0 where
   pub plain : t.due ≡ Some (Clear end.path) → end.is_first ≡ true
       → IsAtWork (pipe_of end.is_in end.number (pipes_at end.path (table_in t.asked)))
   pub named : (address : ℕ) → t.due ≡ Some (ClearOf end.path address)
       → is_of end end.path (At address) ≡ false
+  pub set : SetsNone end.path t
 
 -- Transfers that name no endpoint
 

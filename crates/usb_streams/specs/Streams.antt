@@ -12,8 +12,8 @@ use Rattle.usb_table.specs.{Pipes, accepted_device_at, FitsIn, pipes_at}
 use Rattle.usb_host.specs.{RenewedAt, Round, HostState, table_in, RoundTells}
 use Rattle.usb_run.specs.{Comes, IsItemOf, Item, Settled}
 use Rattle.usb_streams.specs.Endpoints.{Endpoint, AreGiven, AreTaken, ClearsNone, FailsPlain}
-use Rattle.usb_streams.specs.Endpoints.{IsAtWork, IsFailedFront, endpoint_at, first_of, pipe_of}
-use Rattle.usb_streams.specs.Endpoints.{received_from, sent_to}
+use Rattle.usb_streams.specs.Endpoints.{IsAtWork, IsFailedFront, SetsNone, endpoint_at, first_of}
+use Rattle.usb_streams.specs.Endpoints.{pipe_of, received_from, sent_to}
 use Rattle.usb_streams.specs.Heads.{HeadAt}
 use Rattle.usb_streams.specs.Stretches.{ToldItem, Stretch}
 
@@ -29,15 +29,16 @@ pub record TookSent (end : Endpoint) (told : List ToldItem) (left : Option PipeS
       ≡ (out_end s end.number).sink ++ (sent_to end told ++ front)
   pub works : IsAtWork left → front ≡ []
 
--- It took what was sent to it, as long as no halt of it is cleared. Over clears too each send that
--- is told done was taken whole, and of each that failed a front. Without a pipe to it, it took
--- nothing.
+-- It took what was sent to it, as long as it does not begin again. Over clears and settings too
+-- each send that is told done was taken whole, and of each that failed a front. Without a pipe to it,
+-- it took nothing, as long as no setting is asked for.
 pub record OutStream (end : Endpoint) (told : List ToldItem) (left : Option PipeState)
     (s v : State) : Type 0 where
   pub took : AllByRecursion (ClearsNone end) told → TookSent end told left s v
   pub sink : (taken : List ℕ) × AreTaken end told taken
       × ((out_end v end.number).sink ≡ (out_end s end.number).sink ++ taken)
-  pub none : left ≡ None → (out_end v end.number).sink ≡ (out_end s end.number).sink
+  pub none : AllByRecursion (SetsNone end.path) told → left ≡ None
+      → (out_end v end.number).sink ≡ (out_end s end.number).sink
 
 -- An IN endpoint
 
@@ -66,8 +67,8 @@ GaveNextBy end told None left s v = AreGiven end told [] × (left ≡ None)
 GaveNextBy end told (Some pipe) None s v = ⊥
 GaveNextBy end told (Some pipe) (Some left) s v = GaveThrough end told pipe left s v
 
--- its pipe had got what stands before some place; it gave its next packets, as long as no halt of
--- it is cleared
+-- its pipe had got what stands before some place; it gave its next packets, as long as it does not
+-- begin again
 pub record InStream (end : Endpoint) (told : List ToldItem) (pipe left : Option PipeState)
     (s v : State) : Type 0 where
   pub had : FitsIn pipe s
@@ -75,9 +76,15 @@ pub record InStream (end : Endpoint) (told : List ToldItem) (pipe left : Option 
 
 -- A device over a stretch
 
+-- the registers of a device stay, but for the alternate settings of its interfaces; these stay where
+-- none was asked for
+pub record RegistersStay (path : List ℕ) (told : List ToldItem) (s v : State) : Type 0 where
+  pub rest : v.registers ≡ record s.registers { settings = v.registers.settings }
+  pub settings : AllByRecursion (SetsNone path) told → v.registers.settings ≡ s.registers.settings
+
 -- Each endpoint of the device at a path took what was sent to it, or gave its next packets. Which
 -- are its first bulk endpoints stays; where there is none of a direction, each transfer that names
--- no endpoint failed. Its description and its registers stay.
+-- no endpoint failed. Its description stays, and so do its registers.
 pub record Streams (path : List ℕ) (told : List ToldItem) (pipes left : Pipes) (s v : State) :
     Type 0 where
   pub outs : (e : ℕ) → OutStream (endpoint_at path false e pipes) told (pipe_of false e left) s v
@@ -87,7 +94,7 @@ pub record Streams (path : List ℕ) (told : List ToldItem) (pipes left : Pipes)
   pub plain : (is_in : Bool) → first_of is_in pipes ≡ None
       → AllByRecursion (FailsPlain is_in path) told
   pub spec : v.spec ≡ s.spec
-  pub registers : v.registers ≡ s.registers
+  pub registers : RegistersStay path told s v
 
 -- so it is of the device that is reached at a path in the new world, which was reached there in the
 -- old one

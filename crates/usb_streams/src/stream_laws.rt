@@ -22,8 +22,8 @@ ghost use Rattle.usb_streams.specs.Stretches.{IsStretch, Stretch, ToldItem};
 /// prefix of a failed send comes after them. An endpoint took nothing where nothing was sent to it. What each IN endpoint
 /// gave to receives and polls that are reported done are its next packets, end to end, none twice and none left out.
 /// A poll that is reported done with a packet returned that packet. A transfer without an address is one of the first
-/// bulk endpoint of its direction. All this is so for an endpoint as long as no halt of it is cleared. A clear without
-/// an address leaves an endpoint alone whose pipe works.
+/// bulk endpoint of its direction. All this is so for an endpoint as long as no halt of it is cleared, and no interface
+/// of its device is set. A clear without an address leaves an endpoint alone whose pipe works.
 pub fn transfers_join()
     ensures { (old new : HostState) (told : List ToldItem) → Stretch old told new → Knows old
         → new.world.fault ≡ None

@@ -1,16 +1,18 @@
 -- Calls through one pipe of a function.
 use Rattle.std.proofs.Common.{◌≡◌, ◌∙◌, sym, ap, subst, refl, Bool, true, false, Option, Some}
-use Rattle.std.proofs.Common.{Result, Ok, Err, is_some, ◌||◌}
+use Rattle.std.proofs.Common.{None, Result, Ok, Err}
 use Rattle.usb_world.specs.{BusFault, World}
 use Rattle.usb_pipe.specs.{BusToldIt, PipeFault, PipeState, is_broken, needs_clear, pipe_made}
 use Rattle.usb_pipe.specs.declared.fault.PipeFault.TheVariants as pipe_fault
-use Rattle.usb_table.specs.{AreInPlace, ClearedBy, ClearedFirst, ClearedIf, ClearedInOrder}
+use Rattle.usb_table.specs.{AreInPlace, ClearedAfter, ClearedBy, ClearedFirst, ClearedIf}
+use Rattle.usb_table.specs.{ClearedInOrder, Transfer, TransferFault, clear_miss, first_unclear}
 use Rattle.usb_table.specs.{ClearedInTurn, ClearedThrough, Function}
 use Rattle.usb_table.specs.{FunctionPipes, MovedOrRefused, PipeDid, first_pipe, of_pipe, with_rest}
 use Rattle.usb_table.specs.{PipesThrough, TableFault, ThroughIf, TransferTold}
 use Rattle.usb_table.specs.{function_made, pipe_asked, table_answer, unless_broken, with_pipe}
 use Rattle.usb_table.proofs.levels.StandingPipes.{IsRest, Picks, first_beside, first_picks}
 use Rattle.usb_table.proofs.levels.StandingPipes.{first_ways, made_with, placed_made, rest_made}
+use Rattle.usb_table.proofs.levels.StandingPipes.{unclear_beside}
 use Rattle.usb_table.proofs.levels.StandingPipes.{rest_same, rest_way, with_same}
 use Rattle.usb_table.proofs.transfers.Restarts.{cleared_rest}
 
@@ -42,27 +44,28 @@ module _ (pick : FunctionPipes → Option PipeState) (picks : Picks pick)
   call_made = ap function_made put
       ∙ made_with pipe rest pipes (picks pipes pipe placed picked).at same
 
-  pub call_through : {A : Type 0} (So : PipeDid A) (old : World) (result : Result A TableFault)
+  pub call_through : {A : Type 0} (miss : FunctionPipes → TransferFault) (So : PipeDid A)
+      (old : World) (result : Result A TableFault)
       (new : World) → So pipe old result rest new
-      → PipesThrough pick So (Function pipes) old result (Function left) new
-  call_through So old result new x = (
+      → PipesThrough pick miss So (Function pipes) old result (Function left) new
+  call_through miss So old result new x = (
     Some rest,
     ap Function put,
-    subst (λ o. ThroughIf So o old result (Some rest) new) (sym picked) x,
+    subst (λ o. ThroughIf So (miss pipes) o old result (Some rest) new) (sym picked) x,
   )
 
-  module _ {A W : Type 0} (old new : W) (answer : Result A PipeFault)
+  module _ {A W : Type 0} (miss : TransferFault) (old new : W) (answer : Result A PipeFault)
       (result : Result A TableFault) (told : result ≡ table_answer answer) where
-    pub call_asked : MovedOrRefused (pipe_asked (pick pipes)) (Function pipes) old result
+    pub call_asked : MovedOrRefused (pipe_asked miss (pick pipes)) (Function pipes) old result
         (Function left) new
-    call_asked = subst (λ o. MovedOrRefused (pipe_asked o) (Function pipes) old result
+    call_asked = subst (λ o. MovedOrRefused (pipe_asked miss o) (Function pipes) old result
         (Function left) new) (sym picked) (answer, told)
 
     pub call_refused : (is_broken pipe.condition ≡ true → (answer ≡ Err pipe_fault.Broken)
         × (rest ≡ pipe) × (new ≡ old))
-        → MovedOrRefused (unless_broken (pipe_asked (pick pipes))) (Function pipes) old result
+        → MovedOrRefused (unless_broken (pipe_asked miss (pick pipes))) (Function pipes) old result
         (Function left) new
-    call_refused broken = subst (λ o. MovedOrRefused (unless_broken (pipe_asked o))
+    call_refused broken = subst (λ o. MovedOrRefused (unless_broken (pipe_asked miss o))
         (Function pipes) old result (Function left) new) (sym picked)
         (by_condition (is_broken pipe.condition) refl)
       where
@@ -91,12 +94,10 @@ call_first is_in pipes left pipe rest picked put old answer new x = record {
 }
 
 pub in_turn_of : (pipes : FunctionPipes) (old : World) (result : Result (Unit {0}) TableFault)
-    (left : FunctionPipes) (new : World) (has : Bool)
-    → has ≡ (is_some (first_pipe false pipes) || is_some (first_pipe true pipes))
-    → has ≡ true → ClearedInOrder pipes old result left new
-    → ClearedInTurn pipes old result left new
-in_turn_of pipes old result left new has is some x = subst
-    (λ b. ClearedIf b pipes old result left new) (sym some ∙ is) x
+    (left : FunctionPipes) (new : World) → clear_miss pipes ≡ None
+    → ClearedInOrder pipes old result left new → ClearedInTurn pipes old result left new
+in_turn_of pipes old result left new none x = subst
+    (λ why. ClearedIf why pipes old result left new) (sym none) x
 
 module _ (pipes mid_pipes : FunctionPipes) (placed : AreInPlace pipes) (old : World)
     (first : Result (Unit {0}) PipeFault) (mid : World)
@@ -127,16 +128,41 @@ module _ (pipes mid_pipes : FunctionPipes) (placed : AreInPlace pipes) (old : Wo
         ∙ ap (with_rest (first_pipe true pipes)) x.left_is;
   }
 
-  pub both_cleared : (u : Unit {0}) → first ≡ Ok u → (answer : Result (Unit {0}) PipeFault)
+  -- what could not be cleared in the second place cannot be now
+  pub still_unclear : first_unclear true mid_pipes ≡ first_unclear true pipes
+  still_unclear = ap (first_unclear true) x.left_is ∙ unclear_beside true false x.rest pipes
+      (rest_way false (first_pipe false pipes) x.rest (first_ways false pipes placed) is_rest)
+      (λ e. cc e)
+
+  pub second_missed : (u : Unit {0}) → first ≡ Ok u → (why : TransferFault)
+      → first_unclear true mid_pipes ≡ Some why
+      → ClearedInOrder pipes old (Err (Transfer why)) mid_pipes mid
+  second_missed u done why is = record {
+    first = Ok u;
+    mid = mid;
+    rest_out = x.rest;
+    rest_in = first_pipe true pipes;
+    out = subst (λ r. ClearedBy (first_pipe false pipes) old r x.rest mid) done x.cleared;
+    into = subst (λ w. ClearedAfter (Ok u) w (first_pipe true pipes) mid (Err (Transfer why))
+        (first_pipe true pipes) mid) (sym is ∙ still_unclear) (refl, refl, refl);
+    left_is = sym (rest_same (first_pipe true) (first_picks true) mid_pipes
+        (placed_made pipes mid_pipes made placed) (first_pipe true pipes) same_in)
+        ∙ ap (with_rest (first_pipe true pipes)) x.left_is;
+  }
+
+  pub both_cleared : first_unclear true mid_pipes ≡ None
+      → (u : Unit {0}) → first ≡ Ok u → (answer : Result (Unit {0}) PipeFault)
       (result : Result (Unit {0}) TableFault) → result ≡ table_answer answer
       → (left : FunctionPipes) (new : World) → ClearedFirst true mid_pipes mid answer left new
       → ClearedInOrder pipes old result left new
-  both_cleared u done answer result told left new y = record {
+  both_cleared clear u done answer result told left new y = record {
     first = Ok u;
     mid = mid;
     rest_out = x.rest;
     rest_in = y.rest;
     out = subst (λ r. ClearedBy (first_pipe false pipes) old r x.rest mid) done x.cleared;
-    into = (answer, told, subst (λ o. ClearedBy o mid answer y.rest new) same_in y.cleared);
+    into = subst (λ w. ClearedAfter (Ok u) w (first_pipe true pipes) mid result y.rest new)
+        (sym clear ∙ still_unclear)
+        (answer, told, subst (λ o. ClearedBy o mid answer y.rest new) same_in y.cleared);
     left_is = y.left_is ∙ ap (with_rest y.rest) x.left_is;
   }

@@ -1,6 +1,6 @@
 -- A call tries nothing, or goes through a pipe to the device that was found.
-use Rattle.std.proofs.Common.{◌≡◌, refl, sym, ap, subst, ◌||◌, Bool, true, false, Option, None}
-use Rattle.std.proofs.Common.{Some, Result, Err, is_some}
+use Rattle.std.proofs.Common.{◌≡◌, refl, sym, ap, subst, Bool, Option, None}
+use Rattle.std.proofs.Common.{Some, Result, Err}
 use Rattle.std.specs.Option.{option_map}
 use Rattle.usb_world.specs.{World}
 use Rattle.usb_pipe.specs.{PipeState, pipe_made}
@@ -10,7 +10,7 @@ use Rattle.usb_table.specs.{TableFault, Transfer, TransferFault, NoDevice, NoEnd
 use Rattle.usb_table.specs.{FunctionPipes}
 use Rattle.usb_table.specs.{Pipes, Hub, Function, Absent, AreFunctionPipes, ArePipesIf, ArePipesOf}
 use Rattle.usb_table.specs.{ArePipesTo, ArePlaced, ClearedIf, ClearedInOrder, NotTried, PipeDid}
-use Rattle.usb_table.specs.{PipesCleared, PipesThrough, ThroughIf, first_pipe, through, with_pipe}
+use Rattle.usb_table.specs.{PipesCleared, PipesThrough, ThroughIf, clear_miss, through, with_pipe}
 use Rattle.usb_table.specs.{function_of, with_rest}
 use Rattle.usb_table.proofs.levels.StandingPipes.{IsPipeOf, Picks, PickedAt, in_place, pipe_of}
 
@@ -50,7 +50,8 @@ pub record WentThrough (device : Accepted) (below_hub : Bool)
   pub made : pipe_made left ≡ pipe_made pipe
   pub again : pick (with_pipe left pipes) ≡ Some left
 
-module _ {A : Type 0} (pick : FunctionPipes → Option PipeState) (picks : Picks pick)
+module _ {A : Type 0} (pick : FunctionPipes → Option PipeState)
+    (miss : FunctionPipes → TransferFault) (picks : Picks pick)
     (So : PipeDid A) (same : (pipe : PipeState) (old : World) (result : Result A TableFault)
     (left : PipeState) (new : World) → So pipe old result left new
     → pipe_made left ≡ pipe_made pipe) (old : World)
@@ -67,11 +68,11 @@ module _ {A : Type 0} (pick : FunctionPipes → Option PipeState) (picks : Picks
 
   one_picked : (device : Accepted) (pipes : FunctionPipes) → found ≡ Some device
       → AreFunctionPipes device below_hub pipes → (o rest : Option PipeState) → pick pipes ≡ o
-      → ThroughIf So o old result rest new
+      → ThroughIf So (miss pipes) o old result rest new
       → R (Function pipes) (Function (with_rest rest pipes))
   one_picked device pipes e are None rest is x =
       subst (λ r. R (Function pipes) (Function (with_rest r pipes))) (sym x.1)
-      (idle (Function pipes) NoEndpoint is x.0 x.2)
+      (idle (Function pipes) (miss pipes) is x.0 x.2)
   one_picked device pipes e are (Some pipe) None is x = absurd x
   one_picked device pipes e are (Some pipe) (Some left) is x =
       let at : PickedAt pick pipes pipe =
@@ -85,7 +86,7 @@ module _ {A : Type 0} (pick : FunctionPipes → Option PipeState) (picks : Picks
       }) x
 
   picked_there : (device : Accepted) (pipes left : Pipes) → found ≡ Some device
-      → ArePipesTo device below_hub pipes → PipesThrough pick So pipes old result left new
+      → ArePipesTo device below_hub pipes → PipesThrough pick miss So pipes old result left new
       → R pipes left
   picked_there device (Hub pipe) left e are x = none_picked (Hub pipe) left NoEndpoint refl x
   picked_there device (Function pipes) left e are x =
@@ -94,21 +95,22 @@ module _ {A : Type 0} (pick : FunctionPipes → Option PipeState) (picks : Picks
   picked_there device Absent left e are x = absurd are
 
   pub through_pipes : (pipes left : Pipes) → ArePipesIf found below_hub pipes
-      → PipesThrough pick So pipes old result left new → R pipes left
+      → PipesThrough pick miss So pipes old result left new → R pipes left
   through_pipes =
-      if_found (λ p l. PipesThrough pick So p old result l new) R found below_hub
+      if_found (λ p l. PipesThrough pick miss So p old result l new) R found below_hub
       (λ left e. none_picked Absent left NoDevice refl) picked_there
 
 -- What a call leaves of the pipes to a function: another pipe in the place of one
 
-pub through_left : {A : Type 0} (pick : FunctionPipes → Option PipeState) (So : PipeDid A)
+pub through_left : {A : Type 0} (pick : FunctionPipes → Option PipeState)
+    (miss : FunctionPipes → TransferFault) (So : PipeDid A)
     (pipes left : Pipes) (old : World) (result : Result A TableFault) (new : World)
-    → PipesThrough pick So pipes old result left new
+    → PipesThrough pick miss So pipes old result left new
     → (rest : Option PipeState)
     × (function_of left ≡ option_map (with_rest rest) (function_of pipes))
-through_left pick So (Hub pipe) left old result new x = (None, ap function_of x.1)
-through_left pick So (Function pipes) left old result new x = (x.0, ap function_of x.1)
-through_left pick So Absent left old result new x = (None, ap function_of x.1)
+through_left pick miss So (Hub pipe) left old result new x = (None, ap function_of x.1)
+through_left pick miss So (Function pipes) left old result new x = (x.0, ap function_of x.1)
+through_left pick miss So Absent left old result new x = (None, ap function_of x.1)
 
 -- The two cases of a clear of both
 
@@ -123,19 +125,20 @@ module _ (old : World) (result : Result (Unit {0}) TableFault) (new : World)
       → NotTried fault pipes old result left new → R pipes left
   both_idle pipes left fault x = subst (R pipes) (sym x.1) (idle pipes fault x.0 x.2)
 
-  both_if : (device : Accepted) → found ≡ Some device → (some : Bool) (pipes left : FunctionPipes)
-      → AreFunctionPipes device below_hub pipes → ClearedIf some pipes old result left new
+  both_if : (device : Accepted) → found ≡ Some device → (why : Option TransferFault)
+      (pipes left : FunctionPipes)
+      → AreFunctionPipes device below_hub pipes → ClearedIf why pipes old result left new
       → R (Function pipes) (Function left)
-  both_if device e false pipes left are x =
-      both_idle (Function pipes) (Function left) NoEndpoint (x.0, ap Function x.1, x.2)
-  both_if device e true pipes left are x = went device pipes left e are x
+  both_if device e (Some why) pipes left are x =
+      both_idle (Function pipes) (Function left) why (x.0, ap Function x.1, x.2)
+  both_if device e None pipes left are x = went device pipes left e are x
 
   both_there : (device : Accepted) (pipes left : Pipes) → found ≡ Some device
       → ArePipesTo device below_hub pipes → PipesCleared pipes old result left new → R pipes left
   both_there device (Hub pipe) left e are x = both_idle (Hub pipe) left NoEndpoint x
   both_there device (Function pipes) left e are x =
       subst (R (Function pipes)) (sym x.1) (both_if device e
-      (is_some (first_pipe false pipes) || is_some (first_pipe true pipes)) pipes x.0 are x.2)
+      (clear_miss pipes) pipes x.0 are x.2)
   both_there device Absent left e are x = absurd are
 
   pub through_both : (pipes left : Pipes) → ArePipesIf found below_hub pipes

@@ -16,6 +16,7 @@ use Rattle.usb_address.proofs.Interface.{keeps_then}
 use Rattle.usb_backlog.proofs.Interface.{all_then}
 use Rattle.usb_enum.specs.{Accepted}
 use Rattle.usb_table.specs.{TableFault, Transfer, TransferFault, of_pipe, Pipes, Function}
+use Rattle.usb_table.specs.{clears_miss, first_unclear, polls_miss, receives_miss, sends_miss}
 use Rattle.usb_table.specs.{EndpointChoice, FunctionPipes, accepted_device_at, is_below_hub}
 use Rattle.usb_table.specs.{TableClears, TableClearsOf, TableReceives, TableReports, TableSends}
 use Rattle.usb_table.specs.{Transferred, ArePipesIf, Table, GoesThrough, first_pipe, pipe_to}
@@ -45,7 +46,7 @@ record LeavesTransfer {A : Type 0} (n : ℕ) (found : Option Accepted) (pipes : 
   told : IfErr result (λ fault. TableFaultAllowed fault new)
   worlds : OnlyTransfers old new
   moves : ((left ≡ pipes) × (new ≡ old)) ⊎ ((device : Accepted) × (found ≡ Some device)
-      × EachMoves device.address (new.fault ≡ None) pipes left old new)
+      × EachMoves device device.address (new.fault ≡ None) pipes left old new)
 
 same_spends : (n : ℕ) (old new : World) → new ≡ old → AttemptsWithin n old new
 same_spends n old new e =
@@ -70,16 +71,23 @@ pipe_told : (why : PipeFault) (w : World)
 pipe_told (pipe_fault.Bus fault) w told = told fault refl
 pipe_told _ w told = tt
 
+pub told_answer : {A : Type 0} (answer : Result A PipeFault) (result : Result A TableFault)
+    (w : World) → result ≡ table_answer answer
+    → ((fault : BusFault) → answer ≡ Err (pipe_fault.Bus fault) → HasFault fault w)
+    → IfErr result (λ fault. TableFaultAllowed fault w)
+told_answer (Ok x) result w e told = rw e tt
+told_answer (Err why) result w e told =
+    rw e (pipe_told why w (λ fault f. told fault (ap Err f)))
+
 pub told_through : {A : Type 0} (old : World) (answer : Result A PipeFault)
     (result : Result A TableFault) (w : World) → result ≡ table_answer answer
     → PipeKeeps old answer w → IfErr result (λ fault. TableFaultAllowed fault w)
-told_through old (Ok x) result w e kept = rw e tt
-told_through old (Err why) result w e kept =
-    rw e (pipe_told why w (λ fault f. kept.told fault (ap Err f)))
+told_through old answer result w e kept = told_answer answer result w e kept.told
 
 -- Through one pipe
 
-module _ {A : Type 0} (pick : FunctionPipes → Option PipeState) (n : ℕ) (So : PipeDid A)
+module _ {A : Type 0} (pick : FunctionPipes → Option PipeState)
+    (miss : FunctionPipes → TransferFault) (n : ℕ) (So : PipeDid A)
     (old : World) (result : Result A TableFault) (new : World) (found : Option Accepted) where
   abbrev PipeLeavesTransfer : Bool → Type 0
   PipeLeavesTransfer below_hub =
@@ -90,10 +98,10 @@ module _ {A : Type 0} (pick : FunctionPipes → Option PipeState) (n : ℕ) (So 
   pipe_leaves : Picks pick → ((pipe : PipeState) (o : World) (r : Result A TableFault)
       (left : PipeState) (w : World) → So pipe o r left w → pipe_made left ≡ pipe_made pipe)
       → (below_hub : Bool) → PipeLeavesTransfer below_hub → (pipes left : Pipes)
-      → ArePipesIf found below_hub pipes → PipesThrough pick So pipes old result left new
+      → ArePipesIf found below_hub pipes → PipesThrough pick miss So pipes old result left new
       → LeavesTransfer n found pipes old result left new
   pipe_leaves picks same below_hub each =
-      through_pipes pick picks So same old result new found below_hub
+      through_pipes pick miss picks So same old result new found below_hub
       (λ p l. LeavesTransfer n found p old result l new)
       (λ pipes fault none. idle_transfer_leaves n found pipes old result new fault) each
 
@@ -106,7 +114,8 @@ packets_few bytes max least = grind (arith, common_steps)
 module _ (choice : EndpointChoice) (bytes : List ℕ) (old : World)
     (result : Result (Unit {0}) TableFault) (new : World) (found : Option Accepted)
     (below_hub : Bool) where
-  sends_leave : PipeLeavesTransfer (sends_through choice) (transaction_bound * length bytes)
+  sends_leave : PipeLeavesTransfer (sends_through choice) (sends_miss choice)
+      (transaction_bound * length bytes)
       (λ p. SentThrough p bytes) old result new found below_hub
   sends_leave device pipes pipe left e w x =
       let few = packets_few (length bytes) pipe.max (some_bytes pipe w.of) in
@@ -124,7 +133,8 @@ module _ (choice : EndpointChoice) (bytes : List ℕ) (old : World)
 
 module _ (choice : EndpointChoice) (packets : ℕ) (old : World) (result : Result (Vec ℕ) TableFault)
     (new : World) (found : Option Accepted) (below_hub : Bool) where
-  receives_leave : PipeLeavesTransfer (receives_through choice) (transaction_bound * packets)
+  receives_leave : PipeLeavesTransfer (receives_through choice) (receives_miss choice)
+      (transaction_bound * packets)
       (λ p. ReceivedThrough p packets) old result new found below_hub
   receives_leave device pipes pipe left e w x =
       let kept = receive_keeps packets pipe (far_end pipe w.of) old x.answer left new x.receives in
@@ -145,7 +155,8 @@ module _ (choice : EndpointChoice) (packets : ℕ) (old : World) (result : Resul
 
 module _ (endpoint : ℕ) (old : World) (result : Result (Option (ArrayVec ℕ)) TableFault)
     (new : World) (found : Option Accepted) (below_hub : Bool) where
-  reports_leave : PipeLeavesTransfer (polls_through endpoint) transaction_bound ReportedThrough old
+  reports_leave : PipeLeavesTransfer (polls_through endpoint) (polls_miss endpoint)
+      transaction_bound ReportedThrough old
       result new found below_hub
   reports_leave device pipes pipe left e w x =
       let kept = packet_keeps pipe (far_end pipe w.of) old x.answer left new x.polls in
@@ -162,7 +173,8 @@ module _ (endpoint : ℕ) (old : World) (result : Result (Option (ArrayVec ℕ))
 
 module _ (endpoint : ℕ) (old : World) (result : Result (Unit {0}) TableFault) (new : World)
     (found : Option Accepted) (below_hub : Bool) where
-  clears_of_leave : PipeLeavesTransfer (pipe_to endpoint) write_bound ClearedOfThrough old result
+  clears_of_leave : PipeLeavesTransfer (pipe_to endpoint) (clears_miss endpoint) write_bound
+      ClearedOfThrough old result
       new found below_hub
   clears_of_leave device pipes pipe left e w x =
       let kept = clear_keeps true pipe old x.answer left new x.cleared.clears in
@@ -218,11 +230,11 @@ LeftAndTold old result new = OnlyTransfers old new
     × IfErr result (λ fault. TableFaultAllowed fault new)
 
 cleared_in_order : (first : Result (Unit {0}) PipeFault)
-    (out out_left into into_left : Option PipeState) (old mid : World)
-    (result : Result (Unit {0}) TableFault) (new : World)
-    → ClearedBy out old first out_left mid → ClearedAfter first into mid result into_left new
+    (why : Option TransferFault) (out out_left into into_left : Option PipeState)
+    (old mid : World) (result : Result (Unit {0}) TableFault) (new : World)
+    → ClearedBy out old first out_left mid → ClearedAfter first why into mid result into_left new
     → LeftAndTold old result new
-cleared_in_order (Ok done) out out_left into into_left old mid result new x y =
+cleared_in_order (Ok done) None out out_left into into_left old mid result new x y =
     let second = cleared_by into into_left mid y.0 new y.2 in (
       elim (done_or_same out out_left old done mid x) [
         | inl same ↦ subst (λ (w : World). OnlyTransfers w new) same second.worlds
@@ -232,7 +244,11 @@ cleared_in_order (Ok done) out out_left into into_left old mid result new x y =
       ],
       told_through mid y.0 result new y.1 second,
     )
-cleared_in_order (Err fault) out out_left into into_left old mid result new x y =
+cleared_in_order (Ok done) (Some why) out out_left into into_left old mid result new x y = (
+  subst (λ w. OnlyTransfers old w) (sym y.2) (cleared_by out out_left old (Ok done) mid x).worlds,
+  rw y.0 tt,
+)
+cleared_in_order (Err fault) why out out_left into into_left old mid result new x y =
     let first = cleared_by out out_left old (Err fault) new (rw y.2 x) in
     (first.worlds, told_through old (Err fault) result new y.0 first)
 
@@ -255,12 +271,13 @@ clears_leave old result new found few below_hub =
     (λ pipes fault. idle_transfer_leaves (2 * write_bound) found pipes old result new fault)
     (λ device pipes left e are x.
     let so =
-    cleared_in_order x.first (first_pipe false pipes) x.rest_out (first_pipe true pipes) x.rest_in
+    cleared_in_order x.first (first_unclear true pipes) (first_pipe false pipes) x.rest_out
+    (first_pipe true pipes) x.rest_in
     old x.mid result new x.out x.into in
     let moves =
-    in_turn_moves (new.fault ≡ None) false device below_hub pipes are result
+    in_turn_moves device (new.fault ≡ None) false below_hub pipes are result
     (no_bus_told result new so.1) (λ e. absurd (cc e)) old x.mid new x.rest_out x.rest_in x.first
-    x.out x.into in
+    (first_unclear true pipes) x.out x.into in
     record {
       spends = few;
       told = so.1;
@@ -268,7 +285,8 @@ clears_leave old result new found few below_hub =
       moves = inr (
         device,
         e,
-        subst (λ f. EachMoves device.address (new.fault ≡ None) (Function pipes) (Function f) old
+        subst (λ f. EachMoves device device.address (new.fault ≡ None) (Function pipes) (Function f)
+            old
             new) (sym x.left_is) moves,
       );
     })
@@ -287,10 +305,11 @@ module _ (path : List ℕ) (old new : Table) (before after : World) (text now : 
     told = x.told;
     did = did;
     keeps = elim x.moves [
-      | inl none ↦ still_levels path _ old new before after goes none.0 none.1 x.worlds
+      | inl none ↦ still_levels OnlyTransfers path _ old new before after goes none.0 none.1
+          x.worlds
       | inr moved ↦
           moved_levels path moved.0 _ (pipes_at path old) (pipes_at path new) old new before after
-          moved.1 goes refl refl x.worlds moved.2
+          moved.1 goes refl refl x.worlds.addresses moved.2 OnlyTransfers x.worlds
     ];
   }
 
@@ -300,7 +319,8 @@ module _ (path : List ℕ) (old new : Table) (before after : World) (text now : 
       → TableSends path choice bytes old before text result new after now
   table_sends choice bytes result x =
       transferred _ result x
-      (pipe_leaves (sends_through choice) _ (λ p. SentThrough p bytes) before result after _
+      (pipe_leaves (sends_through choice) (sends_miss choice) _ (λ p. SentThrough p bytes) before
+      result after _
       (sends_picks choice) (λ p o r l w z. z.same) (is_below_hub path)
       (sends_leave choice bytes before result after _ (is_below_hub path)) _ _ goes.fits x)
 
@@ -309,7 +329,8 @@ module _ (path : List ℕ) (old new : Table) (before after : World) (text now : 
       → TableReceives path choice packets old before text result new after now
   table_receives choice packets result x =
       transferred _ result x
-      (pipe_leaves (receives_through choice) _ (λ p. ReceivedThrough p packets) before result after
+      (pipe_leaves (receives_through choice) (receives_miss choice) _
+      (λ p. ReceivedThrough p packets) before result after
       _ (receives_picks choice) (λ p o r l w z. z.same) (is_below_hub path)
       (receives_leave choice packets before result after _ (is_below_hub path)) _ _ goes.fits x)
 
@@ -318,7 +339,8 @@ module _ (path : List ℕ) (old new : Table) (before after : World) (text now : 
       → TableReports path endpoint old before text result new after now
   table_reports endpoint result x =
       transferred _ result x
-      (pipe_leaves (polls_through endpoint) _ ReportedThrough before result after _
+      (pipe_leaves (polls_through endpoint) (polls_miss endpoint) _ ReportedThrough before result
+      after _
       (polls_picks endpoint) (λ p o r l w z. z.same) (is_below_hub path)
       (reports_leave endpoint before result after _ (is_below_hub path)) _ _ goes.fits x)
 
@@ -335,6 +357,7 @@ module _ (path : List ℕ) (old new : Table) (before after : World) (text now : 
       → TableClearsOf path endpoint old before text result new after now
   table_clears_of endpoint result x =
       transferred _ result x
-      (pipe_leaves (pipe_to endpoint) _ ClearedOfThrough before result after _
+      (pipe_leaves (pipe_to endpoint) (clears_miss endpoint) _ ClearedOfThrough before result after
+      _
       (to_picks endpoint) (λ p o r l w z. z.cleared.same) (is_below_hub path)
       (clears_of_leave endpoint before result after _ (is_below_hub path)) _ _ goes.fits x)

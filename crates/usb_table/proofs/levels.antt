@@ -6,5 +6,9 @@ pub mod Levels
 pub mod MovedPipes
 pub mod NewPipes
 pub mod PipeCalls
+pub mod ReplacedRows
+pub mod SetCalls
+pub mod SetLevels
+pub mod SetPipes
 pub mod StandingPipes
 pub mod Targets

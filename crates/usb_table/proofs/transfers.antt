@@ -7,6 +7,7 @@ pub mod DevicesKept
 pub mod FreeRequests
 pub mod HaltClears
 pub mod HubPolls
+pub mod InterfaceSets
 pub mod PathTransfers
 pub mod PlainRequests
 pub mod PlainTransfers

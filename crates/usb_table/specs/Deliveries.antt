@@ -9,12 +9,13 @@ use Rattle.usb_device.specs.{path_to, in_end, out_end, next_packet, NothingMoved
 use Rattle.usb_world.specs.{EachWas, World}
 use Rattle.usb_pipe.specs.{PipeState, cleared, InPipeInSync, FrontTaken, GaveNext, GavePackets}
 use Rattle.usb_pipe.specs.{needs_clear, report_in}
+use Rattle.usb_enum.specs.{Accepted}
 use Rattle.usb_table.specs.declared.choice.EndpointChoice.{EndpointChoice}
 use Rattle.usb_table.specs.declared.fault.TableFault.{TableFault}
 use Rattle.usb_table.specs.declared.function_pipes.FunctionPipes.{FunctionPipes}
 use Rattle.usb_table.specs.declared.pipes.Pipes.{Pipes}
 use Rattle.usb_table.specs.Findings.{accepted_device_at}
-use Rattle.usb_table.specs.Levels.{FitsIn, PipesInSync}
+use Rattle.usb_table.specs.Levels.{FitsIn, PipesInSyncIf}
 use Rattle.usb_table.specs.PipeRows.{first_pipe, polls_through, receives_through}
 use Rattle.usb_table.specs.PipeRows.{sends_through, through, way_to}
 use Rattle.usb_table.specs.Tables.{Table, pipes_at}
@@ -99,24 +100,25 @@ HaltClearedBy is_sent done (Some pipe) (Some left) before after =
     HaltCleared (is_sent pipe) done pipe left (before pipe.ep) (after pipe.ep)
     × ((e : ℕ) → (e == pipe.ep) ≡ false → after e ≡ before e)
 
--- so it is of a pipe of each direction, and no byte moved; the pipes that are left are as far as
--- their endpoints
+-- so it is of a pipe of each direction, and no byte moved; the pipes that are left, to the device
+-- that was found, are as far as their endpoints
 pub record EndsCleared (is_sent : PipeState → Bool) (done : Bool)
-    (pick : Bool → FunctionPipes → Option PipeState) (pipes left : Pipes) (s v : State) : Type 0
+    (pick : Bool → FunctionPipes → Option PipeState) (found : Option Accepted)
+    (pipes left : Pipes) (s v : State) : Type 0
   where
     pub moved : NothingMoved s v
     pub out : HaltClearedBy is_sent done (through (pick false) pipes) (through (pick false) left)
         (λ e. (out_end s e).state) (λ e. (out_end v e).state)
     pub into : HaltClearedBy is_sent done (through (pick true) pipes) (through (pick true) left)
         (λ e. (in_end s e).state) (λ e. (in_end v e).state)
-    pub level : PipesInSync left v
+    pub level : PipesInSyncIf found left v
 
 -- of the pipes to both first bulk endpoints, where they do not work
-abbrev pub HaltsCleared : Bool → Pipes → Pipes → State → State → Type 0
+abbrev pub HaltsCleared : Bool → Option Accepted → Pipes → Pipes → State → State → Type 0
 HaltsCleared done = EndsCleared needs_clear done first_pipe
 
 -- of the pipe to the endpoint with an address, whatever it saw
-abbrev pub HaltClearedOf : ℕ → Bool → Pipes → Pipes → State → State → Type 0
+abbrev pub HaltClearedOf : ℕ → Bool → Option Accepted → Pipes → Pipes → State → State → Type 0
 HaltClearedOf endpoint done = EndsCleared (λ pipe. true) done (λ is_in. way_to is_in endpoint)
 
 -- All devices
@@ -164,11 +166,11 @@ pub record Reported (path : List ℕ) (endpoint : ℕ)
 -- the halts of the device there were cleared
 abbrev pub Restarted : List ℕ → Bool → Table → World → Table → World → Type 0
 Restarted path done old before new after =
-    TransfersAt path done (HaltsCleared done (pipes_at path old) (pipes_at path new)) old before
-    after
+    TransfersAt path done (HaltsCleared done (accepted_device_at path old.entries)
+    (pipes_at path old) (pipes_at path new)) old before after
 
 -- that of one endpoint was, by its address
 abbrev pub RestartedOf : List ℕ → ℕ → Bool → Table → World → Table → World → Type 0
 RestartedOf path endpoint done old before new after =
-    TransfersAt path done (HaltClearedOf endpoint done (pipes_at path old) (pipes_at path new)) old
-    before after
+    TransfersAt path done (HaltClearedOf endpoint done (accepted_device_at path old.entries)
+    (pipes_at path old) (pipes_at path new)) old before after

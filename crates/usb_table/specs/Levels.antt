@@ -7,7 +7,7 @@ use Rattle.arrayvec.specs.ArrayVec.{ArrayVec}
 use Rattle.usb_port.specs.{path_cmp, PortState}
 use Rattle.usb_device.specs.{tells_changes, change_bits, PollAt, NeverTold, State, Ports, full}
 use Rattle.usb_device.specs.{row_of, place, reach, Location, path_to, reach_on, state_on}
-use Rattle.usb_device.specs.{state_there}
+use Rattle.usb_device.specs.{state_there, text_of}
 use Rattle.usb_world.specs.{EachWas, at_attempt, World}
 use Rattle.usb_bus.specs.{StepRun}
 use Rattle.usb_transaction.specs.{NoThreeDamaged, Listens, transaction_bound}
@@ -16,7 +16,7 @@ use Rattle.usb_pipe.specs.{PollTells}
 use Rattle.usb_pipe.specs.{PipeFault}
 use Rattle.usb_address.specs.{MapHolds}
 use Rattle.usb_hub.specs.{TouchesNoPort, NoHubFailed}
-use Rattle.usb_enum.specs.{Accepted, target_of}
+use Rattle.usb_enum.specs.{Accepted, configuration_of, target_of}
 use Rattle.usb_table.specs.declared.choice.EndpointChoice.{EndpointChoice}
 use Rattle.usb_table.specs.declared.function_pipes.FunctionPipes.{FunctionPipes}
 use Rattle.usb_table.specs.declared.pipes.Pipes.{Pipes}
@@ -50,15 +50,25 @@ abbrev pub FitsIn : Option PipeState → State → Type 0
 FitsIn None s = ⊤
 FitsIn (Some pipe) s = (got : ℕ) × InPipeInSync pipe got s
 
--- all pipes to a function
-pub record FunctionInSync (pipes : FunctionPipes) (s : State) : Type 0 where
+-- all pipes to a function, of whose configuration the host has the text; each of its interfaces has
+-- a setting
+pub record FunctionInSync (device : Accepted) (pipes : FunctionPipes) (s : State) : Type 0 where
+  pub text : text_of s.spec s.registers ≡ configuration_of device
+  pub low : s.spec.low ≡ device.low
+  pub quiet : tells_changes s.spec s.registers ≡ false
+  pub settings : length s.registers.settings ≡ 256
   pub outs : (e : ℕ) → FitsOut (pipe_at false e pipes) s
   pub ins : (e : ℕ) → FitsIn (pipe_at true e pipes) s
 
-abbrev pub PipesInSync : Pipes → State → Type 0
-PipesInSync (Hub pipe) s = StatusPipeInSync pipe s
-PipesInSync (Function pipes) s = FunctionInSync pipes s
-PipesInSync Absent s = ⊤
+abbrev pub PipesInSync : Accepted → Pipes → State → Type 0
+PipesInSync device (Hub pipe) s = StatusPipeInSync pipe s
+PipesInSync device (Function pipes) s = FunctionInSync device pipes s
+PipesInSync device Absent s = ⊤
+
+-- those to what was found
+abbrev pub PipesInSyncIf : Option Accepted → Pipes → State → Type 0
+PipesInSyncIf None pipes s = ⊤
+PipesInSyncIf (Some device) pipes s = PipesInSync device pipes s
 
 -- The pipes of a table
 
@@ -66,7 +76,7 @@ PipesInSync Absent s = ⊤
 pub record InSyncAt (path : List ℕ) (table : Table) (w : World) : Type 0 where
   pub level : (device : Accepted) (s : State) → accepted_device_at path table.entries ≡ Some device
       → reach w.roots path ≡ true → state_there w.roots path ≡ Some s
-      → PipesInSync (pipes_at path table) s
+      → PipesInSync device (pipes_at path table) s
 
 -- all pipes
 abbrev pub AllInSync : Table → World → Type 0
@@ -76,14 +86,17 @@ AllInSync table w = (path : List ℕ) → InSyncAt path table w
 abbrev pub IsHeld : Table → World → Type 0
 IsHeld table w = MapHolds (λ path. entry_address path table.entries) w
 
--- What a call through the pipes at a path leaves: those to other devices stay level in any case,
--- and those at the path where it ends so
-pub record KeepsInSync (path : List ℕ) (ends : Type 0) (old : Table) (before : World) (new : Table)
-    (after : World) : Type 0 where
-  pub worlds : OnlyTransfers before after
+-- What a call through the pipes at a path leaves of all devices, and of the pipes: those to other
+-- devices stay level in any case, and those at the path where it ends so
+pub record KeepsLevels (Worlds : World → World → Type 0) (path : List ℕ) (ends : Type 0)
+    (old : Table) (before : World) (new : Table) (after : World) : Type 0 where
+  pub worlds : Worlds before after
   pub others : IsHeld old before → (x : List ℕ) → is_at (path_cmp path) x ≡ false
       → InSyncAt x old before → InSyncAt x new after
   pub itself : IsHeld old before → ends → InSyncAt path old before → InSyncAt path new after
+
+abbrev pub KeepsInSync : List ℕ → Type 0 → Table → World → Table → World → Type 0
+KeepsInSync = KeepsLevels OnlyTransfers
 
 -- as long as the bus is at work
 abbrev pub KeepsMoved : List ℕ → Table → World → Table → World → Type 0

@@ -1,6 +1,7 @@
 -- The pipes to a function: one to each endpoint that a pipe can use, by its direction and number;
--- and which of them a transfer goes through.
-use Rattle.std.specs.Prelude.{◌≡◌, ℕ, ◌%◌, nat_le, ◌&&◌, not, Bool, true, false, if◌then◌else◌}
+-- which of them a transfer goes through, and why there is none.
+use Rattle.std.specs.Prelude.{◌≡◌, ℕ, ◌%◌, nat_le, ◌&&◌, ◌||◌, not, Bool, true, false}
+use Rattle.std.specs.Prelude.{if◌then◌else◌, is_some, length}
 use Rattle.std.specs.Prelude.{List, map, Option, Some, None, Result, Ok, Err, get_or, IfSome}
 use Rattle.std.specs.Option.{option_map}
 use Rattle.usb_request.specs.{DIRECTION_IN}
@@ -35,18 +36,48 @@ abbrev pub pipe_if : Bool → Option ℕ → FunctionPipes → Option PipeState
 pipe_if is_in None pipes = None
 pipe_if is_in (Some e) pipes = pipe_at is_in e pipes
 
--- the pipe to it
-abbrev pub first_pipe : Bool → FunctionPipes → Option PipeState
-first_pipe is_in pipes = pipe_if is_in (first_number is_in pipes) pipes
-
 -- the pipe to the endpoint with an address: bit 7 is its direction, and what is left its number
 abbrev pub pipe_to : ℕ → FunctionPipes → Option PipeState
 pipe_to a pipes = pipe_at (nat_le DIRECTION_IN a) (a % DIRECTION_IN) pipes
+
+-- each row has as many places as a direction has numbers (9.6.6)
+pub record AreWhole (pipes : FunctionPipes) : Type 0 where
+  pub outs : length pipes.outs ≡ 16
+  pub ins : length pipes.ins ≡ 16
+  pub lost_outs : length pipes.lost_outs ≡ 16
+  pub lost_ins : length pipes.lost_ins ≡ 16
 
 -- each pipe stands at its own direction and number
 abbrev pub AreInPlace : FunctionPipes → Type 0
 AreInPlace pipes = (is_in : Bool) (e : ℕ)
     → IfSome (pipe_at is_in e pipes) (λ pipe. (pipe.is_in ≡ is_in) × (pipe.ep ≡ e))
+
+-- Marks of pipes that are lost, since the setting of their interface is not known
+
+abbrev pub lost_row : Bool → FunctionPipes → List (Option EndpointKind)
+lost_row true pipes = pipes.lost_ins
+lost_row false pipes = pipes.lost_outs
+
+-- the kind of the one that stood at the endpoint of a direction with a number
+abbrev pub lost_at : Bool → ℕ → FunctionPipes → Option EndpointKind
+lost_at is_in e pipes = get_or (lost_row is_in pipes) e None
+
+abbrev pub lost_if : Bool → Option ℕ → FunctionPipes → Option EndpointKind
+lost_if is_in None pipes = None
+lost_if is_in (Some e) pipes = lost_at is_in e pipes
+
+-- that of the first bulk endpoint of a direction
+abbrev pub first_lost : Bool → FunctionPipes → Option EndpointKind
+first_lost is_in pipes = lost_if is_in (first_number is_in pipes) pipes
+
+-- that of the endpoint with an address
+abbrev pub lost_to : ℕ → FunctionPipes → Option EndpointKind
+lost_to a pipes = lost_at (nat_le DIRECTION_IN a) (a % DIRECTION_IN) pipes
+
+-- if that has this direction
+abbrev pub lost_way : Bool → ℕ → FunctionPipes → Option EndpointKind
+lost_way true a pipes = if nat_le DIRECTION_IN a then lost_to a pipes else None
+lost_way false a pipes = if nat_le DIRECTION_IN a then None else lost_to a pipes
 
 -- Which pipe a transfer goes through
 
@@ -58,6 +89,13 @@ only_if test (Some pipe) = if test pipe then Some pipe else None
 abbrev pub is_bulk_kind : EndpointKind → Bool
 is_bulk_kind Bulk = true
 is_bulk_kind Interrupt = false
+
+abbrev pub moves_bulk : PipeState → Bool
+moves_bulk pipe = is_bulk_kind pipe.kind
+
+-- the pipe to the first bulk endpoint of a direction, while it is one in bulk
+abbrev pub first_pipe : Bool → FunctionPipes → Option PipeState
+first_pipe is_in pipes = only_if moves_bulk (pipe_if is_in (first_number is_in pipes) pipes)
 
 abbrev pub takes_bytes : PipeState → Bool
 takes_bytes pipe = not pipe.is_in
@@ -86,6 +124,60 @@ receives_through (At a) pipes = only_if gives_bytes (pipe_to a pipes)
 -- an interrupt IN endpoint is polled
 abbrev pub polls_through : ℕ → FunctionPipes → Option PipeState
 polls_through a pipes = only_if gives_reports (pipe_to a pipes)
+
+-- Why there is none
+
+-- a mark, if it is of such a kind
+abbrev pub mark_if : (EndpointKind → Bool) → Option EndpointKind → Option EndpointKind
+mark_if test None = None
+mark_if test (Some kind) = if test kind then Some kind else None
+
+-- one that would fit is lost, or there is no such endpoint
+abbrev pub miss_of : Option EndpointKind → TransferFault
+miss_of None = NoEndpoint
+miss_of (Some kind) = Broken
+
+abbrev pub is_interrupt_kind : EndpointKind → Bool
+is_interrupt_kind kind = not (is_bulk_kind kind)
+
+abbrev pub sends_miss : EndpointChoice → FunctionPipes → TransferFault
+sends_miss FirstBulk pipes = miss_of (mark_if is_bulk_kind (first_lost false pipes))
+sends_miss (At a) pipes = miss_of (lost_way false a pipes)
+
+abbrev pub receives_miss : EndpointChoice → FunctionPipes → TransferFault
+receives_miss FirstBulk pipes = miss_of (mark_if is_bulk_kind (first_lost true pipes))
+receives_miss (At a) pipes = miss_of (mark_if is_bulk_kind (lost_way true a pipes))
+
+abbrev pub polls_miss : ℕ → FunctionPipes → TransferFault
+polls_miss a pipes = miss_of (mark_if is_interrupt_kind (lost_way true a pipes))
+
+abbrev pub clears_miss : ℕ → FunctionPipes → TransferFault
+clears_miss a pipes = miss_of (lost_to a pipes)
+
+-- why the halt of the first bulk endpoint of a direction cannot be cleared: another pipe stands
+-- there, or one is lost; where there is nothing, there is nothing to clear
+abbrev pub unclear : Option PipeState → Option EndpointKind → Option TransferFault
+unclear (Some pipe) lost = if moves_bulk pipe then None else Some NoEndpoint
+unclear None None = None
+unclear None (Some kind) = Some (miss_of (mark_if is_bulk_kind (Some kind)))
+
+abbrev pub first_unclear : Bool → FunctionPipes → Option TransferFault
+first_unclear is_in pipes =
+    unclear (pipe_if is_in (first_number is_in pipes) pipes) (first_lost is_in pipes)
+
+-- something stands or stood there
+abbrev pub has_first : Bool → FunctionPipes → Bool
+has_first is_in pipes =
+    is_some (first_pipe is_in pipes) || is_some (first_unclear is_in pipes)
+
+-- why a clear of both first halts is not begun
+abbrev pub clear_miss_if : Bool → Option TransferFault → Option TransferFault
+clear_miss_if false why = Some NoEndpoint
+clear_miss_if true why = why
+
+abbrev pub clear_miss : FunctionPipes → Option TransferFault
+clear_miss pipes =
+    clear_miss_if (has_first false pipes || has_first true pipes) (first_unclear false pipes)
 
 -- The pipes with another one
 
@@ -126,15 +218,15 @@ abbrev pub pipe_in : Pipes → Option PipeState
 pipe_in pipes = through (first_pipe true) pipes
 
 -- the pipe that a call goes through, or why there is none
-abbrev pub pipe_asked : Option PipeState → Result PipeState TransferFault
-pipe_asked None = Err NoEndpoint
-pipe_asked (Some pipe) = Ok pipe
+abbrev pub pipe_asked : TransferFault → Option PipeState → Result PipeState TransferFault
+pipe_asked miss None = Err miss
+pipe_asked miss (Some pipe) = Ok pipe
 
-abbrev pub asked_through : (FunctionPipes → Option PipeState) → Pipes
-    → Result PipeState TransferFault
-asked_through pick (Hub pipe) = Err NoEndpoint
-asked_through pick (Function pipes) = pipe_asked (pick pipes)
-asked_through pick Absent = Err NoDevice
+abbrev pub asked_through : (FunctionPipes → Option PipeState) → (FunctionPipes → TransferFault)
+    → Pipes → Result PipeState TransferFault
+asked_through pick miss (Hub pipe) = Err NoEndpoint
+asked_through pick miss (Function pipes) = pipe_asked (miss pipes) (pick pipes)
+asked_through pick miss Absent = Err NoDevice
 
 -- nor does a broken one do more than tell so
 abbrev pub unless_broken : Result PipeState TransferFault → Result PipeState TransferFault

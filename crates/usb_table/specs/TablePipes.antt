@@ -1,8 +1,9 @@
 -- The pipes to a device.
 use Rattle.std.specs.Prelude.{◌≡◌, ⊤, ℕ, ◌≤◌, Bool, true, false, List, map, Option, Some, None}
-use Rattle.std.specs.Prelude.{is_some, if◌then◌else◌}
+use Rattle.std.specs.Prelude.{is_some, if◌then◌else◌, length, replicate}
 use Rattle.std.specs.Option.{option_map}
-use Rattle.usb_descriptor.specs.{UsableEndpoint, status_endpoint_of, usable_of}
+use Rattle.usb_descriptor.specs.{EndpointKind, UsableEndpoint, default_settings}
+use Rattle.usb_descriptor.specs.{status_endpoint_of, usable_under}
 use Rattle.usb_device.specs.{end_numbers}
 use Rattle.usb_packet.specs.{Zero}
 use Rattle.usb_transaction.specs.{Target}
@@ -14,7 +15,7 @@ use Rattle.usb_table.specs.declared.function_pipes.FunctionPipes.{FunctionPipes}
 use Rattle.usb_table.specs.declared.pipes.Pipes.{Pipes}
 use Rattle.usb_table.specs.declared.pipes.Pipes.TheVariants.{Hub, Function, Absent}
 use Rattle.usb_table.specs.Findings.{accepted_device_of, first_endpoint}
-use Rattle.usb_table.specs.PipeRows.{first_number, pipe_at}
+use Rattle.usb_table.specs.PipeRows.{first_number, lost_at, pipe_at}
 
 -- a pipe to the status endpoint of a hub, which stands below another one or on the root
 pub record IsStatusPipe (device : Accepted) (below_hub : Bool) (pipe : Interrupt) : Type 0 where
@@ -38,20 +39,34 @@ IsPipe device below_hub is_in e None (Some pipe) = ⊥
 IsPipe device below_hub is_in e (Some end) None = ⊥
 IsPipe device below_hub is_in e (Some end) (Some pipe) = IsEndPipe device below_hub is_in e end pipe
 
--- what a pipe can use of a device, by direction and number
+-- what a pipe can use of a device while its interfaces have these settings, by direction and number
+abbrev pub end_under : List ℕ → Accepted → Bool → ℕ → Option UsableEndpoint
+end_under settings device is_in e =
+    usable_under settings device.low is_in e (configuration_of device)
+
+-- while each has setting 0
 abbrev pub usable_end : Accepted → Bool → ℕ → Option UsableEndpoint
-usable_end device is_in e = usable_of device.low is_in e (configuration_of device)
+usable_end device is_in e = end_under default_settings device is_in e
+
+-- no pipe where one is lost, and else a pipe where there is an endpoint
+abbrev pub IsPlace : Accepted → Bool → Bool → ℕ → Option UsableEndpoint → Option EndpointKind
+    → Option PipeState → Type 0
+IsPlace device below_hub is_in e end None pipe = IsPipe device below_hub is_in e end pipe
+IsPlace device below_hub is_in e end (Some kind) pipe = pipe ≡ None
 
 -- the number of an endpoint
 abbrev pub number_of : Option (ℕ × ℕ) → Option ℕ
 number_of endpoint = option_map (λ end. end.0) endpoint
 
--- pipes to all endpoints of a function that a pipe can use
+-- pipes to all endpoints of a function that a pipe can use while its interfaces have some settings,
+-- but to those that are lost
 pub record AreFunctionPipes (device : Accepted) (below_hub : Bool) (pipes : FunctionPipes)
     : Type 0 where
   pub function : is_some device.hub ≡ false
-  pub each : (is_in : Bool) (e : ℕ)
-      → IsPipe device below_hub is_in e (usable_end device is_in e) (pipe_at is_in e pipes)
+  pub settings : List ℕ
+  pub all : length settings ≡ 256
+  pub each : (is_in : Bool) (e : ℕ) → IsPlace device below_hub is_in e
+      (end_under settings device is_in e) (lost_at is_in e pipes) (pipe_at is_in e pipes)
   pub first : (is_in : Bool) → first_number is_in pipes ≡ number_of (first_endpoint is_in device)
 
 abbrev pub ArePipesTo : Accepted → Bool → Pipes → Type 0
@@ -102,12 +117,18 @@ abbrev pub new_row : Accepted → Bool → Bool → List (Option PipeState)
 new_row device below_hub is_in =
     row_of_ends (target_of device below_hub) is_in (usable_end device is_in)
 
+-- none of them is lost
+abbrev pub none_lost : List (Option EndpointKind)
+none_lost = replicate 16 None
+
 abbrev pub new_function : Accepted → Bool → FunctionPipes
 new_function device below_hub = record {
   outs = new_row device below_hub false;
   ins = new_row device below_hub true;
   first_out = number_of (first_endpoint false device);
   first_in = number_of (first_endpoint true device);
+  lost_outs = none_lost;
+  lost_ins = none_lost;
 }
 
 abbrev pub new_pipes_to : Accepted → Bool → Pipes

@@ -1,7 +1,7 @@
 -- What transfers to the devices of the table leave.
 use Rattle.usb_device.specs.{Location, State}
-use Rattle.std.specs.Prelude.{◌≡◌, ⊤, ℕ, ◌*◌, List, length, Bool, true, false, ◌||◌, Option}
-use Rattle.std.specs.Prelude.{Some, None, is_some, Result, Ok, Err, IfSome, MatchResult}
+use Rattle.std.specs.Prelude.{◌≡◌, ⊤, ℕ, ◌*◌, List, length, Bool, true, false, Option}
+use Rattle.std.specs.Prelude.{Some, None, Result, Ok, Err, IfSome, MatchResult}
 use Rattle.std.specs.Global.{Vec}
 use Rattle.std.specs.Int.{div_ceil}
 use Rattle.arrayvec.specs.ArrayVec.{ArrayVec}
@@ -23,8 +23,9 @@ use Rattle.usb_table.specs.declared.choice.EndpointChoice.{EndpointChoice}
 use Rattle.usb_table.specs.declared.function_pipes.FunctionPipes.{FunctionPipes}
 use Rattle.usb_table.specs.declared.pipes.Pipes.{Pipes}
 use Rattle.usb_table.specs.declared.pipes.Pipes.TheVariants.{Hub, Function, Absent}
-use Rattle.usb_table.specs.PipeRows.{first_pipe, pipe_to, polls_through, receives_through}
-use Rattle.usb_table.specs.PipeRows.{sends_through, with_rest}
+use Rattle.usb_table.specs.PipeRows.{clear_miss, clears_miss, first_pipe, first_unclear, pipe_to}
+use Rattle.usb_table.specs.PipeRows.{polls_miss, polls_through, receives_miss, receives_through}
+use Rattle.usb_table.specs.PipeRows.{sends_miss, sends_through, with_rest}
 
 -- a pipe's fault as the table's
 abbrev pub of_pipe : PipeFault → TableFault
@@ -111,19 +112,12 @@ pub record ClearedOfThrough (pipe : PipeState) (old : World) (result : Result (U
 abbrev pub PipeDid : Type 0 → Type 1
 PipeDid A = PipeState → World → Result A TableFault → PipeState → World → Type 0
 
-abbrev pub ThroughIf : {A : Type 0} → PipeDid A → Option PipeState → World → Result A TableFault
-    → Option PipeState → World → Type 0
-ThroughIf So None old result left new = NotTried NoEndpoint None old result left new
-ThroughIf So (Some pipe) old result None new = ⊥
-ThroughIf So (Some pipe) old result (Some left) new = So pipe old result left new
-
-abbrev pub SentBy : Option PipeState → List ℕ → World → Result (Unit {0}) TableFault
-    → Option PipeState → World → Type 0
-SentBy pipe bytes = ThroughIf (λ p. SentThrough p bytes) pipe
-
-abbrev pub ReceivedBy : Option PipeState → ℕ → World → Result (Vec ℕ) TableFault → Option PipeState
-    → World → Type 0
-ReceivedBy pipe packets = ThroughIf (λ p. ReceivedThrough p packets) pipe
+-- or why there is none
+abbrev pub ThroughIf : {A : Type 0} → PipeDid A → TransferFault → Option PipeState → World
+    → Result A TableFault → Option PipeState → World → Type 0
+ThroughIf So miss None old result left new = NotTried miss None old result left new
+ThroughIf So miss (Some pipe) old result None new = ⊥
+ThroughIf So miss (Some pipe) old result (Some left) new = So pipe old result left new
 
 -- no pipe needs no clearing
 abbrev pub ClearedBy : Option PipeState → World → Result (Unit {0}) PipeFault → Option PipeState
@@ -140,13 +134,14 @@ pub record ClearedFirst (is_in : Bool) (pipes : FunctionPipes) (old : World)
   pub cleared : ClearedBy (first_pipe is_in pipes) old answer rest new
   pub left_is : left ≡ with_rest rest pipes
 
--- the second pipe is cleared where the first one was
-abbrev pub ClearedAfter : Result (Unit {0}) PipeFault → Option PipeState → World
-    → Result (Unit {0}) TableFault → Option PipeState → World → Type 0
-ClearedAfter (Ok done) pipe mid result left new = (answer : Result (Unit {0}) PipeFault)
+-- the second pipe is cleared where the first one was, unless it cannot be
+abbrev pub ClearedAfter : Result (Unit {0}) PipeFault → Option TransferFault → Option PipeState
+    → World → Result (Unit {0}) TableFault → Option PipeState → World → Type 0
+ClearedAfter (Ok done) None pipe mid result left new = (answer : Result (Unit {0}) PipeFault)
     × (result ≡ table_answer answer) × ClearedBy pipe mid answer left new
-ClearedAfter (Err fault) pipe mid result left new = (result ≡ Err (of_pipe fault)) × (left ≡ pipe)
-    × (new ≡ mid)
+ClearedAfter (Ok done) (Some why) pipe mid result left new = NotTried why pipe mid result left new
+ClearedAfter (Err fault) why pipe mid result left new = (result ≡ Err (of_pipe fault))
+    × (left ≡ pipe) × (new ≡ mid)
 
 pub record ClearedInOrder (pipes : FunctionPipes) (old : World)
     (result : Result (Unit {0}) TableFault) (left : FunctionPipes) (new : World) : Type 0 where
@@ -155,20 +150,20 @@ pub record ClearedInOrder (pipes : FunctionPipes) (old : World)
   pub rest_out : Option PipeState
   pub rest_in : Option PipeState
   pub out : ClearedBy (first_pipe false pipes) old first rest_out mid
-  pub into : ClearedAfter first (first_pipe true pipes) mid result rest_in new
+  pub into : ClearedAfter first (first_unclear true pipes) (first_pipe true pipes) mid result
+      rest_in new
   pub left_is : left ≡ with_rest rest_in (with_rest rest_out pipes)
 
-abbrev pub ClearedIf : Bool → FunctionPipes → World → Result (Unit {0}) TableFault → FunctionPipes
-    → World → Type 0
-ClearedIf false pipes old result left new = NotTried NoEndpoint pipes old result left new
-ClearedIf true pipes old result left new = ClearedInOrder pipes old result left new
+abbrev pub ClearedIf : Option TransferFault → FunctionPipes → World → Result (Unit {0}) TableFault
+    → FunctionPipes → World → Type 0
+ClearedIf (Some why) pipes old result left new = NotTried why pipes old result left new
+ClearedIf None pipes old result left new = ClearedInOrder pipes old result left new
 
 -- the halt of the first bulk OUT endpoint, then of the first bulk IN endpoint; the first fault ends
 -- it
 abbrev pub ClearedInTurn : FunctionPipes → World → Result (Unit {0}) TableFault → FunctionPipes
     → World → Type 0
-ClearedInTurn pipes old result left new = ClearedIf
-    (is_some (first_pipe false pipes) || is_some (first_pipe true pipes)) pipes old result left new
+ClearedInTurn pipes old result left new = ClearedIf (clear_miss pipes) pipes old result left new
 
 -- Through the pipes to what stands at a port
 
@@ -192,36 +187,39 @@ PipesPolled (Function pipes) old result left new = NotPolled (Function pipes) ol
 PipesPolled Absent old result left new = NotPolled Absent old result left new
 
 -- a call goes through a pipe to a function, and leaves another one in its place
-abbrev pub PipesThrough : {A : Type 0} → (FunctionPipes → Option PipeState) → PipeDid A → Pipes
-    → World → Result A TableFault → Pipes → World → Type 0
-PipesThrough pick So (Hub pipe) old result left new =
+abbrev pub PipesThrough : {A : Type 0} → (FunctionPipes → Option PipeState)
+    → (FunctionPipes → TransferFault) → PipeDid A → Pipes → World → Result A TableFault → Pipes
+    → World → Type 0
+PipesThrough pick miss So (Hub pipe) old result left new =
     NotTried NoEndpoint (Hub pipe) old result left new
-PipesThrough pick So (Function pipes) old result left new =
+PipesThrough pick miss So (Function pipes) old result left new =
     (rest : Option PipeState) × (left ≡ Function (with_rest rest pipes))
-    × ThroughIf So (pick pipes) old result rest new
-PipesThrough pick So Absent old result left new = NotTried NoDevice Absent old result left new
+    × ThroughIf So (miss pipes) (pick pipes) old result rest new
+PipesThrough pick miss So Absent old result left new = NotTried NoDevice Absent old result left new
 
 -- bytes are sent to an OUT endpoint
 abbrev pub PipesSent : EndpointChoice → Pipes → List ℕ → World → Result (Unit {0}) TableFault
     → Pipes → World → Type 0
 PipesSent choice pipes bytes =
-    PipesThrough (sends_through choice) (λ p. SentThrough p bytes) pipes
+    PipesThrough (sends_through choice) (sends_miss choice) (λ p. SentThrough p bytes) pipes
 
 -- packets are received from a bulk IN endpoint
 abbrev pub PipesReceived : EndpointChoice → Pipes → ℕ → World → Result (Vec ℕ) TableFault → Pipes
     → World → Type 0
-PipesReceived choice pipes packets =
-    PipesThrough (receives_through choice) (λ p. ReceivedThrough p packets) pipes
+PipesReceived choice pipes packets = PipesThrough (receives_through choice)
+    (receives_miss choice) (λ p. ReceivedThrough p packets) pipes
 
 -- an interrupt IN endpoint is polled
 abbrev pub PipesReported : ℕ → Pipes → World → Result (Option (ArrayVec ℕ)) TableFault → Pipes
     → World → Type 0
-PipesReported endpoint = PipesThrough (polls_through endpoint) ReportedThrough
+PipesReported endpoint =
+    PipesThrough (polls_through endpoint) (polls_miss endpoint) ReportedThrough
 
 -- the halt of an endpoint of either kind and direction is cleared
 abbrev pub PipesClearedOf : ℕ → Pipes → World → Result (Unit {0}) TableFault → Pipes → World
     → Type 0
-PipesClearedOf endpoint = PipesThrough (pipe_to endpoint) ClearedOfThrough
+PipesClearedOf endpoint =
+    PipesThrough (pipe_to endpoint) (clears_miss endpoint) ClearedOfThrough
 
 -- over any bus: without a pipe this is told, and nothing changes; else the answer is the pipe's own
 abbrev pub MovedOrRefused : {A W : Type 0} → Result PipeState TransferFault → Pipes → W
@@ -242,6 +240,12 @@ PipesCleared Absent old result left new = NotTried NoDevice Absent old result le
 abbrev pub SameSettings : Location → State → State → Type 0
 SameSettings x s v = (v.spec ≡ s.spec) × (v.registers ≡ s.registers)
 
+-- a device has the description, the address and the configuration that it had
+pub record SameDevice (x : Location) (s v : State) : Type 0 where
+  pub spec : v.spec ≡ s.spec
+  pub address : v.registers.address ≡ s.registers.address
+  pub configuration : v.registers.configuration ≡ s.registers.configuration
+
 -- where no address was held twice, so it is of each device that is reachable, and each was
 -- reachable before
 pub record KeepsSettings (old new : World) : Type 0 where
@@ -253,5 +257,12 @@ pub record KeepsSettings (old new : World) : Type 0 where
 pub record OnlyTransfers (old new : World) : Type 0 where
   pub addresses : KeepsAddresses old new
   pub devices : KeepsSettings old new
+  pub rests : new.fault ≡ None → TouchesNoPort old new
+  pub backlog : new.fault ≡ None → KeepsAll old new
+
+-- SET_INTERFACE leaves the same, but the setting that it names
+pub record OnlySets (old new : World) : Type 0 where
+  pub addresses : KeepsAddresses old new
+  pub devices : new.shared ≡ false → EachWas SameDevice old new
   pub rests : new.fault ≡ None → TouchesNoPort old new
   pub backlog : new.fault ≡ None → KeepsAll old new

@@ -18,6 +18,9 @@ pub enum TransferFault {
     /// The host alone may send this request.
     #[error("reserved")]
     Reserved,
+    /// The device is a hub, or has no such setting of an interface that could be chosen.
+    #[error("no interface")]
+    NoInterface,
     /// The device is a hub, or has no such endpoint that a pipe can use.
     #[error("no endpoint")]
     NoEndpoint,
@@ -30,7 +33,7 @@ pub enum TransferFault {
     /// There were three errors in a row in one transaction.
     #[error("no answer")]
     NoAnswer,
-    /// The pipe has to be cleared first.
+    /// The pipe has to be cleared first, or its interface has to be set first.
     #[error("broken")]
     Broken,
 }

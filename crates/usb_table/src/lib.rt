@@ -11,6 +11,9 @@
 //!   device as they are (*PipesThrough*, `specs/Transfers.antt`).
 //! - A control write that is done gave the device the data once. If it failed, the device took all
 //!   of them or none (`control_out`; *TableWrites*, `specs/Controls.antt`).
+//! - Where an interface was set, its endpoints have begun again and have new pipes, and all others
+//!   go on. Where that failed but was not refused, its pipes are lost (`set_interface`;
+//!   *InterfaceSet*, `specs/InterfaceSettings.antt`).
 //!
 //! A pipe is *level* if it is as far as the endpoint at its other end (8.6). `docs/PROVED.md` has
 //! the rest.
@@ -23,6 +26,7 @@ mod fault;
 mod found;
 mod function_pipes;
 mod indexes;
+mod interface_setting;
 mod kind;
 mod known;
 mod listing_laws;

@@ -5,7 +5,7 @@ ghost use Rattle.usb_descriptor.specs.Choice.{status_endpoint_of};
 ghost use Rattle.usb_enum.specs.Device.{configuration_of};
 ghost use Rattle.usb_pipe.specs.Control.{BusToldIt, write_bound};
 ghost use Rattle.usb_table.specs.Findings.{IsSoundDevice};
-ghost use Rattle.usb_table.specs.PipeRows.{ArePlaced, asked_through, pipe_to, pipes_made, polls_through, receives_through, sends_through, through, unless_broken};
+ghost use Rattle.usb_table.specs.PipeRows.{ArePlaced, asked_through, clears_miss, pipe_to, pipes_made, polls_miss, polls_through, receives_miss, receives_through, sends_miss, sends_through, through, unless_broken};
 ghost use Rattle.usb_table.specs.TablePipes.{ArePipesTo, IsStatusPipe};
 ghost use Rattle.usb_table.specs.TablePipes.{new_pipes_to, new_status};
 ghost use Rattle.usb_table.specs.Transfers.{MovedOrRefused, PipesCleared, PipesClearedOf, PipesPolled};
@@ -107,7 +107,8 @@ impl Pipes {
         ensures any_bus { Spends B.spent B.ports (transaction_bound * length bytes.now)
             bus.old bus.new
             × TransferTold result (B.failed bus.new)
-            × MovedOrRefused (unless_broken (asked_through (sends_through choice) self.old))
+            × MovedOrRefused (unless_broken
+            (asked_through (sends_through choice) (sends_miss choice) self.old))
             self.old bus.old result self.new bus.new }
         ensures made { pipes_made self.new ≡ pipes_made self.old }
         ensures traced { B.modelled ≡ true
@@ -142,7 +143,8 @@ impl Pipes {
         requires { ArePlaced self.old }
         ensures any_bus { Spends B.spent B.ports (transaction_bound * packets) bus.old bus.new
             × TransferTold result (B.failed bus.new)
-            × MovedOrRefused (unless_broken (asked_through (receives_through choice) self.old))
+            × MovedOrRefused (unless_broken
+            (asked_through (receives_through choice) (receives_miss choice) self.old))
             self.old bus.old result self.new bus.new }
         ensures made { pipes_made self.new ≡ pipes_made self.old }
         ensures traced { B.modelled ≡ true
@@ -174,7 +176,8 @@ impl Pipes {
         requires { ArePlaced self.old }
         ensures any_bus { Spends B.spent B.ports transaction_bound bus.old bus.new
             × TransferTold result (B.failed bus.new)
-            × MovedOrRefused (unless_broken (asked_through (polls_through endpoint) self.old))
+            × MovedOrRefused (unless_broken
+            (asked_through (polls_through endpoint) (polls_miss endpoint) self.old))
             self.old bus.old result self.new bus.new }
         ensures most { IfOk result (λ got. IfSome got (λ packet.
             IfSome (through (polls_through endpoint) self.old)
@@ -233,8 +236,8 @@ impl Pipes {
         requires { ArePlaced self.old }
         ensures any_bus { Spends B.spent B.ports write_bound bus.old bus.new
             × TransferTold result (B.failed bus.new)
-            × MovedOrRefused (asked_through (pipe_to endpoint) self.old) self.old bus.old
-            result self.new bus.new }
+            × MovedOrRefused (asked_through (pipe_to endpoint) (clears_miss endpoint) self.old)
+            self.old bus.old result self.new bus.new }
         ensures made { pipes_made self.new ≡ pipes_made self.old }
         ensures traced { B.modelled ≡ true
             → Traced (B.world bus.old) (B.trace bus.old) (B.world bus.new) (B.trace bus.new) }

@@ -10,10 +10,15 @@ ghost use Rattle.usb_table.specs.Findings.{HasNewAddress, HasDevice, HasNoDevice
 ghost use Rattle.usb_table.specs.Kinds.{fits};
 ghost use Rattle.usb_table.specs.KnownPorts.{IsAskable, known_port};
 ghost use Rattle.usb_table.specs.NextEntries.{IsNext, IsLast};
+ghost use Rattle.usb_table.specs.InterfaceSettings.{SetOrRefused, TableSetsInterface};
+ghost use Rattle.usb_table.specs.InterfaceSettings.{interface_target, pipes_set};
+ghost use Rattle.usb_table.specs.Findings.{accepted_device_at};
+ghost use Rattle.usb_table.specs.KnownPorts.{is_below_hub};
 ghost use Rattle.usb_table.specs.Tables.{ArePipesAt, GoesThrough, TakesOut};
 ghost use Rattle.usb_table.specs.Tables.{empty, entered, pipes_at};
-ghost use Rattle.usb_table.specs.PipeRows.{asked_through, pipe_to, polls_through, receives_through};
-ghost use Rattle.usb_table.specs.PipeRows.{sends_through, through, unless_broken};
+ghost use Rattle.usb_table.specs.PipeRows.{asked_through, clears_miss, pipe_to, polls_miss};
+ghost use Rattle.usb_table.specs.PipeRows.{polls_through, receives_miss, receives_through};
+ghost use Rattle.usb_table.specs.PipeRows.{sends_miss, sends_through, through, unless_broken};
 ghost use Rattle.usb_bus.specs.Traces.{Spends};
 ghost use Rattle.usb_pipe.specs.Control.{BusToldIt, write_bound};
 ghost use Rattle.usb_transaction.specs.Transactions.{transaction_bound};
@@ -253,7 +258,8 @@ impl DeviceTable {
             bus.old bus.new
             × TransferTold result (B.failed bus.new)
             × MovedOrRefused
-            (unless_broken (asked_through (sends_through choice) (pipes_at path.now self.old)))
+            (unless_broken (asked_through (sends_through choice) (sends_miss choice)
+            (pipes_at path.now self.old)))
             (pipes_at path.now self.old) bus.old result (pipes_at path.now self.new) bus.new }
         ensures through { GoesThrough path.now self.old self.new }
         ensures sends { B.modelled ≡ true → TableSends path.now choice bytes.now
@@ -288,7 +294,8 @@ impl DeviceTable {
         ensures any_bus { Spends B.spent B.ports (transaction_bound * packets) bus.old bus.new
             × TransferTold result (B.failed bus.new)
             × MovedOrRefused
-            (unless_broken (asked_through (receives_through choice) (pipes_at path.now self.old)))
+            (unless_broken (asked_through (receives_through choice) (receives_miss choice)
+            (pipes_at path.now self.old)))
             (pipes_at path.now self.old) bus.old result (pipes_at path.now self.new) bus.new }
         ensures through { GoesThrough path.now self.old self.new }
         ensures receives { B.modelled ≡ true → TableReceives path.now choice packets
@@ -322,7 +329,8 @@ impl DeviceTable {
         ensures any_bus { Spends B.spent B.ports transaction_bound bus.old bus.new
             × TransferTold result (B.failed bus.new)
             × MovedOrRefused
-            (unless_broken (asked_through (polls_through endpoint) (pipes_at path.now self.old)))
+            (unless_broken (asked_through (polls_through endpoint) (polls_miss endpoint)
+            (pipes_at path.now self.old)))
             (pipes_at path.now self.old) bus.old result (pipes_at path.now self.new) bus.new }
         ensures most { IfOk result (λ got. IfSome got (λ packet.
             IfSome (through (polls_through endpoint) (pipes_at path.now self.old))
@@ -369,6 +377,7 @@ impl DeviceTable {
     ///
     /// - `NoDevice`: no accepted device is at the path.
     /// - `NoEndpoint`: the device is a hub or has no such endpoint that a pipe can use.
+    /// - `Broken`: the setting of the endpoint's interface is not known.
     /// - `Stalled`: the device refused the request.
     /// - `Busy`, `NoAnswer`: a transaction ended so.
     /// - `Bus`: the bus has failed.
@@ -380,8 +389,9 @@ impl DeviceTable {
     ) -> Result<(), TableFault>
         ensures any_bus { Spends B.spent B.ports write_bound bus.old bus.new
             × TransferTold result (B.failed bus.new)
-            × MovedOrRefused (asked_through (pipe_to endpoint) (pipes_at path.now self.old))
-            (pipes_at path.now self.old) bus.old result (pipes_at path.now self.new) bus.new }
+            × MovedOrRefused (asked_through (pipe_to endpoint) (clears_miss endpoint)
+            (pipes_at path.now self.old)) (pipes_at path.now self.old) bus.old result
+            (pipes_at path.now self.new) bus.new }
         ensures through { GoesThrough path.now self.old self.new }
         ensures clears { B.modelled ≡ true → TableClearsOf path.now endpoint
             self.old (B.world bus.old) (B.trace bus.old) result
@@ -389,6 +399,43 @@ impl DeviceTable {
     {
         match self.indexes.by_path.get(path) {
             Some(key) => self.entries[*key].pipes.clear_halt_of(bus, endpoint),
+            None => Err(TableFault::Transfer(TransferFault::NoDevice)),
+        }
+    }
+
+    /// Gives an interface of the function at a path an alternate setting (9.4.10). Each address
+    /// that the interface has in some setting has a new pipe then, or none; all other pipes stay.
+    ///
+    /// # Errors
+    ///
+    /// - `NoDevice`: no accepted device is at the path.
+    /// - `NoInterface`: the device is a hub or has no such setting, or the interface shares an
+    ///   endpoint with another one.
+    /// - `Stalled`: the device refused the request, and nothing changes.
+    /// - `Busy`, `NoAnswer`: a transaction ended so. The pipes of the interface are lost until
+    ///   another call sets it.
+    /// - `Bus`: the bus has failed.
+    pub fn set_interface<B: Bus>(
+        &mut self,
+        bus: &mut B,
+        path: &PortPath,
+        interface: u8,
+        setting: u8,
+    ) -> Result<(), TableFault>
+        ensures any_bus { Spends B.spent B.ports write_bound bus.old bus.new
+            × TransferTold result (B.failed bus.new)
+            × SetOrRefused (interface_target path.now interface setting self.old.entries)
+            (pipes_set (accepted_device_at path.now self.old.entries) (is_below_hub path.now)
+            interface setting)
+            (pipes_at path.now self.old) bus.old result (pipes_at path.now self.new) bus.new }
+        ensures through { GoesThrough path.now self.old self.new }
+        ensures sets { B.modelled ≡ true → TableSetsInterface path.now interface setting
+            self.old (B.world bus.old) (B.trace bus.old) result
+            self.new (B.world bus.new) (B.trace bus.new) }
+    {
+        let below_hub = is_below_hub(path);
+        match self.indexes.by_path.get(path) {
+            Some(key) => self.entries[*key].set_interface(bus, below_hub, interface, setting),
             None => Err(TableFault::Transfer(TransferFault::NoDevice)),
         }
     }

@@ -1,21 +1,18 @@
 -- SETUP: setup data that were accepted more than once are as if they were accepted once, the last
 -- time; and who is not reset by them.
-use Rattle.std.proofs.Common.{◌≡◌, ◌⊎◌, inl, inr, ℕ, zero, suc, ◌==◌, ◌&&◌, if◌then◌else◌, Bool}
-use Rattle.std.proofs.Common.{true, false, List, [], ◌∷◌, length, map, get_or, Option, None, Some}
-use Rattle.std.proofs.Common.{Result, Ok, Err, refl, sym, subst, ap, ap₂, ◌∙◌, arith}
+use Rattle.std.proofs.Common.{◌≡◌, ◌⊎◌, inl, inr, ℕ, ◌==◌, ◌&&◌, if◌then◌else◌}
+use Rattle.std.proofs.Common.{true, false, List, [], ◌∷◌, length, Option, None, Some}
+use Rattle.std.proofs.Common.{Result, Ok, Err, refl, sym, subst, ap, ◌∙◌, arith}
 use Rattle.std.proofs.lemmas.Option.{same_Some}
-use Rattle.usb_request.specs.{GET_STATUS, CLEAR_FEATURE, SET_FEATURE, SET_ADDRESS, GET_DESCRIPTOR}
-use Rattle.usb_request.specs.{GET_CONFIGURATION, SET_CONFIGURATION, DEVICE_IN, DEVICE_OUT}
-use Rattle.usb_request.specs.{ENDPOINT_OUT, HUB_IN, PORT_IN, PORT_OUT, Setup, setup_of}
-use Rattle.usb_port.specs.{PortState, PortCall, set_call, clear_call}
-use Rattle.usb_device.specs.{Leaves, Registers, Spec, Outcome, takes_configuration, Is, outcome}
-use Rattle.usb_device.specs.{registers_at_setup, port_feature, State, with_endpoints, begun}
+use Rattle.usb_request.specs.{Setup, setup_of}
+use Rattle.usb_port.specs.{PortState}
+use Rattle.usb_device.specs.{Leaves, Outcome, outcome}
+use Rattle.usb_device.specs.{registers_at_setup, State, with_endpoints, begun}
 use Rattle.usb_device.specs.{accepted, effect_of_request, asked_by_setup, Way, is_whole, setup_law}
 use Rattle.usb_device.specs.{Ports, full, acted, row_of, Location, path_to, reach_on, state_on}
-use Rattle.usb_device.specs.{place_on, Place, OutEnd, InEnd, no_out, no_in, rested_out, rested_in}
-use Rattle.usb_device.specs.{halted, with_at, halts, unhalts, BulkOut, BulkIn}
+use Rattle.usb_device.specs.{place_on, Place}
 use Rattle.usb_device.specs.Attempt.{whole}
-use Rattle.usb_device.proofs.Interface.{asked_own-any}
+use Rattle.usb_device.proofs.Interface.{begun-twice, outcome-again}
 use Rattle.usb_world.specs.{Attempt, is_harmless, resets, Relation, Was, EachWas, DidSetup, IsMade}
 use Rattle.usb_world.specs.{IsSetup, HolderIn, got, token_way, payload_way, answer_way, at_attempt}
 use Rattle.usb_world.specs.{damage_in, outcome_in, attempt, after, World}
@@ -36,90 +33,8 @@ use Rattle.usb_transaction.proofs.DeviceRuns.{was_then, over_transaction, stays_
 
 -- A request asks the same once it was accepted
 
--- one with another configuration is the same, or changes no register
-abbrev Again : Registers → Outcome → Outcome → Type 0
-Again g x y = (y ≡ x) ⊎ (registers_at_setup g x ≡ g)
-
-again_if : (g : Registers) (b : Bool) (x y u v : Outcome) → Again g x u → Again g y v
-    → Again g (if b then x else y) (if b then u else v)
-again_if g true x y u v h k = h
-again_if g false x y u v h k = k
-
--- a call at a port changes none
-call_changes-none : (call : Option PortCall) (s : Spec) (g : Registers) (r : Setup)
-    → registers_at_setup g (port_feature call s g r) ≡ g
-call_changes-none call s g r = grind arith
-
--- SET_CONFIGURATION looks at the address and not at the configuration (9.4.7)
-configured_again : (s : Spec) (g : Registers) (r : Setup) (c : ℕ)
-    → Again g (outcome s g r) (outcome s (record g { configuration = c }) r)
-unfolding outcome
-configured_again s g r c =
-    again_if g (Is r DEVICE_IN GET_DESCRIPTOR) _ _ _ _ (inl refl)
-    (again_if g (Is r DEVICE_IN GET_STATUS) _ _ _ _ (inl refl)
-    (again_if g (Is r DEVICE_IN GET_CONFIGURATION) _ _ _ _ (inr refl)
-    (again_if g (Is r DEVICE_OUT SET_ADDRESS) _ _ _ _ (inl refl)
-    (again_if g (Is r DEVICE_OUT SET_CONFIGURATION) _ _ _ _ (inl refl)
-    (again_if g (Is r ENDPOINT_OUT CLEAR_FEATURE) _ _ _ _ (inr (grind arith))
-    (again_if g (Is r ENDPOINT_OUT SET_FEATURE) _ _ _ _ (inr (grind arith))
-    (again_if g (Is r HUB_IN GET_DESCRIPTOR) _ _ _ _ (inl refl)
-    (again_if g (Is r PORT_IN GET_STATUS) _ _ _ _ (inr (grind arith))
-    (again_if g (Is r PORT_OUT SET_FEATURE) _ _ _ _
-    (inr (call_changes-none (set_call r.value) s g r))
-    (again_if g (Is r PORT_OUT CLEAR_FEATURE) _ _ _ _
-    (inr (call_changes-none (clear_call r.value) s g r))
-    (inr (asked_own-any (λ o. registers_at_setup g o ≡ g) refl s.requests g r (λ bytes. refl) refl
-    (λ kept. refl)))))))))))))
-
--- only a configuration that was taken changes a register
-asks_again : (s : Spec) (g : Registers) (r : Setup) (o : Outcome) → outcome s g r ≡ o
-    → outcome s (registers_at_setup g o) r ≡ o
-asks_again s g r (takes_configuration c) e = elim (configured_again s g r c) [
-  | inl h ↦ h ∙ e
-  | inr h ↦ ap (λ k. outcome s k r) (rw e at h) ∙ e
-]
-asks_again s g r o e = e
-
 pub spec_stays : (d : State) (o : Outcome) → (with_endpoints d o).spec ≡ d.spec
 spec_stays d o = grind arith
-
--- the same is done to an endpoint, or to each of a row, again
-
-module _ {A : Type 0} (none : A) (f : A → A) (same : (x : A) → f (f x) ≡ f x) where
-  abbrev done_at : ℕ → List A → List A
-  done_at n row = with_at none n (f (get_or row n none)) row
-
-  at_twice : (n : ℕ) (row : List A) → done_at n (done_at n row) ≡ done_at n row
-  unfolding with_at
-  at_twice zero [] = ap (λ x. x ∷ []) (same none)
-  at_twice zero (y ∷ row) = ap (λ x. x ∷ row) (same y)
-  at_twice (suc n) [] = ap (λ row. none ∷ row) (at_twice n [])
-  at_twice (suc n) (y ∷ row) = ap (λ more. y ∷ more) (at_twice n row)
-
-  each_twice : (row : List A) → map f (map f row) ≡ map f row
-  each_twice [] = refl
-  each_twice (y ∷ row) = ap₂ (λ x more. x ∷ more) (same y) (each_twice row)
-
-begun_twice : (d : State) (first row : List PortState) (wanted : ℕ) (o : Outcome)
-    → begun (begun d first wanted o) row wanted o ≡ begun d row wanted o
-begun_twice d first row n (takes_configuration c) =
-    ap₂ (λ (outs : List OutEnd) (ins : List InEnd).
-    record (begun d row n (takes_configuration c)) { outs = outs; ins = ins })
-    (each_twice no_out rested_out (λ x. refl) d.outs)
-    (each_twice no_in rested_in (λ x. refl) d.ins)
-begun_twice d first row n (halts (BulkOut e)) =
-    ap (λ (outs : List OutEnd). record (begun d row n (halts (BulkOut e))) { outs = outs })
-    (at_twice no_out (λ x. record x { state = halted x.state }) (λ x. refl) e d.outs)
-begun_twice d first row n (halts (BulkIn e)) =
-    ap (λ (ins : List InEnd). record (begun d row n (halts (BulkIn e))) { ins = ins })
-    (at_twice no_in (λ x. record x { state = halted x.state }) (λ x. refl) e d.ins)
-begun_twice d first row n (unhalts (BulkOut e)) =
-    ap (λ (outs : List OutEnd). record (begun d row n (unhalts (BulkOut e))) { outs = outs })
-    (at_twice no_out rested_out (λ x. refl) e d.outs)
-begun_twice d first row n (unhalts (BulkIn e)) =
-    ap (λ (ins : List InEnd). record (begun d row n (unhalts (BulkIn e))) { ins = ins })
-    (at_twice no_in rested_in (λ x. refl) e d.ins)
-begun_twice d first row n o = grind arith
 
 asked_twice : (d : State) (first : List PortState) (r : Setup)
     → outcome (accepted d first r).spec (accepted d first r).registers r
@@ -127,7 +42,7 @@ asked_twice : (d : State) (first : List PortState) (r : Setup)
 asked_twice d first r =
     let o : Outcome = outcome d.spec d.registers r in
     ap (λ s. outcome s (registers_at_setup d.registers o) r) (spec_stays d o)
-    ∙ asks_again d.spec d.registers r o refl
+    ∙ outcome-again d.spec d.registers r o refl
 
 -- a device is as after setup data that it accepted with these ports
 pub record AcceptedWith (bytes : List ℕ) (s v : State) : Type 0 where
@@ -156,7 +71,7 @@ kept_as_before bytes s v (inr y) =
       spec = spec_stays s o;
       address = register_address s.registers o;
       again = λ row. ap (begun (accepted s y.row r) row r.length) again
-          ∙ begun_twice s y.row row r.length o;
+          ∙ begun-twice s y.row row r.length o;
       asks = ap effect_of_request again;
     })
 

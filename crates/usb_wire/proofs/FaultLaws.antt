@@ -17,7 +17,7 @@ use Rattle.usb_wire.specs.{request_field, request_of_word, request_with, setup_i
 use Rattle.usb_wire.specs.{Write, has_bytes, is_write, write_answer, write_limit, write_of_words}
 use Rattle.usb_wire.specs.{ClearOf, Poll, ReceiveFrom, SendTo, clear_of_answer, endpoint_field}
 use Rattle.usb_wire.specs.{endpoint_named, address_named, poll_answer, receive_from_answer}
-use Rattle.usb_wire.specs.{send_to_answer, send_to_limit}
+use Rattle.usb_wire.specs.{send_to_answer, send_to_limit, Interface, interface_answer, setting_field}
 use Rattle.usb_wire.specs.{NoAnswer, BadHex, BadLength, BadNumber, BadPath, Asked, send_limit}
 use Rattle.usb_wire.specs.{Field, Form, argument_fault, bytes_field, fault_by, line_fault}
 use Rattle.usb_wire.specs.{fields_in, forms, packets_field, path_field, root_field, roots_field}
@@ -267,7 +267,7 @@ write_table false false true p = refl
 write_table false false false true = refl
 write_table false false false false = refl
 
--- of three words, the second of an endpoint
+-- of three words, the second of an endpoint or of a number
 named_table : (h l m n p : Bool) → first_fault_of (if h then Some BadHex else if l then Some
     BadLength else if m then Some BadNumber else None)
     (first_fault_of (if n then Some BadNumber else None)
@@ -319,6 +319,9 @@ send_to_given xs a p = Ok (SendTo p a (record { items = xs }))
 
 abbrev receive_from_given : ℕ → ℕ → List ℕ → Result Answer WireFault
 receive_from_given n a p = Ok (ReceiveFrom p a n)
+
+abbrev interface_given : ℕ → ℕ → List ℕ → Result Answer WireFault
+interface_given k n p = Ok (Interface p n k)
 
 abbrev push_given : List ℕ → ℕ → Result Said WireFault
 push_given xs number = Ok (Changed number xs)
@@ -452,6 +455,18 @@ faults-receive_from count first second third =
     ∙ named_table false false (is_none (number_within 0 1000 third))
     (is_none (address_named second)) (is_none (path_of first))
 
+faults-interface : (count : ℕ) (first second third : List ℕ)
+    → fault_in (interface_answer first second third)
+    ≡ argument_fault count (path_field ∷ setting_field ∷ setting_field ∷ [])
+    (first ∷ second ∷ third ∷ [])
+unfolding interface_answer
+faults-interface count first second third =
+    three_read (number_of_word 0 255 third) (number_of_word 0 255 second) (path_in first)
+    interface_given _ _ _ (fault_in-number 0 255 third) (fault_in-number 0 255 second)
+    (fault_in-path first) (λ _ _ _. refl)
+    ∙ named_table false false (is_none (number_within 0 255 third))
+    (is_none (number_within 0 255 second)) (is_none (path_of first))
+
 faults-status_change : (count : ℕ) (first second : List ℕ)
     → fault_in (status_change count first second)
     ≡ argument_fault count (root_field ∷ status_field ∷ []) (first ∷ second ∷ [])
@@ -559,9 +574,12 @@ faults-four Wait count word first second third =
     (form_or count (bytes_eq word (codes "send")) (send_to_answer first second third) _
     (path_field ∷ endpoint_field ∷ bytes_field send_to_limit ∷ []) _
     (first ∷ second ∷ third ∷ []) (faults-send_to count first second third)
-    (form_or count (bytes_eq word (codes "receive")) (receive_from_answer first second third)
-    (Err NoAnswer) (path_field ∷ endpoint_field ∷ packets_field ∷ []) None
-    (first ∷ second ∷ third ∷ []) (faults-receive_from count first second third) refl))
+    (form_or count (bytes_eq word (codes "receive")) (receive_from_answer first second third) _
+    (path_field ∷ endpoint_field ∷ packets_field ∷ []) _
+    (first ∷ second ∷ third ∷ []) (faults-receive_from count first second third)
+    (form_or count (bytes_eq word (codes "interface")) (interface_answer first second third)
+    (Err NoAnswer) (path_field ∷ setting_field ∷ setting_field ∷ []) None
+    (first ∷ second ∷ third ∷ []) (faults-interface count first second third) refl)))
 faults-four _ count word first second third = refl
 
 -- ---- lines of more words have no form

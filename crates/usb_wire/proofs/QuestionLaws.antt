@@ -27,7 +27,9 @@ use Rattle.usb_wire.specs.{toggle_named, token_behind, token_of_words, IsEndpoin
 use Rattle.usb_wire.specs.{IsQuestionLine, IsSetupData, call_text, data_with, between_text}
 use Rattle.usb_wire.specs.{question_bytes, question_line, question_in_digits, speed_text}
 use Rattle.usb_wire.specs.{token_text, bytes_of_word, number_of_word, text_of_line, all_printable}
-use Rattle.usb_wire.specs.declared.question.Question.TheVariants.{Hello, Setup, Out, In, Port, Wait}
+use Rattle.usb_wire.specs.{direction_in, direction_text, restart_question}
+use Rattle.usb_wire.specs.declared.question.Question.TheVariants.{Hello, Setup, Out, In, Port}
+use Rattle.usb_wire.specs.declared.question.Question.TheVariants.{Restart, Wait}
 use Rattle.usb_wire.specs.QuestionReading.{◌>>=◌}
 use Rattle.usb_wire.proofs.FieldLemmas.{Ok-from_result_ok as ok_read, all_digits-decimal}
 use Rattle.usb_wire.proofs.FieldLemmas.{all_visible-decimal, hex_value-hex_text}
@@ -369,6 +371,20 @@ three_parts : (front first last : List ℕ) → front ++ (first ++ 32 ∷ last) 
 three_parts front first last = sym (append_assoc (front ++ first) (codes " ") last
     ∙ append_assoc front first (32 ∷ last))
 
+three_dots : (front first last : List ℕ) → front ++ (first ++ 46 ∷ last) ≡ front ++ first ++
+    codes "." ++ last
+three_dots front first last = sym (append_assoc (front ++ first) (codes ".") last
+    ∙ append_assoc front first (46 ∷ last))
+
+some_endpoint : (b : Bool) (p q : Question) → (if b then None else Some p) ≡ Some q
+    → (b ≡ false) × (p ≡ q)
+some_endpoint true p q e = absurd (cc)
+some_endpoint false p q e = (refl, same_Some p q e)
+
+not_zero : (n : ℕ) → (n == 0) ≡ false → 1 ≤ n
+not_zero zero e = absurd (cc)
+not_zero (suc n) e = omega arith
+
 port_found : (text : List ℕ) (q : Question) → port_question text ≡ Some q
     → IsAsked (codes "port" ++ 32 ∷ text) q
 unfolding port_question
@@ -386,6 +402,44 @@ port_found text q e =
     ∙ three_parts (codes "port ") (decimal n) (call_text call) in
     subst (IsAsked _) (same_Some (Port n call) q is)
     (asked_with _ (codes "-") (Port n call) (number.low, number.high) refl line_is))))
+
+direction_found : (word : List ℕ) (is_in : Bool) → direction_in word ≡ Some is_in
+    → word ≡ direction_text is_in
+unfolding direction_in
+direction_found word is_in e =
+    by_word (λ t. t ≡ direction_text is_in) word (codes "in") (Some true) _ is_in e
+    (λ is. ap direction_text (same_Some true is_in is)) (λ e.
+    by_word (λ t. t ≡ direction_text is_in) word (codes "out") (Some false) _ is_in e
+    (λ is. ap direction_text (same_Some false is_in is)) (λ e. none_not_some is_in e))
+
+-- an endpoint's text in a line
+device_parts : (front last : List ℕ) (e : Endpoint)
+    → front ++ (endpoint_text e ++ 32 ∷ last)
+    ≡ front ++ decimal e.address ++ codes "." ++ decimal e.number ++ codes " " ++ last
+device_parts front last e =
+    let a : List ℕ = decimal e.address in
+    let n : List ℕ = decimal e.number in
+    three_parts front (endpoint_text e) last
+    ∙ ap (λ t. t ++ codes " " ++ last) (three_dots front a n)
+
+restart_found : (text : List ℕ) (q : Question) → restart_question text ≡ Some q
+    → IsAsked (codes "restart" ++ 32 ∷ text) q
+unfolding restart_question
+restart_found text q e =
+    bind_some (cut_at 32 text) _ q e (λ cut found e.
+    bind_some (endpoint_in cut.0) _ q e (λ dev first e.
+    bind_some (direction_in cut.1) _ q e (λ is_in second e.
+    let some = some_endpoint (dev.number == 0) (Restart dev is_in) q e in
+    let device = endpoint_in-device cut.0 dev first in
+    let text_is : text ≡ endpoint_text dev ++ 32 ∷ direction_text is_in =
+    cut_at-some 32 text cut found ∙ ap (λ d. d ++ 32 ∷ cut.1) device.text
+    ∙ ap (λ r. endpoint_text dev ++ 32 ∷ r) (direction_found cut.1 is_in second) in
+    let line_is : codes "restart" ++ 32 ∷ text ≡ question_in_digits (codes "-") (Restart dev is_in)
+    = ap (λ r. codes "restart " ++ r) text_is
+    ∙ device_parts (codes "restart ") (direction_text is_in) dev in
+    subst (IsAsked _) some.1
+    (asked_with _ (codes "-") (Restart dev is_in) (device.fits, not_zero dev.number some.0) refl
+    line_is))))
 
 token_found : (speed : Speed) (word text : List ℕ) (q : Question) → token_of_words speed word text
     ≡ Some q → IsAsked (speed_text speed ++ (word ++ 32 ∷ text)) q
@@ -414,9 +468,10 @@ several_found text q e =
     let P : List ℕ → Type 0 = λ w. IsAsked (w ++ 32 ∷ cut.1) q in
     asked_same_line text (cut.0 ++ 32 ∷ cut.1) q (cut_at-some 32 text cut found)
     (by_word P cut.0 (codes "port") (port_question cut.1) _ q e (port_found cut.1 q) (λ e.
+    by_word P cut.0 (codes "restart") (restart_question cut.1) _ q e (restart_found cut.1 q) (λ e.
     by_word P cut.0 (codes "low") (token_behind Low cut.1) _ q e (behind_found Low cut.1 q) (λ e.
     by_word P cut.0 (codes "PRE") (token_behind LowBelowHub cut.1) _ q e
-    (behind_found LowBelowHub cut.1 q) (λ e. token_found Full cut.0 cut.1 q e)))))
+    (behind_found LowBelowHub cut.1 q) (λ e. token_found Full cut.0 cut.1 q e))))))
 
 text_read : (l p : Bool) (line text : List ℕ)
     → ◌≡◌ {A = Result (List ℕ) WireFault} (if l then Err LineTooLong else if p then Ok line else Err
@@ -484,6 +539,10 @@ fine_data One = record { short = lit≤ tt; printable = refl }
 fine_call : (call : PortCall) → Fine 40 (call_text call)
 fine_call SetPower = record { short = lit≤ tt; printable = refl }
 fine_call _ = record { short = lit≤ tt; printable = refl }
+
+fine_direction : (is_in : Bool) → Fine 3 (direction_text is_in)
+fine_direction true = record { short = lit≤ tt; printable = refl }
+fine_direction false = record { short = lit≤ tt; printable = refl }
 
 fine_blank : Fine 1 (codes " ")
 fine_blank = record { short = lit≤ tt; printable = refl }
@@ -589,6 +648,31 @@ port_reached number call low high =
     (HasNoSpace-visible (decimal number) visible) in
     rw (first, second, read_number 1 7 number low high (omega arith), call_read call) refl
 
+restart_cut : (rest : List ℕ) → cut_at 32 (codes "restart " ++ rest) ≡ Some (codes "restart", rest)
+unfolding cut_at
+restart_cut rest = refl
+
+direction_read : (is_in : Bool) → direction_in (direction_text is_in) ≡ Some is_in
+unfolding direction_in
+direction_read true = refl
+direction_read false = refl
+
+some_number : (n : ℕ) → 1 ≤ n → (n == 0) ≡ false
+some_number n some = grind (arith, nat_tests)
+
+restart_reached : (e : Endpoint) (is_in : Bool) → IsEndpoint e → 1 ≤ e.number
+    → question_in (codes "restart " ++ (endpoint_text e ++ 32 ∷ direction_text is_in))
+    ≡ Some (Restart e is_in)
+unfolding asked_in restart_question
+restart_reached e is_in h some =
+    rw (
+      restart_cut (endpoint_text e ++ 32 ∷ direction_text is_in),
+      device_cut e (direction_text is_in) h,
+      endpoint_read e h,
+      direction_read is_in,
+      some_number e.number some,
+    ) refl
+
 in_read : (speed : Speed) (e : Endpoint) (most : ℕ) → IsEndpoint e → 1 ≤ most → most ≤ 64
     → in_question speed (endpoint_text e ++ 32 ∷ decimal most) ≡ Some (In speed e most)
 unfolding in_question
@@ -675,6 +759,22 @@ asked_read digits (Port number call) h e =
     question_of-text (5 + 129 + 1 + 40) _ (lit≤ tt) fine
     ∙ ap question_in (sym (three_parts (codes "port ") (decimal number) (call_text call)))
     ∙ port_reached number call h.0 h.1
+asked_read digits (Restart dev is_in) h e =
+    let front : Fine 8 (codes "restart ") = record { short = lit≤ tt; printable = refl } in
+    let dot : Fine 1 (codes ".") = record { short = lit≤ tt; printable = refl } in
+    let a : List ℕ = decimal dev.address in
+    let n : List ℕ = decimal dev.number in
+    let fine = fine-append (8 + 129 + 1 + 129 + 1) 3
+    (codes "restart " ++ a ++ codes "." ++ n ++ codes " ") (direction_text is_in)
+    (fine-append (8 + 129 + 1 + 129) 1 (codes "restart " ++ a ++ codes "." ++ n) (codes " ")
+    (fine-append (8 + 129 + 1) 129 (codes "restart " ++ a ++ codes ".") n
+    (fine-append (8 + 129) 1 (codes "restart " ++ a) (codes ".")
+    (fine-append 8 129 (codes "restart ") a front
+    (fine_number dev.address (omega (arith, h.0.0)))) dot)
+    (fine_number dev.number (omega (arith, h.0.1)))) fine_blank) (fine_direction is_in) in
+    question_of-text (8 + 129 + 1 + 129 + 1 + 3) _ (lit≤ tt) fine
+    ∙ ap question_in (sym (device_parts (codes "restart ") (direction_text is_in) dev))
+    ∙ restart_reached dev is_in h.0 h.1
 
 pub question_read-asked : (line : List ℕ) (q : Question) → IsQuestion q → IsQuestionLine line q
     → question_of line ≡ Some q

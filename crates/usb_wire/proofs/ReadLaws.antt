@@ -14,7 +14,7 @@ use Rattle.usb_request.specs.{DIRECTION_IN, IsToDevice, IsToHost, Setup, bytes_o
 use Rattle.usb_request.specs.{is_endpoint_address}
 use Rattle.usb_wire.specs.{ClearOf, Poll, ReceiveFrom, SendTo, clear_of_answer, endpoint_named}
 use Rattle.usb_wire.specs.{address_text, poll_answer, receive_from_answer}
-use Rattle.usb_wire.specs.{send_to_answer, send_to_limit}
+use Rattle.usb_wire.specs.{send_to_answer, send_to_limit, Interface, interface_answer}
 use Rattle.usb_wire.specs.{Answer, Roots, Ack, Nak, Stall, Nothing, Data, Done, Show, End, Send}
 use Rattle.usb_wire.specs.{Receive, Clear, Said, Changed, Answered, BadNumber, BadPath, Asked}
 use Rattle.usb_wire.specs.{ControlIn, ControlOut, Look, News, answer_setup, control_answer}
@@ -292,14 +292,14 @@ read_write count setup digits p s (x ∷ xs) h t e writes size few =
       read_path p h,
     ) refl)
 
--- what stands behind a path and an endpoint
-named_line : (front rest p : List ℕ) (a : ℕ)
-    → front ++ path_text p ++ codes " " ++ (address_text a ++ codes " " ++ rest)
-    ≡ front ++ path_text p ++ codes " " ++ address_text a ++ codes " " ++ rest
-named_line front rest p a =
+-- what stands behind a path and another word
+named_line : (front rest p word : List ℕ)
+    → front ++ path_text p ++ codes " " ++ (word ++ codes " " ++ rest)
+    ≡ front ++ path_text p ++ codes " " ++ word ++ codes " " ++ rest
+named_line front rest p word =
     let way : List ℕ = front ++ path_text p ++ codes " " in
-    sym (append_assoc way (address_text a ++ codes " ") rest)
-    ∙ ap (λ t. t ++ rest) (sym (append_assoc way (address_text a) (codes " ")))
+    sym (append_assoc way (word ++ codes " ") rest)
+    ∙ ap (λ t. t ++ rest) (sym (append_assoc way word (codes " ")))
 
 read_named : (count : ℕ) (front first word p : List ℕ) (a : ℕ) (s : Said) → IsFront 8 front first
     → IsPath p → is_endpoint_address a ≡ true → IsVisibleWord 981 word
@@ -307,7 +307,7 @@ read_named : (count : ℕ) (front first word p : List ℕ) (a : ℕ) (s : Said) 
     → ReadsLine Wait count
     (front ++ path_text p ++ codes " " ++ address_text a ++ codes " " ++ word) s
 read_named count front first word p a s f h named w e =
-    subst (λ line. ReadsLine Wait count line s) (named_line front word p a)
+    subst (λ line. ReadsLine Wait count line s) (named_line front word p (address_text a))
     (read_rest Wait count 8 985 front first (path_text p) _ (address_text a ∷ word ∷ []) s
     (omega arith) f (path_text-is_word 13 p (omega arith) h)
     (two_rest 3 981 (address_text a) word (address_text-is_word 3 a (omega arith) named) w) e)
@@ -317,7 +317,7 @@ read_answer : (asked : Asked) (count : ℕ) (setup digits : List ℕ) (a : Answe
     → ReadsLine asked count (answer_in_digits setup digits a) (Answered a)
 unfolding words_say alone with_one roots_answer clear_answer look_answer three_say with_two
     send_answer receive_answer poll_answer clear_of_answer with_three send_to_answer
-    receive_from_answer
+    receive_from_answer interface_answer
 read_answer Hello count setup digits (Roots n) h t e =
     read_two Hello count (codes "roots ") (codes "roots") (decimal n) (Answered (Roots n))
     (record { short = lit≤ tt; printable = refl; cut = λ rest. refl })
@@ -414,6 +414,21 @@ read_answer Wait count setup digits (ClearOf p a) h t e =
     (path_text-is_word 13 p (omega arith) h.0)
     (address_text-is_word 1001 a (omega arith) h.1)
     (rw (read_endpoint a h.1, read_path p h.0) refl)
+read_answer Wait count setup digits (Interface p n k) h t e =
+    subst (λ line. ReadsLine Wait count line (Answered (Interface p n k)))
+    (named_line (codes "interface ") (decimal k) p (decimal n))
+    (read_rest Wait count 10 28 (codes "interface ") (codes "interface") (path_text p) _
+    (decimal n ∷ decimal k ∷ []) (Answered (Interface p n k)) (omega arith)
+    (record { short = lit≤ tt; printable = refl; cut = λ rest. refl })
+    (path_text-is_word 13 p (omega arith) h.0)
+    (two_rest 13 14 (decimal n) (decimal k)
+    (decimal-is_word 13 n (omega arith) (omega (arith, h.1)))
+    (decimal-is_word 14 k (omega arith) (omega (arith, h.2))))
+    (rw (
+      read_number 0 255 k (omega arith) h.2 (omega (arith, h.2)),
+      read_number 0 255 n (omega arith) h.1 (omega (arith, h.1)),
+      read_path p h.0,
+    ) refl))
 read_answer Wait count setup digits (ControlIn p s) h t e =
     read_bare count setup p s (ControlIn p s) h.0 t (reads_bare s h.2)
     (rw (le-ltb s.request_type DIRECTION_IN h.2) refl)

@@ -15,7 +15,7 @@ use Rattle.usb_port.proofs.Paths.{some_if}
 use Rattle.usb_request.specs.{DIRECTION_IN, Setup, bytes_of}
 use Rattle.usb_wire.specs.{ClearOf, Poll, ReceiveFrom, SendTo, clear_of_answer, endpoint_named}
 use Rattle.usb_wire.specs.{address_named, address_text, poll_answer, receive_from_answer}
-use Rattle.usb_wire.specs.{send_to_answer, send_to_limit}
+use Rattle.usb_wire.specs.{send_to_answer, send_to_limit, Interface, interface_answer}
 use Rattle.usb_wire.specs.{Answer, Roots, Ack, Nak, Stall, Nothing, Data, Done, Show, End, Send}
 use Rattle.usb_wire.specs.{ControlIn, ControlOut, IsSetupData, Look, News, answer_setup}
 use Rattle.usb_wire.specs.{bare_control, both, control_answer, counted_write, has_bytes}
@@ -386,16 +386,23 @@ named_text front first second p n way named =
     ∙ ap (λ t. front ++ first ++ codes " " ++ t) (sym named.text)
     ∙ three_text front first second
 
+-- a last word behind three
+four_text : (front first second third line : List ℕ) → line ≡ front ++ (first ++ 32 ∷ second)
+    → line ++ codes " " ++ third ≡ front ++ (first ++ 32 ∷ (second ++ 32 ∷ third))
+four_text front first second third line e =
+    ap (λ t. t ++ codes " " ++ third) e
+    ∙ append_assoc (front ++ (first ++ 32 ∷ second)) (codes " ") third
+    ∙ append_assoc front (first ++ 32 ∷ second) (32 ∷ third)
+    ∙ ap (λ t. front ++ t) (append_assoc first (32 ∷ second) (32 ∷ third))
+
 -- and what stands behind them
 named_more : (front first second third p : List ℕ) (n : ℕ) → IsPathWord first p
     → IsEndpointWord second n
     → front ++ path_text p ++ codes " " ++ address_text n ++ codes " " ++ third
     ≡ front ++ (first ++ 32 ∷ (second ++ 32 ∷ third))
 named_more front first second third p n way named =
-    ap (λ t. t ++ codes " " ++ third) (named_text front first second p n way named)
-    ∙ append_assoc (front ++ (first ++ 32 ∷ second)) (codes " ") third
-    ∙ append_assoc front (first ++ 32 ∷ second) (32 ∷ third)
-    ∙ ap (λ t. front ++ t) (append_assoc first (32 ∷ second) (32 ∷ third))
+    four_text front first second third (front ++ path_text p ++ codes " " ++ address_text n)
+    (named_text front first second p n way named)
 
 poll_says : (count : ℕ) (first second : List ℕ) (a : Answer) → poll_answer first second ≡ Ok a
     → WordsSay Wait count (codes "interrupt" ∷ first ∷ second ∷ []) (Answered a)
@@ -467,6 +474,35 @@ receive_from_says count first second third a e =
     (same_Ok (ReceiveFrom p n k) a is)
     (plain_line Wait count _ (ReceiveFrom p n k) (record {
       may = (way.is, named.address, number.high);
+      none = (refl, refl);
+      text = sym text;
+    })))))
+
+interface_says : (count : ℕ) (first second third : List ℕ) (a : Answer)
+    → interface_answer first second third ≡ Ok a
+    → WordsSay Wait count (codes "interface" ∷ first ∷ second ∷ third ∷ []) (Answered a)
+unfolding interface_answer
+interface_says count first second third a e =
+    bind-ok (number_of_word 0 255 third) _ a e (λ k read e.
+    bind-ok (number_of_word 0 255 second) _ a e (λ n given e.
+    bind-ok (path_in first) _ a e (λ p found is.
+    let setting = number_of_word-ok 0 255 third k (omega arith) read in
+    let interface = number_of_word-ok 0 255 second n (omega arith) given in
+    let way = path_in-word first p found in
+    let front : codes "interface " ++ path_text p ++ codes " " ++ decimal n
+    ≡ codes "interface " ++ (first ++ 32 ∷ second) =
+    ap (λ t. codes "interface " ++ t ++ codes " " ++ decimal n) way.text
+    ∙ ap (λ t. codes "interface " ++ first ++ codes " " ++ t) (sym interface.text)
+    ∙ three_text (codes "interface ") first second in
+    let text : codes "interface " ++ path_text p ++ codes " " ++ decimal n ++ codes " " ++
+    decimal k ≡ codes "interface " ++ (first ++ 32 ∷ (second ++ 32 ∷ third)) =
+    four_text (codes "interface ") first second (decimal k)
+    (codes "interface " ++ path_text p ++ codes " " ++ decimal n) front
+    ∙ ap (λ t. codes "interface " ++ (first ++ 32 ∷ (second ++ 32 ∷ t))) (sym setting.text) in
+    subst (λ a. WordsSay Wait count (codes "interface" ∷ first ∷ second ∷ third ∷ []) (Answered a))
+    (same_Ok (Interface p n k) a is)
+    (plain_line Wait count _ (Interface p n k) (record {
+      may = (way.is, interface.high, setting.high);
       none = (refl, refl);
       text = sym text;
     })))))
@@ -649,7 +685,10 @@ four_say Wait count word first second third a e =
     if_ok (bytes_eq word (codes "receive")) (receive_from_answer first second third) _ a e
     (λ same e. says_same_word Wait count word (codes "receive") arguments _ same
     (receive_from_says count first second third a e)) (λ e.
-    none_ok NoAnswer a e)))
+    if_ok (bytes_eq word (codes "interface")) (interface_answer first second third) _ a e
+    (λ same e. says_same_word Wait count word (codes "interface") arguments _ same
+    (interface_says count first second third a e)) (λ e.
+    none_ok NoAnswer a e))))
 four_say _ count word first second third a e = none_ok NoAnswer a e
 
 may_push-true : (asked : Asked) → may_push asked ≡ true → MayPush asked

@@ -9,6 +9,7 @@ use Rattle.usb_wire.specs.declared.answer.Answer.TheVariants.{Roots, Ack, Nak, S
 use Rattle.usb_wire.specs.declared.answer.Answer.TheVariants.{Done, Show, End, Send, Receive, Clear}
 use Rattle.usb_wire.specs.declared.answer.Answer.TheVariants.{ControlIn, ControlOut, Look, News}
 use Rattle.usb_wire.specs.declared.answer.Answer.TheVariants.{ClearOf, Poll, ReceiveFrom, SendTo}
+use Rattle.usb_wire.specs.declared.answer.Answer.TheVariants.{Interface}
 use Rattle.usb_wire.specs.declared.answer.Said.{Said}
 use Rattle.usb_wire.specs.declared.answer.Said.TheVariants.{Changed, Answered}
 use Rattle.usb_wire.specs.declared.question.Asked.{Asked}
@@ -46,6 +47,9 @@ answer_in_digits setup digits (Poll path endpoint) =
     codes "interrupt " ++ path_text path ++ codes " " ++ address_text endpoint
 answer_in_digits setup digits (ClearOf path endpoint) =
     codes "clear " ++ path_text path ++ codes " " ++ address_text endpoint
+answer_in_digits setup digits (Interface path interface setting) =
+    codes "interface " ++ path_text path ++ codes " " ++ decimal interface ++ codes " " ++
+    decimal setting
 answer_in_digits setup digits (ControlIn path request) =
     codes "control " ++ path_text path ++ codes " " ++ setup
 answer_in_digits setup digits (ControlOut path write) =
@@ -141,6 +145,8 @@ MayAnswer Wait (ReceiveFrom path endpoint packets) =
     IsPath path × (is_endpoint_address endpoint ≡ true) × (packets ≤ 1000)
 MayAnswer Wait (Poll path endpoint) = IsPath path × (is_endpoint_address endpoint ≡ true)
 MayAnswer Wait (ClearOf path endpoint) = IsPath path × (is_endpoint_address endpoint ≡ true)
+MayAnswer Wait (Interface path interface setting) =
+    IsPath path × (interface ≤ 255) × (setting ≤ 255)
 MayAnswer Wait (ControlIn path request) = IsPath path × IsSetupData request × IsToHost request
 MayAnswer Wait (ControlOut path write) = IsPath path × IsSetupData write.setup × IsWrite write
     × AreAtMost write_limit write.bytes

@@ -17,7 +17,8 @@ use Rattle.usb_wire.specs.Words.{all_printable, words}
 
 -- what a word after the first one is: bytes, at most so many; the four of a status; the eight of a
 -- request with bytes for the device, or of one without; how many root ports there are, the number
--- of one, how many packets; the address of an endpoint; a path
+-- of one, how many packets, the number of an interface or of its setting; the address of an
+-- endpoint; a path
 pub data Field : Type 0 where
   bytes_field : ℕ → Field
   status_field : Field
@@ -25,6 +26,7 @@ pub data Field : Type 0 where
   roots_field : Field
   root_field : Field
   packets_field : Field
+  setting_field : Field
   endpoint_field : Field
   path_field : Field
 
@@ -69,6 +71,7 @@ forms Wait =
     ∷ form (codes "clear") (path_field ∷ endpoint_field ∷ [])
     ∷ form (codes "send") (path_field ∷ endpoint_field ∷ bytes_field send_to_limit ∷ [])
     ∷ form (codes "receive") (path_field ∷ endpoint_field ∷ packets_field ∷ [])
+    ∷ form (codes "interface") (path_field ∷ setting_field ∷ setting_field ∷ [])
     ∷ []
 
 -- the first word is the form's, and so many words stand behind it
@@ -121,6 +124,7 @@ abbrev pub is_bad_number : ℕ → Field → List ℕ → Bool
 is_bad_number count roots_field word = is_none (number_within 1 7 word)
 is_bad_number count root_field word = is_none (number_within 1 count word)
 is_bad_number count packets_field word = is_none (number_within 0 1000 word)
+is_bad_number count setting_field word = is_none (number_within 0 255 word)
 is_bad_number count endpoint_field word = is_none (address_named word)
 is_bad_number count _ word = false
 

@@ -8,8 +8,8 @@ pub mod Reading
 pub mod QuestionReading
 -- the words of this crate, wherever one stands
 pub use Questions.{IsEndpoint, IsQuestion, IsQuestionLine, between_text, call_text}
-pub use Questions.{data_with, kind_asked, question_bytes, question_in_digits, question_line}
-pub use Questions.{speed_text, token_text}
+pub use Questions.{data_with, direction_text, kind_asked, question_bytes, question_in_digits}
+pub use Questions.{question_line, speed_text, token_text}
 pub use Writes.{IsWrite, Write}
 pub use Answers.{AreAtMost, IsData, IsSaidLine, IsSetupData, MayAnswer, MayPush, MaySay}
 pub use Answers.{answer_bytes, answer_in_digits, answer_setup, said_bytes, said_in_digits}
@@ -22,12 +22,13 @@ pub use Faults.{form, form_fits}
 pub use Faults.{forms, is_bad_hex, is_bad_length, is_bad_number, is_bad_path, is_some_bad}
 pub use Faults.{has_other_count, is_no_request, is_other_count, is_other_setup, line_fault}
 pub use Faults.{packets_field, path_field, push}
-pub use Faults.{request_field, root_field, roots_field, status_field, words_fault}
+pub use Faults.{request_field, root_field, roots_field, setting_field, status_field, words_fault}
 pub use Reading.{bare_control, both, counted_write, fault_in, is_write, may_push, request_with}
 pub use Reading.{result_map}
 pub use Reading.{said_of, setup_in_bytes}
 unfoldable pub use Reading.{alone, bytes_of_word, clear_answer, clear_of_answer, control_answer}
-unfoldable pub use Reading.{count_in, data_answer, endpoint_named, line_says, look_answer}
+unfoldable pub use Reading.{count_in, data_answer, endpoint_named, interface_answer, line_says}
+unfoldable pub use Reading.{look_answer}
 unfoldable pub use Reading.{number_of_word, path_in, poll_answer, receive_answer}
 unfoldable pub use Reading.{receive_from_answer, request_of_word, roots_answer, send_answer}
 unfoldable pub use Reading.{send_to_answer}
@@ -36,13 +37,14 @@ unfoldable pub use Reading.{with_one, with_three, with_two, words_say, write_ans
 unfoldable pub use Reading.{write_of_words}
 pub use QuestionReading.{setup_by}
 unfoldable pub use QuestionReading.{after_pre, asked_in, behind_pre_word, call_in, cut_at}
-unfoldable pub use QuestionReading.{data_behind, endpoint_in, in_question, out_question}
-unfoldable pub use QuestionReading.{port_question, question_of, setup_in, setup_question}
+unfoldable pub use QuestionReading.{data_behind, direction_in, endpoint_in, in_question}
+unfoldable pub use QuestionReading.{out_question, port_question, question_of, restart_question}
+unfoldable pub use QuestionReading.{setup_in, setup_question}
 unfoldable pub use QuestionReading.{toggle_named, token_behind, token_of_words}
 pub use declared.answer.Answer.{Answer}
 pub use declared.answer.Answer.TheVariants.{Ack, Clear, ControlIn, ControlOut, Data, Done, End}
-pub use declared.answer.Answer.TheVariants.{ClearOf, Look, Nak, News, Nothing, Poll, Receive}
-pub use declared.answer.Answer.TheVariants.{ReceiveFrom, Roots, Send, SendTo, Show, Stall}
+pub use declared.answer.Answer.TheVariants.{ClearOf, Interface, Look, Nak, News, Nothing, Poll}
+pub use declared.answer.Answer.TheVariants.{Receive, ReceiveFrom, Roots, Send, SendTo, Show, Stall}
 pub use declared.answer.Said.{Said}
 pub use declared.answer.Said.TheVariants.{Answered, Changed}
 pub use declared.fault.WireFault.{WireFault}

@@ -1,6 +1,6 @@
 -- How the lines of the host are read, for the private functions.
-use Rattle.std.specs.Prelude.{ℕ, ◌==◌, List, [], ◌∷◌, codes, Option, Some, None, option_map}
-use Rattle.std.specs.Prelude.{if◌then◌else◌}
+use Rattle.std.specs.Prelude.{ℕ, ◌==◌, Bool, true, false, List, [], ◌∷◌, codes, Option, Some, None}
+use Rattle.std.specs.Prelude.{option_map, if◌then◌else◌}
 use Rattle.std.specs.Result.{result_ok}
 use Rattle.std.specs.Str.{bytes_eq}
 use Rattle.usb_packet.specs.{Speed, Full, Low, LowBelowHub}
@@ -10,7 +10,8 @@ use Rattle.usb_port.specs.{ClearConnectionChange, ClearEnableChange, ClearResetC
 use Rattle.usb_request.specs.{Setup as SetupData}
 use Rattle.usb_wire.specs.declared.question.Endpoint.{Endpoint}
 use Rattle.usb_wire.specs.declared.question.Question.{Question}
-use Rattle.usb_wire.specs.declared.question.Question.TheVariants.{Hello, Setup, Out, In, Port, Wait}
+use Rattle.usb_wire.specs.declared.question.Question.TheVariants.{Hello, Setup, Out, In, Port}
+use Rattle.usb_wire.specs.declared.question.Question.TheVariants.{Restart, Wait}
 use Rattle.usb_wire.specs.Reading.{bytes_of_word, number_of_word, setup_in_bytes, text_of_line}
 
 infixl 10 ◌>>=◌
@@ -117,10 +118,24 @@ port_question text = do
   call ← call_in cut.1
   Some (Port number call)
 
+unfoldable pub direction_in : List ℕ → Option Bool
+direction_in word =
+    if bytes_eq word (codes "in") then Some true
+    else if bytes_eq word (codes "out") then Some false
+    else None
+
+unfoldable pub restart_question : List ℕ → Option Question
+restart_question text = do
+  cut ← cut_at 32 text
+  endpoint ← endpoint_in cut.0
+  is_in ← direction_in cut.1
+  if endpoint.number == 0 then None else Some (Restart endpoint is_in)
+
 unfoldable pub asked_in : List ℕ → Option Question
 asked_in text = do
   cut ← cut_at 32 text
   if bytes_eq cut.0 (codes "port") then port_question cut.1
+      else if bytes_eq cut.0 (codes "restart") then restart_question cut.1
       else if bytes_eq cut.0 (codes "low") then token_behind Low cut.1
       else if bytes_eq cut.0 (codes "PRE") then token_behind LowBelowHub cut.1
       else token_of_words Full cut.0 cut.1

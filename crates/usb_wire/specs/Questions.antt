@@ -1,5 +1,6 @@
 -- The questions of the host, and the line of each.
-use Rattle.std.specs.Prelude.{◌≡◌, ℕ, ◌<◌, ◌≤◌, List, [], ◌++◌, codes, decimal, Some}
+use Rattle.std.specs.Prelude.{◌≡◌, ℕ, ◌<◌, ◌≤◌, Bool, true, false, List, [], ◌++◌, codes, decimal}
+use Rattle.std.specs.Prelude.{Some}
 use Rattle.usb_packet.specs.{Speed, Full, Low, LowBelowHub}
 use Rattle.usb_packet.specs.{TokenKind, OutTok, InTok, SetupTok, Toggle, Zero, data_name, hex_text}
 use Rattle.usb_packet.specs.{token_name}
@@ -14,7 +15,8 @@ use Rattle.usb_wire.specs.declared.question.Asked.TheVariants.{Attempt as OfAtte
 use Rattle.usb_wire.specs.declared.question.Asked.TheVariants.{Wait as OfWait}
 use Rattle.usb_wire.specs.declared.question.Endpoint.{Endpoint}
 use Rattle.usb_wire.specs.declared.question.Question.{Question}
-use Rattle.usb_wire.specs.declared.question.Question.TheVariants.{Hello, Setup, Out, In, Port, Wait}
+use Rattle.usb_wire.specs.declared.question.Question.TheVariants.{Hello, Setup, Out, In, Port}
+use Rattle.usb_wire.specs.declared.question.Question.TheVariants.{Restart, Wait}
 
 -- which answers a question has
 abbrev pub kind_asked : Question → Asked
@@ -23,6 +25,7 @@ kind_asked (Setup speed endpoint setup) = OfAttempt
 kind_asked (Out speed endpoint sent) = OfAttempt
 kind_asked (In speed endpoint most) = OfAttempt
 kind_asked (Port number call) = OfPort
+kind_asked (Restart endpoint is_in) = OfPort
 kind_asked Wait = OfWait
 
 -- what stands before a token: the device is of low speed, at a root port or below a hub (8.6.5)
@@ -40,6 +43,11 @@ between_text LowBelowHub = codes " / PRE "
 -- a token, as in a trace
 abbrev pub token_text : TokenKind → Endpoint → List ℕ
 token_text kind e = token_name kind ++ decimal e.address ++ codes "." ++ decimal e.number
+
+-- the way that an endpoint's data go
+abbrev pub direction_text : Bool → List ℕ
+direction_text true = codes "in"
+direction_text false = codes "out"
 
 -- a data packet, with the digits of its data
 abbrev pub data_with : Toggle → List ℕ → List ℕ
@@ -67,6 +75,9 @@ question_in_digits digits (In speed endpoint most) =
     speed_text speed ++ token_text InTok endpoint ++ codes " " ++ decimal most
 question_in_digits digits (Port number call) = codes "port " ++ decimal number ++ codes " " ++
     call_text call
+question_in_digits digits (Restart endpoint is_in) =
+    codes "restart " ++ decimal endpoint.address ++ codes "." ++ decimal endpoint.number ++
+    codes " " ++ direction_text is_in
 question_in_digits digits Wait = codes "wait"
 
 -- the bytes in it
@@ -96,4 +107,5 @@ IsQuestion (Setup speed endpoint setup) = IsEndpoint endpoint × IsSetupData set
 IsQuestion (Out speed endpoint sent) = IsEndpoint endpoint × IsData sent.bytes.items
 IsQuestion (In speed endpoint most) = IsEndpoint endpoint × (1 ≤ most) × (most ≤ 64)
 IsQuestion (Port number call) = (1 ≤ number) × (number ≤ 7)
+IsQuestion (Restart endpoint is_in) = IsEndpoint endpoint × (1 ≤ endpoint.number)
 IsQuestion Wait = Unit {0}

@@ -10,6 +10,7 @@ use Rattle.usb_wire.specs.declared.answer.Answer.TheVariants.{Roots, Ack, Nak, S
 use Rattle.usb_wire.specs.declared.answer.Answer.TheVariants.{Done, Show, End, Send, Receive, Clear}
 use Rattle.usb_wire.specs.declared.answer.Answer.TheVariants.{ControlIn, ControlOut, Look, News}
 use Rattle.usb_wire.specs.declared.answer.Answer.TheVariants.{ClearOf, Poll, ReceiveFrom, SendTo}
+use Rattle.usb_wire.specs.declared.answer.Answer.TheVariants.{Interface}
 use Rattle.usb_wire.specs.declared.answer.Said.{Said}
 use Rattle.usb_wire.specs.declared.answer.Said.TheVariants.{Changed, Answered}
 use Rattle.usb_wire.specs.declared.fault.WireFault.{WireFault}
@@ -219,12 +220,20 @@ receive_from_answer first second third = do
   path ← path_in first
   Ok (ReceiveFrom path endpoint packets)
 
+unfoldable pub interface_answer : List ℕ → List ℕ → List ℕ → Result Answer WireFault
+interface_answer first second third = do
+  setting ← number_of_word 0 255 third
+  interface ← number_of_word 0 255 second
+  path ← path_in first
+  Ok (Interface path interface setting)
+
 -- the answers of four words
 unfoldable pub with_three : Asked → List ℕ → List ℕ → List ℕ → List ℕ → Result Answer WireFault
 with_three Wait word first second third =
     if bytes_eq word (codes "control") then write_answer first second third
     else if bytes_eq word (codes "send") then send_to_answer first second third
     else if bytes_eq word (codes "receive") then receive_from_answer first second third
+    else if bytes_eq word (codes "interface") then interface_answer first second third
     else Err NoAnswer
 with_three _ word first second third = Err NoAnswer
 

@@ -91,6 +91,16 @@ pub enum Answer {
         /// The endpoint.
         endpoint: EndpointAddress,
     },
+    /// What is requested: to choose an alternate setting of an interface of the device at a port
+    /// (9.4.10).
+    Interface {
+        /// The port.
+        path: PortPath,
+        /// The interface's number.
+        interface: u8,
+        /// The alternate setting.
+        setting: u8,
+    },
     /// What is requested: to read from endpoint 0 of the device at a port (9.3).
     ControlIn {
         /// The port.
@@ -171,6 +181,11 @@ fn push_answer(line: &mut ArrayString<1024>, answer: &Answer)
         } => push_receive_from(line, path, *endpoint, *packets),
         Answer::Poll { path, endpoint } => push_endpoint(line, "interrupt ", path, *endpoint),
         Answer::ClearOf { path, endpoint } => push_endpoint(line, "clear ", path, *endpoint),
+        Answer::Interface {
+            path,
+            interface,
+            setting,
+        } => push_interface(line, path, *interface, *setting),
         Answer::ControlIn { path, request } => push_read(line, path, request.setup()),
         Answer::ControlOut { path, request } => push_control(line, path, request),
         Answer::Look(path) => push_path(line, "look ", path),
@@ -241,6 +256,19 @@ fn push_receive_from(
     push_number(line, u64::from(packets));
 }
 
+/// An alternate setting of an interface.
+fn push_interface(line: &mut ArrayString<1024>, path: &PortPath, interface: u8, setting: u8)
+    requires { line.old.bytes ≡ [] }
+    ensures { line.new.bytes ≡ codes "interface " ++ path_text path.now ++ codes " " ++
+        decimal interface ++ codes " " ++ decimal setting }
+{
+    push_path(line, "interface ", path);
+    line.push(' ');
+    push_number(line, u64::from(interface));
+    line.push(' ');
+    push_number(line, u64::from(setting));
+}
+
 /// A request that reads from endpoint 0.
 fn push_read(line: &mut ArrayString<1024>, path: &PortPath, setup: Setup)
     requires { line.old.bytes ≡ [] }
@@ -287,9 +315,9 @@ fn push_setup(line: &mut ArrayString<1024>, setup: Setup)
 
 /// A number in decimal digits.
 fn push_number(line: &mut ArrayString<1024>, number: u64)
-    requires { length line.old.bytes ≤ 10 + 16 + 1 }
+    requires { length line.old.bytes ≤ 1000 }
     ensures text { line.new.bytes ≡ line.old.bytes ++ decimal number }
-    ensures few { length line.new.bytes ≤ length line.old.bytes + 700 }
+    ensures few { length line.new.bytes ≤ length line.old.bytes + 20 }
 {
     let mut digits = ArrayString::new();
     push_decimal(&mut digits, number);

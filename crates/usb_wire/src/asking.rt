@@ -1,6 +1,6 @@
 //! What a line of the host asks.
 ghost use Rattle.std.specs.Prelude.{◌≡◌, IfSome, option_map};
-ghost use Rattle.usb_wire.specs.QuestionReading.{after_pre, asked_in, behind_pre_word, call_in, cut_at, data_behind, endpoint_in, in_question, out_question, port_question, question_of, setup_in, setup_question, toggle_named, token_behind, token_of_words};
+ghost use Rattle.usb_wire.specs.QuestionReading.{after_pre, asked_in, behind_pre_word, call_in, cut_at, data_behind, direction_in, endpoint_in, in_question, out_question, port_question, question_of, restart_question, setup_in, setup_question, toggle_named, token_behind, token_of_words};
 ghost use Rattle.usb_wire.specs.Questions.{IsQuestion, IsQuestionLine};
 ghost use Rattle.usb_wire.specs.declared.question.Question.{Question as AQuestion};
 
@@ -45,6 +45,7 @@ fn asked_in(text: &str) -> Option<Question>
     let (word, behind) = cut_space(text)?;
     match word {
         "port" => port_question(behind),
+        "restart" => restart_question(behind),
         "low" => token_behind(Speed::Low, behind),
         "PRE" => token_behind(Speed::LowBelowHub, behind),
         _ => token_of_words(Speed::Full, word, behind),
@@ -212,6 +213,32 @@ fn port_question(text: &str) -> Option<Question>
         number: number as u8,
         call,
     })
+}
+
+/// An endpoint that begins again. It is not endpoint 0, which each SETUP begins again.
+#[tactic(auto, unfolding(crate::specs::QuestionReading::restart_question))]
+fn restart_question(text: &str) -> Option<Question>
+    ensures { result ≡ restart_question text.now }
+{
+    let (device, behind) = cut_space(text)?;
+    let endpoint = endpoint_in(device)?;
+    let is_in = direction_in(behind)?;
+    if endpoint.number == 0 {
+        return None;
+    }
+    Some(Question::Restart { endpoint, is_in })
+}
+
+/// Whether the way that an endpoint's data go is to the host.
+#[tactic(auto, unfolding(crate::specs::QuestionReading::direction_in))]
+fn direction_in(word: &str) -> Option<bool>
+    ensures { result ≡ direction_in word.now }
+{
+    match word {
+        "in" => Some(true),
+        "out" => Some(false),
+        _ => None,
+    }
 }
 
 /// A call of a root port, by the name of its feature (table 11-17).

@@ -3,7 +3,7 @@ ghost use Rattle.std.specs.Prelude.{◌≡◌, ◌++◌, ◌+◌, ◌≤◌, [],
 ghost use Rattle.usb_packet.specs.declared.Toggle.TheVariants.{Zero};
 ghost use Rattle.usb_packet.specs.Text.{hex_text};
 ghost use Rattle.usb_request.specs.Layout.{bytes_of};
-ghost use Rattle.usb_wire.specs.Questions.{kind_asked, call_text, data_with, between_text, question_line, speed_text, token_text};
+ghost use Rattle.usb_wire.specs.Questions.{kind_asked, call_text, data_with, between_text, direction_text, question_line, speed_text, token_text};
 
 use crate::field::few_bytes;
 use arrayvec::{ArrayString, ArrayVec};
@@ -29,7 +29,8 @@ pub struct DataPacket {
     pub bytes: ArrayVec<u8, 64>,
 }
 
-/// What the host asks: one attempt, one call at a root port, or what is requested.
+/// What the host asks: one attempt, one call at a root port, the restart of an endpoint, or what is
+/// requested.
 #[derive(Debug, Drop)]
 pub enum Question {
     /// The first question, with the protocol's version.
@@ -68,6 +69,13 @@ pub enum Question {
         /// The call.
         call: PortCall,
     },
+    /// An endpoint begins again at DATA0, by SET_INTERFACE (9.4.10, 9.1.1.5).
+    Restart {
+        /// The device's address, and the endpoint, 1 to 15.
+        endpoint: Endpoint,
+        /// Whether it is the IN endpoint of that number.
+        is_in: bool,
+    },
     /// The host has nothing left to do, and asks what is requested.
     Wait,
 }
@@ -79,7 +87,7 @@ pub enum Asked {
     Hello,
     /// Those of an attempt.
     Attempt,
-    /// That of a call at a root port.
+    /// That of a call at a root port, and of the restart of an endpoint.
     Port,
     /// What may be requested.
     Wait,
@@ -94,6 +102,7 @@ impl Question {
             Question::Hello => Asked::Hello,
             Question::Setup { .. } | Question::Out { .. } | Question::In { .. } => Asked::Attempt,
             Question::Port { .. } => Asked::Port,
+            Question::Restart { .. } => Asked::Port,
             Question::Wait => Asked::Wait,
         }
     }
@@ -134,6 +143,7 @@ pub fn question_line(question: &Question) -> ArrayString<700>
             push_decimal(&mut line, u64::from(*most));
         }
         Question::Port { number, call } => push_call(&mut line, *number, *call),
+        Question::Restart { endpoint, is_in } => push_restart(&mut line, *endpoint, *is_in),
         Question::Wait => line.push_str("wait"),
     }
     line
@@ -211,6 +221,27 @@ fn push_call(line: &mut ArrayString<700>, number: u8, call: PortCall)
     push_decimal(line, u64::from(number));
     line.push(' ');
     line.push_str(call_text(call));
+}
+
+/// An endpoint that begins again.
+fn push_restart(line: &mut ArrayString<700>, endpoint: Endpoint, is_in: bool)
+    requires { line.old.bytes ≡ [] }
+    ensures { line.new.bytes ≡ question_line (Question.Restart endpoint is_in) }
+{
+    line.push_str("restart ");
+    push_decimal(line, u64::from(endpoint.address));
+    line.push('.');
+    push_decimal(line, u64::from(endpoint.number));
+    line.push(' ');
+    line.push_str(direction_text(is_in));
+}
+
+/// The way that an endpoint's data go.
+fn direction_text(is_in: bool) -> &'static str
+    ensures value { result.now ≡ direction_text is_in }
+    ensures short { length result.now ≤ 3 }
+{
+    if is_in { "in" } else { "out" }
 }
 
 /// A call of a root port, by the name of its feature (table 11-17).

@@ -3,7 +3,7 @@ ghost use Rattle.std.specs.Prelude.{◌≡◌, IfOk, false};
 ghost use Rattle.usb_wire.specs.Answers.{IsSaidLine, MaySay};
 ghost use Rattle.usb_wire.specs.Faults.{line_fault};
 ghost use Rattle.usb_wire.specs.Fields.{is_other_request};
-ghost use Rattle.usb_wire.specs.Reading.{alone, bare_control, clear_answer, clear_of_answer, control_answer, data_answer, fault_in, line_says, look_answer, may_push, poll_answer, status_change, receive_answer, receive_from_answer, result_map, roots_answer, send_answer, send_to_answer, shape_says, text_of_line, three_say, with_one, with_three, with_two, write_answer};
+ghost use Rattle.usb_wire.specs.Reading.{alone, bare_control, clear_answer, clear_of_answer, control_answer, data_answer, fault_in, interface_answer, line_says, look_answer, may_push, poll_answer, status_change, receive_answer, receive_from_answer, result_map, roots_answer, send_answer, send_to_answer, shape_says, text_of_line, three_say, with_one, with_three, with_two, write_answer};
 ghost use Rattle.usb_wire.specs.Words.{all_printable, is_printable};
 ghost use Rattle.usb_wire.specs.declared.answer.Said.{Said as ASaid};
 
@@ -325,6 +325,7 @@ fn with_three(
         "control" => write_answer(first, second, third),
         "send" => send_to_answer(first, second, third),
         "receive" => receive_from_answer(first, second, third),
+        "interface" => interface_answer(first, second, third),
         _ => Err(WireFault::NoAnswer),
     }
 }
@@ -354,6 +355,20 @@ fn receive_from_answer(first: &str, second: &str, third: &str) -> Result<Answer,
         path,
         endpoint,
         packets: packets as u16,
+    })
+}
+
+#[tactic(auto, unfolding(crate::specs::Reading::interface_answer))]
+fn interface_answer(first: &str, second: &str, third: &str) -> Result<Answer, WireFault>
+    ensures { result ≡ interface_answer first.now second.now third.now }
+{
+    let setting = number_of_word(0, 255, third)?;
+    let interface = number_of_word(0, 255, second)?;
+    let path = path_in(first)?;
+    Ok(Answer::Interface {
+        path,
+        interface: interface as u8,
+        setting: setting as u8,
     })
 }
 

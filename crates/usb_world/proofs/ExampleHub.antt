@@ -7,7 +7,7 @@ use Rattle.usb_device.specs.{Spec, function, usual_hub, ended, vacant, taken, ch
 use Rattle.usb_device.specs.{state_at, reach, all_off, received, unread, fresh, reset_state}
 use Rattle.usb_device.specs.{awaits_address, outcome, asks, answer_of, effect_of, after_packet}
 use Rattle.usb_device.specs.{all_forgotten, held_addresses, repeats, has_loss, clears_change}
-use Rattle.usb_device.specs.{change_bits, answers}
+use Rattle.usb_device.specs.{change_bits, answers, at_reset}
 use Rattle.usb_request.specs.{setup_of}
 use Rattle.usb_port.specs.{full, low, nothing, status_of}
 use Rattle.usb_world.specs.{Damage, LosePre, Attempt, damage_of, harm_to, mark_of, bit_count}
@@ -40,7 +40,9 @@ hub_start damages = record {
         enable_changed = false;
         reset_changed = false;
       })
-      (record (fresh example_hub) { registers = record { address = 1; configuration = 1 } })
+      (record (fresh example_hub) {
+        registers = record at_reset { address = 1; configuration = 1 };
+      })
       (taken (record {
         attached = low;
         power = true;

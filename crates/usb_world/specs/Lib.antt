@@ -84,7 +84,7 @@ pub use declared.damage.Harm.{Harm}
 pub use declared.damage.Harm.TheVariants.{Flip, Lose, LosePre}
 pub use declared.event.Action.{Action}
 pub use declared.event.Ask.TheVariants.{Clear, ClearOf, ControlIn, ControlOut, Look, News, Poll}
-pub use declared.event.Ask.TheVariants.{Receive, ReceiveFrom, Send, SendTo, Show}
+pub use declared.event.Ask.TheVariants.{Receive, ReceiveFrom, Send, SendTo, SetInterface, Show}
 pub use declared.event.Change.TheVariants.{Plug, Unplug}
 pub use declared.event.Event.{Event}
 pub use declared.exchange.Exchange.{Exchange}

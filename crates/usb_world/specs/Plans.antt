@@ -10,7 +10,7 @@ use Rattle.usb_world.specs.declared.event.Change.TheVariants.{Plug, Unplug}
 use Rattle.usb_world.specs.declared.event.Ask.{Ask as Asked}
 use Rattle.usb_world.specs.declared.event.Ask.TheVariants.{Show, Send, Receive, Clear, ControlIn}
 use Rattle.usb_world.specs.declared.event.Ask.TheVariants.{SendTo, ReceiveFrom, Poll, ClearOf}
-use Rattle.usb_world.specs.declared.event.Ask.TheVariants.{ControlOut, Look, News}
+use Rattle.usb_world.specs.declared.event.Ask.TheVariants.{ControlOut, Look, News, SetInterface}
 use Rattle.usb_world.specs.declared.damage.Damage.{Damage}
 use Rattle.usb_world.specs.declared.damage.Harm.{Harm}
 use Rattle.usb_world.specs.declared.damage.Harm.TheVariants.{Lose, LosePre, Flip}
@@ -33,6 +33,7 @@ ask_fits roots (ReceiveFrom path endpoint packets) = is_rooted roots path && nat
     endpoint && nat_le packets 1000
 ask_fits roots (Poll path endpoint) = is_rooted roots path && nat_le DIRECTION_IN endpoint
 ask_fits roots (ClearOf path endpoint) = is_rooted roots path
+ask_fits roots (SetInterface path interface setting) = is_rooted roots path
 ask_fits roots (ControlIn path request) = is_rooted roots path
 ask_fits roots (ControlOut path request) = is_rooted roots path
 ask_fits roots (Look path) = is_rooted roots path

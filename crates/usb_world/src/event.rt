@@ -136,18 +136,23 @@ pub enum Ask {
     Show,
     /// To send these bytes to the bulk endpoint of the device at a port (5.8).
     Send(PortPath, SentBytes),
-    /// To receive at most this number of packets, 0 to 1,000, from the bulk endpoint of the device at a port (5.8).
+    /// To receive at most this number of packets, 0 to 1,000, from the bulk endpoint of the device
+    /// at a port (5.8).
     Receive(PortPath, u16),
     /// To clear the halts of the bulk endpoints of the device at a port (9.4.1).
     Clear(PortPath),
     /// To send these bytes to this endpoint of the device at a port (5.7, 5.8).
     SendTo(PortPath, EndpointAddress, SentBytes),
-    /// To receive at most this number of packets, 0 to 1,000, from this endpoint of the device at a port (5.8).
+    /// To receive at most this number of packets, 0 to 1,000, from this endpoint of the device at a
+    /// port (5.8).
     ReceiveFrom(PortPath, EndpointAddress, u16),
     /// To ask this interrupt endpoint of the device at a port once for a packet (5.7).
     Poll(PortPath, EndpointAddress),
     /// To clear the halt of this endpoint of the device at a port (9.4.1).
     ClearOf(PortPath, EndpointAddress),
+    /// To choose an interface's alternate setting at the device at a port (9.4.10): first the
+    /// interface's number, then the setting's.
+    SetInterface(PortPath, u8, u8),
     /// To read from endpoint 0 of the device at a port (9.3).
     ControlIn(PortPath, ReadRequest),
     /// To write to endpoint 0 of the device at a port (9.3).
@@ -326,6 +331,9 @@ fn ask_copy(alloc: Global, ask: &Ask) -> Result<Ask, AllocError>
         }
         Ask::Poll(path, endpoint) => Ask::Poll(path.duplicate(), *endpoint),
         Ask::ClearOf(path, endpoint) => Ask::ClearOf(path.duplicate(), *endpoint),
+        Ask::SetInterface(path, interface, setting) => {
+            Ask::SetInterface(path.duplicate(), *interface, *setting)
+        }
         Ask::ControlIn(path, request) => Ask::ControlIn(path.duplicate(), *request),
         Ask::ControlOut(path, request) => {
             Ask::ControlOut(path.duplicate(), request.try_clone(alloc)?)

@@ -8,7 +8,9 @@ use Rattle.usb_packet.specs.declared.Packet.TheVariants as packet
 use Rattle.arrayvec.specs.ArrayVec.{ArrayVec}
 use Rattle.usb_device.specs.{RememberedPacket, BulkIn, BulkOut, Outcome, halts, unhalts, Stage}
 use Rattle.usb_device.specs.{idle, takes_configuration, halted, InEnd, no_in, rested_in, hesitated}
-use Rattle.usb_device.specs.{given_row, in_hesitates, taken_row, with_at, reading, max_packet, packet_at, toggle_at, State, Reply}
+use Rattle.usb_device.specs.{begun_if, is_of_setting, takes_setting}
+use Rattle.usb_device.specs.{given_row, in_hesitates, taken_row, with_at, reading, max_packet}
+use Rattle.usb_device.specs.{packet_at, toggle_at, State, Reply}
 use Rattle.usb_device.specs.{received, answered, forgotten, begun, gives, in_row, status_row}
 use Rattle.usb_device.specs.{out_row, ack_row, token_row, payload_row, source_row, held_row}
 use Rattle.usb_device.specs.{in_other_row, in_end_row, sink_row, out_end_row, in_ack_row, in_end}
@@ -18,7 +20,8 @@ use Rattle.usb_device.specs.declared.transfer.InEndpoint.TheVariants as by
 use Rattle.usb_port.specs.{PortState}
 use Rattle.usb_device.specs.declared.transfer.RememberedPacket.TheVariants.{SetupSeen, OutSeen}
 use Rattle.usb_device.specs.declared.transfer.RememberedPacket.TheVariants.{AckAwaited}
-use Rattle.usb_device.proofs.RowsOfEnds.{at_mapped, at_other, at_same}
+use Rattle.usb_device.proofs.RowsOfEnds.{at_mapped, at_numbered, at_other, at_same}
+use Rattle.usb_device.proofs.RowsOfEnds.{begun_if-none}
 
 keeps-if : (p : Packet) (d : State) (b : Bool) (x y : Reply) → Keeps p d x.1 → Keeps p d y.1
     → Keeps p d (if b then x else y).1
@@ -52,7 +55,7 @@ keeps-out : (u : Toggle) (c : ArrayVec ℕ) (d : State) (s : Stage) (t : Toggle)
     → Keeps (Payload u c) d (out_row d s t b).1
 keeps-out u c d idle t b = search rules
 keeps-out u c d (writing w) t b = keeps-write u c d w b (judged (max_packet d.spec) w t b)
-keeps-out u c d s t b = search (rules, keeps-status)
+keeps-out u c d s t b = search rules
 
 -- a row of IN endpoints where one is another, which is as far
 place-set : (a e : ℕ) (x : InEnd) (row : List InEnd) → x.place ≡ (get_or row a no_in).place
@@ -68,6 +71,10 @@ place-set a e x row as_far = by_number (e == a) refl
         ∙ ap (λ m. (get_or row m no_in).place) (sym (eqb-true e a is))
     by_number false is = ap (λ i. i.place) (at_other no_in a e x row is)
 
+rested-place : (b : Bool) (x : InEnd) → (begun_if b rested_in x).place ≡ x.place
+rested-place true x = refl
+rested-place false x = refl
+
 begun-place : (d : State) (row : List PortState) (n : ℕ) (o : Outcome) (e : ℕ)
     → (in_end (begun d row n o) e).place ≡ (in_end d e).place
 begun-place d row n (takes_configuration c) e =
@@ -75,6 +82,11 @@ begun-place d row n (takes_configuration c) e =
 begun-place d row n (halts (BulkIn a)) e =
     place-set a e (record (in_end d a) { state = halted (in_end d a).state }) d.ins refl
 begun-place d row n (unhalts (BulkIn a)) e = place-set a e (rested_in (in_end d a)) d.ins refl
+begun-place d row n (takes_setting i a) e =
+    let begins : ℕ → Bool = is_of_setting d.spec d.registers i a true in
+    ap (λ end. end.place) (at_numbered no_in (λ k. begun_if (begins k) rested_in)
+    (λ k. begun_if-none rested_in no_in refl (begins k)) e d.ins)
+    ∙ rested-place (begins e) (in_end d e)
 begun-place d row n o e = refl
 
 begun-spec : (d : State) (row : List PortState) (n : ℕ) (o : Outcome) → (begun d row n o).spec
@@ -86,6 +98,7 @@ begun-spec d row n o = refl
 begun-address : (d : State) (row : List PortState) (n : ℕ) (o : Outcome)
     → (begun d row n o).registers.address ≡ d.registers.address
 begun-address d row n (takes_configuration c) = refl
+begun-address d row n (takes_setting i a) = refl
 begun-address d row n o = refl
 
 keeps-begun : (t : Toggle) (b : ArrayVec ℕ) (d : State) (row : List PortState) (n : ℕ) (o : Outcome)
@@ -94,6 +107,7 @@ keeps-begun t b d row n o = record {
   spec = begun-spec d row n o;
   address = λ h. begun-address d row n o;
   configuration = λ h. cc;
+  settings = λ h. cc;
   outs = λ h. cc;
   place = λ h e. begun-place d row n o e;
   taken = λ h. cc;
@@ -117,6 +131,7 @@ keeps-hesitates p d e = record {
   spec = refl;
   address = λ h. refl;
   configuration = λ h. refl;
+  settings = λ h. refl;
   outs = λ h. refl;
   place = λ h a. place-set e a (record (in_end d e) { pace = hesitated (in_end d e).pace }) d.ins
       refl;
@@ -187,6 +202,7 @@ keeps-received d row p =
       spec = k.spec;
       address = k.address;
       configuration = k.configuration;
+      settings = k.settings;
       outs = k.outs;
       place = k.place;
       taken = k.taken;

@@ -17,6 +17,7 @@ use Rattle.usb_enum.proofs.devices.SharedAddresses.{went_unshared}
 -- where nothing changed but where its transfer stands
 fresh_on : (s v : State) → OnlyStage s v → IsFresh s → IsFresh v
 fresh_on s v frame fresh = record {
+  settings = ap (λ y. y.registers.settings) frame ∙ fresh.settings;
   outs = λ e. ap (λ (y : State). (out_end y e).state) frame ∙ fresh.outs e;
   ins = λ e. ap (λ (y : State). (in_end y e).state) frame ∙ fresh.ins e;
   changes = ap (λ y. y.changes) frame ∙ fresh.changes;

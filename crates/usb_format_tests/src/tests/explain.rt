@@ -254,6 +254,7 @@ const RUN: &[(&str, &str, &str)] = &[
     ("send 1 done 3", "", ""),
     ("send 1 02 done 3", "", ""),
     ("interrupt 1 81 nothing", "", ""),
+    ("interface 1 0 1 done", "", ""),
     ("unplug 1", "", ""),
     ("news", "", ""),
     ("left 1", "", ""),

@@ -94,7 +94,7 @@ level_forgotten first b c same rest gone pipes level x = pick (decided (is_way f
         ap (λ (es : Entries). finding_at x es) rest ∙ lookup-without x first b.entries
         (ap not (at_or_below_way x first ∙ away)) in
         subst (InSyncAt x (table_in c)) (sym same) (record {
-          level = λ device s at on stands. subst (λ (p : Pipes). PipesInSync p s)
+          level = λ device s at on stands. subst (λ (p : Pipes). PipesInSync device p s)
               (sym (pipes x away)) ((level x away).level device s (sym (ap accepted_device_of found)
               ∙ at) on stands);
         })

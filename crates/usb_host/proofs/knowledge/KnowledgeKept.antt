@@ -12,7 +12,7 @@ use Rattle.usb_world.proofs.Interface.{stands_or_pends}
 use Rattle.usb_tree.proofs.Interface.{false_true}
 use Rattle.usb_enum.specs.{Cause, Accepted, Finding, IsRight, IsThere, IsKnownAs}
 use Rattle.usb_enum.specs.declared.finding.Finding.TheVariants.{Device, Refused}
-use Rattle.usb_table.specs.{Entries, finding_at, IsListedPort, tier_of, SameSettings}
+use Rattle.usb_table.specs.{Entries, finding_at, IsListedPort, tier_of, SameDevice}
 use Rattle.usb_enum.proofs.Interface.{some_of}
 use Rattle.usb_host.specs.{PortsListed, known_supply, IsTruthOf, IsAccurateAt, DevicesAccurate}
 use Rattle.usb_host.specs.{IsJustifiedAt, RefusalsJustified, Elsewhere, KnownBut, TruthfulBut}
@@ -64,21 +64,21 @@ known_but_each first w v entries roots calm known path away port =
 
 tells_still : {entries : Entries} {path : List ℕ} {device : Accepted} (j : Location) {s : State}
     (v : State)
-    → SameSettings j s v → IsTruthOf entries path device s → IsTruthOf entries path device v
+    → SameDevice j s v → IsTruthOf entries path device s → IsTruthOf entries path device v
 tells_still j v still t = record {
-  found = rw still.0 t.found;
+  found = rw still.spec t.found;
   set = record {
-    address = ap (λ (r : Registers). r.address) still.1 ∙ t.set.address;
-    configuration = ap (λ (r : Registers). r.configuration) still.1 ∙ t.set.configuration;
+    address = still.address ∙ t.set.address;
+    configuration = still.configuration ∙ t.set.configuration;
   };
 }
 
 is_told_at-stays : (j : Location) (w v : World) (entries : Entries)
     → ((s : State) → reach_on v.roots j ≡ true → state_on v.roots j ≡ Some s
-    → Was SameSettings w j s) → IsAccurateAt w entries (path_to j)
+    → Was SameDevice w j s) → IsAccurateAt w entries (path_to j)
     → IsAccurateAt v entries (path_to j)
 is_told_at-stays j w v entries was told device s at on stands =
-    let x : Was SameSettings w j s = was s on stands in
+    let x : Was SameDevice w j s = was s on stands in
     tells_still j s x.so (told device x.before at x.on x.stands)
 
 pub truthful_stays : (w v : World) (entries : Entries) → EachStill w v → DevicesAccurate w entries

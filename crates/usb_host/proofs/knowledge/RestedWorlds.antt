@@ -1,5 +1,5 @@
 -- What a host knows stays so as the world alone goes on, and a hub that is lost may be dropped.
-use Rattle.usb_device.specs.{Location, State}
+use Rattle.usb_device.specs.{Location, Registers, State}
 use Rattle.std.proofs.Common.{◌≡◌, inl, inr, refl, sym, ap, subst, ◌∙◌, arith, length-append, ℕ}
 use Rattle.std.proofs.Common.{Bool, true, false, List, [], ◌∷◌, length, Option, None, Some, Err}
 use Rattle.std.proofs.Common.{IsSome, IsSomeAnd}
@@ -16,7 +16,7 @@ use Rattle.usb_enum.specs.{FaultAllowedAt}
 use Rattle.usb_enum.specs.declared.finding.Finding.TheVariants.{Device, Refused}
 use Rattle.usb_enum.proofs.Interface.{went_in_order, went_sound}
 use Rattle.usb_table.specs.{KnownPort, known_port, port_found, is_below_hub, finding_at}
-use Rattle.usb_table.specs.{SameSettings}
+use Rattle.usb_table.specs.{SameDevice}
 use Rattle.usb_host.specs.{Agrees, LetsGoOn, RestElsewhere, InvariantAfterPort, HostState, StandsAt}
 use Rattle.usb_host.specs.{HostSteps, OnlyBusSteps, PortsListed, KnownBut, DevicesAccurate}
 use Rattle.usb_host.specs.{TruthfulBut, HostInvariant, IsSoundBut, IsDroppable, EachStill}
@@ -32,12 +32,16 @@ use Rattle.usb_host.proofs.knowledge.KnowledgeKept.{truthful_but_stays}
 
 -- Devices
 
-still_was : {w : World} {j : Location} (s : State) → Was StaysAs w j s → Was SameSettings w j s
+still_was : {w : World} {j : Location} (s : State) → Was StaysAs w j s → Was SameDevice w j s
 still_was s x = record {
   before = x.before;
   on = x.on;
   stands = x.stands;
-  so = (stays-spec x.before s x.so, stays-registers x.before s x.so);
+  so = record {
+    spec = stays-spec x.before s x.so;
+    address = ap (λ (g : Registers). g.address) (stays-registers x.before s x.so);
+    configuration = ap (λ (g : Registers). g.configuration) (stays-registers x.before s x.so);
+  };
 }
 
 pub kept_each_still : {w v : World} → KeepsDevices w v → v.shared ≡ false → EachStill w v

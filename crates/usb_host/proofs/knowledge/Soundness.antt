@@ -6,14 +6,16 @@ use Rattle.usb_port.specs.{path_cmp}
 use Rattle.usb_world.specs.{BusFault, event_taken, event, after, step, here as no_more, AnyStep}
 use Rattle.usb_world.specs.{World, roots_of}
 use Rattle.usb_tree.specs.{pending, is_way}
-use Rattle.usb_world.proofs.Interface.{course_wider, first_fault, way_itself}
+use Rattle.usb_device.specs.{Location, Registers, State}
+use Rattle.usb_world.proofs.Interface.{course_wider, each_wider, first_fault, way_itself}
 use Rattle.usb_tree.proofs.Interface.{false_true}
 use Rattle.usb_transaction.specs.{NoThreeDamaged}
 use Rattle.usb_backlog.proofs.Interface.{all_none}
 use Rattle.usb_address.specs.{KeepsAddresses}
 use Rattle.usb_enum.specs.{Finding, IsKnownAs, IsOccupied, IsInOrder}
 use Rattle.usb_enum.proofs.Interface.{orderly_on, step_later, went_in_order, went_sound}
-use Rattle.usb_table.specs.{Entries, finding_at, AllInSync, IsHeld, KeepsInSync, Table}
+use Rattle.usb_table.specs.{Entries, finding_at, AllInSync, IsHeld, KeepsInSync, KeepsLevels}
+use Rattle.usb_table.specs.{OnlySets, OnlyTransfers, SameDevice, SameSettings, Table}
 use Rattle.usb_table.proofs.Interface.{all_kept, path_tied}
 use Rattle.usb_host.specs.{HostFault, Round, Agrees, KeepsBulk, HostState, KeepsPlugs, StaysOwned}
 use Rattle.usb_host.specs.{table_in, HostSteps, HostRuns, PortsListed, DevicesAccurate, Accounted}
@@ -81,11 +83,12 @@ is_way-apart path other away = pick (is_at (path_cmp path) other) refl
         ∙ way_itself path)
     pick false tie = refl
 
--- A call through the pipes at a path: it changes no entry and asks nothing of any port
+-- A call through the pipes at a path: it changes no entry and asks nothing of any port, and keeps
+-- each device but for the settings of its interfaces
 
 module _ (n : ℕ) (path : List ℕ) (ends : Type 0) (a b : HostState)
     (agrees : Agrees a.entries a.addresses) (same : b.entries ≡ a.entries) (went : HostSteps n a b)
-    (k : KeepsInSync path ends (table_in a) a.world (table_in b) b.world) where
+    (k : KeepsLevels OnlySets path ends (table_in a) a.world (table_in b) b.world) where
   before : b.world.fault ≡ None → a.world.fault ≡ None
   before still = went_sound n a.world b.world went still
 
@@ -95,61 +98,113 @@ module _ (n : ℕ) (path : List ℕ) (ends : Type 0) (a b : HostState)
   held : HostInvariant a → b.world.fault ≡ None → IsHeld (table_in a) a.world
   held s still = s.owned.so (before still)
 
-  pub known_kept : HostInvariant a → b.world.fault ≡ None → PortsListed b.world b.entries
-  known_kept s still = rw same (known_each a.world b.world a.entries went.spends.roots
+  pub known_under : HostInvariant a → b.world.fault ≡ None → PortsListed b.world b.entries
+  known_under s still = rw same (known_each a.world b.world a.entries went.spends.roots
       (λ path port. k.worlds.rests still path) (s.known (before still)))
 
-  pub truthful_kept : HostInvariant a → b.world.fault ≡ None → DevicesAccurate b.world b.entries
-  truthful_kept s still = rw same (truthful_stays a.world b.world a.entries
-      (k.worlds.devices.same (owned.stays s.owned).single) (s.truthful (before still)))
+  pub truthful_under : HostInvariant a → b.world.fault ≡ None → DevicesAccurate b.world b.entries
+  truthful_under s still = rw same (truthful_stays a.world b.world a.entries
+      (k.worlds.devices (owned.stays s.owned).single) (s.truthful (before still)))
 
   -- each cause stays so, wherever it ends
-  pub caused_kept : HostInvariant a → IsFairTo a.world b.world → RefusalsJustified a.world a.entries
+  pub caused_under : HostInvariant a → IsFairTo a.world b.world → RefusalsJustified a.world a.entries
       → RefusalsJustified b.world b.entries
-  caused_kept s fair causes =
+  caused_under s fair causes =
       rw same (causes_stay a.world b.world (accounted a agrees s.rooted)
       (s.known (before fair.still))
       (λ path port. course_wider (λ s u x. x.spares) (k.worlds.rests fair.still path)) causes)
 
   -- where it ends well
-  pub sound_kept : (b.world.fault ≡ None → ends) → KeepsInvariant a b
-  sound_kept well = record {
+  pub sound_under : (b.world.fault ≡ None → ends) → KeepsInvariant a b
+  sound_under well = record {
     sound = λ s. record {
       owned = owned.stays s.owned;
       rooted = owned.rooted s.rooted;
       order = went_in_order n a.world b.world went s.order;
-      known = known_kept s;
-      truthful = truthful_kept s;
+      known = known_under s;
+      truthful = truthful_under s;
       level = λ still. all_kept path ends (table_in a) (table_in b) a.world b.world k (held s still)
           (well still) (s.level (before still));
     };
-    caused = caused_kept;
+    caused = caused_under;
   }
 
-  pub transfer_kept : a.stopped ≡ false → (b.world.fault ≡ None → ends) → TransferKeeps a b
-  transfer_kept going well = record {
+  pub transfer_under : a.stopped ≡ false → (b.world.fault ≡ None → ends) → TransferKeeps a b
+  transfer_under going well = record {
     owning = owning_kept a b going same k.worlds.addresses;
-    sound = sound_kept well;
+    sound = sound_under well;
     backlog = k.worlds.backlog;
   }
 
   -- where it does not, the device at the path may be dropped
-  pub but_kept : HostInvariant a → IsSoundBut path b
-  but_kept s = record {
+  pub but_under : HostInvariant a → IsSoundBut path b
+  but_under s = record {
     owned = but_all (owned.stays s.owned);
     rooted = owned.rooted s.rooted;
     order = went_in_order n a.world b.world went s.order;
-    known = λ still other away. known_kept s still other;
-    truthful = λ still other away. truthful_kept s still other;
+    known = λ still other away. known_under s still other;
+    truthful = λ still other away. truthful_under s still other;
     level = λ still other away. k.others (held s still) other (is_way-apart path other away)
         (s.level (before still) other);
   }
 
+  pub occupied_under : HostInvariant a → IsSome (finding_at path b.entries) → b.world.fault ≡ None
+      → Agrees b.entries b.addresses → IsOccupied b.world path
+  occupied_under s listed still agrees_on =
+      occupied_at path b (accounted b agrees_on (owned.rooted s.rooted)) (known_under s still)
+      (finding_at path b.entries) refl listed
+
+-- a call that sets no interface does so, too
+same_device : (x : Location) (s v : State) → SameSettings x s v → SameDevice x s v
+same_device x s v same = record {
+  spec = same.0;
+  address = ap (λ (g : Registers). g.address) same.1;
+  configuration = ap (λ (g : Registers). g.configuration) same.1;
+}
+
+only_sets : {old new : World} → OnlyTransfers old new → OnlySets old new
+only_sets {old} {new} only = record {
+  addresses = only.addresses;
+  devices = λ single. each_wider SameSettings SameDevice same_device old new
+      (only.devices.same single);
+  rests = only.rests;
+  backlog = only.backlog;
+}
+
+in_sync-sets : {path : List ℕ} {ends : Type 0} {old new : Table} {before after : World}
+    → KeepsInSync path ends old before new after
+    → KeepsLevels OnlySets path ends old before new after
+in_sync-sets k = record {
+  worlds = only_sets k.worlds;
+  others = k.others;
+  itself = k.itself;
+}
+
+module _ (n : ℕ) (path : List ℕ) (ends : Type 0) (a b : HostState)
+    (agrees : Agrees a.entries a.addresses) (same : b.entries ≡ a.entries) (went : HostSteps n a b)
+    (k : KeepsInSync path ends (table_in a) a.world (table_in b) b.world) where
+  pub known_kept : HostInvariant a → b.world.fault ≡ None → PortsListed b.world b.entries
+  known_kept = known_under n path ends a b agrees same went (in_sync-sets k)
+
+  pub truthful_kept : HostInvariant a → b.world.fault ≡ None → DevicesAccurate b.world b.entries
+  truthful_kept = truthful_under n path ends a b agrees same went (in_sync-sets k)
+
+  pub caused_kept : HostInvariant a → IsFairTo a.world b.world → RefusalsJustified a.world a.entries
+      → RefusalsJustified b.world b.entries
+  caused_kept = caused_under n path ends a b agrees same went (in_sync-sets k)
+
+  pub sound_kept : (b.world.fault ≡ None → ends) → KeepsInvariant a b
+  sound_kept = sound_under n path ends a b agrees same went (in_sync-sets k)
+
+  pub transfer_kept : a.stopped ≡ false → (b.world.fault ≡ None → ends) → TransferKeeps a b
+  transfer_kept = transfer_under n path ends a b agrees same went (in_sync-sets k)
+
+  pub but_kept : HostInvariant a → IsSoundBut path b
+  but_kept = but_under n path ends a b agrees same went (in_sync-sets k)
+
   pub occupied_kept : HostInvariant a → IsSome (finding_at path b.entries) → b.world.fault ≡ None
       → Agrees b.entries b.addresses → IsOccupied b.world path
-  occupied_kept s listed still agrees_on =
-      occupied_at path b (accounted b agrees_on (owned.rooted s.rooted)) (known_kept s still)
-      (finding_at path b.entries) refl listed
+  occupied_kept = occupied_under n path ends a b agrees same went (in_sync-sets k)
 
 -- A hub is dropped
 

@@ -6,7 +6,7 @@ use Rattle.usb_world.specs.{resets, step_keeps_pending, EachWas, leaves_step, Le
 use Rattle.usb_world.specs.{event, after, Course, here, step, World, roots_of}
 use Rattle.usb_world.proofs.Interface.{course_wider, each_wider, taken_state, unreset_reach}
 use Rattle.usb_enum.proofs.Interface.{course_later}
-use Rattle.usb_table.specs.{Entries, AllInSync, Table, SameSettings}
+use Rattle.usb_table.specs.{Entries, AllInSync, Table, SameDevice}
 use Rattle.usb_host.specs.{PortsListed, DevicesAccurate, RefusalsJustified, Accounted}
 use Rattle.usb_host.proofs.knowledge.KnowledgeKept.{known_each, truthful_stays, causes_stay}
 
@@ -42,8 +42,12 @@ known_event w entries known = known_each w (after event w) entries
 pub truthful_event : (w : World) (entries : Entries) → DevicesAccurate w entries
     → DevicesAccurate (after event w) entries
 truthful_event w entries told = truthful_stays w (after event w) entries
-    (each_wider (λ x s v. v ≡ s) SameSettings
-    (λ j s v e. (ap (λ (d : State). d.spec) e, ap (λ (d : State). d.registers) e)) w (after event w)
+    (each_wider (λ x s v. v ≡ s) SameDevice
+    (λ j s v e. record {
+      spec = ap (λ (d : State). d.spec) e;
+      address = ap (λ (d : State). d.registers.address) e;
+      configuration = ap (λ (d : State). d.registers.configuration) e;
+    }) w (after event w)
     (event_same w)) told
 
 pub causes_event : (w : World) {entries : Entries} {addresses : Addresses}

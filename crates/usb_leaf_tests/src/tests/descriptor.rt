@@ -6,8 +6,8 @@ use usb_descriptor::DescriptorFault::{
 };
 use usb_descriptor::EndpointKind::{Bulk, Interrupt};
 use usb_descriptor::{
-    DescriptorFault, EndpointKind, EndpointView, InterfaceView, Item, TransferType, config_head,
-    device_head, read_config, read_device, read_hub, read_string,
+    DescriptorFault, EndpointKind, EndpointView, InterfaceView, Item, Settings, TransferType,
+    config_head, device_head, read_config, read_device, read_hub, read_string,
 };
 
 const DEVICE: &[u8] = &[
@@ -36,6 +36,22 @@ const HUB: &[u8] = &[
 /// A configuration with one item, neither an interface nor an endpoint.
 const OTHER: &[u8] = &[9, 2, 12, 0, 0, 1, 0, 0, 0, 3, 0x24, 7];
 
+/// A configuration with two interfaces. Interface 0 has two settings: with interrupt IN endpoint 1,
+/// and with bulk IN endpoint 1 and bulk OUT endpoint 2. Interface 1 has interrupt IN endpoint 3.
+const SETTINGS: &[u8] = &[
+    9, 2, 0x40, 0, 2, 1, 0, 0x80, 0x32, 9, 4, 0, 0, 1, 0xff, 0, 0, 0, 7, 5, 0x81, 3, 8, 0, 1, 9, 4,
+    0, 1, 2, 0xff, 0, 0, 0, 7, 5, 0x81, 2, 0x40, 0, 0, 7, 5, 2, 2, 0x40, 0, 0, 9, 4, 1, 0, 1, 0xff,
+    0, 0, 0, 7, 5, 0x83, 3, 8, 0, 1,
+];
+
+/// A configuration with three interfaces. IN endpoint 1 is in setting 0 of interface 0 and in
+/// setting 1 of interface 1; OUT endpoint 1 is in interface 2.
+const SHARED: &[u8] = &[
+    9, 2, 0x42, 0, 3, 1, 0, 0x80, 0x32, 9, 4, 0, 0, 1, 0xff, 0, 0, 0, 7, 5, 0x81, 3, 8, 0, 1, 9, 4,
+    1, 0, 0, 0xff, 0, 0, 0, 9, 4, 1, 1, 1, 0xff, 0, 0, 0, 7, 5, 0x81, 3, 8, 0, 1, 9, 4, 2, 0, 1,
+    0xff, 0, 0, 0, 7, 5, 1, 2, 0x40, 0, 0,
+];
+
 /// Numbers that a reader reports.
 type Numbers = ArrayVec<u16, 14>;
 
@@ -63,6 +79,11 @@ enum Reader {
     BulkOut,
     BulkIn,
     StatusEndpoint,
+    /// 1 if the interface can be given the alternate setting, else 0.
+    Settable(u8, u8),
+    /// 1 if some setting of the interface has the endpoint with this number, else 0.
+    NamesOut(u8, u8),
+    NamesIn(u8, u8),
     /// The fields of a hub, in the order of its bytes.
     Hub,
     /// The length and the type of a string, and its units.
@@ -126,6 +147,17 @@ fn endpoint_of(reader: Reader, bytes: &[u8]) -> Result<Numbers, DescriptorFault>
     })
 }
 
+fn interface_of(reader: Reader, bytes: &[u8]) -> Result<Numbers, DescriptorFault> {
+    let config = read_config(bytes)?;
+    let told = match reader {
+        Reader::Settable(interface, setting) => config.is_settable(interface, setting),
+        Reader::NamesOut(interface, number) => config.names(interface, number, false),
+        Reader::NamesIn(interface, number) => config.names(interface, number, true),
+        _ => false,
+    };
+    Ok(list(&[u16::from(told)]))
+}
+
 fn hub_fields(bytes: &[u8]) -> Result<Numbers, DescriptorFault> {
     let hub = read_hub(bytes)?;
     Ok(list(&[
@@ -164,6 +196,9 @@ fn told_by(reader: Reader, bytes: &[u8]) -> Result<Numbers, DescriptorFault> {
         Reader::ConfigHead => config_total(bytes),
         Reader::Config => config_fields(bytes),
         Reader::BulkOut | Reader::BulkIn | Reader::StatusEndpoint => endpoint_of(reader, bytes),
+        Reader::Settable(..) | Reader::NamesOut(..) | Reader::NamesIn(..) => {
+            interface_of(reader, bytes)
+        }
         Reader::Hub => hub_fields(bytes),
         Reader::Units => string_units(bytes),
         Reader::FirstLanguage => first_language(bytes),
@@ -197,6 +232,28 @@ const READINGS: &[(Reader, &[u8], Result<&[u16], DescriptorFault>)] = &[
     // endpoints of another alternate setting do not count
     (Reader::BulkOut, BULK_OTHER, Ok(&[])),
     (Reader::BulkIn, BULK_OTHER, Ok(&[])),
+    // an interface has the settings that its items have
+    (Reader::Settable(0, 0), SETTINGS, Ok(&[1])),
+    (Reader::Settable(0, 1), SETTINGS, Ok(&[1])),
+    (Reader::Settable(0, 2), SETTINGS, Ok(&[0])),
+    (Reader::Settable(1, 0), SETTINGS, Ok(&[1])),
+    (Reader::Settable(1, 1), SETTINGS, Ok(&[0])),
+    (Reader::Settable(2, 0), SETTINGS, Ok(&[0])),
+    (Reader::Settable(0, 0), BULK_OTHER, Ok(&[0])),
+    // two interfaces cannot share an endpoint (9.2.3); a number and a direction are one
+    (Reader::Settable(0, 0), SHARED, Ok(&[0])),
+    (Reader::Settable(1, 0), SHARED, Ok(&[0])),
+    (Reader::Settable(1, 1), SHARED, Ok(&[0])),
+    (Reader::Settable(2, 0), SHARED, Ok(&[1])),
+    // the endpoints of all settings of an interface are its own
+    (Reader::NamesIn(0, 1), SETTINGS, Ok(&[1])),
+    (Reader::NamesOut(0, 1), SETTINGS, Ok(&[0])),
+    (Reader::NamesOut(0, 2), SETTINGS, Ok(&[1])),
+    (Reader::NamesIn(0, 2), SETTINGS, Ok(&[0])),
+    (Reader::NamesIn(0, 3), SETTINGS, Ok(&[0])),
+    (Reader::NamesIn(1, 3), SETTINGS, Ok(&[1])),
+    (Reader::NamesIn(1, 1), SETTINGS, Ok(&[0])),
+    (Reader::NamesIn(1, 1), SHARED, Ok(&[1])),
     (
         Reader::Hub,
         &[9, 0x29, 2, 1, 0, 0, 0, 0, 0xff],
@@ -472,10 +529,11 @@ fn items_of_a_configuration(rt: HostRuntime) {
     }
 }
 
-/// A configuration, and the number, the kind and the maximum packet of each endpoint of it that a
-/// pipe can use.
+/// A configuration, the alternate settings of its interfaces that are not 0, and the number, the
+/// kind and the maximum packet of each endpoint of it that a pipe can use.
 struct UsableRow {
     low: bool,
+    settings: &'static [(u8, u8)],
     config: &'static [u8],
     outs: &'static [(u8, EndpointKind, u8)],
     ins: &'static [(u8, EndpointKind, u8)],
@@ -485,6 +543,7 @@ const USABLE: &[UsableRow] = &[
     // of the items with one address the first bulk item counts
     UsableRow {
         low: false,
+        settings: &[],
         config: &[
             9, 2, 0x20, 0, 1, 1, 0, 0x80, 0x32, 9, 4, 0, 0, 1, 0xff, 0, 0, 0, 7, 5, 0x81, 3, 8, 0,
             1, 7, 5, 0x81, 2, 0x40, 0, 1,
@@ -495,6 +554,7 @@ const USABLE: &[UsableRow] = &[
     // there is no bulk at low speed
     UsableRow {
         low: true,
+        settings: &[],
         config: &[
             9, 2, 0x20, 0, 1, 1, 0, 0x80, 0x32, 9, 4, 0, 0, 1, 0xff, 0, 0, 0, 7, 5, 0x81, 3, 8, 0,
             1, 7, 5, 0x81, 2, 0x40, 0, 1,
@@ -505,6 +565,7 @@ const USABLE: &[UsableRow] = &[
     // else the first interrupt item
     UsableRow {
         low: false,
+        settings: &[],
         config: &[
             9, 2, 0x20, 0, 1, 1, 0, 0x80, 0x32, 9, 4, 0, 0, 1, 0xff, 0, 0, 0, 7, 5, 2, 3, 0x10, 0,
             1, 7, 5, 2, 3, 0x20, 0, 1,
@@ -515,6 +576,7 @@ const USABLE: &[UsableRow] = &[
     // an interrupt item after it, and another bulk item, change nothing
     UsableRow {
         low: false,
+        settings: &[],
         config: &[
             9, 2, 0x27, 0, 1, 1, 0, 0x80, 0x32, 9, 4, 0, 0, 1, 0xff, 0, 0, 0, 7, 5, 3, 2, 8, 0, 1,
             7, 5, 3, 3, 0x40, 0, 1, 7, 5, 3, 2, 0x40, 0, 1,
@@ -525,6 +587,7 @@ const USABLE: &[UsableRow] = &[
     // an address is a number and a direction
     UsableRow {
         low: false,
+        settings: &[],
         config: &[
             9, 2, 0x20, 0, 1, 1, 0, 0x80, 0x32, 9, 4, 0, 0, 1, 0xff, 0, 0, 0, 7, 5, 1, 2, 0x10, 0,
             1, 7, 5, 0x81, 3, 5, 0, 1,
@@ -535,6 +598,7 @@ const USABLE: &[UsableRow] = &[
     // an interrupt packet has 8 bytes at low speed, 64 at full speed (5.7.3)
     UsableRow {
         low: true,
+        settings: &[],
         config: &[
             9, 2, 0x20, 0, 1, 1, 0, 0x80, 0x32, 9, 4, 0, 0, 1, 0xff, 0, 0, 0, 7, 5, 0x81, 3, 9, 0,
             1, 7, 5, 0x82, 3, 8, 0, 1,
@@ -544,6 +608,7 @@ const USABLE: &[UsableRow] = &[
     },
     UsableRow {
         low: false,
+        settings: &[],
         config: &[
             9, 2, 0x20, 0, 1, 1, 0, 0x80, 0x32, 9, 4, 0, 0, 1, 0xff, 0, 0, 0, 7, 5, 0x81, 3, 9, 0,
             1, 7, 5, 0x82, 3, 8, 0, 1,
@@ -553,6 +618,7 @@ const USABLE: &[UsableRow] = &[
     },
     UsableRow {
         low: false,
+        settings: &[],
         config: &[
             9, 2, 0x27, 0, 1, 1, 0, 0x80, 0x32, 9, 4, 0, 0, 1, 0xff, 0, 0, 0, 7, 5, 0x81, 3, 0x41,
             0, 1, 7, 5, 0x82, 3, 0x40, 0, 1, 7, 5, 0x83, 3, 0, 0, 1,
@@ -563,6 +629,7 @@ const USABLE: &[UsableRow] = &[
     // a bulk packet has 8, 16, 32 or 64 bytes (5.8.3)
     UsableRow {
         low: false,
+        settings: &[],
         config: &[
             9, 2, 0x2e, 0, 1, 1, 0, 0x80, 0x32, 9, 4, 0, 0, 1, 0xff, 0, 0, 0, 7, 5, 1, 2, 8, 0, 1,
             7, 5, 2, 2, 9, 0, 1, 7, 5, 3, 2, 0x20, 0, 1, 7, 5, 4, 2, 0, 0, 1,
@@ -573,6 +640,7 @@ const USABLE: &[UsableRow] = &[
     // endpoints of another alternate setting do not count, nor do those before any interface
     UsableRow {
         low: false,
+        settings: &[],
         config: &[
             9, 2, 0x30, 0, 1, 1, 0, 0x80, 0x32, 7, 5, 5, 2, 0x40, 0, 1, 9, 4, 0, 1, 1, 0xff, 0, 0,
             0, 7, 5, 1, 2, 0x40, 0, 1, 9, 4, 1, 0, 1, 0xff, 0, 0, 0, 7, 5, 0x82, 2, 0x40, 0, 1,
@@ -583,6 +651,7 @@ const USABLE: &[UsableRow] = &[
     // bits 4 to 6 of bEndpointAddress are reserved (9.6.6)
     UsableRow {
         low: false,
+        settings: &[],
         config: &[
             9, 2, 0x20, 0, 1, 1, 0, 0x80, 0x32, 9, 4, 0, 0, 1, 0xff, 0, 0, 0, 7, 5, 0x71, 2, 0x40,
             0, 1, 7, 5, 0xff, 3, 1, 0, 1,
@@ -593,6 +662,7 @@ const USABLE: &[UsableRow] = &[
     // endpoint 0 is no pipe's
     UsableRow {
         low: false,
+        settings: &[],
         config: &[
             9, 2, 0x20, 0, 1, 1, 0, 0x80, 0x32, 9, 4, 0, 0, 1, 0xff, 0, 0, 0, 7, 5, 0, 2, 0x40, 0,
             1, 7, 5, 0x80, 3, 8, 0, 1,
@@ -603,6 +673,7 @@ const USABLE: &[UsableRow] = &[
     // the low eleven bits of wMaxPacketSize are the size; a bulk endpoint has no others
     UsableRow {
         low: false,
+        settings: &[],
         config: &[
             9, 2, 0x2e, 0, 1, 1, 0, 0x80, 0x32, 9, 4, 0, 0, 1, 0xff, 0, 0, 0, 7, 5, 1, 2, 0x40, 8,
             1, 7, 5, 0x82, 3, 0x40, 8, 1, 7, 5, 0x83, 3, 0, 8, 1, 7, 5, 0x84, 3, 1, 0xf8, 1,
@@ -613,12 +684,50 @@ const USABLE: &[UsableRow] = &[
     // the low two bits of bmAttributes are the type; control and isochronous endpoints are none
     UsableRow {
         low: false,
+        settings: &[],
         config: &[
             9, 2, 0x2e, 0, 1, 1, 0, 0x80, 0x32, 9, 4, 0, 0, 1, 0xff, 0, 0, 0, 7, 5, 1, 0, 0x40, 0,
             1, 7, 5, 2, 1, 0x40, 0, 1, 7, 5, 3, 0xfe, 0x40, 0, 1, 7, 5, 4, 0x3f, 0x40, 0, 1,
         ],
         outs: &[(3, Bulk, 64), (4, Interrupt, 64)],
         ins: &[],
+    },
+    // endpoints of the alternate setting that their interface has count, and no others
+    UsableRow {
+        low: false,
+        settings: &[],
+        config: SETTINGS,
+        outs: &[],
+        ins: &[(1, Interrupt, 8), (3, Interrupt, 8)],
+    },
+    UsableRow {
+        low: false,
+        settings: &[(0, 1)],
+        config: SETTINGS,
+        outs: &[(2, Bulk, 64)],
+        ins: &[(1, Bulk, 64), (3, Interrupt, 8)],
+    },
+    UsableRow {
+        low: false,
+        settings: &[(1, 0), (0, 1), (0, 0)],
+        config: SETTINGS,
+        outs: &[],
+        ins: &[(1, Interrupt, 8), (3, Interrupt, 8)],
+    },
+    // an interface that has none of its settings has no endpoints
+    UsableRow {
+        low: false,
+        settings: &[(0, 1), (1, 1)],
+        config: SETTINGS,
+        outs: &[(2, Bulk, 64)],
+        ins: &[(1, Bulk, 64)],
+    },
+    UsableRow {
+        low: false,
+        settings: &[(0, 1)],
+        config: BULK_OTHER,
+        outs: &[(2, Bulk, 64)],
+        ins: &[(2, Bulk, 64)],
     },
 ];
 
@@ -635,7 +744,13 @@ fn end_of(ends: &[(u8, EndpointKind, u8)], number: u8) -> Option<(EndpointKind, 
 /// The same in a configuration.
 fn usable_end(row: &UsableRow, number: u8, is_in: bool) -> Option<(EndpointKind, u8)> {
     let config = read_config(row.config).ok()?;
-    let end = config.usable_endpoints(row.low).get(number, is_in)?;
+    let mut settings = Settings::all_zero();
+    for (interface, setting) in row.settings {
+        settings.set(*interface, *setting);
+    }
+    let end = config
+        .usable_endpoints(row.low, &settings)
+        .get(number, is_in)?;
     Some((end.kind, end.max))
 }
 

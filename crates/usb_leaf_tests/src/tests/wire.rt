@@ -17,6 +17,7 @@ enum Asking {
     Out(Speed, Endpoint, Toggle, &'static [u8]),
     In(Speed, Endpoint, u8),
     Port(u8, PortCall),
+    Restart(u8, u8, bool),
     Wait,
 }
 
@@ -101,6 +102,16 @@ const QUESTIONS: &[QuestionRow] = &[
         line: "port 7 clear C_PORT_CONNECTION",
     },
     QuestionRow {
+        asking: Asking::Restart(1, 15, true),
+        asked: Asked::Port,
+        line: "restart 1.15 in",
+    },
+    QuestionRow {
+        asking: Asking::Restart(127, 1, false),
+        asked: Asked::Port,
+        line: "restart 127.1 out",
+    },
+    QuestionRow {
         asking: Asking::Wait,
         asked: Asked::Wait,
         line: "wait",
@@ -136,6 +147,10 @@ fn question(asking: Asking) -> Question {
             most,
         },
         Asking::Port(number, call) => Question::Port { number, call },
+        Asking::Restart(address, number, is_in) => Question::Restart {
+            endpoint: Endpoint { address, number },
+            is_in,
+        },
         Asking::Wait => Question::Wait,
     }
 }
@@ -175,6 +190,13 @@ const NO_QUESTIONS: &[&str] = &[
     "port 0 set PORT_RESET",
     "port 1 set PORT_ENABLE",
     "port 1 set PORT_RESET 1",
+    "restart 1.0 in",
+    "restart 1.16 in",
+    "restart 128.1 in",
+    "restart 1.1",
+    "restart 1.1 IN",
+    "restart 1 in",
+    "restart 1.1 in out",
 ];
 
 #[test]
@@ -298,6 +320,16 @@ const SAID: &[SaidRow] = &[
         asked: Asked::Wait,
         line: "clear 3 01",
         written: "clear 3 01",
+    },
+    SaidRow {
+        asked: Asked::Wait,
+        line: "interface 1.7 0 255",
+        written: "interface 1.7 0 255",
+    },
+    SaidRow {
+        asked: Asked::Wait,
+        line: "interface 2 15 1",
+        written: "interface 2 15 1",
     },
     // GET_STATUS (9.4.5)
     SaidRow {
@@ -471,6 +503,32 @@ const FAULTS: &[FaultRow] = &[
         asked: Asked::Wait,
         line: b"control 8 8000000000000200",
         fault: WireFault::BadPath,
+    },
+    // no setting, numbers out of their range, no path, another question
+    FaultRow {
+        asked: Asked::Wait,
+        line: b"interface 1 0",
+        fault: WireFault::NoAnswer,
+    },
+    FaultRow {
+        asked: Asked::Wait,
+        line: b"interface 8 0 256",
+        fault: WireFault::BadNumber,
+    },
+    FaultRow {
+        asked: Asked::Wait,
+        line: b"interface 8 00 1",
+        fault: WireFault::BadNumber,
+    },
+    FaultRow {
+        asked: Asked::Wait,
+        line: b"interface 8 0 1",
+        fault: WireFault::BadPath,
+    },
+    FaultRow {
+        asked: Asked::Port,
+        line: b"interface 1 0 1",
+        fault: WireFault::NoAnswer,
     },
     // no endpoint, too many words, another question
     FaultRow {

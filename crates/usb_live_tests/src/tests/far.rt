@@ -123,7 +123,7 @@ packet = 1
 how = "lose"
 "#;
 
-/// What a driver of a plan wants of endpoint 0, of a port and of the news.
+/// What a driver of a plan wants of endpoint 0, of an interface, of a port and of the news.
 const DRIVER: &str = r#"
 limit = 8
 roots = 1
@@ -143,6 +143,12 @@ bytes = "0a"
 do = "control"
 path = "1"
 setup = "0009010000000000"
+
+[[event]]
+do = "interface"
+path = "1"
+interface = 255
+setting = 0
 
 [[event]]
 do = "look"
@@ -339,9 +345,10 @@ const ROWS: &[Row] = &[
         plan: DRIVER,
         host: "usbplan live 1\nwait\ncontrol 1 in failed no device\nwait\n\
                control 1 out failed no device\nwait\ncontrol 1 out failed no device\nwait\n\
+               interface 1 255 0 failed no device\nwait\n\
                look 1 empty\nwait\nnews\nleft 1\nwait\nend\nwait\n",
         far: "roots 1\ncontrol 1 8000000000000200\ncontrol 1 2109000200000100 0A\n\
-              control 1 0009010000000000\nlook 1\nnews\nend\n",
+              control 1 0009010000000000\ninterface 1 255 0\nlook 1\nnews\nend\n",
         ended: Ok(()),
     },
     // what it wants of endpoints that it names, up to one byte more than a line has room for
@@ -385,6 +392,24 @@ const ROWS: &[Row] = &[
               port 1 03011100\nok\nACK\nDATA1 -\nACK\nDATA1 -\nNAK\nport 2 01010100\nNAK\nnone\nend\n",
         plan: HUB,
         ended: Ok(()),
+    },
+    // and not where an endpoint begins again between
+    Row {
+        host: "usbplan live 1\nport 1 set PORT_POWER\nport 2 set PORT_POWER\nwait\n\
+               port 1 set PORT_RESET\nSETUP 0.0 / DATA0 0005010000000000\nIN 0.0 8\n\
+               SETUP 1.0 / DATA0 0009010000000000\nIN 1.0 8\nIN 1.1 1\nIN 1.1 1\nrestart 1.1 in\n\
+               wait\n",
+        far: "roots 2\nport 1 00010000\nok\nport 2 00010000\nok\nport 1 01010100\nok\n\
+              port 1 03011100\nok\nACK\nDATA1 -\nACK\nDATA1 -\nNAK\nport 2 01010100\nNAK\nok\nend\n",
+        plan: HUB,
+        ended: Ok(()),
+    },
+    // an endpoint begins again, but not endpoint 0
+    Row {
+        plan: PLAN,
+        host: "usbplan live 1\nrestart 0.1 in\nrestart 127.15 out\nrestart 1.0 in\n",
+        far: "roots 2\nok\nok\n",
+        ended: Err((4, FarFault::NoQuestion)),
     },
     Row {
         plan: PLAN,

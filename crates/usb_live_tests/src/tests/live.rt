@@ -97,6 +97,16 @@ const WANTED: &[Wanted] = &[
             LISTED,
         ],
     },
+    // a setting that the device has, with no endpoint; and settings that it has not
+    Wanted {
+        far: "interface 1 0 0\nACK\nDATA1 -\ninterface 1 0 1\ninterface 1 1 0\ninterface 2 0 0\nend\n",
+        host: &[
+            "SETUP 1.0 / DATA0 010B000000000000\nIN 1.0 64\ninterface 1 0 0 done\nwait\n",
+            "interface 1 0 1 failed no interface\nwait\ninterface 1 1 0 failed no interface\nwait\n",
+            "interface 2 0 0 failed no device\nwait\nlisting 1\n",
+            LISTED,
+        ],
+    },
     // a look finds that the device has left
     Wanted {
         far: "news\nlook 1\nport 1 00010000\nok\nnews\nend\n",
@@ -187,6 +197,85 @@ const KEYBOARD: &[(&str, &str)] = &[
     ),
 ];
 
+/// What a host says to a controller side with a device that has an interface of two settings, and what that says to it.
+/// The second setting has endpoints 02 and 81.
+const SETTINGS: &[(&str, &str)] = &[
+    ("usbplan live 1\n", "roots 1\n"),
+    ("port 1 clear PORT_POWER\n", "ok\n"),
+    ("port 1 set PORT_POWER\n", "port 1 00010000\nok\n"),
+    ("wait\n", "port 1 01010100\nok\n"),
+    ("port 1 clear C_PORT_CONNECTION\n", "port 1 01010000\nok\n"),
+    ("port 1 set PORT_RESET\n", "port 1 03011000\nok\n"),
+    ("port 1 clear C_PORT_RESET\n", "port 1 03010000\nok\n"),
+    ("SETUP 0.0 / DATA0 8006000100000800\n", "ACK\n"),
+    ("IN 0.0 8\n", "DATA1 1201000200000040\n"),
+    ("OUT 0.0 / DATA1 -\n", "ACK\n"),
+    ("SETUP 0.0 / DATA0 0005010000000000\n", "ACK\n"),
+    ("IN 0.0 64\n", "DATA1 -\n"),
+    ("SETUP 1.0 / DATA0 8006000100001200\n", "ACK\n"),
+    (
+        "IN 1.0 64\n",
+        "DATA1 120100020000004034127856000100000001\n",
+    ),
+    ("OUT 1.0 / DATA1 -\n", "ACK\n"),
+    ("SETUP 1.0 / DATA0 8006000200000900\n", "ACK\n"),
+    ("IN 1.0 64\n", "DATA1 090229000101008032\n"),
+    ("OUT 1.0 / DATA1 -\n", "ACK\n"),
+    ("SETUP 1.0 / DATA0 8006000200002900\n", "ACK\n"),
+    (
+        "IN 1.0 64\n",
+        "DATA1 0902290001010080320904000000FF0000000904000102FF0000000705020240000007058103080001\n",
+    ),
+    ("OUT 1.0 / DATA1 -\n", "ACK\n"),
+    ("SETUP 1.0 / DATA0 0009010000000000\n", "ACK\n"),
+    ("IN 1.0 64\n", "DATA1 -\n"),
+    // the first setting has no endpoint
+    ("wait\n", "send 1 02 FF\n"),
+    ("send 1 02 failed no endpoint\nwait\n", "interface 1 0 1\n"),
+    ("SETUP 1.0 / DATA0 010B010000000000\n", "ACK\n"),
+    ("IN 1.0 64\n", "DATA1 -\n"),
+    ("restart 1.2 out\n", "ok\n"),
+    ("restart 1.1 in\n", "ok\n"),
+    ("interface 1 0 1 done\nwait\n", "send 1 02 FF\n"),
+    ("OUT 1.2 / DATA0 FF\n", "ACK\n"),
+    ("send 1 02 done 1\nwait\n", "interrupt 1 81\n"),
+    ("IN 1.1 8\n", "DATA0 01\n"),
+    // the same setting again: both begin again
+    ("interrupt 1 81 done 01\nwait\n", "interface 1 0 1\n"),
+    ("SETUP 1.0 / DATA0 010B010000000000\n", "ACK\n"),
+    ("IN 1.0 64\n", "DATA1 -\n"),
+    ("restart 1.2 out\n", "ok\n"),
+    ("restart 1.1 in\n", "port 1 03010000\nok\n"),
+    ("interface 1 0 1 done\nwait\n", "interrupt 1 81\n"),
+    ("IN 1.1 8\n", "DATA0 02\n"),
+    ("interrupt 1 81 done 02\nwait\n", "send 1 02 EE\n"),
+    ("OUT 1.2 / DATA0 EE\n", "ACK\n"),
+    // refused: all is as it was
+    ("send 1 02 done 1\nwait\n", "interface 1 0 0\n"),
+    ("SETUP 1.0 / DATA0 010B000000000000\n", "ACK\n"),
+    ("IN 1.0 64\n", "STALL\n"),
+    ("interface 1 0 0 failed stalled\nwait\n", "send 1 02 DD\n"),
+    ("OUT 1.2 / DATA1 DD\n", "ACK\n"),
+    // not known, until it is chosen
+    ("send 1 02 done 1\nwait\n", "interface 1 0 0\n"),
+    ("SETUP 1.0 / DATA0 010B000000000000\n", "none\n"),
+    ("SETUP 1.0 / DATA0 010B000000000000\n", "none\n"),
+    ("SETUP 1.0 / DATA0 010B000000000000\n", "none\n"),
+    ("interface 1 0 0 failed no answer\nwait\n", "clear 1 02\n"),
+    ("clear 1 02 failed broken\nwait\n", "interface 1 0 0\n"),
+    ("SETUP 1.0 / DATA0 010B000000000000\n", "ACK\n"),
+    ("IN 1.0 64\n", "DATA1 -\n"),
+    ("interface 1 0 0 done\nwait\n", "interrupt 1 81\n"),
+    ("interrupt 1 81 failed no endpoint\nwait\n", "end\n"),
+    (
+        "listing 1\n\
+         1 address 1 full 120100020000004034127856000100000001\n\
+         1 config 0 0902290001010080320904000000FF0000000904000102FF0000000705020240000007058103080001 *\n\
+         end\n",
+        "",
+    ),
+];
+
 /// What a controller side says, how many questions may be asked, how that ends, and how many lines the host has
 /// written.
 #[derive(Clone, Copy)]
@@ -261,6 +350,12 @@ const ROWS: &[Row] = &[
     },
     Row {
         far: "roots 1\nok\nok\ninterrupt 1 8f\n",
+        limit: 9,
+        ended: Err(LiveEnd::Line(4, LiveFault::Line(WireFault::BadNumber))),
+        lines: 4,
+    },
+    Row {
+        far: "roots 1\nok\nok\ninterface 1 0 256\n",
         limit: 9,
         ended: Err(LiveEnd::Line(4, LiveFault::Line(WireFault::BadNumber))),
         lines: 4,
@@ -356,21 +451,23 @@ fn courses(rt: HostRuntime) -> Result<(), Fail> {
     Ok(())
 }
 
-/// A course of polls, from the hello to the end.
+/// Courses of polls and of settings, from the hello to the end.
 #[test]
-fn polls(rt: HostRuntime) -> Result<(), Fail> {
-    let mut far = String::new(rt.alloc());
-    let mut host = String::new(rt.alloc());
-    for (asked, said) in KEYBOARD {
-        host.push_str(asked)?;
-        far.push_str(said)?;
+fn conversations(rt: HostRuntime) -> Result<(), Fail> {
+    for rows in [KEYBOARD, SETTINGS] {
+        let mut far = String::new(rt.alloc());
+        let mut host = String::new(rt.alloc());
+        for (asked, said) in rows {
+            host.push_str(asked)?;
+            far.push_str(said)?;
+        }
+        let played = play(rt.alloc(), far.as_bytes(), u64::MAX, u64::MAX);
+        assert_eq!(rt; played.ended, Ok(()));
+        assert_eq!(rt;
+            str::from_utf8(played.host.as_slice()).ok(),
+            Some(host.as_str())
+        );
     }
-    let played = play(rt.alloc(), far.as_bytes(), u64::MAX, u64::MAX);
-    assert_eq!(rt; played.ended, Ok(()));
-    assert_eq!(rt;
-        str::from_utf8(played.host.as_slice()).ok(),
-        Some(host.as_str())
-    );
     Ok(())
 }
 

@@ -22,6 +22,7 @@ const HOST: &str = "usbplan live 1\n\
                     OUT 1.2 / DATA1 0102\n\
                     port 1 set PORT_RESET\n\
                     port 2 clear C_PORT_CONNECTION\n\
+                    restart 1.2 out\n\
                     wait\n\
                     listing 1\nend\n";
 
@@ -32,6 +33,7 @@ const FAR: &str = "roots 2\n\
                    DATA0 1122\n\
                    NAK\n\
                    port 1 03011000\nok\n\
+                   ok\n\
                    ok\n\
                    send 1.2 FF\n";
 
@@ -50,14 +52,14 @@ struct Row {
 const FAULTS: &[Row] = &[
     Row {
         far: FAR,
-        limit: 8,
-        lines: 10,
+        limit: 9,
+        lines: 11,
         fault: None,
     },
     Row {
         far: FAR,
-        limit: 7,
-        lines: 7,
+        limit: 8,
+        lines: 8,
         fault: Some(LiveFault::LimitReached),
     },
     Row {
@@ -117,10 +119,17 @@ const FAULTS: &[Row] = &[
     },
     // the end is what is wanted where the input ends in its place
     Row {
-        far: "roots 2\nACK\nNAK\nSTALL\nnone\nok\nok\n",
+        far: "roots 2\nACK\nNAK\nSTALL\nnone\nok\nok\nok\n",
         limit: 9,
-        lines: 10,
+        lines: 11,
         fault: None,
+    },
+    // the restart of an endpoint has one answer
+    Row {
+        far: "roots 2\nACK\nNAK\nSTALL\nnone\nok\nok\nACK\n",
+        limit: 9,
+        lines: 8,
+        fault: Some(LiveFault::Line(WireFault::NoAnswer)),
     },
 ];
 
@@ -235,6 +244,7 @@ fn play<R: Read + Drop>(
     bus.root_set(1, PORT_RESET);
     bus.root_set(3, PORT_RESET);
     bus.root_clear(2, C_PORT_CONNECTION);
+    bus.restart_endpoint(1, 2, false);
     let roots = bus.root_ports();
     for number in 1..roots + 1 {
         let status = bus.root_status(number);
@@ -323,7 +333,7 @@ fn cut(rt: HostRuntime) -> Result<(), Fail> {
         let ended = play(rt.alloc(), front, u64::MAX, 9)?;
         let failed = play(rt.alloc(), Torn(front), u64::MAX, 9)?;
         // in place of what is wanted the end of the input is the end
-        let is_end = front.ends_with(b"ok\nok\n");
+        let is_end = front.ends_with(b"ok\nok\nok\n");
         let gone = if is_end { None } else { Some(LiveFault::Gone) };
         assert_eq!(rt; ended.fault, gone, "{count} bytes");
         assert_eq!(rt; failed.fault, Some(LiveFault::Read), "{count} bytes");
@@ -342,7 +352,7 @@ fn cut(rt: HostRuntime) -> Result<(), Fail> {
 /// Each write fails in turn: no more than the questions before it has gone out. The one that it cuts counts.
 #[test]
 fn writes(rt: HostRuntime) -> Result<(), Fail> {
-    for writes in 0..9usize {
+    for writes in 0..10usize {
         let played = play(rt.alloc(), FAR.as_bytes(), writes as u64, 9)?;
         assert_eq!(rt; played.fault, Some(LiveFault::Write), "{writes} writes");
         assert_eq!(rt; newlines(played.host.as_slice()), writes, "{writes} writes");

@@ -17,7 +17,7 @@ use Rattle.usb_run.specs.{Rounds, none, more, Settled, Settles, AppendsText, Mak
 use Rattle.usb_run.specs.{IsItemOf}
 use Rattle.usb_run.proofs.AskedCalls.{AskAnswered, silent as no_item, listed, sent, received}
 use Rattle.usb_run.proofs.AskedCalls.{cleared, read, written, looked, news, answered}
-use Rattle.usb_run.proofs.AskedCalls.{sent_to, received_from, polled, cleared_of}
+use Rattle.usb_run.proofs.AskedCalls.{sent_to, received_from, polled, cleared_of, interface_set}
 use Rattle.usb_run.proofs.AskedCalls.{OnlyReported, all_reported}
 use Rattle.usb_run.proofs.courses.RunCourses.{RunsOnward, called_onward, comes_onward}
 use Rattle.usb_run.proofs.courses.RunCourses.{settles_onward}
@@ -216,6 +216,8 @@ answers_stay (received_from path endpoint packets told asks is came) =
     transfer_keeps_sound came.call
 answers_stay (polled path endpoint told asks is came) = transfer_keeps_sound came.call
 answers_stay (cleared_of path endpoint told asks is came) = transfer_keeps_sound came.call
+answers_stay (interface_set path interface setting told asks is came) =
+    transfer_keeps_sound came.call
 answers_stay (read path request told host asks is came) = transfer_keeps_sound came.call
 answers_stay (written path write told fits asks is came) = transfer_keeps_sound came.call
 answers_stay (looked path told asks is came) =

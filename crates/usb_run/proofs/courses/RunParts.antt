@@ -16,8 +16,8 @@ use Rattle.usb_run.specs.RunSegments as run
 use Rattle.usb_run.proofs.AskedCalls.{AskAnswered, silent, listed, sent, received, cleared, read}
 use Rattle.usb_run.proofs.AskedCalls.{written, looked, news, answered, Calls, no_call, sends}
 use Rattle.usb_run.proofs.AskedCalls.{receives, clears, reads, writes, looks, tells_news}
-use Rattle.usb_run.proofs.AskedCalls.{sent_to, received_from, polled, cleared_of}
-use Rattle.usb_run.proofs.AskedCalls.{sends_to, receives_from, polls, clears_of}
+use Rattle.usb_run.proofs.AskedCalls.{sent_to, received_from, polled, cleared_of, interface_set}
+use Rattle.usb_run.proofs.AskedCalls.{sends_to, receives_from, polls, clears_of, sets_interface}
 use Rattle.usb_run.proofs.AskedCalls.{item_calls, stop_calls}
 use Rattle.usb_run.proofs.AskedCalls.{OnlyReported}
 
@@ -81,6 +81,7 @@ calls_called (sends_to path endpoint bytes result asks tells) = transfer_called 
 calls_called (receives_from path endpoint packets result asks tells) = transfer_called tells
 calls_called (polls path endpoint result asks tells) = transfer_called tells
 calls_called (clears_of path endpoint result asks tells) = transfer_called tells
+calls_called (sets_interface path interface setting result asks tells) = transfer_called tells
 calls_called (reads path request result asks tells) = transfer_called tells
 calls_called (writes path write result asks tells) = transfer_called tells
 calls_called (looks path result asks tells) = record { most = handling_bound; went = tells.went }
@@ -131,6 +132,7 @@ silent_same (sent_to path endpoint bytes told asks is came) = cc is
 silent_same (received_from path endpoint packets told asks is came) = cc is
 silent_same (polled path endpoint told asks is came) = cc is
 silent_same (cleared_of path endpoint told asks is came) = cc is
+silent_same (interface_set path interface setting told asks is came) = cc is
 silent_same (read path request told host asks is came) = cc is
 silent_same (written path write told fits asks is came) = cc is
 silent_same (looked path told asks is came) = cc is

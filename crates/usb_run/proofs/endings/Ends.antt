@@ -1,5 +1,5 @@
 -- Where a plan's run ends.
-use Rattle.std.proofs.Common.{◌≡◌, ◌∙◌, refl, sym, ap, ap₂, subst, Ok, IsErrAnd, ℕ, zero, suc, List}
+use Rattle.std.proofs.Common.{◌≡◌, ◌∙◌, refl, sym, ap, ap₂, subst, Ok, IsErrAnd, ℕ, List}
 use Rattle.std.proofs.Common.{Option, Result, Err, false, IfErr}
 use Rattle.usb_world.specs.{PlanData, IsPlan, AtPorts, opening, BusFault, Limit, Memory}
 use Rattle.usb_world.specs.{Failed, World, HasFault}

@@ -1,11 +1,11 @@
 -- What is right of the items of a plan's run.
-use Rattle.std.proofs.Common.{◌≡◌, ◌∙◌, refl, sym, ap, subst, true, false, length, List, [], ◌∷◌}
+use Rattle.std.proofs.Common.{◌≡◌, ◌∙◌, refl, sym, ap, subst, length, List, [], ◌∷◌}
 use Rattle.std.proofs.Common.{Bool, Option, None, Some, Result, Ok, Err, arith, ℕ, is_ok}
 use Rattle.std.specs.List.{AllByRecursion}
 use Rattle.usb_device.specs.{Spec, Ports}
 use Rattle.usb_world.specs.{Action, Show, Send, Receive, Clear, ControlIn, ControlOut, Event}
 use Rattle.usb_world.specs.{Look as LookAt, News as AskNews, BusFault, PlanData, IsPlan}
-use Rattle.usb_world.specs.{SendTo, ReceiveFrom, Poll, ClearOf}
+use Rattle.usb_world.specs.{SendTo, ReceiveFrom, Poll, ClearOf, SetInterface}
 use Rattle.usb_world.specs.{AtMostTwoRunning, AtPorts, after, ask_of, event, event_taken}
 use Rattle.usb_world.specs.{after_change, opening}
 use Rattle.usb_world.specs.{after_event, after_first_event, World}
@@ -29,7 +29,7 @@ use Rattle.usb_run.specs.Transcript.{Transcript}
 use Rattle.usb_run.specs.Transfers.{Transfers}
 use Rattle.usb_run.proofs.AskedCalls.{AskAnswered, silent, listed, sent, received, cleared, read}
 use Rattle.usb_run.proofs.AskedCalls.{written, looked, news, answered}
-use Rattle.usb_run.proofs.AskedCalls.{sent_to, received_from, polled, cleared_of}
+use Rattle.usb_run.proofs.AskedCalls.{sent_to, received_from, polled, cleared_of, interface_set}
 use Rattle.usb_run.proofs.courses.KnowledgeKept.{arrival_settled, item_knows}
 use Rattle.usb_run.proofs.courses.KnowledgeKept.{reaches_knows, reaches_running, reaches_still}
 use Rattle.usb_run.proofs.courses.RunCourses.{RunsOnward, onward_runs, onward_then, over_cuts}
@@ -38,7 +38,7 @@ use Rattle.usb_run.proofs.courses.DamagedLosses.{damages_runs}
 use Rattle.usb_run.proofs.courses.RunCourses.{over_run, traced_runs_onward, worse_runs}
 use Rattle.usb_run.proofs.items.ToldTransfers.{told_sent, told_received, told_cleared, told_read}
 use Rattle.usb_run.proofs.items.ToldTransfers.{told_look, told_written, told_reported}
-use Rattle.usb_run.proofs.items.ToldTransfers.{told_cleared_of, count_done}
+use Rattle.usb_run.proofs.items.ToldTransfers.{told_cleared_of, told_interface, count_done}
 
 -- What is asked changes nothing that is plugged
 
@@ -132,6 +132,10 @@ item_right due made h mid k reaches is = right (answered due (Some made) mid k i
         tells (Some (ClearOf path endpoint)) _ asks e
         (told_cleared_of path mid k (reaches_knows reaches).sound (reaches_still reaches)
         (reaches_running reaches) endpoint answer came)
+    right (interface_set path interface setting answer asks e came) =
+        tells (Some (SetInterface path interface setting)) _ asks e
+        (told_interface path mid k (reaches_knows reaches).sound (reaches_still reaches)
+        (reaches_running reaches) interface setting answer came)
     right (read path request answer host asks e came) =
         tells (Some (ControlIn path request)) _ asks e
         (told_read path mid k (reaches_knows reaches).sound (reaches_still reaches)
@@ -194,6 +198,10 @@ module _ (plan : PlanData) (rules : IsPlan plan) (paths : AtPorts plan.events) (
       subst (IsListingOf plan) (sym is) tt
   due_right made mid k before still on (cleared_of path endpoint answer asks e came) right =
       let is : made ≡ item.ClearedOf path endpoint answer = cc e in
+      subst (IsListingOf plan) (sym is) tt
+  due_right made mid k before still on (interface_set path interface setting answer asks e came)
+      right =
+      let is : made ≡ item.InterfaceSet path interface setting answer = cc e in
       subst (IsListingOf plan) (sym is) tt
   due_right made mid k before still on (read path request answer host asks e came) right =
       let is : made ≡ item.Read path answer = cc e in

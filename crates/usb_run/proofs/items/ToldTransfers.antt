@@ -6,7 +6,8 @@ use Rattle.arrayvec.specs.ArrayVec.{ArrayVec}
 use Rattle.usb_world.specs.{BusFault, World, Write}
 use Rattle.usb_table.specs.declared.fault.TableFault.TheVariants as table
 use Rattle.usb_table.specs.{TableFault, TransferFault, Pipes, Delivered, Collected, Restarted}
-use Rattle.usb_table.specs.{EndpointChoice, Reported, RestartedOf}
+use Rattle.usb_table.specs.{EndpointChoice, InterfaceSet, InterfaceSetIf, Reported, RestartedOf}
+use Rattle.usb_table.specs.{interface_target}
 use Rattle.usb_table.specs.{bytes_in, control_target, IsHeld, ReadLeft, ReadMade, table_answer}
 use Rattle.usb_table.specs.{TransferIf, TransferIs, TransferLeaves, WriteLeft, WriteMade}
 use Rattle.usb_table.specs.{write_target}
@@ -14,13 +15,14 @@ use Rattle.usb_table.proofs.Interface.{sent_delivers, received_collects, cleared
 use Rattle.usb_table.proofs.Interface.{done_through, polled_tells, cleared_restarts_of}
 use Rattle.usb_host.specs.{HostFault, HostState, claims, HostInvariant, host_told, MovesThrough}
 use Rattle.usb_host.specs.{table_in, ClearTells, ReceiveTells, SendTells, ReadTells, WriteTells}
-use Rattle.usb_host.specs.{ClearOfTells, ControlsAt, Look, LookDid, LookTells, ReportTells}
+use Rattle.usb_host.specs.{ClearOfTells, ControlsAt, InterfaceTells, Look, LookDid, LookTells}
+use Rattle.usb_host.specs.{ReportTells}
 use Rattle.usb_host.specs.declared.fault.HostFault.TheVariants as host
-use Rattle.usb_pipe.specs.{PipeFault, report_in}
+use Rattle.usb_pipe.specs.{report_in}
 use Rattle.usb_request.specs.{Setup}
 use Rattle.usb_transaction.specs.{Target}
 use Rattle.usb_run.specs.{as_answer, ControlIfAsked, Knows, LookShows, transfer_ended, sent_count}
-use Rattle.usb_run.specs.{table_told}
+use Rattle.usb_run.specs.{InterfaceIfAsked, table_told}
 use Rattle.usb_run.specs.Transfers.{Transfers}
 
 -- What is told of an answer of the table's
@@ -84,6 +86,24 @@ control_told Is Leaves path old new told answer held single e (Ok target) made =
 control_told Is Leaves path old new told answer held single e (Err fault) refused =
     let is = ap (λ r. transfer_ended (host_told r)) (sym refused.0) ∙ e in
     (cc is, refused.1)
+
+-- An interface's setting, by whether there is a target
+
+interface_told : (path : List ℕ) (interface setting : ℕ) (old new : HostState)
+    (told : Result (Unit {0}) TransferFault) (answer : Result (Unit {0}) TableFault)
+    → IsHeld (table_in old) old.world → new.world.shared ≡ false
+    → transfer_ended (host_told answer) ≡ Ok told → (asked : Result Target TransferFault)
+    → InterfaceSetIf path interface setting (table_in old) asked old.world answer (table_in new)
+    new.world → InterfaceIfAsked path interface setting asked old told new
+interface_told path interface setting old new told answer held single e (Ok target) set =
+    let same : InterfaceSet path interface setting (table_in old) target old.world (table_told told)
+    (table_in new) new.world =
+    subst (λ (r : Result (Unit {0}) TableFault). InterfaceSet path interface setting (table_in old)
+    target old.world r (table_in new) new.world) (answer_told answer told e) set in
+    record { set = same; each = same.left held single }
+interface_told path interface setting old new told answer held single e (Err fault) refused =
+    let is = ap (λ r. transfer_ended (host_told r)) (sym refused.0) ∙ e in
+    (cc is, refused.1, refused.2)
 
 -- A look
 
@@ -176,6 +196,17 @@ module _ (path : List ℕ) (old new : HostState) (sound : HostInvariant old) (st
       (cleared_restarts_of path (table_in old) old.world new.world endpoint (table_in new) h.answer
       (no_bus_fault h.answer told e) (sound.owned.so still) (sound.level still path)
       (single h) h.through.fits h.moves)
+
+  pub told_interface : (interface setting : ℕ) (told : Result (Unit {0}) TransferFault)
+      → Transfers (InterfaceTells path interface setting) old told new
+      → InterfaceIfAsked path interface setting
+      (interface_target path interface setting old.entries) old told new
+  told_interface interface setting told x =
+      let h = x.call.did running in
+      interface_told path interface setting old new told h.answer (sound.owned.so still)
+      ((h.keeps.worlds.addresses.kept (claims old.entries) sound.owned).single)
+      (sym (ap transfer_ended h.told) ∙ x.tells)
+      (interface_target path interface setting old.entries) h.did
 
   control_ended : {A : Type 0} {Is : TransferIs A} {Leaves : TransferLeaves A}
       {target : Result Target TransferFault} {result : Result A HostFault}

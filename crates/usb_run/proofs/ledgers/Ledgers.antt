@@ -5,7 +5,7 @@ use Rattle.std.proofs.Common.{Err}
 use Rattle.std.specs.List.{sum_by}
 use Rattle.std.proofs.lemmas.List.Sums.{sum_by-cons}
 use Rattle.usb_world.specs.{Action, Send, Receive, Clear, ControlIn, ControlOut, Look as LookAt}
-use Rattle.usb_world.specs.{SendTo, ReceiveFrom, Poll, ClearOf}
+use Rattle.usb_world.specs.{SendTo, ReceiveFrom, Poll, ClearOf, SetInterface}
 use Rattle.usb_world.specs.{Event, BusFault, PlanData, IsPlan}
 use Rattle.usb_world.specs.{AtPorts, AnyStep, Course, after, ask_of, event, event_taken, opening}
 use Rattle.usb_world.specs.{after_event, after_first_event, World, to_come}
@@ -14,7 +14,7 @@ use Rattle.usb_world.specs.declared.event.Ask.{Ask}
 use Rattle.usb_world.proofs.Interface.{course_joined}
 use Rattle.usb_backlog.specs.{KeepsBy, looks_by, strays_by, unmarked}
 use Rattle.usb_backlog.proofs.Interface.{few-none, keeps-event}
-use Rattle.usb_bus.specs.{next_due, Traced, still}
+use Rattle.usb_bus.specs.{next_due, Traced}
 use Rattle.usb_transaction.specs.{transaction_bound}
 use Rattle.usb_pipe.specs.{write_bound}
 use Rattle.usb_table.specs.{control_most}
@@ -29,8 +29,8 @@ use Rattle.usb_run.specs.{Item, RunFault, Comes, Opens, IsItemOf, StopsAt}
 use Rattle.usb_run.proofs.AskedCalls.{AskAnswered, silent, listed, sent, received, cleared, read}
 use Rattle.usb_run.proofs.AskedCalls.{written, looked, news, answered, Calls, no_call, sends}
 use Rattle.usb_run.proofs.AskedCalls.{receives, clears, reads, writes, looks, tells_news}
-use Rattle.usb_run.proofs.AskedCalls.{sent_to, received_from, polled, cleared_of}
-use Rattle.usb_run.proofs.AskedCalls.{sends_to, receives_from, polls, clears_of}
+use Rattle.usb_run.proofs.AskedCalls.{sent_to, received_from, polled, cleared_of, interface_set}
+use Rattle.usb_run.proofs.AskedCalls.{sends_to, receives_from, polls, clears_of, sets_interface}
 use Rattle.usb_run.proofs.AskedCalls.{stop_calls, all_reported}
 use Rattle.usb_run.proofs.endings.Ends.{answered_goes}
 use Rattle.usb_run.proofs.ledgers.EventsLeft.{sum_left, at_ports-course}
@@ -90,6 +90,7 @@ room_of c plan (Some (SendTo path endpoint bytes)) = transaction_bound * length 
 room_of c plan (Some (ReceiveFrom path endpoint packets)) = transaction_bound * packets
 room_of c plan (Some (Poll path endpoint)) = transaction_bound
 room_of c plan (Some (ClearOf path endpoint)) = write_bound
+room_of c plan (Some (SetInterface path interface setting)) = write_bound
 room_of c plan (Some (ControlIn path request)) = control_most request.length
 room_of c plan (Some (ControlOut path write)) = control_most write.setup.length
 room_of c plan (Some (LookAt path)) = look_cost c plan
@@ -110,6 +111,7 @@ room_paid c plan (action.Ask (SendTo path endpoint bytes)) = omega arith
 room_paid c plan (action.Ask (ReceiveFrom path endpoint packets)) = omega arith
 room_paid c plan (action.Ask (Poll path endpoint)) = omega arith
 room_paid c plan (action.Ask (ClearOf path endpoint)) = omega arith
+room_paid c plan (action.Ask (SetInterface path interface setting)) = omega arith
 room_paid c plan (action.Ask (ControlIn path request)) = omega arith
 room_paid c plan (action.Ask (ControlOut path write)) = omega arith
 room_paid c plan (action.Ask (LookAt path)) = omega arith
@@ -455,6 +457,8 @@ module _ (c : Weights) (plan : PlanData) where
       transfer_paid transaction_bound a b came.answer (asked_paid a asks x) came.call
   asked_calls a b x (cleared_of path endpoint told asks is came) =
       transfer_paid write_bound a b came.answer (asked_paid a asks x) came.call
+  asked_calls a b x (interface_set path interface setting told asks is came) =
+      transfer_paid write_bound a b came.answer (asked_paid a asks x) came.call
   asked_calls a b x (read path request told host asks is came) =
       transfer_paid (control_most request.length) a b came.answer (asked_paid a asks x) came.call
   asked_calls a b x (written path write told fits asks is came) =
@@ -484,6 +488,8 @@ module _ (c : Weights) (plan : PlanData) where
   calls_few a b due x (polls path endpoint result asks tells) =
       transfer_few transaction_bound a b result (asked_paid a asks x) tells
   calls_few a b due x (clears_of path endpoint result asks tells) =
+      transfer_few write_bound a b result (asked_paid a asks x) tells
+  calls_few a b due x (sets_interface path interface setting result asks tells) =
       transfer_few write_bound a b result (asked_paid a asks x) tells
   calls_few a b due x (reads path request result asks tells) =
       transfer_few (control_most request.length) a b result (asked_paid a asks x) tells

@@ -377,6 +377,7 @@ fn is_of_transfer(line: &str) -> bool {
         || line.starts_with("receive ")
         || line.starts_with("interrupt ")
         || line.starts_with("clear ")
+        || line.starts_with("interface ")
 }
 
 /// The lines of transfers among those that `serve` writes of a plan.
@@ -440,7 +441,7 @@ fn polled_text(
     }
 }
 
-/// How a clear ended.
+/// How a clear or an interface's setting ended.
 fn cleared_text(alloc: Global, cleared: &Result<(), TransferFault>) -> Result<String, AllocError> {
     let ended = match cleared {
         Ok(()) => Ok(String::new(alloc)),
@@ -494,6 +495,14 @@ fn item_text(alloc: Global, item: &Item) -> Result<String, AllocError> {
         Item::ClearedOf(path, endpoint, cleared) => {
             let ended = at_endpoint(alloc, *endpoint, cleared_text(alloc, cleared)?)?;
             format!(in alloc; "clear {} {}\n", path.text(), ended)
+        }
+        Item::InterfaceSet(path, interface, setting, set) => {
+            let ended = cleared_text(alloc, set)?;
+            format!(in alloc;
+                "interface {} {interface} {setting} {}\n",
+                path.text(),
+                ended
+            )
         }
     }
 }

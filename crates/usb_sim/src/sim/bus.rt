@@ -76,6 +76,11 @@ impl<T: Trace> Bus for SimBus<T> {
         }
     }
 
+    /// The host's toggles come with its attempts.
+    fn restart_endpoint(&mut self, _address: u8, _number: u8, _is_in: bool)
+        ensures { self.new ≡ self.old }
+    {}
+
     ghost counted = { λ known bus. refl };
 
     ghost settled = { λ known bus. bus.settled };

@@ -84,13 +84,18 @@ module _ (path : List ℕ) (finding : Finding) (table : Table) (w : World) where
       by_finding : (f : Finding) → finding ≡ f → (device : Accepted) (s : State)
           → accepted_device_at path (entered path finding table).entries ≡ Some device
           → reach w.roots path ≡ true → state_there w.roots path ≡ Some s
-          → PipesInSync (pipes_at path (entered path finding table)) s
+          → PipesInSync device (pipes_at path (entered path finding table)) s
       by_finding (Device d) is device s e on there =
           let so = own d s is on there in
-          subst (λ (q : Pipes). PipesInSync q s)
+          let same : d ≡ device =
+          cc (sym (ap accepted_device_of (lookup-inserted path finding table.entries ∙ ap Some is))
+          ∙ e) in
+          subst (λ (x : Accepted). PipesInSync x (pipes_at path (entered path finding table)) s)
+          same
+          (subst (λ (q : Pipes). PipesInSync d q s)
           (sym (pipes_at-entered path finding table
           ∙ ap (λ f. new_pipes f (is_below_hub path)) is))
-          (new_level tier supply d (is_below_hub path) s so.0 so.1)
+          (new_level tier supply d (is_below_hub path) s so.0 so.1))
       by_finding (Refused cause) is device s e on there =
           absurd (cc (sym (ap accepted_device_of (lookup-inserted path finding table.entries
           ∙ ap Some is)) ∙ e))
@@ -100,7 +105,7 @@ module _ (path : List ℕ) (finding : Finding) (table : Table) (w : World) where
       → InSyncAt x (entered path finding table) w
   level_beside x apart l = record {
     level = λ device s e on there.
-        subst (λ (q : Pipes). PipesInSync q s)
+        subst (λ (q : Pipes). PipesInSync device q s)
         (sym (pipes_at-entered_elsewhere path finding table x apart))
         (l.level device s (sym (ap accepted_device_of
         (lookup-inserted_elsewhere path finding x table.entries apart)) ∙ e) on there);

@@ -1,13 +1,14 @@
 -- A transfer leaves pipes to the same endpoints.
 use Rattle.std.proofs.Common.{◌≡◌, ◌≢◌, refl, sym, inl, inr, ap, subst, ◌∙◌, ◌⊎◌, ℕ, List, [], ◌∷◌}
-use Rattle.std.proofs.Common.{Bool, true, false, Option, Some, None}
+use Rattle.std.proofs.Common.{Bool, true, false, Option, Some, None, get_or}
 use Rattle.std.specs.Option.{option_map}
-use Rattle.usb_descriptor.specs.{UsableEndpoint}
+use Rattle.usb_descriptor.specs.{EndpointKind, UsableEndpoint}
 use Rattle.usb_pipe.specs.{PipeState, pipe_made, Interrupt, interrupt_made, Condition}
 use Rattle.usb_pipe.specs.declared.condition.Condition.TheVariants.{Ready, Broken}
 use Rattle.usb_enum.specs.{Accepted, Finding}
 use Rattle.usb_enum.specs.declared.finding.Finding.TheVariants.{Device, Refused}
 use Rattle.usb_table.specs.{FunctionPipes, Pipes, Hub, Function, Absent, AreFunctionPipes}
+use Rattle.usb_table.specs.{IsPlace, end_under, lost_row, pipe_at}
 use Rattle.usb_table.specs.{IsStatusPipe, IsPipe, ArePipesTo, ArePipesOf, first_number}
 use Rattle.usb_table.specs.{function_made, pipes_made}
 use Rattle.usb_table.proofs.levels.StandingPipes.{at_made}
@@ -49,13 +50,35 @@ same_first : (is_in : Bool) (pipes left : FunctionPipes)
 same_first true pipes left same = ap (first_number true) same
 same_first false pipes left same = ap (first_number false) same
 
+same_lost : (is_in : Bool) (pipes left : FunctionPipes)
+    → function_made left ≡ function_made pipes → lost_row is_in left ≡ lost_row is_in pipes
+same_lost true pipes left same = ap (λ (p : FunctionPipes). p.lost_ins) same
+same_lost false pipes left same = ap (λ (p : FunctionPipes). p.lost_outs) same
+
+place_to : (device : Accepted) (below_hub is_in : Bool) (e : ℕ) (end : Option UsableEndpoint)
+    (lost : Option EndpointKind) (pipe left : Option PipeState)
+    → option_map pipe_made left ≡ option_map pipe_made pipe
+    → IsPlace device below_hub is_in e end lost pipe
+    → IsPlace device below_hub is_in e end lost left
+place_to device below_hub is_in e end None pipe left same to =
+    end_to device below_hub is_in e end pipe left same to
+place_to device below_hub is_in e end (Some kind) pipe None same to = refl
+place_to device below_hub is_in e end (Some kind) None (Some left) same to = absurd (cc same)
+place_to device below_hub is_in e end (Some kind) (Some pipe) (Some left) same to =
+    absurd (cc to)
+
 pub function_to : (device : Accepted) (below_hub : Bool) (pipes left : FunctionPipes)
     → function_made left ≡ function_made pipes → AreFunctionPipes device below_hub pipes
     → AreFunctionPipes device below_hub left
 function_to device below_hub pipes left same are = record {
   function = are.function;
-  each = λ is_in e. end_to device below_hub is_in e _ _ _ (at_made is_in e pipes left same)
-      (are.each is_in e);
+  settings = are.settings;
+  all = are.all;
+  each = λ is_in e.
+      subst (λ row. IsPlace device below_hub is_in e (end_under are.settings device is_in e)
+      (get_or row e None) (pipe_at is_in e left)) (sym (same_lost is_in pipes left same))
+      (place_to device below_hub is_in e _ _ _ _ (at_made is_in e pipes left same)
+      (are.each is_in e));
   first = λ is_in. same_first is_in pipes left same ∙ are.first is_in;
 }
 

@@ -10,12 +10,13 @@ use Rattle.usb_world.specs.{Relation, Was, EachWas, World}
 use Rattle.usb_tree.specs.{address_of, is_way}
 use Rattle.usb_world.proofs.Interface.{same_is}
 use Rattle.usb_tree.proofs.Interface.{equal_same, false_true}
+use Rattle.usb_address.specs.{KeepsAddresses}
 use Rattle.usb_hub.specs.{StaysAs, EachElsewhere}
 use Rattle.usb_enum.specs.{Accepted, Finding}
 use Rattle.usb_enum.specs.declared.finding.Finding.TheVariants.{Device}
 use Rattle.usb_table.specs.{Pipes, Entries, accepted_device_of, accepted_device_at, address_in}
-use Rattle.usb_table.specs.{PipesInSync, InSyncAt, AllInSync, IsHeld, KeepsInSync, finding_at}
-use Rattle.usb_table.specs.{entry_address, Table, pipes_at, GoesThrough, OnlyTransfers}
+use Rattle.usb_table.specs.{PipesInSync, InSyncAt, AllInSync, IsHeld, KeepsLevels, finding_at}
+use Rattle.usb_table.specs.{entry_address, Table, pipes_at, GoesThrough}
 use Rattle.usb_table.proofs.levels.FittingPipes.{PipesMove, still_level}
 use Rattle.usb_table.proofs.entries.Paths.{path_itself, path_tied}
 
@@ -35,7 +36,8 @@ address_found path entries device e = device_address (finding_at path entries) d
 at_some_port : (table : Table) (w : World) (path : List ℕ)
     → ((x : Location) → path ≡ path_to x → (device : Accepted) (s : State)
     → accepted_device_at path table.entries ≡ Some device → reach_on w.roots x ≡ true
-    → state_on w.roots x ≡ Some s → PipesInSync (pipes_at path table) s) → InSyncAt path table w
+    → state_on w.roots x ≡ Some s → PipesInSync device (pipes_at path table) s) → InSyncAt path
+    table w
 at_some_port table w (suc j ∷ p) f = record {
   level = λ device s e on there. f (record { row = j; rest = p }) refl device s e on there;
 }
@@ -79,67 +81,71 @@ apart_or path x apart e = false_true (sym apart
 module _ (path : List ℕ) (device : Accepted) (ends : Type 0) (pipes left : Pipes) (old new : Table)
     (before after : World) (stands : accepted_device_at path old.entries ≡ Some device)
     (goes : GoesThrough path old new) (was : pipes_at path old ≡ pipes) (is : pipes_at path new
-    ≡ left) (keeps : OnlyTransfers before after)
-    (moves : after.shared ≡ false → EachWas (PipesMove device.address ends pipes left) before after)
-  where
-    pub single : IsHeld old before → after.shared ≡ false
-    single held = (keeps.addresses.kept (λ x. entry_address x old.entries)
-        (record { so = λ h. held; single = held.single })).single
+    ≡ left) (addresses : KeepsAddresses before after)
+    (moves : after.shared ≡ false → EachWas (PipesMove device device.address ends pipes left) before
+    after) where
+  pub single : IsHeld old before → after.shared ≡ false
+  single held = (addresses.kept (λ x. entry_address x old.entries)
+      (record { so = λ h. held; single = held.single })).single
 
-    same_device : (x : List ℕ) (d : Accepted) → accepted_device_at x new.entries ≡ Some d
-        → accepted_device_at x old.entries ≡ Some d
-    same_device x d e = ap (accepted_device_at x) (sym goes.entries) ∙ e
+  same_device : (x : List ℕ) (d : Accepted) → accepted_device_at x new.entries ≡ Some d
+      → accepted_device_at x old.entries ≡ Some d
+  same_device x d e = ap (accepted_device_at x) (sym goes.entries) ∙ e
 
-    others : IsHeld old before → (x : List ℕ) → is_at (path_cmp path) x ≡ false
-        → InSyncAt x old before → InSyncAt x new after
-    others held x apart l = at_some_port new after x at
-      where
-        at : (j : Location) → x ≡ path_to j → (d : Accepted) (s : State)
-            → accepted_device_at x new.entries ≡ Some d → reach_on after.roots j ≡ true
-            → state_on after.roots j ≡ Some s → PipesInSync (pipes_at x new) s
-        at j e d s found on there =
-            let w : Was (PipesMove device.address ends pipes left) before j s =
-            moves (single held) j s on there in
-            let stood = stood_at x before j s e w in
-            let kept : s ≡ w.before = w.so.others (false_from_ne_true _
-            (λ at. apart_or path x apart (e ∙ sym (stands_there path old before held device stands
-            device.address refl j w.before w.on w.stands at)))) in
-            subst (λ (q : Pipes). PipesInSync q s) (sym (goes.others x apart))
-            (subst (PipesInSync (pipes_at x old)) (sym kept)
-            (l.level d w.before (same_device x d found) stood.0 stood.1))
+  others : IsHeld old before → (x : List ℕ) → is_at (path_cmp path) x ≡ false
+      → InSyncAt x old before → InSyncAt x new after
+  others held x apart l = at_some_port new after x at
+    where
+      at : (j : Location) → x ≡ path_to j → (d : Accepted) (s : State)
+          → accepted_device_at x new.entries ≡ Some d → reach_on after.roots j ≡ true
+          → state_on after.roots j ≡ Some s → PipesInSync d (pipes_at x new) s
+      at j e d s found on there =
+          let w : Was (PipesMove device device.address ends pipes left) before j s =
+          moves (single held) j s on there in
+          let stood = stood_at x before j s e w in
+          let kept : s ≡ w.before = w.so.others (false_from_ne_true _
+          (λ at. apart_or path x apart (e ∙ sym (stands_there path old before held device stands
+          device.address refl j w.before w.on w.stands at)))) in
+          subst (λ (q : Pipes). PipesInSync d q s) (sym (goes.others x apart))
+          (subst (PipesInSync d (pipes_at x old)) (sym kept)
+          (l.level d w.before (same_device x d found) stood.0 stood.1))
 
-    itself : IsHeld old before → ends → InSyncAt path old before → InSyncAt path new after
-    itself held e l = at_some_port new after path at
-      where
-        at : (j : Location) → path ≡ path_to j → (d : Accepted) (s : State)
-            → accepted_device_at path new.entries ≡ Some d → reach_on after.roots j ≡ true
-            → state_on after.roots j ≡ Some s → PipesInSync (pipes_at path new) s
-        at j x d s found on there =
-            let w : Was (PipesMove device.address ends pipes left) before j s =
-            moves (single held) j s on there in
-            let stood = stood_at path before j s x w in
-            let has = held_address old before path device w.before held stands stood.0 stood.1 in
-            subst (λ (q : Pipes). PipesInSync q s) (sym is)
-            (w.so.itself e (eq-eqb (address_of w.before) device.address has)
-            (subst (λ (q : Pipes). PipesInSync q w.before) was
-            (l.level device w.before stands stood.0 stood.1)))
+  itself : IsHeld old before → ends → InSyncAt path old before → InSyncAt path new after
+  itself held e l = at_some_port new after path at
+    where
+      at : (j : Location) → path ≡ path_to j → (d : Accepted) (s : State)
+          → accepted_device_at path new.entries ≡ Some d → reach_on after.roots j ≡ true
+          → state_on after.roots j ≡ Some s → PipesInSync d (pipes_at path new) s
+      at j x d s found on there =
+          let w : Was (PipesMove device device.address ends pipes left) before j s =
+          moves (single held) j s on there in
+          let stood = stood_at path before j s x w in
+          let has = held_address old before path device w.before held stands stood.0 stood.1 in
+          subst (λ (y : Accepted). PipesInSync y (pipes_at path new) s)
+          (same_Some device d (sym stands ∙ same_device path d found))
+          (subst (λ (q : Pipes). PipesInSync device q s) (sym is)
+          (w.so.itself e (eq-eqb (address_of w.before) device.address has)
+          (subst (λ (q : Pipes). PipesInSync device q w.before) was
+          (l.level device w.before stands stood.0 stood.1))))
 
-    pub moved_levels : KeepsInSync path ends old before new after
-    moved_levels = record { worlds = keeps; others = others; itself = itself }
+  pub moved_levels : (Worlds : World → World → Type 0) → Worlds before after
+      → KeepsLevels Worlds path ends old before new after
+  moved_levels Worlds keeps = record { worlds = keeps; others = others; itself = itself }
 
 -- A call that does nothing
 
 level_at-same : (x : List ℕ) (old new : Table) (w : World) → new.entries ≡ old.entries
     → pipes_at x new ≡ pipes_at x old → InSyncAt x old w → InSyncAt x new w
 level_at-same x old new w e same l = record {
-  level = λ device s found on there. subst (λ (q : Pipes). PipesInSync q s) (sym same)
+  level = λ device s found on there. subst (λ (q : Pipes). PipesInSync device q s) (sym same)
       (l.level device s (ap (accepted_device_at x) (sym e) ∙ found) on there);
 }
 
-pub still_levels : (path : List ℕ) (ends : Type 0) (old new : Table) (before after : World)
-    → GoesThrough path old new → pipes_at path new ≡ pipes_at path old → after ≡ before
-    → OnlyTransfers before after → KeepsInSync path ends old before new after
-still_levels path ends old new before after goes same none keeps = record {
+pub still_levels : (Worlds : World → World → Type 0) (path : List ℕ) (ends : Type 0)
+    (old new : Table) (before after : World) → GoesThrough path old new
+    → pipes_at path new ≡ pipes_at path old → after ≡ before → Worlds before after
+    → KeepsLevels Worlds path ends old before new after
+still_levels Worlds path ends old new before after goes same none keeps = record {
   worlds = keeps;
   others = λ held x apart l. subst (InSyncAt x new) (sym none)
       (level_at-same x old new before goes.entries (goes.others x apart) l);
@@ -148,9 +154,9 @@ still_levels path ends old new before after goes same none keeps = record {
 }
 
 -- what a call through the pipes at a path leaves of all of them
-pub all_kept : (path : List ℕ) (ends : Type 0) (old new : Table) (before after : World)
-    → KeepsInSync path ends old before new after → IsHeld old before → ends → AllInSync old before
-    → AllInSync new after
+pub all_kept : {Worlds : World → World → Type 0} (path : List ℕ) (ends : Type 0)
+    (old new : Table) (before after : World) → KeepsLevels Worlds path ends old before new after
+    → IsHeld old before → ends → AllInSync old before → AllInSync new after
 all_kept path ends old new before after k held e all x = by_test (is_at (path_cmp path) x) refl
   where
     by_test : (b : Bool) → is_at (path_cmp path) x ≡ b → InSyncAt x new after
@@ -168,11 +174,12 @@ module _ (table : Table) (old new : World) where
     where
       at : (j : Location) → x ≡ path_to j → (d : Accepted) (s : State)
           → accepted_device_at x table.entries ≡ Some d → reach_on new.roots j ≡ true
-          → state_on new.roots j ≡ Some s → PipesInSync (pipes_at x table) s
+          → state_on new.roots j ≡ Some s → PipesInSync d (pipes_at x table) s
       at j e d s found on there =
           let w : Was StaysAs old j s = was j e s on there in
           let stood = stood_at x old j s e w in
-          still_level (pipes_at x table) w.before s w.so (l.level d w.before found stood.0 stood.1)
+          still_level d (pipes_at x table) w.before s w.so (l.level d w.before found stood.0
+          stood.1)
 
   -- where each device stays as it was
   pub level_stays : EachWas StaysAs old new → (x : List ℕ) → InSyncAt x table old

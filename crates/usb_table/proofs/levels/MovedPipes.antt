@@ -19,9 +19,9 @@ use Rattle.usb_table.proofs.transfers.DevicesKept.{PipeKeeps, clear_keeps, packe
 use Rattle.usb_table.proofs.transfers.DevicesKept.{receive_keeps, send_keeps}
 
 -- each device over a call, where no address was held twice
-abbrev pub EachMoves : ℕ → Type 0 → Pipes → Pipes → World → World → Type 0
-EachMoves address ends pipes left old new = new.shared ≡ false
-    → EachWas (PipesMove address ends pipes left) old new
+abbrev pub EachMoves : Accepted → ℕ → Type 0 → Pipes → Pipes → World → World → Type 0
+EachMoves device address ends pipes left old new = new.shared ≡ false
+    → EachWas (PipesMove device address ends pipes left) old new
 
 -- Where the bus is at work, the answer is not its own
 
@@ -47,7 +47,7 @@ module _ {device : Accepted} {below_hub : Bool} {pipes : FunctionPipes} (pipe le
   -- the pipes that a call leaves
   abbrev pub PipeMoves : Type 0 → ℕ → Type 0
   PipeMoves ends a =
-      EachMoves a ends (Function pipes) (Function (with_pipe left pipes)) old new
+      EachMoves device a ends (Function pipes) (Function (with_pipe left pipes)) old new
 
   pub send_each : pipe.is_in ≡ false → (bytes : List ℕ) (answer : Result (Unit {0}) PipeFault)
       → Sends bytes pipe old answer left new → PipeMoves (new.fault ≡ None) device.address
@@ -57,7 +57,8 @@ module _ {device : Accepted} {below_hub : Bool} {pipes : FunctionPipes} (pipe le
       subst (PipeMoves (new.fault ≡ None)) (addressed pipe of)
       (λ single.
       each_joint (SendLeaves bytes pipe answer left) SameSettings _
-      (λ j s v y. send_moves (new.fault ≡ None) pipes placed pipe left of.at made bytes answer j s v
+      (λ j s v y. send_moves device (new.fault ≡ None) pipes placed pipe left of.at made bytes
+      answer j s v
       known out y) old new (send_leaves bytes pipe answer left old new x single)
       (kept.worlds.devices.same single))
 
@@ -69,7 +70,8 @@ module _ {device : Accepted} {below_hub : Bool} {pipes : FunctionPipes} (pipe le
       subst (PipeMoves (new.fault ≡ None)) (addressed pipe of)
       (λ single.
       each_joint (ReceiveLeaves pipe answer left) SameSettings _
-      (λ j s v y. receive_moves (new.fault ≡ None) pipes placed pipe left of.at made answer j s v
+      (λ j s v y. receive_moves device (new.fault ≡ None) pipes placed pipe left of.at made answer j
+      s v
       known into y) old new
       (receive_leaves wanted pipe answer left old new (some_bytes pipe of) x single)
       (kept.worlds.devices.same single))
@@ -82,7 +84,8 @@ module _ {device : Accepted} {below_hub : Bool} {pipes : FunctionPipes} (pipe le
       subst (PipeMoves (new.fault ≡ None)) (addressed pipe of)
       (λ single.
       each_joint (PacketLeaves pipe answer left) SameSettings _
-      (λ j s v y. packet_moves (new.fault ≡ None) pipes placed pipe left of.at made answer j s v
+      (λ j s v y. packet_moves device (new.fault ≡ None) pipes placed pipe left of.at made answer j
+      s v
       known into y) old new
       (packet_leaves pipe answer left old new (some_bytes pipe of) x single)
       (kept.worlds.devices.same single))

@@ -2,14 +2,17 @@
 use Rattle.std.proofs.Common.{◌≡◌, ◌∙◌, refl, sym, ap, subst, arith, Bool, true, false, ℕ, ◌==◌}
 use Rattle.std.proofs.Common.{◌≤◌, ◌<◌, ◌&&◌, not, if◌then◌else◌, List, [], length, Option, None}
 use Rattle.std.proofs.Common.{Some, map, min, take, get_or, nat_lt, slice_index, slice_index_or}
-use Rattle.std.proofs.Common.{is_some}
+use Rattle.std.proofs.Common.{is_some, inl, inr, ◌⊎◌}
 use Rattle.std.proofs.lemmas.Bool.{and_parts}
 use Rattle.std.proofs.lemmas.Bool.Decides.{nat_tests}
-use Rattle.std.proofs.lemmas.List.{get_or-map, get_or_past}
+use Rattle.std.proofs.lemmas.Bool.{cases_lt}
+use Rattle.std.proofs.lemmas.List.{get_or-map, get_or-replicate, get_or_past}
 use Rattle.std.proofs.lemmas.List.FromFn.{get_or-range_with_len}
 use Rattle.usb_request.specs.{HUB_CLASS}
 use Rattle.usb_descriptor.specs.{UsableEndpoint, max_of_usable, status_endpoint_of, usable_of}
-use Rattle.usb_descriptor.proofs.Interface.{usable_of-small}
+use Rattle.usb_descriptor.specs.{usable_under}
+use Rattle.usb_descriptor.specs.{default_settings}
+use Rattle.usb_descriptor.proofs.Interface.{length-default_settings, usable_under-small}
 use Rattle.usb_device.specs.{EndpointState, end_numbers, served_at, tells_changes, text_of}
 use Rattle.usb_device.specs.{text_with}
 use Rattle.usb_device.specs.{total_of, PollAt}
@@ -23,6 +26,7 @@ use Rattle.usb_enum.specs.{Accepted, HubFacts, IsAs, texts_of, is_good_hub, give
 use Rattle.usb_enum.specs.{configuration_of, is_hub_device, IsOwn}
 use Rattle.usb_enum.specs.declared.finding.Finding.TheVariants.{Device}
 use Rattle.usb_table.specs.{Function, FitsOut, FitsIn, PipesInSync, new_status, pipe_at}
+use Rattle.usb_table.specs.{IsPlace, lost_at, none_lost}
 use Rattle.usb_table.specs.{AreFunctionPipes, IsPipe, first_endpoint, first_number, new_function}
 use Rattle.usb_table.specs.{new_pipe, new_pipes, number_of, row_of_ends, usable_end}
 use Rattle.usb_enum.proofs.Interface.{AcceptsChosen, HasChosen, accepts, has_chosen}
@@ -33,7 +37,7 @@ use Rattle.usb_pipe.proofs.Interface.{is_some_byte}
 abbrev made_end : Target → Bool → (ℕ → Option UsableEndpoint) → ℕ → Option PipeState
 made_end target is_in ends n = new_pipe target is_in n (ends n)
 
-row_of_ends-at : (target : Target) (is_in : Bool) (ends : ℕ → Option UsableEndpoint)
+pub row_of_ends-at : (target : Target) (is_in : Bool) (ends : ℕ → Option UsableEndpoint)
     → ((e : ℕ) → 16 ≤ e → ends e ≡ None) → (e : ℕ)
     → get_or (row_of_ends target is_in ends) e None ≡ new_pipe target is_in e (ends e)
 row_of_ends-at target is_in ends none e = by_size (nat_lt e 16) refl
@@ -59,7 +63,9 @@ none_beyond device is_in e beyond = by_end (usable_end device is_in e) refl
         → usable_end device is_in e ≡ None
     by_end None is = is
     by_end (Some end) is =
-        let small = (usable_of-small device.low is_in e (configuration_of device) end is).1 in
+        let small =
+        (usable_under-small default_settings device.low is_in e (configuration_of device) end is).1
+        in
         absurd (omega (arith, small, beyond))
 
 pub new_at : (device : Accepted) (below_hub is_in : Bool) (e : ℕ)
@@ -70,22 +76,40 @@ new_at device below_hub true e = row_of_ends-at (target_of device below_hub) tru
 new_at device below_hub false e = row_of_ends-at (target_of device below_hub) false
     (usable_end device false) (none_beyond device false) e
 
+none_marked : (e : ℕ) → get_or none_lost e None ≡ None
+none_marked e = by_size (cases_lt e 16)
+  where
+    by_size : (e < 16) ⊎ (16 ≤ e) → get_or none_lost e None ≡ None
+    by_size (inl h) = get_or-replicate 16 e None None h
+    by_size (inr h) = get_or_past none_lost e None h
+
+pub new_lost : (device : Accepted) (below_hub is_in : Bool) (e : ℕ)
+    → lost_at is_in e (new_function device below_hub) ≡ None
+new_lost device below_hub true e = none_marked e
+new_lost device below_hub false e = none_marked e
+
+-- a new pipe is to its endpoint
+pub new_pipe_fits : (device : Accepted) (below_hub is_in : Bool) (e : ℕ)
+    (end : Option UsableEndpoint)
+    → IsPipe device below_hub is_in e end (new_pipe (target_of device below_hub) is_in e end)
+new_pipe_fits device below_hub is_in e None = tt
+new_pipe_fits device below_hub is_in e (Some end) =
+    record { target = refl; number = refl; kind = refl; max = refl; way = refl }
+
 pub new_function_fits : (device : Accepted) (below_hub : Bool) → is_some device.hub ≡ false
     → AreFunctionPipes device below_hub (new_function device below_hub)
 new_function_fits device below_hub function = record {
   function = function;
-  each = λ is_in e. subst (IsPipe device below_hub is_in e (usable_end device is_in e))
-      (sym (new_at device below_hub is_in e)) (by_end is_in e (usable_end device is_in e));
+  settings = default_settings;
+  all = length-default_settings;
+  each = λ is_in e. subst (λ lost. IsPlace device below_hub is_in e (usable_end device is_in e) lost
+      (pipe_at is_in e (new_function device below_hub))) (sym (new_lost device below_hub is_in e))
+      (subst (IsPipe device below_hub is_in e (usable_end device is_in e))
+      (sym (new_at device below_hub is_in e))
+      (new_pipe_fits device below_hub is_in e (usable_end device is_in e)));
   first = by_way;
 }
   where
-    by_end : (is_in : Bool) (e : ℕ) (end : Option UsableEndpoint)
-        → IsPipe device below_hub is_in e end
-        (new_pipe (target_of device below_hub) is_in e end)
-    by_end is_in e None = tt
-    by_end is_in e (Some end) =
-        record { target = refl; number = refl; kind = refl; max = refl; way = refl }
-
     by_way : (is_in : Bool) → first_number is_in (new_function device below_hub)
         ≡ number_of (first_endpoint is_in device)
     by_way true = refl
@@ -154,7 +178,7 @@ module _ (tier supply : ℕ) (device : Accepted) (below_hub : Bool) (s : State)
     tells : tells_changes s.spec s.registers ≡ true
     tells = ap (λ b. b && not (s.registers.configuration == 0)) has_ports ∙ some_value
 
-    status_level : (o : Option (ℕ × ℕ)) → PipesInSync (new_status device below_hub o) s
+    status_level : (o : Option (ℕ × ℕ)) → PipesInSync device (new_status device below_hub o) s
     status_level None = tt
     status_level (Some endpoint) = record {
       tells = tells;
@@ -196,15 +220,19 @@ module _ (tier supply : ℕ) (device : Accepted) (below_hub : Bool) (s : State)
     served_is : (is_in : Bool) (e : ℕ)
         → served_at s.spec s.registers is_in e ≡ usable_end device is_in e
     served_is is_in e =
-        ap (λ b. if b then None else usable_of s.spec.low is_in e (text_of s.spec s.registers))
+        ap (λ b. if b then None
+        else usable_under s.registers.settings s.spec.low is_in e (text_of s.spec s.registers))
         zero_not
+        ∙ ap (λ settings. usable_under settings s.spec.low is_in e (text_of s.spec s.registers))
+        fresh.settings
         ∙ ap (λ low. usable_of low is_in e (text_of s.spec s.registers)) (sym listed.low)
         ∙ ap (usable_of device.low is_in e) text_same
 
     not_zero : (is_in : Bool) (e : ℕ) (end : UsableEndpoint)
         → usable_end device is_in e ≡ Some end → (e == 0) ≡ false
     not_zero is_in e end usable =
-        let small = (usable_of-small device.low is_in e (configuration_of device) end usable).0 in
+        let small = (usable_under-small default_settings device.low is_in e
+        (configuration_of device) end usable).0 in
         grind (arith, nat_tests, small)
 
     out_level : (e : ℕ) → FitsOut (pipe_at false e (new_function device below_hub)) s
@@ -244,12 +272,20 @@ module _ (tier supply : ℕ) (device : Accepted) (below_hub : Bool) (s : State)
           },
         )
 
-  by_kind : (b : Bool) → is_some device.hub ≡ b → PipesInSync (if b then new_status device below_hub
+  by_kind : (b : Bool) → is_some device.hub ≡ b → PipesInSync device
+      (if b then new_status device below_hub
       (status_endpoint_of (configuration_of device))
       else Function (new_function device below_hub)) s
   by_kind true e = status_level e (status_endpoint_of (configuration_of device))
-  by_kind false e = record { outs = out_level e; ins = in_level e }
+  by_kind false e = record {
+    text = text_same e;
+    low = sym listed.low;
+    quiet = quiet e;
+    settings = ap length fresh.settings ∙ length-default_settings;
+    outs = out_level e;
+    ins = in_level e;
+  }
 
   -- of a device whose finding is its own, and that keeps the rules of devices
-  pub new_level : PipesInSync (new_pipes (Device device) below_hub) s
+  pub new_level : PipesInSync device (new_pipes (Device device) below_hub) s
   new_level = by_kind (is_some device.hub) refl

@@ -10,10 +10,11 @@ use Rattle.slab.specs.Slab.{Slab, get, with_value}
 use Rattle.slab.proofs.SlabLemmas.{Updates-with_value}
 use Rattle.usb_port.specs.{path_cmp}
 use Rattle.usb_enum.specs.{Finding}
+use Rattle.usb_table.specs.{accepted_device_at}
 use Rattle.usb_table.specs.{Pipes, Absent, accepted_device_of, Entry, IsPiped, TableSlots, PathKeys}
 use Rattle.usb_table.specs.{AddressKeys, key_of_path, under, entries_of, findings, pipings}
 use Rattle.usb_table.specs.{table_of, AreIndexes, ArePiped, ArePlaced, is_below_hub, finding_at}
-use Rattle.usb_table.specs.{ArePipesIf, pipes_made, pipes_at, ArePipesAt, GoesThrough}
+use Rattle.usb_table.specs.{ArePipesIf, ArePipesOf, pipes_made, pipes_at, ArePipesAt, GoesThrough}
 use Rattle.usb_table.proofs.levels.KeptPipes.{same_keep}
 use Rattle.usb_table.proofs.ThroughPipes.{placed_of}
 use Rattle.usb_table.proofs.entries.Keys.{entries_of-key, entries_of-no_key, findings-standing}
@@ -65,6 +66,21 @@ module _ (standings : TableSlots) (paths : PathKeys) (addresses : AddressKeys)
   pub are_pipes_at : ArePipesAt path (table_of standings paths)
   are_pipes_at = are_by (key_of_path paths path) refl
 
+-- and the device that was found there
+pub device_found : (standings : TableSlots) (path : List ℕ) (paths : PathKeys) (key : ℕ) (s : Entry)
+    → key_of_path paths path ≡ Some key → standings key ≡ Some s
+    → accepted_device_at path (table_of standings paths).entries
+    ≡ accepted_device_of (Some s.finding)
+device_found standings path paths key s at stands =
+    ap accepted_device_of (entries_of-key (findings standings) path paths key s.finding at
+    (findings-standing standings key s stands))
+
+pub device_none : (standings : TableSlots) (path : List ℕ) (paths : PathKeys)
+    → key_of_path paths path ≡ None
+    → accepted_device_at path (table_of standings paths).entries ≡ None
+device_none standings path paths none =
+    ap accepted_device_of (entries_of-no_key (findings standings) path paths none)
+
 -- A call leaves other pipes at the path
 
 -- what is so of the table after it, and of the pipes
@@ -82,7 +98,7 @@ module _ (path : List ℕ) (standings after : TableSlots) (paths : PathKeys)
     (at : key_of_path paths path ≡ Some key) (held : standings key ≡ Some s)
     (changed : after key ≡ Some (record s { pipes = left }))
     (others : (k : ℕ) → k ≢ key → after k ≡ standings k)
-    (made : pipes_made left ≡ pipes_made s.pipes) where
+    (fits : ArePipesOf s.finding (is_below_hub path) left) where
   same_finding : (k : ℕ) → findings after k ≡ findings standings k
   same_finding k = elim (cases_eq k key) [
     | inl e ↦
@@ -96,8 +112,11 @@ module _ (path : List ℕ) (standings after : TableSlots) (paths : PathKeys)
     | inl e ↦
         let is =
         same_Some (record s { pipes = left }) x (sym changed ∙ ap after (sym e) ∙ stands) in
-        let was = are.1 q key s (h ∙ ap Some e) held in
-        subst (IsPiped q) is (was.0, same_keep s.finding s.pipes left made (is_below_hub q) was.1)
+        let there : path ≡ q = are.0.once q path key (h ∙ ap Some e) at in
+        subst (IsPiped q) is (
+          (are.1 path key s at held).0,
+          subst (λ r. ArePipesOf s.finding (is_below_hub r) left) there fits,
+        )
     | inr ne ↦ are.1 q k x h (sym (others k ne) ∙ stands)
   ]
 
@@ -135,7 +154,20 @@ module _ (path : List ℕ) (standings after : TableSlots) (paths : PathKeys)
         is = pipes_found after path paths key _ at changed;
       }
 
--- the entry under its key is written back
+-- the entry under its key is written back, with pipes to the same device
+pub set_slot : (path : List ℕ) (slab : Slab Entry) (paths : PathKeys)
+    (addresses : AddressKeys) (key : ℕ) (s : Entry) (left : Pipes)
+    → AreIndexes (findings (get slab)) paths addresses × ArePiped (get slab) paths
+    → key_of_path paths path ≡ Some key → get slab key ≡ Some s
+    → ArePipesOf s.finding (is_below_hub path) left
+    → CallThrough path (get slab) (get (with_value slab key (record s { pipes = left }))) paths
+    addresses s.pipes left
+set_slot path slab paths addresses key s left are at held fits =
+    let updates = Updates-with_value slab key (record s { pipes = left }) (ap is_some held) in
+    through path (get slab) _ paths addresses key s left are at held updates.changed updates.others
+    fits
+
+-- where the pipes are to the same endpoints
 pub through_slot : (path : List ℕ) (slab : Slab Entry) (paths : PathKeys)
     (addresses : AddressKeys) (key : ℕ) (s : Entry) (left : Pipes)
     → AreIndexes (findings (get slab)) paths addresses × ArePiped (get slab) paths
@@ -144,9 +176,8 @@ pub through_slot : (path : List ℕ) (slab : Slab Entry) (paths : PathKeys)
     → CallThrough path (get slab) (get (with_value slab key (record s { pipes = left }))) paths
     addresses s.pipes left
 through_slot path slab paths addresses key s left are at held made =
-    let updates = Updates-with_value slab key (record s { pipes = left }) (ap is_some held) in
-    through path (get slab) _ paths addresses key s left are at held updates.changed updates.others
-    made
+    set_slot path slab paths addresses key s left are at held
+    (same_keep s.finding s.pipes left made (is_below_hub path) (are.1 path key s at held).1)
 
 -- nothing stands there, and nothing changes
 pub through_none : (path : List ℕ) (standings : TableSlots) (paths : PathKeys)

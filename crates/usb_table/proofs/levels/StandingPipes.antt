@@ -6,8 +6,8 @@ use Rattle.std.proofs.Common.{get_or}
 use Rattle.std.proofs.Common.{slice_set, Option, Some, None, IfSome, if◌then◌else◌}
 use Rattle.std.specs.Option.{option_map}
 use Rattle.usb_request.specs.{DIRECTION_IN}
-use Rattle.usb_descriptor.specs.{UsableEndpoint}
-use Rattle.usb_descriptor.proofs.Interface.{usable_of-small}
+use Rattle.usb_descriptor.specs.{EndpointKind, UsableEndpoint}
+use Rattle.usb_descriptor.proofs.Interface.{usable_under-small}
 use Rattle.usb_device.specs.{with_at}
 use Rattle.usb_device.proofs.Interface.{at_mapped, at_other, at_same}
 use Rattle.usb_transaction.specs.{Target}
@@ -15,10 +15,12 @@ use Rattle.usb_pipe.specs.{PipeState, pipe_made}
 use Rattle.usb_enum.specs.{Accepted, configuration_of}
 use Rattle.usb_table.specs.{AreFunctionPipes, AreInPlace, At, EndpointChoice, FirstBulk}
 use Rattle.usb_table.specs.{FunctionPipes}
-use Rattle.usb_table.specs.{IsEndPipe, IsPipe, first_number, first_pipe, function_made, gives_bytes}
+use Rattle.usb_table.specs.{end_under, first_lost, first_unclear, IsPlace, lost_at, lost_if}
+use Rattle.usb_table.specs.{moves_bulk, unclear}
+use Rattle.usb_table.specs.{IsEndPipe, first_number, first_pipe, function_made, gives_bytes}
 use Rattle.usb_table.specs.{is_bulk_kind}
 use Rattle.usb_table.specs.{gives_reports, only_if, pipe_at, pipe_if, pipe_to, polls_through}
-use Rattle.usb_table.specs.{receives_through, row_made, sends_through, takes_bytes, usable_end}
+use Rattle.usb_table.specs.{receives_through, row_made, sends_through, takes_bytes}
 use Rattle.usb_table.specs.{way_to}
 use Rattle.usb_table.specs.{with_pipe, with_rest}
 
@@ -96,6 +98,17 @@ module _ (pipe : PipeState) (pipes : FunctionPipes) where
       by_ways false true = refl
       by_ways false false = refl
 
+  -- the marks stay
+  pub lost_with : (is_in : Bool) (e : ℕ)
+      → lost_at is_in e (with_pipe pipe pipes) ≡ lost_at is_in e pipes
+  lost_with is_in e = by_ways pipe.is_in is_in
+    where
+      by_ways : (b c : Bool) → lost_at c e (with_way b) ≡ lost_at c e pipes
+      by_ways true true = refl
+      by_ways true false = refl
+      by_ways false true = refl
+      by_ways false false = refl
+
   -- if it stood there, nothing changes
   pub with_same : pipe_at pipe.is_in pipe.ep pipes ≡ Some pipe → with_pipe pipe pipes ≡ pipes
   with_same = by_way pipe.is_in
@@ -115,6 +128,16 @@ module _ (pipe : PipeState) (pipes : FunctionPipes) where
           (row_made-with pipe.ep was pipe pipes.ins at same)
       by_way false at = ap (λ row. record (function_made pipes) { outs = row })
           (row_made-with pipe.ep was pipe pipes.outs at same)
+
+pub lost_first : (is_in : Bool) (pipe : PipeState) (pipes : FunctionPipes)
+    → first_lost is_in (with_pipe pipe pipes) ≡ first_lost is_in pipes
+lost_first is_in pipe pipes =
+    ap (λ o. lost_if is_in o (with_pipe pipe pipes)) (first_with pipe pipes is_in)
+    ∙ by_number (first_number is_in pipes)
+  where
+    by_number : (o : Option ℕ) → lost_if is_in o (with_pipe pipe pipes) ≡ lost_if is_in o pipes
+    by_number None = refl
+    by_number (Some e) = lost_with pipe pipes is_in e
 
 -- what a call leaves of a pipe is to the same endpoint
 
@@ -193,11 +216,15 @@ at_picks is_in e pipes pipe placed at =
 pub to_picks : (a : ℕ) → Picks (pipe_to a)
 to_picks a = at_picks (nat_le DIRECTION_IN a) (a % DIRECTION_IN)
 
-pub first_picks : (is_in : Bool) → Picks (first_pipe is_in)
-first_picks is_in pipes pipe placed h = by_number (first_number is_in pipes) refl h
+-- the one at the number of the first bulk endpoint
+abbrev at_first : Bool → FunctionPipes → Option PipeState
+at_first is_in pipes = pipe_if is_in (first_number is_in pipes) pipes
+
+number_picks : (is_in : Bool) → Picks (at_first is_in)
+number_picks is_in pipes pipe placed h = by_number (first_number is_in pipes) refl h
   where
     by_number : (o : Option ℕ) → first_number is_in pipes ≡ o → pipe_if is_in o pipes ≡ Some pipe
-        → PickedAt (first_pipe is_in) pipes pipe
+        → PickedAt (at_first is_in) pipes pipe
     by_number None is at = absurd (cc at)
     by_number (Some e) is at =
         let x = at_picks is_in e pipes pipe placed at in
@@ -231,6 +258,13 @@ only_picks test still pick picks pipes pipe placed h =
           ∙ ap (λ b. if b then Some left else None) (still pipe left same ∙ one.1);
     }
 
+bulk_still : (pipe left : PipeState) → pipe_made left ≡ pipe_made pipe
+    → moves_bulk left ≡ moves_bulk pipe
+bulk_still pipe left same = ap moves_bulk same
+
+pub first_picks : (is_in : Bool) → Picks (first_pipe is_in)
+first_picks is_in = only_picks moves_bulk bulk_still (at_first is_in) (number_picks is_in)
+
 takes_still : (pipe left : PipeState) → pipe_made left ≡ pipe_made pipe
     → takes_bytes left ≡ takes_bytes pipe
 takes_still pipe left same = ap takes_bytes same
@@ -259,7 +293,8 @@ polls_picks a = only_picks gives_reports (λ pipe left same. ap gives_reports sa
 
 pub first_way : (is_in : Bool) (pipes : FunctionPipes) (pipe : PipeState) → AreInPlace pipes
     → first_pipe is_in pipes ≡ Some pipe → pipe.is_in ≡ is_in
-first_way is_in pipes pipe placed h = by_number (first_number is_in pipes) h
+first_way is_in pipes pipe placed h =
+    by_number (first_number is_in pipes) (only_some moves_bulk (at_first is_in pipes) pipe h).0
   where
     by_number : (o : Option ℕ) → pipe_if is_in o pipes ≡ Some pipe → pipe.is_in ≡ is_in
     by_number None at = absurd (cc at)
@@ -296,14 +331,16 @@ polls_way a pipes pipe h =
 pub in_place : (device : Accepted) (below_hub : Bool) (pipes : FunctionPipes)
     → AreFunctionPipes device below_hub pipes → AreInPlace pipes
 in_place device below_hub pipes are is_in e =
-    by_pipe (usable_end device is_in e) (pipe_at is_in e pipes) (are.each is_in e)
+    by_pipe (end_under are.settings device is_in e) (lost_at is_in e pipes) (pipe_at is_in e pipes)
+    (are.each is_in e)
   where
-    by_pipe : (end : Option UsableEndpoint) (o : Option PipeState)
-        → IsPipe device below_hub is_in e end o
+    by_pipe : (end : Option UsableEndpoint) (lost : Option EndpointKind) (o : Option PipeState)
+        → IsPlace device below_hub is_in e end lost o
         → IfSome o (λ p. (p.is_in ≡ is_in) × (p.ep ≡ e))
-    by_pipe end None is = tt
-    by_pipe None (Some pipe) is = absurd is
-    by_pipe (Some end) (Some pipe) is = (is.way, is.number)
+    by_pipe end lost None is = tt
+    by_pipe None None (Some pipe) is = absurd is
+    by_pipe (Some end) None (Some pipe) is = (is.way, is.number)
+    by_pipe end (Some kind) (Some pipe) is = absurd (cc is)
 
 -- one of them
 pub record IsPipeOf (device : Accepted) (below_hub : Bool) (pipes : FunctionPipes)
@@ -311,22 +348,27 @@ pub record IsPipeOf (device : Accepted) (below_hub : Bool) (pipes : FunctionPipe
   pub are : AreFunctionPipes device below_hub pipes
   pub at : pipe_at pipe.is_in pipe.ep pipes ≡ Some pipe
   pub end : UsableEndpoint
-  pub usable : usable_end device pipe.is_in pipe.ep ≡ Some end
+  pub usable : end_under are.settings device pipe.is_in pipe.ep ≡ Some end
   pub is : IsEndPipe device below_hub pipe.is_in pipe.ep end pipe
 
 pub pipe_of : (device : Accepted) (below_hub : Bool) (pipes : FunctionPipes) (pipe : PipeState)
     → AreFunctionPipes device below_hub pipes → pipe_at pipe.is_in pipe.ep pipes ≡ Some pipe
     → IsPipeOf device below_hub pipes pipe
-pipe_of device below_hub pipes pipe are at = by_end (usable_end device pipe.is_in pipe.ep) refl
-    (subst (IsPipe device below_hub pipe.is_in pipe.ep (usable_end device pipe.is_in pipe.ep)) at
+pipe_of device below_hub pipes pipe are at =
+    by_end (end_under are.settings device pipe.is_in pipe.ep) refl
+    (lost_at pipe.is_in pipe.ep pipes)
+    (subst (IsPlace device below_hub pipe.is_in pipe.ep
+    (end_under are.settings device pipe.is_in pipe.ep) (lost_at pipe.is_in pipe.ep pipes)) at
     (are.each pipe.is_in pipe.ep))
   where
-    by_end : (o : Option UsableEndpoint) → usable_end device pipe.is_in pipe.ep ≡ o
-        → IsPipe device below_hub pipe.is_in pipe.ep o (Some pipe)
+    by_end : (o : Option UsableEndpoint) → end_under are.settings device pipe.is_in pipe.ep ≡ o
+        → (lost : Option EndpointKind)
+        → IsPlace device below_hub pipe.is_in pipe.ep o lost (Some pipe)
         → IsPipeOf device below_hub pipes pipe
-    by_end None usable is = absurd is
-    by_end (Some end) usable is =
+    by_end None usable None is = absurd is
+    by_end (Some end) usable None is =
         record { are = are; at = at; end = end; usable = usable; is = is }
+    by_end o usable (Some kind) is = absurd (cc is)
 
 module _ {device : Accepted} {below_hub : Bool} {pipes : FunctionPipes} (pipe : PipeState)
     (of : IsPipeOf device below_hub pipes pipe) where
@@ -335,12 +377,13 @@ module _ {device : Accepted} {below_hub : Bool} {pipes : FunctionPipes} (pipe : 
 
   pub far_end : pipe.ep ≢ 0
   far_end =
-      let small = (usable_of-small device.low pipe.is_in pipe.ep (configuration_of device) of.end
-      of.usable).0 in omega (arith, small)
+      let small = (usable_under-small of.are.settings device.low pipe.is_in pipe.ep
+      (configuration_of device) of.end of.usable).0 in omega (arith, small)
 
   pub some_bytes : 1 ≤ pipe.max
   some_bytes = subst (λ n. 1 ≤ n) (sym of.is.max)
-      (usable_of-small device.low pipe.is_in pipe.ep (configuration_of device) of.end of.usable).2
+      (usable_under-small of.are.settings device.low pipe.is_in pipe.ep (configuration_of device)
+      of.end of.usable).2
 
 -- What is left of a pipe, if there is one
 
@@ -397,9 +440,9 @@ rest_same pick picks pipes placed (Some pipe) at =
     with_same pipe pipes (picks pipes pipe placed at).at
 
 -- a pipe of the other direction is not the first bulk one of this one
-first_apart : (is_in : Bool) (left : PipeState) (pipes : FunctionPipes)
-    → (left.is_in ≡ is_in → ⊥) → first_pipe is_in (with_pipe left pipes) ≡ first_pipe is_in pipes
-first_apart is_in left pipes apart =
+number_apart : (is_in : Bool) (left : PipeState) (pipes : FunctionPipes)
+    → (left.is_in ≡ is_in → ⊥) → at_first is_in (with_pipe left pipes) ≡ at_first is_in pipes
+number_apart is_in left pipes apart =
     ap (λ o. pipe_if is_in o (with_pipe left pipes)) (first_with left pipes is_in)
     ∙ by_number (first_number is_in pipes)
   where
@@ -412,7 +455,17 @@ pub first_beside : (is_in other : Bool) (rest : Option PipeState) (pipes : Funct
     → first_pipe is_in (with_rest rest pipes) ≡ first_pipe is_in pipes
 first_beside is_in other None pipes way apart = refl
 first_beside is_in other (Some left) pipes way apart =
-    first_apart is_in left pipes (λ same. apart (sym way ∙ same))
+    ap (only_if moves_bulk) (number_apart is_in left pipes (λ same. apart (sym way ∙ same)))
+
+-- nor does it change whether the halt of the first one can be cleared
+pub unclear_beside : (is_in other : Bool) (rest : Option PipeState) (pipes : FunctionPipes)
+    → IfSome rest (λ (pipe : PipeState). pipe.is_in ≡ other) → (other ≡ is_in → ⊥)
+    → first_unclear is_in (with_rest rest pipes) ≡ first_unclear is_in pipes
+unclear_beside is_in other None pipes way apart = refl
+unclear_beside is_in other (Some left) pipes way apart =
+    ap (λ o. unclear o (first_lost is_in (with_pipe left pipes)))
+    (number_apart is_in left pipes (λ same. apart (sym way ∙ same)))
+    ∙ ap (unclear (at_first is_in pipes)) (lost_first is_in left pipes)
 
 -- The pipe to an address, by its direction
 

@@ -11,7 +11,7 @@ use Rattle.usb_enum.specs.{Accepted}
 use Rattle.usb_table.specs.declared.fault.TableFault.TheVariants as table_fault
 use Rattle.usb_table.specs.{TableFault, Transfer, TransferFault, GaveBytes, GaveBy, TransfersAt}
 use Rattle.usb_table.specs.{Collected, EndpointChoice, bytes_in, accepted_device_at, is_below_hub}
-use Rattle.usb_table.specs.{PipesInSync, FitsIn, IsHeld, InSyncAt, Table, pipes_at, ArePipesAt}
+use Rattle.usb_table.specs.{PipesInSyncIf, FitsIn, IsHeld, InSyncAt, Table, pipes_at, ArePipesAt}
 use Rattle.usb_table.specs.{PipesReceived, ReceivedThrough, receives_through, table_answer, through}
 use Rattle.usb_table.specs.{with_pipe}
 use Rattle.usb_table.proofs.levels.FittingPipes.{in_of}
@@ -21,7 +21,9 @@ use Rattle.usb_table.proofs.levels.MovedPipes.{known_left}
 use Rattle.usb_table.proofs.transfers.PathTransfers.{PathReaches, answers_there, changes_there}
 use Rattle.usb_table.proofs.transfers.PathTransfers.{done_through, levels_there, none_changes}
 use Rattle.usb_table.proofs.transfers.PathTransfers.{not_bus}
+use Rattle.usb_table.proofs.transfers.PathTransfers.{reaches_synced}
 use Rattle.usb_table.proofs.ThroughPipes.{through_pipes}
+use Rattle.usb_table.specs.{receives_miss}
 
 bytes_through : (answer : Result (Vec ℕ) PipeFault) (result : Result (Vec ℕ) TableFault)
     → result ≡ table_answer answer → bytes_in answer ≡ bytes_in result
@@ -96,10 +98,10 @@ module _ (path : List ℕ) (packets : ℕ) (old new : Table) (before after : Wor
       → Collected path choice (is_ok result) packets (bytes_in result) old before new after
   received_collects choice result other held level single are x =
       let g =
-      through_pipes (receives_through choice) (receives_picks choice)
+      through_pipes (receives_through choice) (receives_miss choice) (receives_picks choice)
       (λ p. ReceivedThrough p packets) (λ p o r l w z. z.same) before result after
       (accepted_device_at path old.entries) (is_below_hub path)
-      (λ p l. PathReaches path before (PipesInSync p)
+      (λ p l. PathReaches path before (PipesInSyncIf (accepted_device_at path old.entries) p)
       → Gives (is_ok result) (bytes_in result) (through (receives_through choice) p)
       (through (receives_through choice) l))
       (λ pipes fault none e same l.
@@ -111,7 +113,8 @@ module _ (path : List ℕ) (packets : ℕ) (old new : Table) (before after : Wor
       let into = receives_way choice pipes pipe placed w.picked in
       let known = known_left y.answer left (not_bus y.answer result y.told other) in
       let fits : PathReaches path before (FitsIn (Some pipe)) =
-      λ s on there. in_of (Unit {0}) pipes placed pipe left w.of.at w.made s into (l s on there) in
+      λ s on there. in_of device (Unit {0}) pipes placed pipe left w.of.at w.made s into
+      (reaches_synced path before device _ found _ l s on there) in
       subst (λ p. Gives (is_ok result) (bytes_in result) p
       (receives_through choice (with_pipe left pipes))) (sym w.picked)
       (subst (λ r. Gives (is_ok result) (bytes_in result) (Some pipe) r) (sym w.again)

@@ -9,14 +9,17 @@ use Rattle.usb_pipe.specs.{PipeFault, PipeState, Sends, OutPipeInSync, SendLeave
 use Rattle.usb_pipe.proofs.Interface.{send_leaves, who_sends}
 use Rattle.usb_enum.specs.{Accepted}
 use Rattle.usb_table.specs.{TableFault, Transfer, TransferFault, TookBytes, Delivered}
-use Rattle.usb_table.specs.{accepted_device_at, is_below_hub, PipesInSync, IsHeld, InSyncAt, Table}
+use Rattle.usb_table.specs.{accepted_device_at, is_below_hub, PipesInSyncIf, IsHeld, InSyncAt}
+use Rattle.usb_table.specs.{Table}
 use Rattle.usb_table.specs.{EndpointChoice, pipes_at, ArePipesAt, OnlySinkOf, PipesSent}
 use Rattle.usb_table.specs.{SentThrough, sends_through, sink_of, through, TransfersAt}
 use Rattle.usb_table.proofs.levels.FittingPipes.{out_of}
 use Rattle.usb_table.proofs.levels.StandingPipes.{addressed, in_place, sends_picks, sends_way}
 use Rattle.usb_table.proofs.transfers.PathTransfers.{PathReaches, answers_there, changes_there}
 use Rattle.usb_table.proofs.transfers.PathTransfers.{done_through, levels_there, none_changes}
+use Rattle.usb_table.proofs.transfers.PathTransfers.{reaches_synced}
 use Rattle.usb_table.proofs.ThroughPipes.{through_pipes}
+use Rattle.usb_table.specs.{sends_miss}
 
 module _ (path bytes : List ℕ) (old new : Table) (before after : World) where
   -- they were sent through a pipe, if there is one
@@ -99,10 +102,11 @@ module _ (path bytes : List ℕ) (old new : Table) (before after : World) where
       → Delivered path choice (is_ok result) bytes old before new after
   sent_delivers choice result held level single are x =
       let t =
-      through_pipes (sends_through choice) (sends_picks choice) (λ p. SentThrough p bytes)
+      through_pipes (sends_through choice) (sends_miss choice) (sends_picks choice)
+      (λ p. SentThrough p bytes)
       (λ p o r l w z. z.same) before result after
       (accepted_device_at path old.entries) (is_below_hub path)
-      (λ p l. PathReaches path before (PipesInSync p)
+      (λ p l. PathReaches path before (PipesInSyncIf (accepted_device_at path old.entries) p)
       → Takes (through (sends_through choice) p) (is_ok result))
       (λ pipes fault none e same l.
       not_sent result (through (sends_through choice) pipes) fault e same)
@@ -110,7 +114,8 @@ module _ (path bytes : List ℕ) (old new : Table) (before after : World) where
       let placed = in_place device (is_below_hub path) pipes w.of.are in
       let out = sends_way choice pipes pipe placed w.picked in
       let fits : PathReaches path before (OutPipeInSync pipe) =
-      λ s on there. out_of (Unit {0}) pipes placed pipe left w.of.at w.made s out (l s on there) in
+      λ s on there. out_of device (Unit {0}) pipes placed pipe left w.of.at w.made s out
+      (reaches_synced path before device _ found _ l s on there) in
       subst (λ p. Takes p (is_ok result)) (sym w.picked)
       (subst (Takes (Some pipe)) (done_through y.answer result y.told)
       (pipe_takes held single device found pipe (addressed pipe w.of) fits y.answer left y.sends)))

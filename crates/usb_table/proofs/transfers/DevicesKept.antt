@@ -367,10 +367,10 @@ begun_same : (s : State) (row : List PortState) (n : ℕ) (o : Outcome) → IsOf
 begun_same s row n o (inl e) = rw e (refl, refl)
 begun_same s row n o (inr (which, e)) = rw e (begun_spec s which, refl)
 
-endpoint_takes_no_address : (row : List PortState) (taken : List ℕ) (n : ℕ) (address : Option ℕ)
-    (o : Outcome) → IsOfEndpoint o → first_stage row taken n o ≡ ending address → address ≡ None
-endpoint_takes_no_address row taken n address o (inl e) is = let h = rw e at is in absurd (cc h)
-endpoint_takes_no_address row taken n address o (inr (which, e)) is = let h = rw e at is in cc h
+endpoint_takes_no_address : (row : List PortState) (s : State) (n : ℕ) (address : Option ℕ)
+    (o : Outcome) → IsOfEndpoint o → first_stage row s n o ≡ ending address → address ≡ None
+endpoint_takes_no_address row s n address o (inl e) is = let h = rw e at is in absurd (cc h)
+endpoint_takes_no_address row s n address o (inr (which, e)) is = let h = rw e at is in cc h
 
 module _ (t : Target) (request : Setup) (of : (spec : Spec) (g : Registers)
     → IsOfEndpoint (outcome spec g request)) (old new : World) (j : Location) (s v : State) where
@@ -386,7 +386,7 @@ module _ (t : Target) (request : Setup) (of : (spec : Spec) (g : Registers)
       write_so t request old new j s v (SameSettings j s v) accepted_stays
       (λ row address is frame given. accepted_stays row frame
       (given_registers address (accepted s row request) v
-      (endpoint_takes_no_address row s.taken request.length address
+      (endpoint_takes_no_address row s request.length address
       (outcome s.spec s.registers request) (of s.spec s.registers) is) given))
       (λ frame same. (ap (λ x. x.spec) frame, same))
 

@@ -1,7 +1,7 @@
 -- What a request asks of a device that changes no address, no configuration, no toggle and no port.
 use Rattle.std.proofs.Common.{◌≡◌, ◌⊎◌, inl, inr, refl, ◌∙◌, ap, ℕ, ◌/◌, ◌==◌, ◌≤◌, nat_lt, Bool}
 use Rattle.std.proofs.Common.{true}
-use Rattle.std.proofs.Common.{sym, false, arith, ◌&&◌, ◌||◌, if◌then◌else◌, List, Option, None}
+use Rattle.std.proofs.Common.{not, sym, false, arith, ◌&&◌, ◌||◌, if◌then◌else◌, List, Option, None}
 use Rattle.std.proofs.Common.{Some}
 use Rattle.std.proofs.lemmas.Bool.{lt-ltb}
 use Rattle.std.proofs.lemmas.Bool.Decides.{nat_tests}
@@ -11,12 +11,15 @@ use Rattle.usb_request.specs.{DEVICE_OUT, ENDPOINT_OUT, PORT_OUT}
 use Rattle.usb_request.specs.{ENDPOINT_HALT, DEVICE_IN, HUB_IN, PORT_IN, GET_DESCRIPTOR, GET_STATUS}
 use Rattle.usb_request.specs.{GET_CONFIGURATION, CONFIGURATION, DEVICE, STRING, HUB}
 use Rattle.usb_request.specs.{IsToDevice, IsToHost, Setup, changes_kept, descriptor_value}
+use Rattle.usb_request.specs.{ENDPOINT_IN, GET_INTERFACE, INTERFACE_IN}
 use Rattle.usb_request.specs.{DIRECTION_IN, INTERFACE_OUT, SET_INTERFACE, is_coded, is_reserved}
 use Rattle.usb_device.specs.{Is, Outcome, Registers, Spec, stalled, halts, unhalts, tells_port}
 use Rattle.usb_device.specs.Request.{answers}
 use Rattle.usb_device.specs.{outcome, on_endpoint, endpoint_of, ServedEndpoint, told_port}
 use Rattle.usb_device.specs.{asked_descriptor, asked_hub_descriptor, answers_taken}
-use Rattle.usb_device.specs.{takes}
+use Rattle.usb_device.specs.{takes, tells_halt, told_halt, asked_endpoint_status, is_endpoint_0}
+use Rattle.usb_device.specs.{items_at}
+use Rattle.usb_descriptor.specs.{has_interface}
 use Rattle.usb_device.proofs.Interface.{asked_own-any}
 use Rattle.usb_world.specs.{asks_no_port, is_harmless}
 
@@ -29,6 +32,7 @@ pub record IsFree (to_hub : Bool) (r : Setup) : Type 0 where
   pub reads : IsToHost r ⊎ (to_hub ≡ false)
   pub address : Is r DEVICE_OUT SET_ADDRESS ≡ false
   pub configuration : Is r DEVICE_OUT SET_CONFIGURATION ≡ false
+  pub interface : Is r INTERFACE_OUT SET_INTERFACE ≡ false
   pub halt : (Is r ENDPOINT_OUT CLEAR_FEATURE && r.value == ENDPOINT_HALT) ≡ false
   pub clears_port : Is r PORT_OUT CLEAR_FEATURE ≡ false
   pub sets_port : Is r PORT_OUT SET_FEATURE ≡ false
@@ -39,6 +43,8 @@ read_is_free to_hub r host = record {
   address = request_type-other r.request_type DEVICE_OUT (r.request == SET_ADDRESS) host refl;
   configuration = request_type-other r.request_type DEVICE_OUT
       (r.request == SET_CONFIGURATION) host refl;
+  interface = request_type-other r.request_type INTERFACE_OUT (r.request == SET_INTERFACE) host
+      refl;
   halt = ap (λ b. b && r.value == ENDPOINT_HALT) (request_type-other r.request_type ENDPOINT_OUT
       (r.request == CLEAR_FEATURE) host refl);
   clears_port = request_type-other r.request_type PORT_OUT (r.request == CLEAR_FEATURE) host refl;
@@ -68,6 +74,7 @@ unreserved_is_free to_hub r writes none =
       reads = inr both.0;
       address = address.0;
       configuration = address.1;
+      interface = interface.1;
       halt = halt.1;
       clears_port = clears.1;
       sets_port = sets.1;
@@ -90,6 +97,7 @@ IsAllowed to_hub (tells_port i) = Unit {0}
 IsAllowed to_hub (halts which) = to_hub ≡ false
 IsAllowed to_hub answers_taken = Unit {0}
 IsAllowed to_hub (takes kept) = Unit {0}
+IsAllowed to_hub (tells_halt endpoint) = Unit {0}
 IsAllowed to_hub o = ⊥
 
 module _ (to_hub : Bool) where
@@ -133,6 +141,14 @@ module _ (to_hub : Bool) where
   port_fine None = tt
   port_fine (Some i) = tt
 
+  told_fine : (which : Option ServedEndpoint) → Fine (told_halt which)
+  told_fine None = tt
+  told_fine (Some which) = tt
+
+  endpoint_fine : (s : Spec) (g : Registers) (r : Setup) → Fine (asked_endpoint_status s g r)
+  endpoint_fine s g r = either_fine (not (r.value == 0)) _ _ tt
+      (either_fine (is_endpoint_0 r.index) _ _ tt (told_fine _))
+
   halt_fine : (which : Option ServedEndpoint) → to_hub ≡ false → Fine (on_endpoint halts which)
   halt_fine None e = tt
   halt_fine (Some which) e = e
@@ -152,6 +168,12 @@ module _ (to_hub : Bool) where
       (either_fine (Is r DEVICE_IN GET_CONFIGURATION) _ _ tt
       (not_asked (Is r DEVICE_OUT SET_ADDRESS) _ _ free.address
       (not_asked (Is r DEVICE_OUT SET_CONFIGURATION) _ _ free.configuration
+      (either_fine (Is r INTERFACE_IN GET_STATUS) _ _
+      (either_fine (r.value == 0 && has_interface r.index (items_at s g)) _ _ tt tt)
+      (either_fine (Is r INTERFACE_IN GET_INTERFACE) _ _
+      (either_fine (r.value == 0 && has_interface r.index (items_at s g)) _ _ tt tt)
+      (not_asked (Is r INTERFACE_OUT SET_INTERFACE) _ _ free.interface
+      (either_fine (Is r ENDPOINT_IN GET_STATUS) _ _ (endpoint_fine s g r)
       (where_asked (Is r ENDPOINT_OUT CLEAR_FEATURE) _ _ (λ e. clear_fine s g r
       (ap (λ b. b && r.value == ENDPOINT_HALT) (sym e) ∙ free.halt))
       (where_asked (Is r ENDPOINT_OUT SET_FEATURE) _ _ (λ e. halt_fine _ (elim free.reads [
@@ -167,4 +189,4 @@ module _ (to_hub : Bool) where
       (either_fine (Is r PORT_IN GET_STATUS) _ _ (port_fine _)
       (not_asked (Is r PORT_OUT SET_FEATURE) _ _ free.sets_port
       (not_asked (Is r PORT_OUT CLEAR_FEATURE) _ _ free.clears_port
-      (asked_own-any Fine tt s.requests g r (λ bytes. tt) tt (λ kept. tt))))))))))))
+      (asked_own-any Fine tt s.requests g r (λ bytes. tt) tt (λ kept. tt))))))))))))))))

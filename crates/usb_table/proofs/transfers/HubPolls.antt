@@ -72,28 +72,29 @@ module _ (path : List ℕ) (device : Accepted) (pipe rest : Interrupt) (old new 
   keeps : OnlyTransfers before after
   keeps = polls_only pipe far before result rest after x.settled x.polls
 
-  moves : EachMoves device.address (IsOk result) (Hub pipe) (Hub rest) before after
+  moves : EachMoves device device.address (IsOk result) (Hub pipe) (Hub rest) before after
   moves unshared =
-      subst (λ a. EachWas (PipesMove a (IsOk result) (Hub pipe) (Hub rest)) before after) addressed
+      subst (λ a. EachWas (PipesMove device a (IsOk result) (Hub pipe) (Hub rest)) before after)
+      addressed
       (each_joint (PollLeaves pipe before result rest after) RanAs
-      (PipesMove pipe.target.addr (IsOk result) (Hub pipe) (Hub rest))
-      (poll_moves pipe rest before after result) before after (leaves unshared)
+      (PipesMove device pipe.target.addr (IsOk result) (Hub pipe) (Hub rest))
+      (poll_moves device pipe rest before after result) before after (leaves unshared)
       (ran unshared))
 
   hub_levels : KeepsInSync path (IsOk result) old before new after
   hub_levels = moved_levels path device (IsOk result) (Hub pipe) (Hub rest) old new before after
-      stands goes was left keeps moves
+      stands goes was left keeps.addresses moves OnlyTransfers keeps
 
   unshared : IsHeld old before → after.shared ≡ false
   unshared = single path device (IsOk result) (Hub pipe) (Hub rest) old new before after stands goes
-      was left keeps moves
+      was left keeps.addresses moves
 
   -- what is so of the hub before
   fits : IsHeld old before → InSyncAt path old before → (s : State) → reach before.roots path ≡ true
       → state_there before.roots path ≡ Some s → StatusPipeInSync pipe s
       × (is_at s pipe.target ≡ true)
   fits held level s on there = (
-    subst (λ (q : Pipes). PipesInSync q s) was (level.level device s stands on there),
+    subst (λ (q : Pipes). PipesInSync device q s) was (level.level device s stands on there),
     eq-eqb (address_of s) pipe.target.addr (held_address old before path device s held stands on
         there ∙ sym addressed),
   )
@@ -256,7 +257,7 @@ module _ (path : List ℕ) (old new : Table) (before after : World)
       → KeepsPolled path old before result new after
   none_polled none x = record {
     levels =
-        still_levels path (IsOk result) old new before after goes x.1 x.2
+        still_levels OnlyTransfers path (IsOk result) old new before after goes x.1 x.2
         (same_spares before after x.2);
     told = λ held level d e hub ok. absurd (none d e hub);
     why = λ held level three d e hub heard. absurd (none d e hub);

@@ -11,7 +11,9 @@ use Rattle.usb_pipe.specs.{PipeFault}
 use Rattle.usb_pipe.specs.declared.fault.PipeFault.TheVariants as pipe_fault
 use Rattle.usb_enum.specs.{Accepted}
 use Rattle.usb_table.specs.declared.fault.TableFault.TheVariants as table_fault
-use Rattle.usb_table.specs.{TableFault, ChangesAt, accepted_device_at, PipesInSync, IsHeld}
+use Rattle.usb_table.specs.{TableFault, ChangesAt, accepted_device_at, Pipes, PipesInSync}
+use Rattle.usb_table.specs.{PipesInSyncIf}
+use Rattle.usb_table.specs.{IsHeld}
 use Rattle.usb_table.specs.{InSyncAt, is_below_hub, ArePipesIf, Table, ArePipesAt, pipes_at}
 use Rattle.usb_table.specs.{table_answer}
 use Rattle.usb_table.proofs.levels.Levels.{held_address, stands_there, stood_at}
@@ -25,12 +27,23 @@ PathReaches path w So = (s : State) → reach w.roots path ≡ true → state_th
 module _ (path : List ℕ) (table : Table) (w : World) (level : InSyncAt path table w) where
   levels_by : (found : Option Accepted) → accepted_device_at path table.entries ≡ found
       → ArePipesIf found (is_below_hub path) (pipes_at path table)
-      → PathReaches path w (PipesInSync (pipes_at path table))
-  levels_by None e none s on there = rw none tt
+      → PathReaches path w (PipesInSyncIf found (pipes_at path table))
+  levels_by None e none s on there = tt
   levels_by (Some device) e are s on there = level.level device s e on there
 
-  pub levels_there : ArePipesAt path table → PathReaches path w (PipesInSync (pipes_at path table))
+  pub levels_there : ArePipesAt path table → PathReaches path w
+      (PipesInSyncIf (accepted_device_at path table.entries) (pipes_at path table))
   levels_there = levels_by (accepted_device_at path table.entries) refl
+
+pub reaches_synced : (path : List ℕ) (w : World) (device : Accepted) (found : Option Accepted)
+    → found ≡ Some device → (pipes : Pipes) → PathReaches path w (PipesInSyncIf found pipes)
+    → PathReaches path w (PipesInSync device pipes)
+reaches_synced path w device found e pipes l s on there =
+    subst (λ x. PipesInSyncIf x pipes s) e (l s on there)
+
+pub synced_if : (device : Accepted) (found : Option Accepted) → found ≡ Some device
+    → (pipes : Pipes) (s : State) → PipesInSync device pipes s → PipesInSyncIf found pipes s
+synced_if device found e pipes s f = subst (λ x. PipesInSyncIf x pipes s) (sym e) f
 
 -- nothing was tried
 pub none_changes : (path : List ℕ) (So : State → State → Type 0) (old new : World) → new ≡ old

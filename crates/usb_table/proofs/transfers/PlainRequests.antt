@@ -9,7 +9,7 @@ use Rattle.usb_request.specs.{IsToHost, Setup}
 use Rattle.usb_port.specs.{PortState}
 use Rattle.usb_device.specs.{accepted, begun, BulkIn, BulkOut, Changes, EndpointState}
 use Rattle.usb_device.specs.{ending, first_stage, OnlyControl, OnlyStage, Outcome}
-use Rattle.usb_device.specs.{outcome, State, Stage, answers_taken, takes}
+use Rattle.usb_device.specs.{outcome, State, Stage, answers_taken, takes, tells_halt}
 use Rattle.usb_device.specs.{halted, halts, in_end, Location, no_in, no_out, NothingMoved, out_end}
 use Rattle.usb_device.specs.{stalled, tells_port}
 use Rattle.usb_device.specs.Request.{answers}
@@ -35,7 +35,9 @@ use Rattle.usb_enum.proofs.Interface.{ends_without_fault}
 use Rattle.usb_table.specs.{Absent, ArePipesTo, FitsIn, FitsOut, Function, Hub, is_below_hub}
 use Rattle.usb_table.specs.{pipe_at, Pipes, pipes_at, PipesInSync, SameSettings, Table}
 use Rattle.usb_table.specs.{without_bytes}
-use Rattle.usb_table.proofs.levels.FittingPipes.{root, same_in_max, same_out_max, same_tells}
+use Rattle.usb_table.proofs.levels.FittingPipes.{root, same_all, same_in_max, same_low}
+use Rattle.usb_table.proofs.levels.FittingPipes.{same_out_max}
+use Rattle.usb_table.proofs.levels.FittingPipes.{same_tells, same_text}
 use Rattle.usb_table.proofs.levels.FittingPipes.{still_level, still_source_at, still_status}
 use Rattle.usb_table.proofs.levels.FittingPipes.{written_level}
 use Rattle.usb_table.proofs.transfers.FreeRequests.{IsAllowed, IsFree, free_asks_no_port}
@@ -44,7 +46,7 @@ use Rattle.usb_table.proofs.transfers.HaltClears.{in_moved, moved_then, out_move
 use Rattle.usb_table.proofs.transfers.HaltClears.{same_rows-moved}
 use Rattle.usb_table.proofs.transfers.PlainTransfers.{IsPlain}
 
-bus_told : {A : Type 0} (k : ℕ) (answer : Result A PipeFault) (old new : World)
+pub bus_told : {A : Type 0} (k : ℕ) (answer : Result A PipeFault) (old new : World)
     → EndsAfter k old answer new → (fault : BusFault) → answer ≡ Err (pipe_fault.Bus fault)
     → HasFault fault new
 bus_told k (Ok done) old new ends fault e = absurd (cc e)
@@ -65,7 +67,7 @@ read_is_plain path table t request old answer new host x = record {
   others = λ j s v y. y.others;
   settings = λ j s v y.
       (ap (λ (d : State). d.spec) y.frame, ap (λ (d : State). d.registers) y.frame);
-  level = λ j s v y. still_level (pipes_at path table) s v y.frame;
+  level = λ d j s v y. still_level d (pipes_at path table) s v y.frame;
   sound = ends_without_fault 3 answer old new x.ends;
   told = bus_told 3 answer old new x.ends;
   rests = reads_rests t request answer old new host x.settled x.stages;
@@ -138,6 +140,7 @@ module _ (s : State) (row : List PortState) (n : ℕ) where
   began_ends to_hub (tells_port i) fine = ends_kept _
   began_ends to_hub answers_taken fine = ends_kept _
   began_ends to_hub (takes kept) fine = ends_kept _
+  began_ends to_hub (tells_halt endpoint) fine = ends_kept _
   began_ends to_hub _ fine = absurd fine
 
   began_changes : (o : Outcome) → IsAllowed true o → KeepsChanges s (begun s row n o)
@@ -146,14 +149,15 @@ module _ (s : State) (row : List PortState) (n : ℕ) where
   began_changes (tells_port i) fine = record { changes = refl; held = refl }
   began_changes answers_taken fine = record { changes = refl; held = refl }
   began_changes (takes kept) fine = record { changes = refl; held = refl }
+  began_changes (tells_halt endpoint) fine = record { changes = refl; held = refl }
   began_changes (halts which) fine = absurd (cc fine)
   began_changes _ fine = absurd fine
 
   pub allowed_address : (to_hub : Bool) (o : Outcome) (address : Option ℕ) → IsAllowed to_hub o
-      → first_stage row s.taken n o ≡ ending address → address ≡ None
+      → first_stage row s n o ≡ ending address → address ≡ None
   allowed_address to_hub o None fine e = refl
   allowed_address to_hub o (Some a) fine e =
-      absurd (subst (IsAllowed to_hub) (first_stage-address row s.taken n o a e) fine)
+      absurd (subst (IsAllowed to_hub) (first_stage-address row s n o a e) fine)
 
 -- behind it, where nothing but its own transfer moved
 
@@ -206,24 +210,28 @@ in_kept : (into : Option PipeState) (s v : State) → KeepsEnds s v → FitsIn i
 in_kept None s v x f = tt
 in_kept (Some pipe) s v x (got, f) = (got, into_kept pipe got s v x f)
 
-pub allowed_level : (device : Accepted) (below_hub : Bool) (pipes : Pipes)
+pub allowed_level : (of device : Accepted) (below_hub : Bool) (pipes : Pipes)
     → ArePipesTo device below_hub pipes → (s : State) (row : List PortState) (n : ℕ) (o : Outcome)
     → IsAllowed (is_some device.hub) o → (v : State) → OnlyControl (begun s row n o) v
-    → v.registers ≡ (begun s row n o).registers → PipesInSync pipes s → PipesInSync pipes v
-allowed_level device below_hub (Hub pipe) are s row n o fine v frame same f =
+    → v.registers ≡ (begun s row n o).registers → PipesInSync of pipes s → PipesInSync of pipes v
+allowed_level of device below_hub (Hub pipe) are s row n o fine v frame same f =
     let fine_hub : IsAllowed true o = subst (λ b. IsAllowed b o) are.0 fine in
     let ends = ends_on s (begun s row n o) v (began_ends s row n (is_some device.hub) o fine) frame
     same in
     let kept = changes_on s (begun s row n o) v (began_changes s row n o fine_hub) frame in
     still_status pipe s v ends.settings kept.changes kept.held f
-allowed_level device below_hub (Function pipes) are s row n o fine v frame same f =
+allowed_level of device below_hub (Function pipes) are s row n o fine v frame same f =
     let ends = ends_on s (begun s row n o) v (began_ends s row n (is_some device.hub) o fine) frame
     same in
     record {
+      text = same_text s v ends.settings ∙ f.text;
+      low = same_low s v ends.settings ∙ f.low;
+      quiet = same_tells s v ends.settings ∙ f.quiet;
+      settings = same_all s v ends.settings ∙ f.settings;
       outs = λ e. out_kept (pipe_at false e pipes) s v ends (f.outs e);
       ins = λ e. in_kept (pipe_at true e pipes) s v ends (f.ins e);
     }
-allowed_level device below_hub Absent are s row n o fine v frame same f = absurd are
+allowed_level of device below_hub Absent are s row n o fine v frame same f = absurd are
 
 -- What has no data
 
@@ -257,19 +265,19 @@ module _ {A : Type 0} (path : List ℕ) (table : Table) (t : Target) (request : 
       given)).settings)
       (λ frame same. (ap (λ (d : State). d.spec) frame, same)) (without_bytes answer)
 
-  none_level : (j : Location) (s v : State) → Left j s v → PipesInSync (pipes_at path table) s
-      → PipesInSync (pipes_at path table) v
-  none_level j s v =
+  none_level : (of : Accepted) (j : Location) (s v : State) → Left j s v
+      → PipesInSync of (pipes_at path table) s → PipesInSync of (pipes_at path table) v
+  none_level of j s v =
       write_so t request old new j s v
-      (PipesInSync (pipes_at path table) s → PipesInSync (pipes_at path table) v)
-      (λ row frame same. allowed_level device (is_below_hub path) (pipes_at path table) are s row
+      (PipesInSync of (pipes_at path table) s → PipesInSync of (pipes_at path table) v)
+      (λ row frame same. allowed_level of device (is_below_hub path) (pipes_at path table) are s row
       request.length (outcome s.spec s.registers request) (fine_at s) v frame same)
-      (λ row address is frame given. allowed_level device (is_below_hub path)
+      (λ row address is frame given. allowed_level of device (is_below_hub path)
       (pipes_at path table) are s row request.length (outcome s.spec s.registers request)
       (fine_at s) v frame
       (given_registers address (accepted s row request) v (allowed_address s row request.length
       (is_some device.hub) (outcome s.spec s.registers request) address (fine_at s) is) given))
-      (λ frame same. still_level (pipes_at path table) s v (only_stage s v frame same))
+      (λ frame same. still_level of (pipes_at path table) s v (only_stage s v frame same))
       (without_bytes answer)
 
   pub none_is_plain : ControlWrite t request old (without_bytes answer) new
@@ -327,7 +335,7 @@ module _ (path : List ℕ) (table : Table) (t : Target) (request : Setup) (bytes
     others = λ j s v y. y.others;
     settings = λ j s v y.
         (ap (λ (d : State). d.spec) y.frame, ap (λ (d : State). d.registers) y.frame);
-    level = λ j s v y. written_level (pipes_at path table) s v y.frame;
+    level = λ d j s v y. written_level d (pipes_at path table) s v y.frame;
     sound = ends_without_fault (div_ceil (length bytes) t.max + 2) answer old new x.ends;
     told = bus_told (div_ceil (length bytes) t.max + 2) answer old new x.ends;
     rests = put_rests t request (free_asks_no_port request free) bytes answer old new x.settled

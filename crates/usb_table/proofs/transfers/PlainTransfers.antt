@@ -55,8 +55,8 @@ pub record IsPlain {A : Type 0} (path : List ℕ) (table : Table) (t : Target)
   pub each : new.shared ≡ false → EachWas L old new
   pub others : (j : Location) (s v : State) → L j s v → is_at s t ≡ false → v ≡ s
   pub settings : (j : Location) (s v : State) → L j s v → SameSettings j s v
-  pub level : (j : Location) (s v : State) → L j s v → PipesInSync (pipes_at path table) s
-      → PipesInSync (pipes_at path table) v
+  pub level : (device : Accepted) (j : Location) (s v : State) → L j s v
+      → PipesInSync device (pipes_at path table) s → PipesInSync device (pipes_at path table) v
   pub sound : new.fault ≡ None → IsNoBusFault answer
   pub told : (fault : BusFault) → answer ≡ Err (pipe_fault.Bus fault) → HasFault fault new
   pub rests : IsNoBusFault answer → TouchesNoPort old new
@@ -82,21 +82,23 @@ module _ {A : Type 0} (Leaves : TransferLeaves A) (path : List ℕ) (request : S
     backlog = λ still. x.backlog (x.sound still);
   }
 
-  plain_moves : new.shared ≡ false → EachWas (PipesMove asked.device.address (new.fault ≡ None)
+  plain_moves : new.shared ≡ false → EachWas (PipesMove asked.device asked.device.address
+      (new.fault ≡ None)
       (pipes_at path table) (pipes_at path table)) old new
   plain_moves single =
-      each_wider (Leaves t answer old new) (PipesMove asked.device.address (new.fault ≡ None)
+      each_wider (Leaves t answer old new) (PipesMove asked.device asked.device.address
+      (new.fault ≡ None)
       (pipes_at path table) (pipes_at path table))
       (λ j s v y. record {
         others = λ far. x.others j s v y (ap (λ n. address_of s == n) addressed ∙ far);
         same = ap (λ (g : Registers). g.address) (x.settings j s v y).1;
-        itself = λ e at f. x.level j s v y f;
+        itself = λ e at f. x.level asked.device j s v y f;
       }) old new (x.each single)
 
   plain_keeps : KeepsMoved path table old table new
   plain_keeps = moved_levels path asked.device (new.fault ≡ None) (pipes_at path table)
       (pipes_at path table) table table old new asked.is (goes_nowhere path table fits) refl refl
-      plain_worlds plain_moves
+      plain_worlds.addresses plain_moves OnlyTransfers plain_worlds
 
   plain_made : (Is : TransferIs A) (result : Result A TableFault) → Is t old answer new
       → result ≡ table_answer answer → TransferMade Is Leaves path table t old result new
@@ -139,6 +141,7 @@ refused_controls Is Leaves path target request table fits {old} {result = result
       went = went_wider 0 (control_most request.length) went (omega arith);
       told = rw e tt;
       did = subst (λ r. TransferIf Is Leaves path table r old result new) (sym asks) (e, same);
-      keeps = still_levels path _ table table old new (goes_nowhere path table fits) refl same
+      keeps = still_levels OnlyTransfers path _ table table old new (goes_nowhere path table fits)
+          refl same
           (same_spares old new same);
     }

@@ -1,6 +1,6 @@
 -- A packet that a poll of an endpoint at a path tells is given by the device there.
 use Rattle.std.proofs.Common.{◌≡◌, ◌≢◌, ◌∙◌, refl, sym, ap, subst, true, false, ℕ, ◌==◌, ◌≤◌, List}
-use Rattle.std.proofs.Common.{[], Option, None, Some, Result, Ok, Err, is_ok, is_some}
+use Rattle.std.proofs.Common.{Option, None, Some, Result, Ok, Err, is_ok, is_some}
 use Rattle.arrayvec.specs.ArrayVec.{ArrayVec}
 use Rattle.usb_device.specs.{State, reach, Location}
 use Rattle.usb_world.specs.{BusFault, World}
@@ -12,7 +12,8 @@ use Rattle.usb_enum.specs.{Accepted}
 use Rattle.usb_table.specs.declared.fault.TableFault.TheVariants as table_fault
 use Rattle.usb_table.specs.{TableFault, Transfer, TransferFault, GaveReport, ReportedBy}
 use Rattle.usb_table.specs.{TransfersAt}
-use Rattle.usb_table.specs.{Reported, accepted_device_at, is_below_hub, PipesInSync, FitsIn, IsHeld}
+use Rattle.usb_table.specs.{Reported, accepted_device_at, is_below_hub, PipesInSyncIf, FitsIn}
+use Rattle.usb_table.specs.{IsHeld}
 use Rattle.usb_table.specs.{InSyncAt, Table, pipes_at, ArePipesAt, PipesReported, ReportedThrough}
 use Rattle.usb_table.specs.{polls_through, table_answer, through, with_pipe}
 use Rattle.usb_table.proofs.levels.FittingPipes.{in_of}
@@ -22,7 +23,9 @@ use Rattle.usb_table.proofs.levels.StandingPipes.{some_bytes}
 use Rattle.usb_table.proofs.transfers.PathTransfers.{PathReaches, answers_there, changes_there}
 use Rattle.usb_table.proofs.transfers.PathTransfers.{done_through, levels_there, none_changes}
 use Rattle.usb_table.proofs.transfers.PathTransfers.{not_bus}
+use Rattle.usb_table.proofs.transfers.PathTransfers.{reaches_synced}
 use Rattle.usb_table.proofs.ThroughPipes.{through_pipes}
+use Rattle.usb_table.specs.{polls_miss}
 
 abbrev Answer : Type 0
 Answer = Result (Option (ArrayVec ℕ)) PipeFault
@@ -106,10 +109,11 @@ module _ (path : List ℕ) (old new : Table) (before after : World) where
       → Reported path endpoint result old before new after
   polled_tells endpoint result other held level single are x =
       let g =
-      through_pipes (polls_through endpoint) (polls_picks endpoint) ReportedThrough
+      through_pipes (polls_through endpoint) (polls_miss endpoint) (polls_picks endpoint)
+      ReportedThrough
       (λ p o r l w z. z.same) before result after (accepted_device_at path old.entries)
       (is_below_hub path)
-      (λ p l. PathReaches path before (PipesInSync p)
+      (λ p l. PathReaches path before (PipesInSyncIf (accepted_device_at path old.entries) p)
       → Tells result (through (polls_through endpoint) p) (through (polls_through endpoint) l))
       (λ pipes fault none e same l.
       subst (λ (o : Option PipeState). Tells result o (through (polls_through endpoint) pipes))
@@ -119,7 +123,8 @@ module _ (path : List ℕ) (old new : Table) (before after : World) where
       let into = polls_way endpoint pipes pipe w.picked in
       let known = known_left y.answer left (not_bus y.answer result y.told other) in
       let fits : PathReaches path before (FitsIn (Some pipe)) =
-      λ s on there. in_of (Unit {0}) pipes placed pipe left w.of.at w.made s into (l s on there) in
+      λ s on there. in_of device (Unit {0}) pipes placed pipe left w.of.at w.made s into
+      (reaches_synced path before device _ found _ l s on there) in
       subst (λ p. Tells result p (polls_through endpoint (with_pipe left pipes))) (sym w.picked)
       (subst (λ r. Tells result (Some pipe) r) (sym w.again)
       (pipe_tells held single device found pipe (addressed pipe w.of) (some_bytes pipe w.of) fits

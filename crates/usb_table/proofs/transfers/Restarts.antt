@@ -16,7 +16,8 @@ use Rattle.usb_table.specs.{TableFault, Transfer, TransferFault, FunctionPipes, 
 use Rattle.usb_table.specs.{AreFunctionPipes, AreInPlace, ChangesAt, EndsCleared, FunctionInSync}
 use Rattle.usb_table.specs.{HaltCleared, HaltClearedBy, HaltClearedOf, HaltsCleared, TransfersAt}
 use Rattle.usb_table.specs.{Restarted, RestartedOf, accepted_device_at, first_pipe, pipe_to}
-use Rattle.usb_table.specs.{is_below_hub, PipesInSync, IsHeld, InSyncAt, Table, through, way_to}
+use Rattle.usb_table.specs.{clears_miss, first_unclear, is_below_hub, PipesInSyncIf, IsHeld}
+use Rattle.usb_table.specs.{InSyncAt, Table, through, way_to}
 use Rattle.usb_table.specs.{pipes_at, ArePipesAt, ClearedBy, ClearedAfter, ClearedInOrder}
 use Rattle.usb_table.specs.{ClearedOfThrough, PipesCleared, PipesClearedOf, table_answer, with_pipe}
 use Rattle.usb_table.specs.{with_rest}
@@ -32,6 +33,7 @@ use Rattle.usb_table.proofs.levels.StandingPipes.{rest_way, same_rest, same_way,
 use Rattle.usb_table.proofs.levels.StandingPipes.{way_not}
 use Rattle.usb_table.proofs.transfers.PathTransfers.{PathReaches, changes_there, done_through}
 use Rattle.usb_table.proofs.transfers.PathTransfers.{levels_there, none_changes, not_bus}
+use Rattle.usb_table.proofs.transfers.PathTransfers.{reaches_synced, synced_if}
 use Rattle.usb_table.proofs.ThroughPipes.{WentThrough, through_both, through_pipes}
 use Rattle.usb_table.proofs.transfers.DevicesKept.{clears_single, sent_or_not}
 
@@ -106,20 +108,21 @@ abbrev InHalts : (PipeState → Bool) → Bool → Option PipeState → Option P
 InHalts is_sent done pipe left before after =
     HaltClearedBy is_sent done pipe left (λ e. (before e).state) (λ e. (after e).state)
 
-record ClearsIt (Out : EndsRelation OutEnd) (Into : EndsRelation InEnd) (left : FunctionPipes)
-    (s v : State) : Type 0 where
+record ClearsIt (device : Accepted) (Out : EndsRelation OutEnd) (Into : EndsRelation InEnd)
+    (left : FunctionPipes) (s v : State) : Type 0 where
   moved : NothingMoved s v
   out : Out (λ e. out_end s e) (λ e. out_end v e)
   into : Into (λ e. in_end s e) (λ e. in_end v e)
-  level : FunctionInSync left v
+  level : FunctionInSync device left v
 
 -- where the call ends so
-record ClearStep (ends : Type 0) (a : ℕ) (Out : EndsRelation OutEnd) (Into : EndsRelation InEnd)
-    (pipes left : FunctionPipes) (j : Location) (s v : State) : Type 0 where
-  others : (address_of s == a) ≡ false → v ≡ s
-  same : address_of v ≡ address_of s
-  itself : ends → (address_of s == a) ≡ true → FunctionInSync pipes s
-      → ClearsIt Out Into left s v
+record ClearStep (device : Accepted) (ends : Type 0) (a : ℕ) (Out : EndsRelation OutEnd)
+    (Into : EndsRelation InEnd) (pipes left : FunctionPipes) (j : Location) (s v : State) : Type 0
+  where
+    others : (address_of s == a) ≡ false → v ≡ s
+    same : address_of v ≡ address_of s
+    itself : ends → (address_of s == a) ≡ true → FunctionInSync device pipes s
+        → ClearsIt device Out Into left s v
 
 -- a call is done only if the answer is one of success; where it ends so, that is not the bus's own
 record FitsAnswer (ends : Type 0) (done : Bool) (answer : Result (Unit {0}) PipeFault)
@@ -127,16 +130,16 @@ record FitsAnswer (ends : Type 0) (done : Bool) (answer : Result (Unit {0}) Pipe
   sure : ends → (why : BusFault) → answer ≢ Err (pipe_fault.Bus why)
   less : done ≡ true → is_ok answer ≡ true
 
-module _ (ends : Type 0) where
+module _ (device : Accepted) (ends : Type 0) where
   abbrev ClearSteps : ℕ → EndsRelation OutEnd → EndsRelation InEnd → FunctionPipes → FunctionPipes
       → World → World → Type 0
-  ClearSteps a Out Into pipes left = EachWas (ClearStep ends a Out Into pipes left)
+  ClearSteps a Out Into pipes left = EachWas (ClearStep device ends a Out Into pipes left)
 
   clear_step_none : (a : ℕ) (Out : EndsRelation OutEnd) (Into : EndsRelation InEnd)
       (pipes : FunctionPipes) → ((outs : ℕ → OutEnd) → Out outs outs)
       → ((ins : ℕ → InEnd) → Into ins ins) → (w : World) → ClearSteps a Out Into pipes pipes w w
   clear_step_none a Out Into pipes out into w =
-      each_none (ClearStep ends a Out Into pipes pipes)
+      each_none (ClearStep device ends a Out Into pipes pipes)
       (λ j s. record {
         others = λ h. refl;
         same = refl;
@@ -153,9 +156,9 @@ module _ (ends : Type 0) where
       → ClearSteps a Out EndsStay pipes mid u w → ClearSteps a EndsStay Into mid left w v
       → ClearSteps a Out Into pipes left u v
   steps_then a Out Into pipes mid left =
-      each_joined (ClearStep ends a Out EndsStay pipes mid)
-      (ClearStep ends a EndsStay Into mid left)
-      (ClearStep ends a Out Into pipes left)
+      each_joined (ClearStep device ends a Out EndsStay pipes mid)
+      (ClearStep device ends a EndsStay Into mid left)
+      (ClearStep device ends a Out Into pipes left)
       (λ j s t v x y. record {
         others = λ h. y.others (ap (λ n. n == a) x.same ∙ h) ∙ x.others h;
         same = y.same ∙ x.same;
@@ -172,7 +175,7 @@ module _ (ends : Type 0) where
 
   -- Through one pipe of a device that was found
 
-  module _ (is_sent : PipeState → Bool) (done : Bool) {device : Accepted} {below_hub : Bool}
+  module _ (is_sent : PipeState → Bool) (done : Bool) {below_hub : Bool}
       {pipes : FunctionPipes} (pipe left : PipeState) (of : IsPipeOf device below_hub pipes pipe)
       (made : pipe_made left ≡ pipe_made pipe) (old : World)
       (answer : Result (Unit {0}) PipeFault) (new : World) (so : FitsAnswer ends done answer)
@@ -197,13 +200,14 @@ module _ (ends : Type 0) where
     out_step way = subst OutStep (addressed pipe of)
         (clear_whole (is_sent pipe) pipe old answer left new x _
         (λ j s v a k.
-        let m = clear_moves ends pipes placed pipe left of.at made (is_sent pipe) answer j s v
+        let m = clear_moves device ends pipes placed pipe left of.at made (is_sent pipe) answer j s
+        v
         surely_known a k in
         record {
           others = m.others;
           same = m.same;
           itself = λ e at level.
-              let fits = out_of ends pipes placed pipe left of.at made s way level in
+              let fits = out_of device ends pipes placed pipe left of.at made s way level in
               let leaves = a.sink at way fits in
               let c = out_cleared pipe.ep s v (a.only_sink way fits.endpoint) in
               record {
@@ -221,13 +225,14 @@ module _ (ends : Type 0) where
     in_step way = subst InStep (addressed pipe of)
         (clear_whole (is_sent pipe) pipe old answer left new x _
         (λ j s v a k.
-        let m = clear_moves ends pipes placed pipe left of.at made (is_sent pipe) answer j s v
+        let m = clear_moves device ends pipes placed pipe left of.at made (is_sent pipe) answer j s
+        v
         surely_known a k in
         record {
           others = m.others;
           same = m.same;
           itself = λ e at level.
-              let fits = in_of ends pipes placed pipe left of.at made s way level in
+              let fits = in_of device ends pipes placed pipe left of.at made s way level in
               let leaves = a.source at way fits.0 fits.1 in
               let c = in_cleared pipe.ep s v (a.only_source way fits.1.endpoint) in
               record {
@@ -243,7 +248,7 @@ module _ (ends : Type 0) where
 
   -- Through the pipe to the first bulk endpoint of a direction, if there is one
 
-  module _ (done : Bool) (device : Accepted) (below_hub : Bool) (pipes : FunctionPipes)
+  module _ (done : Bool) (below_hub : Bool) (pipes : FunctionPipes)
       (are : AreFunctionPipes device below_hub pipes) (old : World)
       (answer : Result (Unit {0}) PipeFault) (new : World) (so : FitsAnswer ends done answer)
       (single : new.shared ≡ false) where
@@ -281,7 +286,7 @@ module _ (ends : Type 0) where
 
   -- Through both, one and then the other
 
-  module _ (done : Bool) (device : Accepted) (below_hub : Bool) (pipes : FunctionPipes)
+  module _ (done : Bool) (below_hub : Bool) (pipes : FunctionPipes)
       (are : AreFunctionPipes device below_hub pipes) (result : Result (Unit {0}) TableFault)
       (sure : ends → (why : BusFault) → result ≢ Err (table_fault.Bus why))
       (less : done ≡ true → is_ok result ≡ true) (old mid new : World)
@@ -338,62 +343,76 @@ module _ (ends : Type 0) where
       in_again is = rest_again (first_pipe true) (first_picks true) between
           (in_place device below_hub between are_between) (first_pipe true pipes) rest_in same_in is
 
-    after_rest : (first : Result (Unit {0}) PipeFault)
-        → ClearedAfter first (first_pipe true pipes) mid result rest_in new
+    after_rest : (first : Result (Unit {0}) PipeFault) (why : Option TransferFault)
+        → ClearedAfter first why (first_pipe true pipes) mid result rest_in new
         → IsRest (first_pipe true pipes) rest_in
-    after_rest (Ok u) y = cleared_rest (first_pipe true pipes) rest_in mid y.0 new y.2
-    after_rest (Err fault) y =
+    after_rest (Ok u) None y = cleared_rest (first_pipe true pipes) rest_in mid y.0 new y.2
+    after_rest (Ok u) (Some why) y =
+        subst (IsRest (first_pipe true pipes)) (sym y.1) (same_rest (first_pipe true pipes))
+    after_rest (Err fault) why y =
         subst (IsRest (first_pipe true pipes)) (sym y.1) (same_rest (first_pipe true pipes))
 
-    in_turn : (first : Result (Unit {0}) PipeFault)
-        → ClearedBy (first_pipe false pipes) old first rest_out mid
-        → ClearedAfter first (first_pipe true pipes) mid result rest_in new → new.shared ≡ false
-        → BothSteps
-    in_turn (Ok u) x y single =
-        steps_then device.address _ _ pipes between (with_rest rest_in between) old mid new
-        (out_by done device below_hub pipes are old (Ok u) mid
-        (record { sure = λ e why f. cc f; less = λ e. refl })
-        (cleared_single (first_pipe true pipes) rest_in mid y.0 new y.2 single)
-        (first_pipe false pipes) rest_out refl x)
-        (in_by done device below_hub between (are_between (Ok u) x) mid y.0 new
-        (pipe_answers y.0 y.1) single (first_pipe true pipes) rest_in (same_in (Ok u) x) y.2)
-    in_turn (Err fault) x y single =
+    -- the second one is not cleared
+    stopped : (first : Result (Unit {0}) PipeFault) → FitsAnswer ends done first
+        → is_ok result ≡ false → ClearedBy (first_pipe false pipes) old first rest_out mid
+        → rest_in ≡ first_pipe true pipes → new ≡ mid → new.shared ≡ false → BothSteps
+    stopped first so failed x kept still single =
         let not : done ≡ true → ⊥ =
-        λ e. let ok = less e in let failed = ap is_ok y.0 in absurd (cc (ok, failed)) in
+        λ e. let ok = less e in absurd (cc (ok, failed)) in
         let back : with_rest rest_in between ≡ between =
-        ap (λ r. with_rest r between) y.1
+        ap (λ r. with_rest r between) kept
         ∙ rest_same (first_pipe true) (first_picks true) between
-        (in_place device below_hub between (are_between (Err fault) x)) (first_pipe true pipes)
-        (same_in (Err fault) x) in
-        let first : ClearedBy (first_pipe false pipes) old (Err fault) rest_out new =
-        subst (λ w. ClearedBy (first_pipe false pipes) old (Err fault) rest_out w) (sym y.2) x in
+        (in_place device below_hub between (are_between first x)) (first_pipe true pipes)
+        (same_in first x) in
+        let first_is : ClearedBy (first_pipe false pipes) old first rest_out new =
+        subst (λ w. ClearedBy (first_pipe false pipes) old first rest_out w) (sym still) x in
         subst (λ left. ClearSteps device.address
         (OutHalts needs_clear done (first_pipe false pipes) rest_out)
         (InHalts needs_clear done (first_pipe true pipes) rest_in) pipes left old new) (sym back)
         (subst (λ rest. ClearSteps device.address
         (OutHalts needs_clear done (first_pipe false pipes) rest_out)
-        (InHalts needs_clear done (first_pipe true pipes) rest) pipes between old new) (sym y.1)
+        (InHalts needs_clear done (first_pipe true pipes) rest) pipes between old new) (sym kept)
         (steps_then device.address _ _ pipes between between old new new
-        (out_by done device below_hub pipes are old (Err fault) new (pipe_answers (Err fault) y.0)
-        single (first_pipe false pipes) rest_out refl first)
+        (out_by done below_hub pipes are old first new so
+        single (first_pipe false pipes) rest_out refl first_is)
         (clear_step_none device.address EndsStay
         (InHalts needs_clear done (first_pipe true pipes) (first_pipe true pipes)) between
         (λ outs. refl)
         (λ ins. none_ends needs_clear done (first_pipe true pipes) not (λ e. (ins e).state)) new)))
 
-    pub in_turn_moves : (first : Result (Unit {0}) PipeFault)
+    done_first : (u : Unit {0}) → FitsAnswer ends done (Ok u)
+    done_first u = record { sure = λ e why f. cc f; less = λ e. refl }
+
+    in_turn : (first : Result (Unit {0}) PipeFault) (why : Option TransferFault)
         → ClearedBy (first_pipe false pipes) old first rest_out mid
-        → ClearedAfter first (first_pipe true pipes) mid result rest_in new
-        → EachMoves device.address ends (Function pipes) (Function (with_rest rest_in between)) old
-        new
-    in_turn_moves first x y single =
+        → ClearedAfter first why (first_pipe true pipes) mid result rest_in new
+        → new.shared ≡ false → BothSteps
+    in_turn (Ok u) None x y single =
+        steps_then device.address _ _ pipes between (with_rest rest_in between) old mid new
+        (out_by done below_hub pipes are old (Ok u) mid (done_first u)
+        (cleared_single (first_pipe true pipes) rest_in mid y.0 new y.2 single)
+        (first_pipe false pipes) rest_out refl x)
+        (in_by done below_hub between (are_between (Ok u) x) mid y.0 new
+        (pipe_answers y.0 y.1) single (first_pipe true pipes) rest_in (same_in (Ok u) x) y.2)
+    in_turn (Ok u) (Some why) x y single =
+        stopped (Ok u) (done_first u) (ap is_ok y.0) x y.1 y.2 single
+    in_turn (Err fault) why x y single =
+        stopped (Err fault) (pipe_answers (Err fault) y.0) (ap is_ok y.0) x y.1 y.2 single
+
+    pub in_turn_moves : (first : Result (Unit {0}) PipeFault) (why : Option TransferFault)
+        → ClearedBy (first_pipe false pipes) old first rest_out mid
+        → ClearedAfter first why (first_pipe true pipes) mid result rest_in new
+        → EachMoves device device.address ends (Function pipes)
+        (Function (with_rest rest_in between)) old new
+    in_turn_moves first why x y single =
         each_wider _
-        (PipesMove device.address ends (Function pipes) (Function (with_rest rest_in between)))
+        (PipesMove device device.address ends (Function pipes)
+        (Function (with_rest rest_in between)))
         (λ j s v c. record {
           others = c.others;
           same = c.same;
           itself = λ e at f. (c.itself e at f).level;
-        }) old new (in_turn first x y single)
+        }) old new (in_turn first why x y single)
 
 -- a clear of one pipe, whatever it saw
 pub clear_of_moves : {device : Accepted} {below_hub : Bool} {pipes : FunctionPipes}
@@ -401,13 +420,15 @@ pub clear_of_moves : {device : Accepted} {below_hub : Bool} {pipes : FunctionPip
     (made : pipe_made left ≡ pipe_made pipe) (ends : Type 0) (old : World)
     (answer : Result (Unit {0}) PipeFault) (new : World)
     → (ends → pipe_known answer left ≡ left) → Clears true pipe old answer left new
-    → EachMoves device.address ends (Function pipes) (Function (with_pipe left pipes)) old new
+    → EachMoves device device.address ends (Function pipes) (Function (with_pipe left pipes)) old
+    new
 clear_of_moves {device} {below_hub} {pipes} pipe left of made ends old answer new known x =
     subst
-    (λ a. EachMoves a ends (Function pipes) (Function (with_pipe left pipes)) old new)
+    (λ a. EachMoves device a ends (Function pipes) (Function (with_pipe left pipes)) old new)
     (addressed pipe of)
     (clear_whole true pipe old answer left new x _
-    (λ j s v. clear_moves ends pipes (in_place device below_hub pipes of.are) pipe left of.at made
+    (λ j s v. clear_moves device ends pipes (in_place device below_hub pipes of.are) pipe left of.at
+    made
     true answer j s v known))
 
 -- At a path
@@ -416,15 +437,18 @@ module _ (path : List ℕ) (old : Table) (before after : World) where
   module _ (is_sent : PipeState → Bool) (pick : Bool → FunctionPipes → Option PipeState) where
     abbrev Cleared : Bool → Pipes → Pipes → Type 0
     Cleared done pipes left =
-        TransfersAt path done (EndsCleared is_sent done pick pipes left) old before after
+        TransfersAt path done (EndsCleared is_sent done pick
+        (accepted_device_at path old.entries) pipes left) old before after
 
     not_cleared : (result : Result (Unit {0}) TableFault) (pipes : Pipes) (fault : TransferFault)
         → result ≡ Err (Transfer fault) → after ≡ before
-        → PathReaches path before (PipesInSync pipes) → Cleared (is_ok result) pipes pipes
+        → PathReaches path before (PipesInSyncIf (accepted_device_at path old.entries) pipes)
+        → Cleared (is_ok result) pipes pipes
     not_cleared result pipes fault e same level =
         subst (λ (b : Bool). Cleared b pipes pipes) (sym (ap is_ok e))
         (record {
-          each = none_changes path (EndsCleared is_sent false pick pipes pipes) before after same
+          each = none_changes path (EndsCleared is_sent false pick
+              (accepted_device_at path old.entries) pipes pipes) before after same
               (λ s on there. record {
                 moved = same_rows-moved s s refl refl;
                 out = none_ends is_sent false (through (pick false) pipes) (λ e. cc e)
@@ -452,7 +476,7 @@ module _ (path : List ℕ) (old : Table) (before after : World) where
       → Restarted path (is_ok result) old before new after
   cleared_restarts new result other held level single are x =
       through_both before result after (accepted_device_at path old.entries) (is_below_hub path)
-      (λ p l. PathReaches path before (PipesInSync p)
+      (λ p l. PathReaches path before (PipesInSyncIf (accepted_device_at path old.entries) p)
       → Cleared needs_clear first_pipe (is_ok result) p l)
       (λ pipes fault. not_cleared needs_clear first_pipe result pipes fault) there
       (pipes_at path old) (pipes_at path new) are x (levels_there path old before level are)
@@ -461,41 +485,44 @@ module _ (path : List ℕ) (old : Table) (before after : World) where
           → accepted_device_at path old.entries ≡ Some device
           → AreFunctionPipes device (is_below_hub path) pipes
           → ClearedInOrder pipes before result left after
-          → PathReaches path before (PipesInSync (Function pipes))
+          → PathReaches path before
+          (PipesInSyncIf (accepted_device_at path old.entries) (Function pipes))
           → Cleared needs_clear first_pipe (is_ok result) (Function pipes) (Function left)
       there device pipes left found to y l =
-          let is = after_rest (Unit {0}) (is_ok result) device (is_below_hub path) pipes to result
-          (λ e. other) (λ e. e) before y.mid after y.rest_out y.rest_in y.first y.into in
+          let is = after_rest device (Unit {0}) (is_ok result) (is_below_hub path) pipes to result
+          (λ e. other) (λ e. e) before y.mid after y.rest_out y.rest_in y.first
+          (first_unclear true pipes) y.into in
           subst (λ f. Cleared needs_clear first_pipe (is_ok result) (Function pipes) (Function f))
           (sym y.left_is)
           (record {
             each = changes_there path old before held device found device.address refl _
-                (HaltsCleared (is_ok result) (Function pipes)
+                (HaltsCleared (is_ok result) (accepted_device_at path old.entries) (Function pipes)
                 (Function (with_rest y.rest_in (with_rest y.rest_out pipes)))) after
                 (λ j s v z. z.others)
                 (λ s on at j v z address.
-                let c = z.itself tt address (l s on at) in
+                let c = z.itself tt address
+                (reaches_synced path before device _ found _ l s on at) in
                 record {
                   moved = c.moved;
                   out = halts_at needs_clear first_pipe (is_ok result) false (Function pipes)
                       (Function (with_rest y.rest_in (with_rest y.rest_out pipes)))
                       (first_pipe false pipes) y.rest_out (λ e. (out_end s e).state)
                       (λ e. (out_end v e).state) refl
-                      (out_again (Unit {0}) (is_ok result) device (is_below_hub path) pipes to
+                      (out_again device (Unit {0}) (is_ok result) (is_below_hub path) pipes to
                       result (λ e. other) (λ e. e) before y.mid after y.rest_out y.rest_in y.first
                       y.out is) c.out;
                   into = halts_at needs_clear first_pipe (is_ok result) true (Function pipes)
                       (Function (with_rest y.rest_in (with_rest y.rest_out pipes)))
                       (first_pipe true pipes) y.rest_in (λ e. (in_end s e).state)
                       (λ e. (in_end v e).state) refl
-                      (in_again (Unit {0}) (is_ok result) device (is_below_hub path) pipes to
+                      (in_again device (Unit {0}) (is_ok result) (is_below_hub path) pipes to
                       result (λ e. other) (λ e. e) before y.mid after y.rest_out y.rest_in y.first
                       y.out is) c.into;
-                  level = c.level;
+                  level = synced_if device _ found _ v c.level;
                 })
-                (in_turn (Unit {0}) (is_ok result) device (is_below_hub path) pipes to result
-                (λ e. other) (λ e. e) before y.mid after y.rest_out y.rest_in y.first y.out y.into
-                single);
+                (in_turn device (Unit {0}) (is_ok result) (is_below_hub path) pipes to result
+                (λ e. other) (λ e. e) before y.mid after y.rest_out y.rest_in y.first
+                (first_unclear true pipes) y.out y.into single);
             known = λ done. ap is_some found;
           })
 
@@ -514,7 +541,8 @@ module _ (path : List ℕ) (old : Table) (before after : World) where
         (pipe left : PipeState) (found : accepted_device_at path old.entries ≡ Some device)
         (w : WentThrough device (is_below_hub path) (pipe_to a) pipes pipe left)
         (y : ClearedOfThrough pipe before result left after)
-        (l : PathReaches path before (PipesInSync (Function pipes))) where
+        (l : PathReaches path before
+        (PipesInSyncIf (accepted_device_at path old.entries) (Function pipes))) where
       so : FitsAnswer (Unit {0}) (is_ok result) y.answer
       so = record {
         sure = λ e. not_bus y.answer result y.told other;
@@ -528,12 +556,15 @@ module _ (path : List ℕ) (old : Table) (before after : World) where
       left_way b way = same_way pipe left w.made ∙ way
 
       by_way : (b : Bool) → pipe.is_in ≡ b → EachWas (ChangesAt path
-          (HaltClearedOf a (is_ok result) (Function pipes) (Function rest))) before after
+          (HaltClearedOf a (is_ok result) (accepted_device_at path old.entries) (Function pipes)
+          (Function rest))) before after
       by_way false way = changes_there path old before held device found device.address refl _
-          (HaltClearedOf a (is_ok result) (Function pipes) (Function rest)) after
+          (HaltClearedOf a (is_ok result) (accepted_device_at path old.entries) (Function pipes)
+          (Function rest)) after
           (λ j s v z. z.others)
           (λ s on at j v z address.
-          let c = z.itself tt address (l s on at) in
+          let c = z.itself tt address
+          (reaches_synced path before device _ found _ l s on at) in
           record {
             moved = c.moved;
             out = halts_at always ways (is_ok result) false (Function pipes) (Function rest)
@@ -545,15 +576,18 @@ module _ (path : List ℕ) (old : Table) (before after : World) where
                 (way_not true a pipes pipe w.picked (λ e. cc (sym way ∙ e)))
                 (way_not true a rest left w.again (λ e. cc (sym (left_way false way) ∙ e)))
                 (λ e. ap (λ (ins : ℕ → InEnd). (ins e).state) c.into);
-            level = c.level;
+            level = synced_if device _ found _ v c.level;
           })
-          (out_step (Unit {0}) always (is_ok result) pipe left w.of w.made before y.answer after
+          (out_step device (Unit {0}) always (is_ok result) pipe left w.of w.made before y.answer
+          after
           so single y.cleared.clears way)
       by_way true way = changes_there path old before held device found device.address refl _
-          (HaltClearedOf a (is_ok result) (Function pipes) (Function rest)) after
+          (HaltClearedOf a (is_ok result) (accepted_device_at path old.entries) (Function pipes)
+          (Function rest)) after
           (λ j s v z. z.others)
           (λ s on at j v z address.
-          let c = z.itself tt address (l s on at) in
+          let c = z.itself tt address
+          (reaches_synced path before device _ found _ l s on at) in
           record {
             moved = c.moved;
             out = halts_at always ways (is_ok result) false (Function pipes) (Function rest) None
@@ -565,9 +599,10 @@ module _ (path : List ℕ) (old : Table) (before after : World) where
                 (Some pipe) (Some left) (λ e. (in_end s e).state) (λ e. (in_end v e).state)
                 (way_is true a pipes pipe w.picked way)
                 (way_is true a rest left w.again (left_way true way)) c.into;
-            level = c.level;
+            level = synced_if device _ found _ v c.level;
           })
-          (in_step (Unit {0}) always (is_ok result) pipe left w.of w.made before y.answer after
+          (in_step device (Unit {0}) always (is_ok result) pipe left w.of w.made before y.answer
+          after
           so single y.cleared.clears way)
 
       restarts_there : Cleared always ways (is_ok result) (Function pipes) (Function rest)
@@ -579,9 +614,11 @@ module _ (path : List ℕ) (old : Table) (before after : World) where
         → PipesClearedOf a (pipes_at path old) before result (pipes_at path new) after
         → RestartedOf path a (is_ok result) old before new after
     cleared_restarts_of new result other held level single are x =
-        through_pipes (pipe_to a) (to_picks a) ClearedOfThrough (λ p o r l n z. z.cleared.same)
+        through_pipes (pipe_to a) (clears_miss a) (to_picks a) ClearedOfThrough
+        (λ p o r l n z. z.cleared.same)
         before result after (accepted_device_at path old.entries) (is_below_hub path)
-        (λ p l. PathReaches path before (PipesInSync p) → Cleared always ways (is_ok result) p l)
+        (λ p l. PathReaches path before (PipesInSyncIf (accepted_device_at path old.entries) p)
+        → Cleared always ways (is_ok result) p l)
         (λ pipes fault none. not_cleared always ways result pipes fault)
         (λ device pipes pipe left found w y l.
         restarts_there result other held single device pipes pipe left found w y l)

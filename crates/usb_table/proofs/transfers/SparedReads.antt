@@ -1,10 +1,10 @@
 -- A request that reads leaves bulk endpoints as they were.
-use Rattle.std.proofs.Common.{◌≡◌, ◌∙◌, refl, sym, ap, ℕ, ◌==◌, List, Bool, true, false, Result}
+use Rattle.std.proofs.Common.{◌≡◌, ◌∙◌, refl, ap, ℕ, ◌==◌, List, Bool, true, false, Result}
 use Rattle.std.specs.Global.{Vec}
 use Rattle.usb_request.specs.{IsToHost, Setup}
 use Rattle.usb_port.specs.{PortState}
 use Rattle.usb_device.specs.{accepted, begun, Location, OnlyControl, OnlyStage, Outcome, outcome}
-use Rattle.usb_device.specs.{answers_taken, halts, stalled, State, takes, tells_port}
+use Rattle.usb_device.specs.{answers_taken, halts, stalled, State, takes, tells_halt, tells_port}
 use Rattle.usb_device.specs.Request.{answers}
 use Rattle.usb_world.specs.{World}
 use Rattle.usb_transaction.specs.{Target}
@@ -22,6 +22,7 @@ began_stage s row n (answers bytes) fine = refl
 began_stage s row n (tells_port i) fine = refl
 began_stage s row n answers_taken fine = refl
 began_stage s row n (takes kept) fine = refl
+began_stage s row n (tells_halt endpoint) fine = refl
 began_stage s row n (halts which) fine = absurd (cc fine)
 began_stage s row n _ fine = absurd fine
 

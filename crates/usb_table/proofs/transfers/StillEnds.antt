@@ -1,6 +1,6 @@
 -- A request that writes moves nothing through bulk endpoints.
 use Rattle.std.proofs.Common.{◌≡◌, ap, ℕ, ◌==◌, List, Bool, true, false, Result, Ok}
-use Rattle.std.proofs.Common.{Some, is_some}
+use Rattle.std.proofs.Common.{is_some}
 use Rattle.usb_request.specs.{IsToDevice, Setup}
 use Rattle.usb_port.specs.{PortState}
 use Rattle.usb_device.specs.{accepted, Location, OnlyControl, out_end, outcome, State}

@@ -4,7 +4,8 @@ use Rattle.std.proofs.Common.{false, List, [], ◌∷◌, length, Option, None, 
 use Rattle.usb_packet.specs.{Payload, Toggle}
 use Rattle.usb_packet.specs.declared.Packet.TheVariants as packet
 use Rattle.usb_request.specs.{GET_STATUS, CLEAR_FEATURE, SET_FEATURE, SET_ADDRESS, GET_DESCRIPTOR}
-use Rattle.usb_request.specs.{GET_CONFIGURATION, SET_CONFIGURATION, DEVICE_IN, DEVICE_OUT}
+use Rattle.usb_request.specs.{GET_CONFIGURATION, SET_CONFIGURATION, GET_INTERFACE, SET_INTERFACE}
+use Rattle.usb_request.specs.{DEVICE_IN, DEVICE_OUT, INTERFACE_IN, INTERFACE_OUT, ENDPOINT_IN}
 use Rattle.usb_request.specs.{ENDPOINT_OUT, HUB_IN, PORT_IN, PORT_OUT, PORT_RESET, PORT_POWER}
 use Rattle.usb_request.specs.{Setup, setup_of}
 use Rattle.usb_device.specs.{ServedEndpoint, Content, Whole, Broken, Sent, Effect, Calls, Registers}
@@ -13,6 +14,8 @@ use Rattle.usb_device.specs.{takes_configuration, halts, unhalts, tells_port, ca
 use Rattle.usb_device.specs.{unless, asked_descriptor, asked_status, asked_address}
 use Rattle.usb_device.specs.{asked_configuration, endpoint_of, on_endpoint, asked_hub_descriptor}
 use Rattle.usb_device.specs.{port_named, told_port, called_at, asked_port_status, port_feature}
+use Rattle.usb_device.specs.{asked_interface_status, asked_setting, asked_interface}
+use Rattle.usb_device.specs.{asked_endpoint_status}
 use Rattle.usb_device.specs.{outcome, is_value, State, asks, asked_by_data, effect_of_request}
 use Rattle.usb_device.specs.{Ports, asked_by, effect_of}
 use Rattle.usb_port.specs.{PortCall, SetPower, SetReset, is_reset, set_call, clear_call}
@@ -48,6 +51,21 @@ on_endpoint-harmless : (f : ServedEndpoint → Outcome)
     → ((w : ServedEndpoint) → asks_reset (f w) ≡ false) → (o : Option ServedEndpoint)
     → asks_reset (on_endpoint f o) ≡ false
 on_endpoint-harmless f c o = grind arith
+
+by_interface : (s : Spec) (g : Registers) (r : Setup)
+    → asks_reset (asked_interface_status s g r) ≡ false
+by_interface s g r = grind arith
+
+by_setting : (s : Spec) (g : Registers) (r : Setup) → asks_reset (asked_setting s g r) ≡ false
+by_setting s g r = grind arith
+
+by_new_setting : (s : Spec) (g : Registers) (r : Setup)
+    → asks_reset (unless s.stalls.interface (asked_interface s g r)) ≡ false
+by_new_setting s g r = grind arith
+
+by_halt : (s : Spec) (g : Registers) (r : Setup)
+    → asks_reset (asked_endpoint_status s g r) ≡ false
+by_halt s g r = grind arith
 
 by_hub : (o : Option Hub) (r : Setup) → asks_reset (asked_hub_descriptor o r) ≡ false
 by_hub o r = grind arith
@@ -109,6 +127,11 @@ harmless_outcome s g r h =
     (both_ways s.stalls.set_config stalled (asked_configuration s g r) refl
     (both_ways (not (g.address == 0) && is_value s.configs r.value && r.length == 0)
     (takes_configuration r.value) stalled refl refl))
+    (both_ways (Is r INTERFACE_IN GET_STATUS) (asked_interface_status s g r) _ (by_interface s g r)
+    (both_ways (Is r INTERFACE_IN GET_INTERFACE) (asked_setting s g r) _ (by_setting s g r)
+    (both_ways (Is r INTERFACE_OUT SET_INTERFACE)
+    (unless s.stalls.interface (asked_interface s g r)) _ (by_new_setting s g r)
+    (both_ways (Is r ENDPOINT_IN GET_STATUS) (asked_endpoint_status s g r) _ (by_halt s g r)
     (both_ways (Is r ENDPOINT_OUT CLEAR_FEATURE) (on_endpoint unhalts (endpoint_of s g r)) _
     (on_endpoint-harmless unhalts (λ w. refl) (endpoint_of s g r))
     (both_ways (Is r ENDPOINT_OUT SET_FEATURE) (on_endpoint halts (endpoint_of s g r)) _
@@ -124,7 +147,7 @@ harmless_outcome s g r h =
     (both_ways (Is r PORT_OUT CLEAR_FEATURE) (port_feature (clear_call r.value) s g r) _
     (by_feature (clear_call r.value) s g r (clear_resets r.value))
     (asked_own-any (λ o. asks_reset o ≡ false) refl s.requests g r (λ bytes. refl) refl
-    (λ kept. refl))))))))))))
+    (λ kept. refl))))))))))))))))
 
 -- no call of a reset
 abbrev no_reset : Effect → Bool

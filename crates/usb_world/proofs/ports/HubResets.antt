@@ -6,6 +6,7 @@ use Rattle.usb_port.specs.{PortState}
 use Rattle.usb_request.specs.{setup_of}
 use Rattle.usb_device.specs.{Registers, Outcome, stalled, takes_address, takes_configuration, halts}
 use Rattle.usb_device.specs.{unhalts, tells_port, calls_port, answers_taken, takes}
+use Rattle.usb_device.specs.{takes_setting, tells_halt}
 use Rattle.usb_device.specs.{registers_at_setup, State, Way}
 use Rattle.usb_device.specs.{setup_law, Ports, vacant, taken, row_of, reach_at, state_at, reach}
 use Rattle.usb_device.specs.{place, path_to}
@@ -63,6 +64,8 @@ register_address g (tells_port i) = refl
 register_address g (calls_port c i) = refl
 register_address g answers_taken = refl
 register_address g (takes kept) = refl
+register_address g (takes_setting interface setting) = refl
+register_address g (tells_halt which) = refl
 
 setup_address : (s : State) (row : List PortState) (bytes : List ℕ) (x y z : Way)
     → address_of (setup_law s row bytes x y z).1 ≡ address_of s

@@ -5,12 +5,15 @@ use Rattle.arrayvec.specs.ArrayVec.{ArrayVec}
 use Rattle.usb_packet.specs.{Payload, Toggle, Zero, One}
 use Rattle.usb_packet.specs.declared.Packet.TheVariants as packet
 use Rattle.usb_request.specs.{GET_STATUS, CLEAR_FEATURE, SET_FEATURE, SET_ADDRESS, GET_DESCRIPTOR}
-use Rattle.usb_request.specs.{GET_CONFIGURATION, SET_CONFIGURATION, DEVICE_IN, DEVICE_OUT}
+use Rattle.usb_request.specs.{GET_CONFIGURATION, SET_CONFIGURATION, GET_INTERFACE, SET_INTERFACE}
+use Rattle.usb_request.specs.{DEVICE_IN, DEVICE_OUT, INTERFACE_IN, INTERFACE_OUT, ENDPOINT_IN}
 use Rattle.usb_request.specs.{ENDPOINT_OUT, HUB_IN, PORT_IN, PORT_OUT, Setup, setup_of}
 use Rattle.usb_device.specs.{ServedEndpoint, Content, Whole, Broken, Sent, Effect, Leaves, Calls}
 use Rattle.usb_device.specs.{PortsOff, Registers, RememberedPacket, Spec, Hub, Outcome, stalled}
 use Rattle.usb_device.specs.{takes_address, takes_configuration, halts, unhalts, Is, unless}
 use Rattle.usb_device.specs.{asked_descriptor, asked_status, asked_address, asked_configuration}
+use Rattle.usb_device.specs.{asked_interface_status, asked_setting, asked_interface}
+use Rattle.usb_device.specs.{asked_endpoint_status}
 use Rattle.usb_device.specs.{endpoint_of, on_endpoint, asked_hub_descriptor, port_named, told_port}
 use Rattle.usb_device.specs.{called_at, asked_port_status, port_feature, outcome, is_value, State}
 use Rattle.usb_device.specs.{asks, asked_by_data, asked_by_setup, effect_of_request, asked_by}
@@ -58,6 +61,19 @@ module _ (T : Effect → Bool) (r : Setup) (h : Allows T r) where
       → (o : Option ServedEndpoint) → Good (on_endpoint f o)
   by_endpoint f c o = grind arith
 
+  by_interface : (s : Spec) (g : Registers) → Good (asked_interface_status s g r)
+  by_interface s g = grind arith
+
+  by_setting : (s : Spec) (g : Registers) → Good (asked_setting s g r)
+  by_setting s g = grind arith
+
+  by_new_setting : (s : Spec) (g : Registers)
+      → Good (unless s.stalls.interface (asked_interface s g r))
+  by_new_setting s g = grind arith
+
+  by_halt : (s : Spec) (g : Registers) → Good (asked_endpoint_status s g r)
+  by_halt s g = grind arith
+
   by_hub : (o : Option Hub) → Good (asked_hub_descriptor o r)
   by_hub o = grind arith
 
@@ -91,6 +107,12 @@ module _ (T : Effect → Bool) (r : Setup) (h : Allows T r) where
       (λ e. both_ways s.stalls.set_config stalled (asked_configuration s g r) h.rests
       (both_ways (not (g.address == 0) && is_value s.configs r.value && r.length == 0)
       (takes_configuration r.value) stalled (h.off e) h.rests))
+      (both_ways (Is r INTERFACE_IN GET_STATUS) (asked_interface_status s g r) _
+      (by_interface s g)
+      (both_ways (Is r INTERFACE_IN GET_INTERFACE) (asked_setting s g r) _ (by_setting s g)
+      (both_ways (Is r INTERFACE_OUT SET_INTERFACE)
+      (unless s.stalls.interface (asked_interface s g r)) _ (by_new_setting s g)
+      (both_ways (Is r ENDPOINT_IN GET_STATUS) (asked_endpoint_status s g r) _ (by_halt s g)
       (both_ways (Is r ENDPOINT_OUT CLEAR_FEATURE) (on_endpoint unhalts (endpoint_of s g r)) _
       (by_endpoint unhalts (λ w. h.rests) (endpoint_of s g r))
       (both_ways (Is r ENDPOINT_OUT SET_FEATURE) (on_endpoint halts (endpoint_of s g r)) _
@@ -104,7 +126,7 @@ module _ (T : Effect → Bool) (r : Setup) (h : Allows T r) where
       (branch (Is r PORT_OUT CLEAR_FEATURE) (port_feature (clear_call r.value) s g r) _
       (λ e. by_feature (clear_call r.value) s g (h.clear e))
       (asked_own-any Good h.rests s.requests g r (λ bytes. h.rests) h.rests
-      (λ kept. h.rests))))))))))))
+      (λ kept. h.rests))))))))))))))))
 
   pub setup_allowed : (s : State) → T (asked_by_setup s r) ≡ true
   setup_allowed s = good_outcome s.spec s.registers

@@ -4,7 +4,7 @@ use Rattle.usb_packet.specs.{OutTok, Zero}
 use Rattle.usb_device.specs.declared.transfer.RememberedPacket.TheVariants.{SetupSeen}
 use Rattle.usb_device.specs.{Spec, function, usual_hub, Ports, ended, vacant, taken, place_at}
 use Rattle.usb_device.specs.{fresh, received, unread, outcome, asks, answer_of, effect_of}
-use Rattle.usb_device.specs.{after_packet}
+use Rattle.usb_device.specs.{after_packet, at_reset}
 use Rattle.usb_request.specs.{setup_of}
 use Rattle.usb_port.specs.{full, nothing}
 use Rattle.usb_world.specs.{Lose, Attempt, damage_of, harm_to, mark_of, bit_count, marked}
@@ -46,7 +46,7 @@ awaiting = record {
         reset_changed = false;
       })
       (record (fresh asked_hub) {
-        registers = record { address = 1; configuration = 1 };
+        registers = record at_reset { address = 1; configuration = 1 };
         memory = SetupSeen;
       })
       (taken (record {

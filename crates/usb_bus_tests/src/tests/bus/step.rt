@@ -264,6 +264,9 @@ fn ask_told(alloc: Global, ask: &Ask) -> Result<String, AllocError> {
         Ask::ClearOf(path, endpoint) => {
             format!(in alloc; "clear {:?} {}", path.numbers(), endpoint.get())
         }
+        Ask::SetInterface(path, interface, setting) => {
+            format!(in alloc; "interface {:?} {interface} {setting}", path.numbers())
+        }
         Ask::ControlIn(path, _) => format!(in alloc; "control {:?} in", path.numbers()),
         Ask::ControlOut(path, _) => format!(in alloc; "control {:?} out", path.numbers()),
         Ask::Look(path) => format!(in alloc; "look {:?}", path.numbers()),

@@ -384,6 +384,7 @@ fn pipe_to(endpoint: u8, most: u8, is_in: bool) -> EndpointPipe
     let usable = UsableEndpoint {
         kind: EndpointKind::Bulk,
         max: most.clamp(1, 64),
+        interface: 0,
     };
     EndpointPipe::new(TARGET, endpoint.min(15), usable, is_in)
 }

@@ -361,6 +361,10 @@ impl<B: Bus> Bus for QuirkBus<B> {
         }
     }
 
+    fn restart_endpoint(&mut self, address: u8, number: u8, is_in: bool) {
+        self.bus.restart_endpoint(address, number, is_in);
+    }
+
     ghost counted = { λ known quirk. Prim.cc known };
 
     ghost settled = { λ known quirk. Prim.cc known };

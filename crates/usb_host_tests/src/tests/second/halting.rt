@@ -80,6 +80,10 @@ impl<B: Bus> Bus for HaltingBus<B> {
         }
     }
 
+    fn restart_endpoint(&mut self, address: u8, number: u8, is_in: bool) {
+        self.bus.restart_endpoint(address, number, is_in);
+    }
+
     ghost counted = { λ known halting. Prim.cc known };
 
     ghost settled = { λ known halting. Prim.cc known };

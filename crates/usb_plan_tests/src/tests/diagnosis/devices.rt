@@ -99,7 +99,7 @@ const VALUES: [Row; 21] = [
     },
     Row {
         text: "stalls = [\"hub\", \"adress\"]\n",
-        told: "p.toml:13: plan: device 2: bad value\n  device 2 \"hub\", line 8: `stalls` is [\"hub\", \"adress\"]\n  allowed: an array of \"device\", \"address\", \"config\", \"set_config\", \"status\", \"hub\", \"string\"\n  did you mean \"address\"?\n",
+        told: "p.toml:13: plan: device 2: bad value\n  device 2 \"hub\", line 8: `stalls` is [\"hub\", \"adress\"]\n  allowed: an array of \"device\", \"address\", \"config\", \"set_config\", \"status\", \"hub\", \"string\", \"interface\"\n  did you mean \"address\"?\n",
     },
     Row {
         text: "halt_after = 0\n",
@@ -135,7 +135,7 @@ const VALUES: [Row; 21] = [
     },
     Row {
         text: "stalls = true\n",
-        told: "p.toml:13: plan: device 2: bad value\n  device 2 \"hub\", line 8: `stalls` is true\n  allowed: an array of \"device\", \"address\", \"config\", \"set_config\", \"status\", \"hub\", \"string\"\n",
+        told: "p.toml:13: plan: device 2: bad value\n  device 2 \"hub\", line 8: `stalls` is true\n  allowed: an array of \"device\", \"address\", \"config\", \"set_config\", \"status\", \"hub\", \"string\", \"interface\"\n",
     },
     Row {
         text: "source = 0\n",

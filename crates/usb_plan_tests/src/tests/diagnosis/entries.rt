@@ -6,7 +6,7 @@ use usb_diagnosis::check_text;
 const INLINE: [Row; 7] = [
     Row {
         text: "limit = 1\nroots = 1\nevent = [{ do = \"show\" }, { do = \"shw\" }]\n",
-        told: "p.toml:3: plan: event 2: bad value\n  event 2, line 3: `do` is \"shw\"\n  allowed: \"plug\", \"unplug\", \"show\", \"send\", \"receive\", \"clear\", \"interrupt\", \"control\", \"look\" or \"news\"\n  did you mean \"show\"?\n",
+        told: "p.toml:3: plan: event 2: bad value\n  event 2, line 3: `do` is \"shw\"\n  allowed: \"plug\", \"unplug\", \"show\", \"send\", \"receive\", \"clear\", \"interrupt\", \"control\", \"interface\", \"look\" or \"news\"\n  did you mean \"show\"?\n",
     },
     Row {
         text: "limit = 1\nroots = 1\n\"event\" = [\n  { do = 'show', after = '''\n[[event]]\n''' },\n]\n",
@@ -14,7 +14,7 @@ const INLINE: [Row; 7] = [
     },
     Row {
         text: "limit = 1\nroots = 1\nevent = [\n  { do = \"show\" }, # {\n  { do = \"shw\" },\n]\n",
-        told: "p.toml:5: plan: event 2: bad value\n  event 2, line 5: `do` is \"shw\"\n  allowed: \"plug\", \"unplug\", \"show\", \"send\", \"receive\", \"clear\", \"interrupt\", \"control\", \"look\" or \"news\"\n  did you mean \"show\"?\n",
+        told: "p.toml:5: plan: event 2: bad value\n  event 2, line 5: `do` is \"shw\"\n  allowed: \"plug\", \"unplug\", \"show\", \"send\", \"receive\", \"clear\", \"interrupt\", \"control\", \"interface\", \"look\" or \"news\"\n  did you mean \"show\"?\n",
     },
     Row {
         text: "limit = 1\nroots = 1\nevent = [\n  { do = \"show\" },\n  { \"do\" = 'show', aftr = 1 },\n]\n",
@@ -43,7 +43,7 @@ fn entries_in_one_array(rt: HostRuntime) -> Result<(), AllocError> {
 const LAYOUTS: [Row; 2] = [
     Row {
         text: "\u{FEFF}limit = 1 # [[event]]\r\nroots = 1\r\n[[event]]\r\ndo = 'show'\r\n\r\n[[event]] # [[event]]\r\n  \"after\" = 0\r\n\tdo = \"\"\"\\\n  sh[ow\"\"\" # x\r\n",
-        told: "p.toml:8: plan: event 2: bad value\n  event 2, line 6: `do` is \"sh[ow\"\n  allowed: \"plug\", \"unplug\", \"show\", \"send\", \"receive\", \"clear\", \"interrupt\", \"control\", \"look\" or \"news\"\n  did you mean \"show\"?\n",
+        told: "p.toml:8: plan: event 2: bad value\n  event 2, line 6: `do` is \"sh[ow\"\n  allowed: \"plug\", \"unplug\", \"show\", \"send\", \"receive\", \"clear\", \"interrupt\", \"control\", \"interface\", \"look\" or \"news\"\n  did you mean \"show\"?\n",
     },
     Row {
         text: "limit = 1\nroots = 1\n[[damage]]\nattempt = 1\npacket = 1\nhow = '''\n[[damage]]\n'''\n[[damage]]\nattempt = 'x'\n",

@@ -6,11 +6,11 @@ use std::alloc::AllocError;
 const EVENTS: [Row; 25] = [
     Row {
         text: "[[event]]\npath = \"1\"\n",
-        told: "p.toml:8: plan: event 1: missing key\n  event 1, line 8: no key `do`\n  allowed: \"plug\", \"unplug\", \"show\", \"send\", \"receive\", \"clear\", \"interrupt\", \"control\", \"look\" or \"news\"\n  such as: do = \"plug\"\n",
+        told: "p.toml:8: plan: event 1: missing key\n  event 1, line 8: no key `do`\n  allowed: \"plug\", \"unplug\", \"show\", \"send\", \"receive\", \"clear\", \"interrupt\", \"control\", \"interface\", \"look\" or \"news\"\n  such as: do = \"plug\"\n",
     },
     Row {
         text: "[[event]]\ndo = \"plgu\"\n",
-        told: "p.toml:9: plan: event 1: bad value\n  event 1, line 8: `do` is \"plgu\"\n  allowed: \"plug\", \"unplug\", \"show\", \"send\", \"receive\", \"clear\", \"interrupt\", \"control\", \"look\" or \"news\"\n  did you mean \"plug\"?\n",
+        told: "p.toml:9: plan: event 1: bad value\n  event 1, line 8: `do` is \"plgu\"\n  allowed: \"plug\", \"unplug\", \"show\", \"send\", \"receive\", \"clear\", \"interrupt\", \"control\", \"interface\", \"look\" or \"news\"\n  did you mean \"plug\"?\n",
     },
     Row {
         text: "[[event]]\ndo = \"plug\"\ndevice = \"fn\"\n",
@@ -66,7 +66,7 @@ const EVENTS: [Row; 25] = [
     },
     Row {
         text: "[[event]]\ndo = 5\n",
-        told: "p.toml:9: plan: event 1: bad value\n  event 1, line 8: `do` is 5\n  allowed: \"plug\", \"unplug\", \"show\", \"send\", \"receive\", \"clear\", \"interrupt\", \"control\", \"look\" or \"news\"\n",
+        told: "p.toml:9: plan: event 1: bad value\n  event 1, line 8: `do` is 5\n  allowed: \"plug\", \"unplug\", \"show\", \"send\", \"receive\", \"clear\", \"interrupt\", \"control\", \"interface\", \"look\" or \"news\"\n",
     },
     Row {
         text: "[[event]]\ndo = \"unplug\"\n",
@@ -150,11 +150,11 @@ const ASKING: [Row; 16] = [
     },
     Row {
         text: "[[event]]\ndo = \"contrl\"\n",
-        told: "p.toml:9: plan: event 1: bad value\n  event 1, line 8: `do` is \"contrl\"\n  allowed: \"plug\", \"unplug\", \"show\", \"send\", \"receive\", \"clear\", \"interrupt\", \"control\", \"look\" or \"news\"\n  did you mean \"control\"?\n",
+        told: "p.toml:9: plan: event 1: bad value\n  event 1, line 8: `do` is \"contrl\"\n  allowed: \"plug\", \"unplug\", \"show\", \"send\", \"receive\", \"clear\", \"interrupt\", \"control\", \"interface\", \"look\" or \"news\"\n  did you mean \"control\"?\n",
     },
     Row {
         text: "[[event]]\ndo = \"loo\"\n",
-        told: "p.toml:9: plan: event 1: bad value\n  event 1, line 8: `do` is \"loo\"\n  allowed: \"plug\", \"unplug\", \"show\", \"send\", \"receive\", \"clear\", \"interrupt\", \"control\", \"look\" or \"news\"\n  did you mean \"look\"?\n",
+        told: "p.toml:9: plan: event 1: bad value\n  event 1, line 8: `do` is \"loo\"\n  allowed: \"plug\", \"unplug\", \"show\", \"send\", \"receive\", \"clear\", \"interrupt\", \"control\", \"interface\", \"look\" or \"news\"\n  did you mean \"look\"?\n",
     },
     Row {
         text: "[[event]]\ndo = \"look\"\npath = \"1\"\nsetup = \"\"\n",
@@ -171,6 +171,34 @@ const ASKING: [Row; 16] = [
     Row {
         text: "[[event]]\ndo = \"news\"\npath = \"1\"\n",
         told: "p.toml:10: plan: event 1: bad value\n  event 1, line 8: unknown key `path`\n  allowed: `do`, `after`\n",
+    },
+];
+
+/// An event of an interface's setting that begins on line 8.
+const SETTINGS: [Row; 6] = [
+    Row {
+        text: "[[event]]\ndo = \"interface\"\npath = \"1\"\nsetting = 1\n",
+        told: "p.toml:8: plan: event 1: missing key\n  event 1, line 8: no key `interface`\n  allowed: a number from 0 to 255\n  such as: interface = 0\n",
+    },
+    Row {
+        text: "[[event]]\ndo = \"interface\"\npath = \"1\"\ninterface = 0\nsettings = 1\n",
+        told: "p.toml:8: plan: event 1: missing key\n  event 1, line 8: no key `setting`\n  allowed: a number from 0 to 255\n  such as: setting = 1\n  unknown key `settings`: did you mean `setting`?\n",
+    },
+    Row {
+        text: "[[event]]\ndo = \"interface\"\npath = \"1\"\ninterface = 256\nsetting = 1\n",
+        told: "p.toml:11: plan: event 1: bad value\n  event 1, line 8: `interface` is 256\n  allowed: a number from 0 to 255\n",
+    },
+    Row {
+        text: "[[event]]\ndo = \"interface\"\npath = \"1\"\ninterface = 0\nsetting = \"1\"\n",
+        told: "p.toml:12: plan: event 1: bad value\n  event 1, line 8: `setting` is \"1\"\n  allowed: a number from 0 to 255\n",
+    },
+    Row {
+        text: "[[event]]\ndo = \"interface\"\npath = \"1\"\ninterface = 0\nsetting = 1\nendpoint = 1\n",
+        told: "p.toml:13: plan: event 1: bad value\n  event 1, line 8: unknown key `endpoint`\n  allowed: `do`, `after`, `path`, `interface`, `setting`\n",
+    },
+    Row {
+        text: "[[event]]\ndo = \"interace\"\npath = \"1\"\n",
+        told: "p.toml:9: plan: event 1: bad value\n  event 1, line 8: `do` is \"interace\"\n  allowed: \"plug\", \"unplug\", \"show\", \"send\", \"receive\", \"clear\", \"interrupt\", \"control\", \"interface\", \"look\" or \"news\"\n  did you mean \"interface\"?\n",
     },
 ];
 
@@ -214,7 +242,7 @@ const ENDPOINTS: [Row; 10] = [
     },
     Row {
         text: "[[event]]\ndo = \"interupt\"\npath = \"1\"\n",
-        told: "p.toml:9: plan: event 1: bad value\n  event 1, line 8: `do` is \"interupt\"\n  allowed: \"plug\", \"unplug\", \"show\", \"send\", \"receive\", \"clear\", \"interrupt\", \"control\", \"look\" or \"news\"\n  did you mean \"interrupt\"?\n",
+        told: "p.toml:9: plan: event 1: bad value\n  event 1, line 8: `do` is \"interupt\"\n  allowed: \"plug\", \"unplug\", \"show\", \"send\", \"receive\", \"clear\", \"interrupt\", \"control\", \"interface\", \"look\" or \"news\"\n  did you mean \"interrupt\"?\n",
     },
 ];
 
@@ -222,7 +250,8 @@ const ENDPOINTS: [Row; 10] = [
 fn a_fault_of_an_event(rt: HostRuntime) -> Result<(), AllocError> {
     check_rows(&rt, rt.alloc(), FUNCTION, &EVENTS)?;
     check_rows(&rt, rt.alloc(), FUNCTION, &ASKING)?;
-    check_rows(&rt, rt.alloc(), FUNCTION, &ENDPOINTS)
+    check_rows(&rt, rt.alloc(), FUNCTION, &ENDPOINTS)?;
+    check_rows(&rt, rt.alloc(), FUNCTION, &SETTINGS)
 }
 
 /// A damage that begins on line 8.

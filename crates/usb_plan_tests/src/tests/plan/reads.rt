@@ -114,6 +114,9 @@ fn put_action(text: &mut String, action: &Action) -> Result<(), AllocError> {
         Action::Ask(Ask::ClearOf(path, endpoint)) => {
             write!(text, "clear {} {}", path.text(), endpoint.get())
         }
+        Action::Ask(Ask::SetInterface(path, interface, setting)) => {
+            write!(text, "interface {} {interface} {setting}", path.text())
+        }
         Action::Ask(Ask::Look(path)) => write!(text, "look {}", path.text()),
         Action::Ask(Ask::News) => text.push_str("news"),
         _ => text.push_str("other"),
@@ -163,7 +166,7 @@ struct Example {
     read: &'static str,
 }
 
-const EXAMPLES: [Example; 12] = [
+const EXAMPLES: [Example; 13] = [
     Example {
         text: &["limit = 0\nroots = 1\n"],
         read: "limit 0, roots 1, bound 2",
@@ -243,6 +246,13 @@ const EXAMPLES: [Example; 12] = [
             "[[event]]\ndo = \"clear\"\npath = \"1.7\"\nendpoint = 1\n[[event]]\ndo = \"clear\"\npath = \"1\"\n",
         ],
         read: "limit 1, roots 1, bound 18450002; 2 interrupt 1 143; 0 clear 1.7 1; 0 clear 1",
+    },
+    // the interface comes before its setting, whatever stands first
+    Example {
+        text: &[
+            "limit = 1\nroots = 1\n[[event]]\ndo = \"interface\"\npath = \"1.7\"\nsetting = 255\ninterface = 2\nafter = 3\n",
+        ],
+        read: "limit 1, roots 1, bound 6050002; 3 interface 1.7 2 255",
     },
 ];
 

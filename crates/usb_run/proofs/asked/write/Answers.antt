@@ -1,4 +1,4 @@
-use Rattle.std.proofs.Common.{◌≡◌, ◌∙◌, ap, length, List, refl, Some, subst, sym, ℕ}
+use Rattle.std.proofs.Common.{◌∙◌, ap, length, List, refl, Some, subst, sym, ℕ}
 use Rattle.usb_request.specs.{IsToDevice, Setup}
 use Rattle.usb_host.specs.{WriteTells}
 use Rattle.usb_run.specs.{sent_count, Written}

@@ -1,5 +1,5 @@
 use Rattle.std.proofs.Common.{◌∙◌, ap, sym}
-use Rattle.usb_world.specs.{Send, Receive, Clear, SendTo, ReceiveFrom, Poll, ClearOf}
+use Rattle.usb_world.specs.{Send, Receive, Clear, SendTo}
 use Rattle.usb_run.proofs.items.AskedItems.{listing_asked, listing_refused, transfer_asked}
 use Rattle.usb_run.proofs.items.AskedItems.{transfer_failed}
 use Rattle.usb_run.proofs.runs.asked_item.Goals as goal

@@ -1,7 +1,6 @@
 use Rattle.std.proofs.Common.{◌≡◌, ℕ, Bool}
-use Rattle.std.specs.Option.{option_or}
 use Rattle.usb_descriptor.specs.{items_of, counting_of, end_at, usable_at}
-use Rattle.usb_descriptor.proofs.UsableItems.{bulk_from, interrupt_from}
+use Rattle.usb_descriptor.proofs.UsableItems.{usable_from}
 use Rattle.usb_descriptor.proofs.config.ConfigView.usable_endpoints.Given as goal
 
 abbrev pub invariant-loop-item : goal.invariant-loop-item
@@ -9,7 +8,6 @@ invariant-loop-item l = record {
   next : (goal.iterator-loop-item).can_next l.item-iterator;
   ends : (goal.iterator-loop-item).is_finite l.item-iterator;
   so_far : (to_host : Bool) (e : ℕ) → counting_of (end_at l.table to_host e)
-      (option_or (bulk_from l.low to_host e l.counts l.item-iterator)
-      (interrupt_from l.low to_host e l.counts l.item-iterator))
-      ≡ usable_at l.low to_host e (items_of l.self);
+      (usable_from l.settings l.low to_host e l.inside l.item-iterator)
+      ≡ usable_at l.settings l.low to_host e (items_of l.self);
 }

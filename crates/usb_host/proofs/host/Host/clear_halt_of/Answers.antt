@@ -2,7 +2,7 @@ use Rattle.std.proofs.Common.{arith, refl, rules, ap, sym, ◌∙◌}
 use Rattle.std.proofs.lemmas.Bool.{false≢true}
 use Rattle.std.proofs.lemmas.Grind.{common_steps}
 use Rattle.usb_pipe.specs.{write_bound}
-use Rattle.usb_table.specs.{asked_through, pipe_to, pipes_at}
+use Rattle.usb_table.specs.{asked_through, clears_miss, pipe_to, pipes_at}
 use Rattle.usb_host.specs.{counts_of, HostState}
 use Rattle.usb_host.proofs.StepSums.{host_goes_none}
 use Rattle.usb_host.proofs.knowledge.Soundness.{transfer_kept, transfer_none}
@@ -69,7 +69,7 @@ returns-clause-any_bus g c = record {
         stopped = c.self.inside.stopped;
       }) c.self.inside.bus c.clear_halt_of.new.bus c.clear_halt_of.ensures.through c.clear_halt_of.result
       c.as_host_fault-cleared.ensures c.if-self.false c.is_final-self-inside.ensures
-      (asked_through (pipe_to c.args.endpoint)
+      (asked_through (pipe_to c.args.endpoint) (clears_miss c.args.endpoint)
       (pipes_at c.args.path.now c.self.inside.table))
       c.clear_halt_of.ensures.any_bus.2);
 }

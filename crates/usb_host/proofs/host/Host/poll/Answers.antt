@@ -1,7 +1,7 @@
 use Rattle.std.proofs.Common.{arith, refl, rules, ap, sym, ◌∙◌}
 use Rattle.std.proofs.lemmas.Bool.{false≢true}
 use Rattle.std.proofs.lemmas.Grind.{common_steps}
-use Rattle.usb_table.specs.{asked_through, pipes_at, polls_through, unless_broken}
+use Rattle.usb_table.specs.{asked_through, polls_miss, pipes_at, polls_through, unless_broken}
 use Rattle.usb_host.specs.{counts_of, HostState}
 use Rattle.usb_host.proofs.StepSums.{host_goes_none}
 use Rattle.usb_host.proofs.knowledge.Soundness.{transfer_kept, transfer_none}
@@ -68,7 +68,7 @@ returns-clause-any_bus g c = record {
         stopped = c.self.inside.stopped;
       }) c.self.inside.bus c.poll_of.new.bus c.poll_of.ensures.through c.poll_of.result
       c.as_host_fault-polled.ensures c.if-self.false c.is_final-self-inside.ensures
-      (unless_broken (asked_through (polls_through c.args.endpoint)
+      (unless_broken (asked_through (polls_through c.args.endpoint) (polls_miss c.args.endpoint)
       (pipes_at c.args.path.now c.self.inside.table)))
       c.poll_of.ensures.any_bus.2);
 }

@@ -1,7 +1,7 @@
 use Rattle.std.proofs.Common.{arith, refl, rules, ◌*◌, ap, sym, ◌∙◌}
 use Rattle.std.proofs.lemmas.Bool.{false≢true}
 use Rattle.std.proofs.lemmas.Grind.{common_steps}
-use Rattle.usb_table.specs.{asked_through, pipes_at, receives_through, unless_broken}
+use Rattle.usb_table.specs.{asked_through, receives_miss, pipes_at, receives_through, unless_broken}
 use Rattle.usb_host.specs.{counts_of, HostState}
 use Rattle.usb_host.proofs.StepSums.{host_goes_none}
 use Rattle.usb_host.proofs.knowledge.Soundness.{transfer_kept, transfer_none}
@@ -68,7 +68,7 @@ returns-clause-any_bus g c = record {
         stopped = c.self.inside.stopped;
       }) c.self.inside.bus c.receive.new.bus c.receive.ensures.through c.receive.result
       c.as_host_fault-received.ensures c.if-self.false c.is_final-self-inside.ensures
-      (unless_broken (asked_through (receives_through c.args.choice)
+      (unless_broken (asked_through (receives_through c.args.choice) (receives_miss c.args.choice)
       (pipes_at c.args.path.now c.self.inside.table)))
       c.receive.ensures.any_bus.2);
 }

@@ -1,7 +1,7 @@
 use Rattle.std.proofs.Common.{arith, refl, rules, ◌*◌, length, ap, sym, ◌∙◌}
 use Rattle.std.proofs.lemmas.Bool.{false≢true}
 use Rattle.std.proofs.lemmas.Grind.{common_steps}
-use Rattle.usb_table.specs.{asked_through, pipes_at, sends_through, unless_broken}
+use Rattle.usb_table.specs.{asked_through, sends_miss, pipes_at, sends_through, unless_broken}
 use Rattle.usb_host.specs.{counts_of, HostState}
 use Rattle.usb_host.proofs.StepSums.{host_goes_none}
 use Rattle.usb_host.proofs.knowledge.Soundness.{transfer_kept, transfer_none}
@@ -68,7 +68,7 @@ returns-clause-any_bus g c = record {
         stopped = c.self.inside.stopped;
       }) c.self.inside.bus c.send.new.bus c.send.ensures.through c.send.result
       c.as_host_fault-sent.ensures c.if-self.false c.is_final-self-inside.ensures
-      (unless_broken (asked_through (sends_through c.args.choice)
+      (unless_broken (asked_through (sends_through c.args.choice) (sends_miss c.args.choice)
       (pipes_at c.args.path.now c.self.inside.table)))
       c.send.ensures.any_bus.2);
 }

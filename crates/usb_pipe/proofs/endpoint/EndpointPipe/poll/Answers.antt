@@ -1,4 +1,4 @@
-use Rattle.std.proofs.Common.{rules, refl, subst, ◌≤◌}
+use Rattle.std.proofs.Common.{rules, subst, ◌≤◌}
 use Rattle.usb_pipe.proofs.PacketPolls.{polls_broken, polls_by}
 use Rattle.usb_pipe.proofs.endpoint.EndpointPipe.poll.Goals as goal
 

@@ -1,6 +1,6 @@
 use Rattle.std.proofs.Common.{◌∙◌, sym}
 use Rattle.usb_bus.specs.{still}
-use Rattle.usb_table.specs.{ClearedOfThrough, pipe_to}
+use Rattle.usb_table.specs.{ClearedOfThrough, pipe_to, clears_miss}
 use Rattle.usb_table.proofs.FunctionCalls.{call_made, call_through}
 use Rattle.usb_table.proofs.levels.StandingPipes.{to_picks}
 use Rattle.usb_table.proofs.function_pipes.FunctionPipes.clear.Goals as goal
@@ -20,7 +20,8 @@ returns-clause-cleared g c known =
     call_through
     (pipe_to c.args.endpoint) (to_picks c.args.endpoint) c.args.self.now c.put.new.self c.requires
     c.in-Some.pipe c.clear-cleared.new.self (sym c.pipe_to.ensures ∙ c.in-Some.is) c.put.ensures
-    c.clear-cleared.ensures.same ClearedOfThrough _ c.table_answer.result _ (record {
+    c.clear-cleared.ensures.same (clears_miss c.args.endpoint) ClearedOfThrough _
+    c.table_answer.result _ (record {
       answer = c.clear-cleared.result;
       told = c.table_answer.ensures;
       cleared = record {

@@ -1,6 +1,6 @@
 use Rattle.std.proofs.Common.{◌∙◌, sym}
 use Rattle.usb_bus.specs.{still}
-use Rattle.usb_table.specs.{ReportedThrough, polls_through}
+use Rattle.usb_table.specs.{ReportedThrough, polls_through, polls_miss}
 use Rattle.usb_table.proofs.FunctionCalls.{call_made, call_refused, call_through, told_bus}
 use Rattle.usb_table.proofs.levels.StandingPipes.{polls_picks}
 use Rattle.usb_table.proofs.function_pipes.FunctionPipes.poll.Goals as goal
@@ -18,7 +18,8 @@ returns-clause-any_bus g c = (
       c.put.new.self c.requires
       c.in-Some.pipe c.poll-polled.new.self
       (sym c.polls_through.ensures ∙ c.in-Some.is) c.put.ensures
-      c.poll-polled.ensures.same c.args.bus.now c.poll-polled.new.bus
+      c.poll-polled.ensures.same (polls_miss c.args.endpoint c.args.self.now) c.args.bus.now
+      c.poll-polled.new.bus
       c.poll-polled.result c.table_answer.result c.table_answer.ensures
       c.poll-polled.ensures.broken,
 )
@@ -39,7 +40,8 @@ returns-clause-told g c known =
     c.put.new.self c.requires
     c.in-Some.pipe c.poll-polled.new.self
     (sym c.polls_through.ensures ∙ c.in-Some.is) c.put.ensures
-    c.poll-polled.ensures.same ReportedThrough _ c.table_answer.result _ (record {
+    c.poll-polled.ensures.same (polls_miss c.args.endpoint) ReportedThrough _ c.table_answer.result
+    _ (record {
       answer = c.poll-polled.result;
       told = c.table_answer.ensures;
       count = (c.poll-polled.ensures.steps known).spends;

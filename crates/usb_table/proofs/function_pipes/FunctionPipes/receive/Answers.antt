@@ -1,6 +1,6 @@
 use Rattle.std.proofs.Common.{◌∙◌, sym}
 use Rattle.usb_bus.specs.{still}
-use Rattle.usb_table.specs.{ReceivedThrough, receives_through}
+use Rattle.usb_table.specs.{ReceivedThrough, receives_through, receives_miss}
 use Rattle.usb_table.proofs.FunctionCalls.{call_made, call_refused, call_through, told_bus}
 use Rattle.usb_table.proofs.levels.StandingPipes.{receives_picks, receives_way}
 use Rattle.usb_table.proofs.function_pipes.FunctionPipes.receive.Goals as goal
@@ -24,7 +24,8 @@ returns-clause-any_bus g c = (
       c.put.new.self c.requires
       c.in-Some.pipe c.receive-received.new.self
       (sym c.receives_through.ensures ∙ c.in-Some.is) c.put.ensures
-      c.receive-received.ensures.same c.args.bus.now c.receive-received.new.bus
+      c.receive-received.ensures.same (receives_miss c.args.choice c.args.self.now) c.args.bus.now
+      c.receive-received.new.bus
       c.receive-received.result c.table_answer.result c.table_answer.ensures
       c.receive-received.ensures.broken,
 )
@@ -46,7 +47,8 @@ returns-clause-received g c known =
     c.in-Some.pipe c.receive-received.new.self
     (sym c.receives_through.ensures ∙ c.in-Some.is) c.put.ensures
     c.receive-received.ensures.same
-    (λ p. ReceivedThrough p c.args.packets) _ c.table_answer.result _ (record {
+    (receives_miss c.args.choice) (λ p. ReceivedThrough p c.args.packets) _ c.table_answer.result _
+    (record {
       answer = c.receive-received.result;
       told = c.table_answer.ensures;
       count = (c.receive-received.ensures.steps known).spends;

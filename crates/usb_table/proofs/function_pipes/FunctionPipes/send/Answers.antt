@@ -1,6 +1,6 @@
 use Rattle.std.proofs.Common.{◌∙◌, sym, arith}
 use Rattle.usb_bus.specs.{still}
-use Rattle.usb_table.specs.{SentThrough, sends_through}
+use Rattle.usb_table.specs.{SentThrough, sends_through, sends_miss}
 use Rattle.usb_table.proofs.FunctionCalls.{call_made, call_refused, call_through, told_bus}
 use Rattle.usb_table.proofs.levels.StandingPipes.{sends_picks, sends_way}
 use Rattle.usb_table.proofs.function_pipes.FunctionPipes.send.Goals as goal
@@ -27,7 +27,8 @@ returns-clause-any_bus g c = (
       c.put.new.self c.requires
       c.in-Some.pipe c.send-sent.new.self
       (sym c.sends_through.ensures ∙ c.in-Some.is) c.put.ensures
-      c.send-sent.ensures.same c.args.bus.now c.send-sent.new.bus
+      c.send-sent.ensures.same (sends_miss c.args.choice c.args.self.now) c.args.bus.now
+      c.send-sent.new.bus
       c.send-sent.result c.table_answer.result c.table_answer.ensures
       c.send-sent.ensures.broken,
 )
@@ -49,7 +50,8 @@ returns-clause-sent g c known =
     c.in-Some.pipe c.send-sent.new.self
     (sym c.sends_through.ensures ∙ c.in-Some.is) c.put.ensures
     c.send-sent.ensures.same
-    (λ p. SentThrough p c.args.bytes.now) _ c.table_answer.result _ (record {
+    (sends_miss c.args.choice) (λ p. SentThrough p c.args.bytes.now) _ c.table_answer.result _
+    (record {
       answer = c.send-sent.result;
       told = c.table_answer.ensures;
       count = (c.send-sent.ensures.steps known).spends;

@@ -1,0 +1,246 @@
+-- SET_INTERFACE to the device at a path: what it leaves of all devices and pipes.
+use Rattle.std.proofs.Common.{◌≡◌, ◌∙◌, refl, sym, ap, subst, inl, inr, Bool, true, false, ℕ}
+use Rattle.std.proofs.Common.{◌<◌, ◌&&◌, not, if◌then◌else◌, List, Option, Some, None, Result, Ok}
+use Rattle.std.proofs.Common.{Err, is_some}
+use Rattle.std.proofs.lemmas.Bool.{and_parts}
+use Rattle.usb_request.specs.{PORT_OUT, SET_FEATURE, set_interface}
+use Rattle.usb_descriptor.specs.{settable_in}
+use Rattle.usb_device.specs.{Is, Location, State}
+use Rattle.usb_world.specs.{EachWas, World, asks_no_port}
+use Rattle.usb_world.proofs.Interface.{each_wider}
+use Rattle.usb_bus.specs.{StepRun}
+use Rattle.usb_transaction.specs.{Target, is_at}
+use Rattle.usb_pipe.specs.{PipeFault, write_bound}
+use Rattle.usb_pipe.specs.declared.fault.PipeFault.TheVariants as pipe_fault
+use Rattle.usb_address.specs.{KeepsAddresses}
+use Rattle.usb_hub.specs.{Commanded, InterfaceAsked}
+use Rattle.usb_enum.specs.{Accepted, configuration_of, target_of}
+use Rattle.usb_enum.proofs.Interface.{ends_without_fault}
+use Rattle.usb_table.specs.{Absent, AreFunctionPipes, ArePipesIf, ArePipesTo, Function}
+use Rattle.usb_table.specs.{FunctionInSync}
+use Rattle.usb_table.specs.{FunctionPipes, GoesThrough, Hub, InterfaceSent, InterfaceSentIf}
+use Rattle.usb_table.specs.{InterfaceSet, InterfaceSetIf, NoDevice, NoInterface, NotTried, OnlySets}
+use Rattle.usb_table.specs.{Pipes, SameDevice, SameSettings, SettingLeft, Table, TableFault}
+use Rattle.usb_table.specs.{TableSetsInterface, TransferFault, accepted_device_at}
+use Rattle.usb_table.specs.{function_set, interface_asked, interface_target, is_below_hub, pipes_at}
+use Rattle.usb_table.specs.{pipes_set}
+use Rattle.usb_table.proofs.TransferLeaves.{told_answer}
+use Rattle.usb_table.proofs.levels.FittingPipes.{PipesMove, still_level}
+use Rattle.usb_table.proofs.levels.Levels.{moved_levels, still_levels}
+use Rattle.usb_table.proofs.levels.SetLevels.{loss_kept, loss_level, set_level}
+use Rattle.usb_table.proofs.levels.StandingPipes.{in_place}
+use Rattle.usb_table.proofs.transfers.DevicesKept.{same_spares}
+use Rattle.usb_table.proofs.transfers.PathTransfers.{changes_there}
+use Rattle.usb_table.proofs.transfers.PlainRequests.{bus_told}
+
+-- Each device
+
+-- the one that is asked
+setting_left : (t : Target) (interface setting : ℕ) (answer : Result (Unit {0}) PipeFault)
+    (j : Location) (s v : State) → InterfaceAsked t interface setting answer j s v
+    → is_at s t ≡ true → SettingLeft interface setting answer s v
+setting_left t interface setting (Ok done) j s v x at = (x.done at refl).2
+setting_left t interface setting (Err pipe_fault.Stalled) j s v x at = (x.stalled at refl).0
+setting_left t interface setting (Err _) j s v x at = x.either
+
+same_device : (t : Target) (interface setting : ℕ) (answer : Result (Unit {0}) PipeFault)
+    (j : Location) (s v : State) → InterfaceAsked t interface setting answer j s v
+    → SameDevice j s v
+same_device t interface setting answer j s v x = elim x.either [
+  | inl only ↦ record {
+    spec = ap (λ (d : State). d.spec) only;
+    address = ap (λ (d : State). d.registers.address) only;
+    configuration = ap (λ (d : State). d.registers.configuration) only;
+  }
+  | inr took ↦ record {
+    spec = ap (λ (d : State). d.spec) took.is;
+    address = ap (λ (d : State). d.registers.address) took.is;
+    configuration = ap (λ (d : State). d.registers.configuration) took.is;
+  }
+]
+
+-- All devices and ports
+
+module _ (interface setting : ℕ) where
+  asks_none : asks_no_port (set_interface interface setting) ≡ true
+  unfolding set_interface
+  asks_none = refl
+
+  sets_no_port : Is (set_interface interface setting) PORT_OUT SET_FEATURE ≡ false
+  unfolding set_interface
+  sets_no_port = refl
+
+  sets_only : (t : Target) (answer : Result (Unit {0}) PipeFault) (old new : World)
+      → Commanded t (set_interface interface setting) old answer new
+      → (new.shared ≡ false → EachWas (InterfaceAsked t interface setting answer) old new)
+      → KeepsAddresses old new → OnlySets old new
+  sets_only t answer old new is each addresses = record {
+    addresses = addresses;
+    devices = λ single. each_wider (InterfaceAsked t interface setting answer) SameDevice
+        (same_device t interface setting answer) old new (each single);
+    rests = λ sound. is.rests asks_none (ends_without_fault 2 answer old new is.ends sound);
+    backlog = λ sound. is.backlog sets_no_port (ends_without_fault 2 answer old new is.ends sound);
+  }
+
+same_sets : (old new : World) → new ≡ old → OnlySets old new
+same_sets old new e =
+    let same = same_spares old new e in
+    record {
+      addresses = same.addresses;
+      devices = λ single. each_wider SameSettings SameDevice (λ j s v k. record {
+        spec = k.0;
+        address = ap (λ (g : _). g.address) k.1;
+        configuration = ap (λ (g : _). g.configuration) k.1;
+      }) old new (same.devices.same single);
+      rests = same.rests;
+      backlog = same.backlog;
+    }
+
+-- The pipes to the one that is asked
+
+module _ (device : Accepted) (below_hub : Bool) (interface setting : ℕ) (pipes : FunctionPipes)
+    (are : AreFunctionPipes device below_hub pipes) (byte : interface < 256)
+    (has : settable_in interface setting (configuration_of device) ≡ true) where
+  level_after : (answer : Result (Unit {0}) PipeFault) (j : Location) (s v : State)
+      → InterfaceAsked (target_of device below_hub) interface setting answer j s v
+      → is_at s (target_of device below_hub) ≡ true → FunctionInSync device pipes s
+      → FunctionInSync device (function_set device below_hub interface setting answer pipes) v
+  level_after (Ok done) j s v x at f =
+      let took = x.done at refl in
+      set_level device below_hub interface setting pipes (in_place device below_hub pipes are) s v
+      took.2 f has byte took.1
+  level_after (Err pipe_fault.Stalled) j s v x at f =
+      still_level device (Function pipes) s v (x.stalled at refl).0 f
+  level_after (Err _) j s v x at f = elim x.either [
+    | inl only ↦ loss_kept device below_hub interface setting pipes v
+        (still_level device (Function pipes) s v only f)
+    | inr took ↦ loss_level device below_hub interface setting pipes
+        (in_place device below_hub pipes are) s v took f
+  ]
+
+  set_moves : (ends : Type 0) (answer : Result (Unit {0}) PipeFault) (j : Location) (s v : State)
+      → InterfaceAsked (target_of device below_hub) interface setting answer j s v
+      → PipesMove device device.address ends (Function pipes)
+      (Function (function_set device below_hub interface setting answer pipes)) j s v
+  set_moves ends answer j s v x = record {
+    others = x.others;
+    same = (same_device (target_of device below_hub) interface setting answer j s v x).address;
+    itself = λ e at f. level_after answer j s v x at f;
+  }
+
+-- At a path
+
+module _ (path : List ℕ) (interface setting : ℕ) (byte : interface < 256) (old new : Table)
+    (before after : World) (text now : Option (List ℕ)) (goes : GoesThrough path old new)
+    (went : StepRun write_bound before text after now) (result : Result (Unit {0}) TableFault) where
+  abbrev target : Result Target TransferFault
+  target = interface_target path interface setting old.entries
+
+  abbrev set : Result (Unit {0}) PipeFault → Pipes → Pipes
+  set = pipes_set (accepted_device_at path old.entries) (is_below_hub path) interface setting
+
+  abbrev Told : Type 0
+  Told = TableSetsInterface path interface setting old before text result new after now
+
+  -- it was not sent
+  refused : (fault : TransferFault) → target ≡ Err fault
+      → NotTried fault (pipes_at path old) before result (pipes_at path new) after → Told
+  refused fault asks x = record {
+    went = went;
+    told = rw x.0 tt;
+    did = subst (λ r. InterfaceSetIf path interface setting old r before result new after)
+        (sym asks) x;
+    keeps = still_levels OnlySets path (after.fault ≡ None) old new before after goes x.1 x.2
+        (same_sets before after x.2);
+  }
+
+  -- it was
+  module _ (device : Accepted) (found : accepted_device_at path old.entries ≡ Some device)
+      (pipes : FunctionPipes) (was : pipes_at path old ≡ Function pipes)
+      (are : AreFunctionPipes device (is_below_hub path) pipes)
+      (has : settable_in interface setting (configuration_of device) ≡ true)
+      (asks : target ≡ Ok (target_of device (is_below_hub path)))
+      (x : InterfaceSent (target_of device (is_below_hub path)) interface setting set
+      (pipes_at path old) before result (pipes_at path new) after) where
+    left_is : pipes_at path new ≡ Function
+        (function_set device (is_below_hub path) interface setting x.answer pipes)
+    left_is = x.left_is
+        ∙ ap (λ f. pipes_set f (is_below_hub path) interface setting x.answer (pipes_at path old))
+        found
+        ∙ ap (pipes_set (Some device) (is_below_hub path) interface setting x.answer) was
+
+    moves : after.shared ≡ false → EachWas (PipesMove device device.address (after.fault ≡ None)
+        (Function pipes)
+        (Function (function_set device (is_below_hub path) interface setting x.answer pipes)))
+        before after
+    moves single = each_wider
+        (InterfaceAsked (target_of device (is_below_hub path)) interface setting x.answer)
+        (PipesMove device device.address (after.fault ≡ None) (Function pipes)
+        (Function (function_set device (is_below_hub path) interface setting x.answer pipes)))
+        (set_moves device (is_below_hub path) interface setting pipes are byte has
+        (after.fault ≡ None) x.answer) before after (x.each single)
+
+    made : InterfaceSet path interface setting old (target_of device (is_below_hub path)) before
+        result new after
+    made = record {
+      answer = x.answer;
+      told = x.told;
+      is = x.is;
+      pipes = x.left_is;
+      left = λ held single.
+          changes_there path old before held device found device.address refl
+          (InterfaceAsked (target_of device (is_below_hub path)) interface setting x.answer)
+          (SettingLeft interface setting x.answer) after (λ j s v y. y.others)
+          (λ s on there j v y at. setting_left (target_of device (is_below_hub path)) interface
+          setting x.answer j s v y at) (x.each single);
+    }
+
+    sent : Told
+    sent = record {
+      went = went;
+      told = told_answer x.answer result after x.told
+          (bus_told 2 x.answer before after x.is.ends);
+      did = subst (λ r. InterfaceSetIf path interface setting old r before result new after)
+          (sym asks) made;
+      keeps = moved_levels path device (after.fault ≡ None) (Function pipes) _ old new before after
+          found goes was left_is x.addresses moves OnlySets
+          (sets_only interface setting (target_of device (is_below_hub path)) x.answer before after
+          x.is x.each x.addresses);
+    }
+
+  sent_to : (device : Accepted) → accepted_device_at path old.entries ≡ Some device
+      → (pipes : Pipes) → pipes_at path old ≡ pipes → ArePipesTo device (is_below_hub path) pipes
+      → (not (is_some device.hub) && settable_in interface setting (configuration_of device)) ≡ true
+      → target ≡ Ok (target_of device (is_below_hub path))
+      → InterfaceSent (target_of device (is_below_hub path)) interface setting set
+      (pipes_at path old) before result (pipes_at path new) after → Told
+  sent_to device found (Hub pipe) was are both asks x =
+      let no = (and_parts (not (is_some device.hub)) _ both).0 in
+      absurd (cc (sym (ap not are.0) ∙ no))
+  sent_to device found (Function pipes) was are both asks x =
+      sent device found pipes was are (and_parts (not (is_some device.hub)) _ both).1 asks x
+  sent_to device found Absent was are both asks x = absurd are
+
+  by_test : (device : Accepted) → accepted_device_at path old.entries ≡ Some device
+      → ArePipesTo device (is_below_hub path) (pipes_at path old) → (b : Bool)
+      → (not (is_some device.hub) && settable_in interface setting (configuration_of device)) ≡ b
+      → target ≡ (if b then Ok (target_of device (is_below_hub path)) else Err NoInterface)
+      → InterfaceSentIf (if b then Ok (target_of device (is_below_hub path)) else Err NoInterface)
+      interface setting set (pipes_at path old) before result (pipes_at path new) after → Told
+  by_test device found are true both asks x =
+      sent_to device found (pipes_at path old) refl are both asks x
+  by_test device found are false both asks x = refused NoInterface asks x
+
+  by_device : (o : Option Accepted) → accepted_device_at path old.entries ≡ o
+      → ArePipesIf o (is_below_hub path) (pipes_at path old)
+      → target ≡ interface_asked (is_below_hub path) interface setting o
+      → InterfaceSentIf (interface_asked (is_below_hub path) interface setting o)
+      interface setting set (pipes_at path old) before result (pipes_at path new) after → Told
+  by_device None found are asks x = refused NoDevice asks x
+  by_device (Some device) found are asks x = by_test device found are
+      (not (is_some device.hub) && settable_in interface setting (configuration_of device)) refl
+      asks x
+
+  pub table_sets : InterfaceSentIf target interface setting set (pipes_at path old) before result
+      (pipes_at path new) after → Told
+  table_sets x = by_device (accepted_device_at path old.entries) refl goes.fits refl x
