@@ -1,7 +1,7 @@
 //! Hub descriptors (section 11.23.2.1).
 ghost use Rattle.std.specs.Prelude.{◌≡◌, ◌≤◌, IfOk, slice_index};
 ghost use Rattle.usb_request.specs.Layout.{word_at};
-ghost use Rattle.usb_descriptor.specs.Hub.{hub_length, hub_spelled, most_ports, port_count, power_mask_of, removable_bits};
+ghost use Rattle.usb_descriptor.specs.Hub.{hub_spelled, port_count};
 
 use crate::fault::DescriptorFault;
 use crate::word::word_at;
@@ -25,18 +25,10 @@ impl<'a> Model for HubView<'a> {
     ghost view = { λ v. v.bytes.now };
 
     ghost invariant = { λ v. (HUB_LENGTH ≤ length v.bytes.now)
-        × (1 ≤ port_count v.bytes.now) × (port_count v.bytes.now ≤ 15) };
+        × (1 ≤ port_count v.bytes.now) × (port_count v.bytes.now ≤ 7) };
 }
 
-/// The length of the descriptor of a hub of so many ports: 9 bytes for up to 7 ports, 11 for more.
-fn hub_length(ports: u8) -> u8
-    ensures { result ≡ hub_length ports }
-{
-    if ports > 7 { 11 } else { 9 }
-}
-
-/// The descriptor, with which the bytes begin, of a hub of 1 to 7 ports, with `wide` of 1 to 15
-/// (section 11.23.2.1). The first nine bytes are enough.
+/// The descriptor, with which the bytes begin, of a hub of one to seven ports (section 11.23.2.1).
 ///
 /// # Errors
 ///
@@ -44,13 +36,12 @@ fn hub_length(ports: u8) -> u8
 ///
 /// - `Short`: there are fewer than 9 bytes.
 /// - `WrongType`: bDescriptorType is not HUB.
-/// - `Length`: bDescLength is under 9, or under 11 where bNbrPorts is above 7. Or bNbrPorts is not
-///   1 to 7, with `wide` not 1 to 15.
+/// - `Length`: bDescLength is under 9, or bNbrPorts is not 1 to 7.
 #[tactic(auto, unfolding(crate::specs::Hub::hub_spelled))]
-pub fn read_hub(bytes: &[u8], wide: bool) -> Result<HubView<'_>, DescriptorFault>
-    ensures answer { result ≡ hub_spelled wide bytes.now }
+pub fn read_hub(bytes: &[u8]) -> Result<HubView<'_>, DescriptorFault>
+    ensures answer { result ≡ hub_spelled bytes.now }
     ensures view { IfOk result (λ hub. hub ≡ bytes.now) }
-    ensures ports { IfOk result (λ hub. (1 ≤ port_count hub) × (port_count hub ≤ most_ports wide)) }
+    ensures ports { IfOk result (λ hub. (1 ≤ port_count hub) × (port_count hub ≤ 7)) }
 {
     if bytes.len() < HUB_LENGTH {
         return Err(DescriptorFault::Short);
@@ -58,9 +49,7 @@ pub fn read_hub(bytes: &[u8], wide: bool) -> Result<HubView<'_>, DescriptorFault
     if bytes[1] != HUB {
         return Err(DescriptorFault::WrongType);
     }
-    let ports = bytes[2];
-    let most = if wide { 15 } else { 7 };
-    if bytes[0] < hub_length(ports) || !(1..=most).contains(&ports) {
+    if usize::from(bytes[0]) < HUB_LENGTH || !(1..=7).contains(&bytes[2]) {
         return Err(DescriptorFault::Length);
     }
     Ok(HubView { bytes })
@@ -81,11 +70,11 @@ impl HubView<'_> {
         self.bytes[1]
     }
 
-    /// bNbrPorts, 1 to 15.
+    /// bNbrPorts, 1 to 7.
     pub fn ports(&self) -> u8
         ensures value { result ≡ port_count self.now }
         ensures least { 1 ≤ result }
-        ensures most { result ≤ 15 }
+        ensures most { result ≤ 7 }
     {
         self.bytes[2]
     }
@@ -112,25 +101,16 @@ impl HubView<'_> {
     }
 
     /// DeviceRemovable: a bit for each port, from bit 1 on, that is set if the device stays.
-    pub fn removable(&self) -> u16
-        ensures { result ≡ removable_bits self.now }
+    pub fn removable(&self) -> u8
+        ensures { result ≡ slice_index self.now 7 }
     {
-        if self.bytes[2] > 7 {
-            word_at(self.bytes, 7)
-        } else {
-            u16::from(self.bytes[7])
-        }
+        self.bytes[7]
     }
 
-    /// PortPwrCtrlMask of a hub of up to 7 ports. That of one with more stands behind the first nine
-    /// bytes, and is not read.
-    pub fn power_mask(&self) -> Option<u8>
-        ensures { result ≡ power_mask_of self.now }
+    /// PortPwrCtrlMask.
+    pub fn power_mask(&self) -> u8
+        ensures { result ≡ slice_index self.now 8 }
     {
-        if self.bytes[2] > 7 {
-            None
-        } else {
-            Some(self.bytes[8])
-        }
+        self.bytes[8]
     }
 }

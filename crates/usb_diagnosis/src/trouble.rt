@@ -140,12 +140,11 @@ fn device_trouble<'a>(entry: &Entry<'a>) -> Option<Trouble<'a>>
             return wrong_at(entry, PlanKey::Name);
         }
     }
-    let ports = entry.ports_key();
-    if entry.value(ports).is_none() {
+    if entry.value(PlanKey::Ports).is_none() {
         return wrong_at(entry, PlanKey::HubDescriptor);
     }
     if entry.text(PlanKey::Speed) == Some("low") || has_other_class(entry) {
-        return wrong_at(entry, ports);
+        return wrong_at(entry, PlanKey::Ports);
     }
     None
 }

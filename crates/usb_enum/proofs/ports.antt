@@ -2,5 +2,4 @@
 pub mod Hubs
 pub mod Ports
 pub mod Powers
-pub mod StatusEndpoints
 pub mod WorkingBuses

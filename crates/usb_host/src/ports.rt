@@ -27,9 +27,8 @@ ghost use Rattle.usb_host.specs.ToldFaults.{HostReported, PartFaultAllowed, Host
 use crate::HostFault;
 use crate::host::{Host, Round};
 use crate::pool::{enter, release};
-use arrayvec::ArrayVec;
 use usb_bus::Bus;
-use usb_enum::{Cause, EnumFault, Finding, Place, enumerate};
+use usb_enum::{Cause, EnumFault, Finding, enumerate};
 use usb_hub::{
     HubPort, PipeFault, PortStatus, clear_hub_changes, clear_port, clear_port_change, has_root,
     port_status,
@@ -520,19 +519,13 @@ impl<B: Bus> Host<B> {
         ensures entered { Entered path.now self.old result self.new }
         ensures finds { B.modelled ≡ true → Discovers path.now port self.old result self.new }
     {
-        let place = Place {
-            tier: tier(path),
-            supply: port.supply,
-            wide: self.wide,
-        };
-        let mut said = ArrayVec::new();
         let finding = enumerate(
             self.alloc,
             &mut self.bus,
             &mut self.pool,
             port.port,
-            place,
-            &mut said,
+            tier(path),
+            port.supply,
         )?;
         Ok(enter(
             &mut self.table,
@@ -540,7 +533,6 @@ impl<B: Bus> Host<B> {
             &mut self.numbers,
             path.duplicate(),
             finding,
-            said,
         )?)
     }
 
@@ -557,8 +549,7 @@ impl<B: Bus> Host<B> {
         // for the checker: a path has one to seven numbers
         let _numbers = lost.numbers();
         self.forget(&lost);
-        let lost_hub = Finding::Refused(Cause::Lost);
-        Ok(self.table.insert(lost, lost_hub, ArrayVec::new())?)
+        Ok(self.table.insert(lost, Finding::Refused(Cause::Lost))?)
     }
 
     /// Disables the port at a path, or the nearest one above it that can be disabled. A root port that was left alone

@@ -1,7 +1,6 @@
 //! The parts of a round.
 ghost use Rattle.std.specs.Prelude.{◌≡◌, true, IfErr, ◌⊎◌, IfSome, IfNone, IsSome};
 ghost use Rattle.usb_port.specs.Path.{IsPath};
-ghost use Rattle.usb_device.specs.Bulk.{told_bits};
 ghost use Rattle.usb_table.specs.Listing.{hub_facts_at};
 ghost use Rattle.usb_table.specs.Findings.{is_hub, is_waiting};
 ghost use Rattle.usb_table.specs.NextEntries.{ComesAfter, IsNext, IsLast};
@@ -10,7 +9,7 @@ ghost use Rattle.usb_host.specs.Agreement.{Agrees};
 ghost use Rattle.usb_host.specs.Ports.{Waits};
 ghost use Rattle.usb_host.specs.Bounds.{hub_poll_bound, hubs_bound, looks_bound, roots_bound, round_bound, told_bound};
 ghost use Rattle.usb_host.specs.Progress.{HostGoes, HostSpends, KeepsNumbers, QuietKeeps, either};
-ghost use Rattle.usb_host.specs.Service.{LooksAgain, ServesEach, ServesHub, ServesHubs, ServesPorts, ServesTold, WentByParts};
+ghost use Rattle.usb_host.specs.Service.{LooksAgain, ServesEach, ServesHub, ServesHubs, ServesPorts, ServesTold, WentByParts, first_byte};
 ghost use Rattle.usb_host.specs.ToldFaults.{HostWorks, PartFaultAllowed};
 
 use crate::HostFault;
@@ -98,7 +97,7 @@ impl<B: Bus> Host<B> {
         match self.table.poll(&mut self.bus, hub) {
             Ok(None) => Ok(Round::Quiet),
             Ok(Some(bits)) => {
-                self.service_reported(hub, told_bits(bits.as_slice()))?;
+                self.service_reported(hub, first_byte(bits.as_slice()))?;
                 Ok(Round::Worked)
             }
             Err(PipeFault::Bus(fault)) => Err(HostFault::Bus(fault)),
@@ -110,7 +109,7 @@ impl<B: Bus> Host<B> {
     }
 
     /// Handles a hub's status-change bitmap: its ports, and the hub itself if none of them has a change.
-    fn service_reported(&mut self, hub: &PortPath, bits: u16) -> Result<(), HostFault>
+    fn service_reported(&mut self, hub: &PortPath, bits: u8) -> Result<(), HostFault>
         requires { IsPath hub.now }
         ensures spends { HostSpends told_bound self.old self.new }
         ensures numbers { KeepsNumbers self.old self.new }
@@ -126,7 +125,7 @@ impl<B: Bus> Host<B> {
     }
 
     /// Handles each port of a hub whose bit is set, by rising number, as long as the hub is known.
-    fn serve_ports(&mut self, hub: &PortPath, bits: u16) -> Result<(), HostFault>
+    fn serve_ports(&mut self, hub: &PortPath, bits: u8) -> Result<(), HostFault>
         requires { IsPath hub.now }
         ensures spends { HostSpends told_bound self.old self.new }
         ensures numbers { KeepsNumbers self.old self.new }
@@ -134,7 +133,7 @@ impl<B: Bus> Host<B> {
         ensures serves { B.modelled ≡ true → ServesPorts hub.now bits self.old result self.new }
         ensures works { B.modelled ≡ true → HostWorks self.old result self.new }
     {
-        'ports: for number in 1..16u8 {
+        'ports: for number in 1..8u8 {
             if bits >> number & 1 == 1 {
                 self.handle_below(hub, number)?;
             }
@@ -165,7 +164,7 @@ impl<B: Bus> Host<B> {
     fn next_hub(&self, last: &Option<PortPath>) -> Option<PortPath>
         ensures some { IfSome result (IsNext is_hub last.now self.now.entries) }
         ensures none { IfNone result (IsLast is_hub last.now self.now.entries) }
-        ensures agree { Agrees self.now.wide self.now.entries self.now.addresses }
+        ensures agree { Agrees self.now.entries self.now.addresses }
     {
         self.table.next_hub(last.as_ref())
     }
@@ -175,7 +174,7 @@ impl<B: Bus> Host<B> {
         ensures some { IfSome result (λ path. Waits path self.now × ComesAfter last.now path) }
         ensures none { IfNone result
             (IsFull self.now.addresses ⊎ IsLast is_waiting last.now self.now.entries) }
-        ensures agree { Agrees self.now.wide self.now.entries self.now.addresses }
+        ensures agree { Agrees self.now.entries self.now.addresses }
     {
         if self.pool.is_full() {
             return None;
@@ -184,13 +183,12 @@ impl<B: Bus> Host<B> {
     }
 }
 
-/// The bits of a status change: bit 0 of the hub itself, bit n of port n, in one byte or two (11.12.4).
-fn told_bits(bits: &[u8]) -> u16
-    ensures { result ≡ told_bits bits.now }
+/// The first byte of a status change, which has a bit for each of a hub's ports (11.12.4).
+fn first_byte(bits: &[u8]) -> u8
+    ensures { result ≡ first_byte bits.now }
 {
-    match bits {
-        [] => 0,
-        [low] => u16::from(*low),
-        [low, high, ..] => u16::from(*low) + 256 * u16::from(*high),
+    match bits.first() {
+        Some(byte) => *byte,
+        None => 0,
     }
 }

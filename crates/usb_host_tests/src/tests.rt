@@ -11,4 +11,3 @@ mod news;
 mod polls;
 mod quirks;
 mod second;
-mod wide;

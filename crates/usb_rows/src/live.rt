@@ -89,13 +89,7 @@ pub(crate) fn course_of(alloc: Global, plan: &Plan) -> Result<Course, AllocError
         told: Vec::new(alloc),
     });
     let ends = Ends(&link);
-    let (ended, _reader, _writer) = live(
-        alloc,
-        Watched::new(ends),
-        Watched::new(ends),
-        LIMIT,
-        plan.wide_hubs(),
-    );
+    let (ended, _reader, _writer) = live(alloc, Watched::new(ends), Watched::new(ends), LIMIT);
     let Link { told, .. } = link.into_inner();
     Ok(Course { ended, told })
 }

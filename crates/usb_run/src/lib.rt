@@ -33,4 +33,3 @@ pub use usb_host::{Host, HostFault, Look, News, TransferFault, Tree};
 pub use usb_port::PortPath;
 pub use usb_request::EndpointAddress;
 pub use usb_sim::{Plan, SimBus, Trace, Tracer, Untraced};
-pub use usb_text::Said;

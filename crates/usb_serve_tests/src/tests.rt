@@ -8,6 +8,5 @@ mod readers;
 mod rows;
 mod serving;
 mod transfers;
-mod wide;
 mod words;
 mod writers;

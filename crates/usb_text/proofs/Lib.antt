@@ -1,3 +1,2 @@
 mod ConfigLines
 mod Digits
-mod ToldLines

@@ -5,6 +5,5 @@ mod SetupLemmas
 mod FaultLaws
 mod SaidLaws
 mod ReadLaws
-mod PortLaws
 mod QuestionLaws
 mod EndpointLemmas
