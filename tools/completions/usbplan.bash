@@ -13,7 +13,7 @@ _usbplan() {
       ;;
     draw) options='--ascii --help' ;;
     device) options='--ports --help' ;;
-    live) options='--limit --help' ;;
+    live) options='--limit --wide-hubs --help' ;;
     explain) options='--only --help' ;;
   esac
   case "$before" in

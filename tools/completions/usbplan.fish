@@ -18,4 +18,5 @@ complete -c usbplan -n '__fish_seen_subcommand_from help' -f -a "$commands"
 complete -c usbplan -n '__fish_seen_subcommand_from draw' -l ascii -d 'Plain letters'
 complete -c usbplan -n '__fish_seen_subcommand_from device' -x -l ports -a '1 2 3 4 5 6 7' -d 'Number of ports'
 complete -c usbplan -n '__fish_seen_subcommand_from live' -x -l limit -d 'Most questions'
+complete -c usbplan -n '__fish_seen_subcommand_from live' -l wide-hubs -d 'Hubs of up to 15 ports'
 complete -c usbplan -n '__fish_seen_subcommand_from explain' -x -l only -a 'all setup damage' -d 'What of the run'

@@ -1,15 +1,17 @@
 -- A device's status stage after an attempt: the one it had, or none that ends with an address.
 use Rattle.std.proofs.Common.{◌≡◌, ℕ, ◌+◌, ◌&&◌, nat_le, if◌then◌else◌, Bool, true, false, List, []}
-use Rattle.std.proofs.Common.{◌∷◌, Option, None, Some, is_some, refl, length, rules}
+use Rattle.std.proofs.Common.{Option, None, Some, is_some, refl, length, rules}
 use Rattle.usb_packet.specs.{Toggle, One as Data1}
 use Rattle.usb_port.specs.{PortState}
 use Rattle.usb_device.specs.declared.answer.Answer.TheVariants as answer
+use Rattle.usb_device.specs.{change_bytes, hub_ports}
 use Rattle.usb_device.specs.{InEndpoint, Stage, reading, read, ending, max_packet, packet_at}
 use Rattle.usb_device.specs.{toggle_at, State, Reply, forgotten, out_row, status_row, ack_row}
 use Rattle.usb_device.specs.{sink_row, out_end_row, in_ack_row, in_max, data_row, acknowledged}
 use Rattle.usb_device.specs.{ends_with_address, Way, is_whole, gave, in_stage_law, source_law}
 use Rattle.usb_device.specs.{held_law, in_end_law, in_other_law, in_control_law, in_law, out_law}
 use Rattle.usb_device.specs.{heard, Write, WriteData, Next, writing, is_done, judged, write_row}
+use Rattle.usb_device.specs.{change_bytes, hub_ports}
 use Rattle.usb_device.specs.declared.transfer.InEndpoint.TheVariants as by
 use Rattle.usb_address.specs.Aims.{Aims}
 use Rattle.usb_address.specs.{Never}
@@ -83,7 +85,8 @@ module _ (Q : ℕ → Type 0) where
 
     held_keeps : (row : List PortState) (o : Option ℕ) → Keeps (held_law s row o max x y)
     held_keeps row None = search (rules, keeps_if, gives)
-    held_keeps row (Some bits) = gives s by.Changes max s.changes.toggle (bits ∷ []) x y h
+    held_keeps row (Some bits) = gives s by.Changes max s.changes.toggle
+        (change_bytes (hub_ports s.spec.hub) bits) x y h
 
     other_keeps : (row : List PortState) (e : ℕ) → Keeps (in_other_law s row e max x y)
     other_keeps row e = search (rules, keeps_if, held_keeps, end_keeps)

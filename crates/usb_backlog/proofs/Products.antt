@@ -10,7 +10,7 @@ pub weighed_plain : (a m n e : ℕ) → m ≤ n + e → a * m ≤ a * n + a * e
 weighed_plain a m n e h = let x = mul-le-mul_left a h in omega (arith, x)
 
 -- what all events and the last rounds cost is within the bound
-pub within_bound : (v w : ℕ) → 1 ≤ v → (v + 1) * (2611968 + 800 * w + 27 * (768 * v)) ≤ 200 * v *
+pub within_bound : (v w : ℕ) → 1 ≤ v → (v + 1) * (2992000 + 800 * w + 26 * (768 * v)) ≤ 200 * v *
     (30000 + 10 * w) + 50000 * v * v
 within_bound v w h =
     let x = mul-le-mul_right w h in

@@ -1,5 +1,8 @@
 -- The lemmas that crates above cite. All others are for this crate alone.
 pub use Rattle.usb_descriptor.proofs.Devices.{Whole, whole_of}
+pub use Rattle.usb_descriptor.proofs.Hubs.{hub_spelled-few, hub_spelled-wide}
+pub use Rattle.usb_descriptor.proofs.StatusEndpoints.{status_endpoint-narrow, status_endpoint-usable}
+pub use Rattle.usb_descriptor.proofs.StatusEndpoints.{status_endpoint-valued, status_endpoint-wide}
 pub use Rattle.usb_descriptor.proofs.Texts.{header_of, joined-item}
 pub use Rattle.usb_descriptor.proofs.UsableNumbers.{IsBulkOf, setting_of-default}
 pub use Rattle.usb_descriptor.proofs.UsableNumbers.{usable_of-bulk_in, usable_of-bulk_out}

@@ -1,5 +1,5 @@
 -- The endpoints that a pipe can use, each by its number and its direction (5.7.3, 5.8.3, 9.6.6).
-use Rattle.std.specs.Prelude.{◌≡◌, ◌≤◌, ℕ, ◌==◌, nat_le, not, ◌&&◌, if◌then◌else◌, List, [], ◌∷◌}
+use Rattle.std.specs.Prelude.{◌≡◌, ◌≤◌, ℕ, ◌==◌, not, ◌&&◌, if◌then◌else◌, List, [], ◌∷◌}
 use Rattle.std.specs.Prelude.{Bool, true, false, Option, Some, None, Result, Ok, Err, get_or}
 use Rattle.std.specs.Option.{option_or}
 use Rattle.usb_descriptor.specs.declared.fault.DescriptorFault.{DescriptorFault}
@@ -8,27 +8,16 @@ use Rattle.usb_descriptor.specs.declared.item.Item.TheVariants.{Interface, Endpo
 use Rattle.usb_descriptor.specs.declared.usable.EndpointKind.{EndpointKind}
 use Rattle.usb_descriptor.specs.declared.usable.EndpointKind.TheVariants.{Bulk, Interrupt}
 use Rattle.usb_descriptor.specs.declared.usable.UsableEndpoint.{UsableEndpoint}
-use Rattle.usb_descriptor.specs.Item.{is_in, endpoint_number, transfer_of, is_interrupt, items_of}
+use Rattle.usb_descriptor.specs.Item.{is_in, endpoint_number, items_of}
 use Rattle.usb_descriptor.specs.Item.{interface_number, alternate_setting}
 use Rattle.usb_descriptor.specs.Config.{config_of}
-use Rattle.usb_descriptor.specs.Choice.{bulk_described, packet_size}
+use Rattle.usb_descriptor.specs.Choice.{bulk_described, interrupt_described}
 use Rattle.usb_descriptor.specs.Settings.{default_settings, setting_of}
 
 -- the endpoint has this direction and this number; the reserved bits of its address do not count
 abbrev pub has_number : Bool → ℕ → List ℕ → Bool
 has_number true e endpoint = is_in endpoint && endpoint_number endpoint == e
 has_number false e endpoint = not (is_in endpoint) && endpoint_number endpoint == e
-
--- the most bytes of an interrupt endpoint's packet, at low speed and at full speed (5.7.3)
-abbrev pub interrupt_most : Bool → ℕ
-interrupt_most low = if low then 8 else 64
-
--- number and maximum of an interrupt endpoint with a number of 1 to 15
-unfoldable pub interrupt_described : Bool → List ℕ → Option (ℕ × ℕ)
-interrupt_described low endpoint =
-    if is_interrupt (transfer_of endpoint) && nat_le 1 (endpoint_number endpoint) &&
-    nat_le 1 (packet_size endpoint) && nat_le (packet_size endpoint) (interrupt_most low)
-    then Some (endpoint_number endpoint, packet_size endpoint) else None
 
 -- an endpoint of an interface
 abbrev pub as_usable : EndpointKind → ℕ → Option (ℕ × ℕ) → Option UsableEndpoint

@@ -1,7 +1,7 @@
 //! Hub descriptors (section 11.23.2.1).
 ghost use Rattle.std.specs.Prelude.{◌≡◌, ◌≤◌, IfOk, slice_index};
 ghost use Rattle.usb_request.specs.Layout.{word_at};
-ghost use Rattle.usb_descriptor.specs.Hub.{hub_spelled, port_count};
+ghost use Rattle.usb_descriptor.specs.Hub.{hub_length, hub_spelled, most_ports, port_count, power_mask_of, removable_bits};
 
 use crate::fault::DescriptorFault;
 use crate::word::word_at;
@@ -25,10 +25,18 @@ impl<'a> Model for HubView<'a> {
     ghost view = { λ v. v.bytes.now };
 
     ghost invariant = { λ v. (HUB_LENGTH ≤ length v.bytes.now)
-        × (1 ≤ port_count v.bytes.now) × (port_count v.bytes.now ≤ 7) };
+        × (1 ≤ port_count v.bytes.now) × (port_count v.bytes.now ≤ 15) };
 }
 
-/// The descriptor, with which the bytes begin, of a hub of one to seven ports (section 11.23.2.1).
+/// The length of the descriptor of a hub of so many ports: 9 bytes for up to 7 ports, 11 for more.
+fn hub_length(ports: u8) -> u8
+    ensures { result ≡ hub_length ports }
+{
+    if ports > 7 { 11 } else { 9 }
+}
+
+/// The descriptor, with which the bytes begin, of a hub of 1 to 7 ports, with `wide` of 1 to 15
+/// (section 11.23.2.1). The first nine bytes are enough.
 ///
 /// # Errors
 ///
@@ -36,12 +44,13 @@ impl<'a> Model for HubView<'a> {
 ///
 /// - `Short`: there are fewer than 9 bytes.
 /// - `WrongType`: bDescriptorType is not HUB.
-/// - `Length`: bDescLength is under 9, or bNbrPorts is not 1 to 7.
+/// - `Length`: bDescLength is under 9, or under 11 where bNbrPorts is above 7. Or bNbrPorts is not
+///   1 to 7, with `wide` not 1 to 15.
 #[tactic(auto, unfolding(crate::specs::Hub::hub_spelled))]
-pub fn read_hub(bytes: &[u8]) -> Result<HubView<'_>, DescriptorFault>
-    ensures answer { result ≡ hub_spelled bytes.now }
+pub fn read_hub(bytes: &[u8], wide: bool) -> Result<HubView<'_>, DescriptorFault>
+    ensures answer { result ≡ hub_spelled wide bytes.now }
     ensures view { IfOk result (λ hub. hub ≡ bytes.now) }
-    ensures ports { IfOk result (λ hub. (1 ≤ port_count hub) × (port_count hub ≤ 7)) }
+    ensures ports { IfOk result (λ hub. (1 ≤ port_count hub) × (port_count hub ≤ most_ports wide)) }
 {
     if bytes.len() < HUB_LENGTH {
         return Err(DescriptorFault::Short);
@@ -49,7 +58,9 @@ pub fn read_hub(bytes: &[u8]) -> Result<HubView<'_>, DescriptorFault>
     if bytes[1] != HUB {
         return Err(DescriptorFault::WrongType);
     }
-    if usize::from(bytes[0]) < HUB_LENGTH || !(1..=7).contains(&bytes[2]) {
+    let ports = bytes[2];
+    let most = if wide { 15 } else { 7 };
+    if bytes[0] < hub_length(ports) || !(1..=most).contains(&ports) {
         return Err(DescriptorFault::Length);
     }
     Ok(HubView { bytes })
@@ -70,11 +81,11 @@ impl HubView<'_> {
         self.bytes[1]
     }
 
-    /// bNbrPorts, 1 to 7.
+    /// bNbrPorts, 1 to 15.
     pub fn ports(&self) -> u8
         ensures value { result ≡ port_count self.now }
         ensures least { 1 ≤ result }
-        ensures most { result ≤ 7 }
+        ensures most { result ≤ 15 }
     {
         self.bytes[2]
     }
@@ -101,16 +112,25 @@ impl HubView<'_> {
     }
 
     /// DeviceRemovable: a bit for each port, from bit 1 on, that is set if the device stays.
-    pub fn removable(&self) -> u8
-        ensures { result ≡ slice_index self.now 7 }
+    pub fn removable(&self) -> u16
+        ensures { result ≡ removable_bits self.now }
     {
-        self.bytes[7]
+        if self.bytes[2] > 7 {
+            word_at(self.bytes, 7)
+        } else {
+            u16::from(self.bytes[7])
+        }
     }
 
-    /// PortPwrCtrlMask.
-    pub fn power_mask(&self) -> u8
-        ensures { result ≡ slice_index self.now 8 }
+    /// PortPwrCtrlMask of a hub of up to 7 ports. That of one with more stands behind the first nine
+    /// bytes, and is not read.
+    pub fn power_mask(&self) -> Option<u8>
+        ensures { result ≡ power_mask_of self.now }
     {
-        self.bytes[8]
+        if self.bytes[2] > 7 {
+            None
+        } else {
+            Some(self.bytes[8])
+        }
     }
 }

@@ -5,11 +5,11 @@ ghost use Rattle.std.specs.Option.{IfSome};
 ghost use Rattle.usb_descriptor.specs.Item.{items_of};
 ghost use Rattle.usb_descriptor.specs.declared.item.Item.TheVariants.{Interface as AnInterface};
 ghost use Rattle.usb_descriptor.specs.Choice.{IsUsable};
-ghost use Rattle.usb_descriptor.specs.Usable.{IsPipeMost, IsTableOf, TakesItem, as_usable, counting_of, inside_after, interrupt_described, usable_at, usable_item, usable_under};
+ghost use Rattle.usb_descriptor.specs.Usable.{IsPipeMost, IsTableOf, TakesItem, as_usable, counting_of, inside_after, usable_at, usable_item, usable_under};
 
-use crate::choice::bulk_at;
+use crate::choice::{bulk_at, interrupt_at};
 use crate::config::ConfigView;
-use crate::item::{EndpointView, InterfaceView, Item, TransferType};
+use crate::item::{EndpointView, InterfaceView, Item};
 use crate::settings::Settings;
 use std::marker::Model;
 
@@ -56,23 +56,6 @@ impl Model for UsableEndpoints {
         × All (λ end. IfSome end IsPipeMost) t.outs × All (λ end. IfSome end IsPipeMost) t.ins };
 
     ghost inverse = { λ t. record { outs = t.outs; ins = t.ins } };
-}
-
-/// The number and the maximum of an interrupt endpoint with a number of 1 to 15.
-#[tactic(auto, unfolding(crate::specs::Usable::interrupt_described))]
-fn interrupt_at(low: bool, endpoint: &EndpointView<'_>) -> Option<(u8, u8)>
-    ensures value { result ≡ interrupt_described low endpoint.now }
-    ensures usable { IfSome result IsUsable }
-{
-    let number = endpoint.number();
-    let size = endpoint.max_packet() & 0x7ff;
-    let most = if low { 8 } else { 64 };
-    let is_interrupt = endpoint.transfer_type() == TransferType::Interrupt;
-    if is_interrupt && number >= 1 && (1..=most).contains(&size) {
-        Some((number, size as u8))
-    } else {
-        None
-    }
 }
 
 /// An endpoint of an interface, with its number and its maximum, as a pipe can use it.

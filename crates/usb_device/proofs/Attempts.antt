@@ -1,6 +1,6 @@
 -- A whole attempt with one device.
 use Rattle.std.proofs.Common.{◌≡◌, ℕ, ◌==◌, nat_le, nat_lt, if◌then◌else◌, ◌&&◌, Bool, true, false}
-use Rattle.std.proofs.Common.{List, [], ◌∷◌, length, Option, None, Some, refl, ap, ◌∙◌, arith}
+use Rattle.std.proofs.Common.{List, [], length, Option, None, Some, refl, ap, ◌∙◌, arith}
 use Rattle.std.proofs.lemmas.Bool.Decides.{nat_tests}
 use Rattle.usb_packet.specs.{OutTok, InTok, SetupTok, Toggle, Zero, One, Packet, Token, Payload}
 use Rattle.usb_packet.specs.declared.Packet.TheVariants as packet
@@ -8,7 +8,7 @@ use Rattle.usb_request.specs.{setup_of}
 use Rattle.usb_device.specs.{Answer, RememberedPacket, InEndpoint, BulkOut, tells_changes}
 use Rattle.usb_device.specs.{change_bits, Outcome, halts, unhalts, outcome, Stage, idle, refused}
 use Rattle.usb_device.specs.{reading, read, ending, writing, is_done, max_packet, packet_at}
-use Rattle.usb_device.specs.{toggle_at, State, Reply}
+use Rattle.usb_device.specs.{toggle_at, State, Reply, change_bytes, hub_ports, status_number}
 use Rattle.usb_device.specs.{received, answered, unread, forgotten, accepted, payload, is_busy}
 use Rattle.usb_device.specs.{nak_row, unless_busy, gives, in_row, begun, data_row, token_row}
 use Rattle.usb_device.specs.{changes_row, held_row, in_other_row, in_end_row}
@@ -315,27 +315,30 @@ in_end_is d row e max loud t2 t3 (Some most) =
     source_is d row e max loud t2 t3 (next_packet d e most (in_end d e).place)
     (in_end d e).state.halted
 
--- ---- IN 1 of a hub
+-- ---- IN of a hub's status endpoint
 
 new_changes_is : (d : State) (row : List PortState) (bits max : ℕ) → d.spec.silent ≡ false
     → (t2 t3 : Way) (none : Bool)
     → acked row max t2 t3 (if none then (Some Nak, forgotten d) else gives
-    (record (forgotten d) { held = Some bits }) by.Changes d.changes.toggle (bits ∷ []))
+    (record (forgotten d) { held = Some bits }) by.Changes d.changes.toggle
+    (change_bytes (hub_ports d.spec.hub) bits))
     ≡ (if none then attempt_reply (heard t2 (Some Nak)) (forgotten d) else gave
-    (record (forgotten d) { held = Some bits }) by.Changes max d.changes.toggle (bits ∷ []) t2
-    t3)
+    (record (forgotten d) { held = Some bits }) by.Changes max d.changes.toggle
+    (change_bytes (hub_ports d.spec.hub) bits) t2 t3)
 new_changes_is d row bits max loud t2 t3 true = acked-nak row max t2 t3 d
 new_changes_is d row bits max loud t2 t3 false =
-    gave_is (record d { held = Some bits }) row by.Changes d.changes.toggle (bits ∷ []) max loud t2
-    t3
+    gave_is (record d { held = Some bits }) row by.Changes d.changes.toggle
+    (change_bytes (hub_ports d.spec.hub) bits) max loud t2 t3
 
 held_is : (d : State) (row : List PortState) (max : ℕ) → d.spec.silent ≡ false
     → (t2 t3 : Way) (h : Option ℕ) → acked row max t2 t3 (held_row (forgotten d) row h)
     ≡ held_law (forgotten d) row h max t2 t3
-held_is d row max loud t2 t3 None = new_changes_is d row (change_bits row) max loud t2 t3
-    (change_bits row == 0)
-held_is d row max loud t2 t3 (Some bits) = gave_is d row by.Changes d.changes.toggle (bits ∷ []) max
-    loud t2 t3
+held_is d row max loud t2 t3 None =
+    let bits = change_bits (hub_ports d.spec.hub) row in
+    new_changes_is d row bits max loud t2 t3 (bits == 0)
+held_is d row max loud t2 t3 (Some bits) =
+    gave_is d row by.Changes d.changes.toggle (change_bytes (hub_ports d.spec.hub) bits) max loud
+    t2 t3
 
 changes_is : (d : State) (row : List PortState) (max : ℕ) → d.spec.silent ≡ false
     → (t2 t3 : Way) (halted : Bool)
@@ -361,7 +364,8 @@ acked-endpoint : (d : State) (row : List PortState) (e max : ℕ) → d.spec.sil
     t2 t3)
 acked-endpoint d row e max loud t2 t3 true = in_whole d row max loud t2 t3 (is_busy d)
 acked-endpoint d row e max loud t2 t3 false =
-    in_other_is d row e max loud t2 t3 (e == 1 && tells_changes d.spec d.registers)
+    in_other_is d row e max loud t2 t3
+    (e == status_number d.spec d.registers && tells_changes d.spec d.registers)
 
 pub in_is : (d : State) (row : List PortState) (e max : ℕ) → d.spec.silent ≡ false
     → (t1 t2 t3 : Way) → in_exchange (forgotten d) row d.registers.address e max t1 t2 t3

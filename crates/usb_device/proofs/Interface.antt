@@ -3,7 +3,8 @@ pub use Rattle.usb_device.proofs.Attempts.{in_is, out_is, same_number, setup_is,
 pub use Rattle.usb_device.proofs.Attempts.{silent-unread}
 pub use Rattle.usb_device.proofs.RowsOfEnds.{at_each, at_mapped, at_numbered, at_other, at_same}
 pub use Rattle.usb_device.proofs.ServedNumbers.{in_max-is, in_max-small, out_max-is, out_max-small}
-pub use Rattle.usb_device.proofs.ServedNumbers.{served-in, served-out}
+pub use Rattle.usb_device.proofs.ServedNumbers.{served-in, served-out, served-status}
+pub use Rattle.usb_device.proofs.ServedNumbers.{status_number-small}
 pub use Rattle.usb_device.proofs.TakenSettings.{fresh-settings, in_end-setting, in_max-elsewhere}
 pub use Rattle.usb_device.proofs.TakenSettings.{is_of_setting-elsewhere, out_end-setting}
 pub use Rattle.usb_device.proofs.TakenSettings.{out_max-elsewhere, reset_state-settings}
@@ -21,6 +22,8 @@ pub use Rattle.usb_device.proofs.progress.WriteProgress.{out_only_write}
 pub use Rattle.usb_device.proofs.Deliveries.{heard_of-append}
 pub use Rattle.usb_device.proofs.Figures.{answer-spec, figure-after}
 pub use Rattle.usb_device.proofs.Hubs.{at_least_one}
+pub use Rattle.usb_device.proofs.ToldChanges.{high_changes-small, length-change_bytes}
+pub use Rattle.usb_device.proofs.ToldChanges.{low_changes-small, told-back}
 pub use Rattle.usb_device.proofs.OwnOutcomes.{asked_own-any, asked_own-to_host}
 pub use Rattle.usb_device.proofs.packets.RowFrames.{keeps-received}
 pub use Rattle.usb_device.proofs.packets.Packets.{packets_joined-is, packets_joined-whole}

@@ -3,6 +3,7 @@ pub mod Names
 pub mod Answers
 pub mod OwnOutcomes
 pub mod Hubs
+pub mod ToldChanges
 pub mod Endpoints
 pub mod RowsOfEnds
 pub mod ServedNumbers

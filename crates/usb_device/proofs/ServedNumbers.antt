@@ -3,13 +3,15 @@ use Rattle.std.proofs.Common.{◌≡◌, ◌≤◌, ◌+◌, ◌-◌, ◌==◌, 
 use Rattle.std.proofs.Common.{List}
 use Rattle.std.proofs.Common.{if◌then◌else◌, Option, None, Some, is_some, refl, ap, subst, arith}
 use Rattle.std.proofs.lemmas.Bool.Decides.{nat_tests}
-use Rattle.usb_request.specs.{DIRECTION_IN, STATUS_ENDPOINT}
+use Rattle.usb_request.specs.{DIRECTION_IN}
 use Rattle.usb_descriptor.specs.{UsableEndpoint, bulk_in_of, bulk_out_of, default_settings}
-use Rattle.usb_descriptor.specs.{max_of_usable, usable_of, usable_under}
+use Rattle.usb_descriptor.specs.{max_of_usable, status_endpoint_of, usable_of, usable_under}
 use Rattle.usb_descriptor.proofs.Interface.{usable_of-bulk_in, usable_of-bulk_out}
-use Rattle.usb_descriptor.proofs.Interface.{usable_under-small}
+use Rattle.usb_descriptor.proofs.Interface.{usable_under-small, status_endpoint-usable}
 use Rattle.usb_device.specs.{Registers, Spec, State, bulk_of, in_max, out_max, served, served_at}
-use Rattle.usb_device.specs.{text_of, IsSink, IsSource, BulkIn, BulkOut}
+use Rattle.usb_device.specs.{text_of, IsSink, IsSource, BulkIn, BulkOut, Changes, number_or_one}
+use Rattle.usb_device.specs.{status_number, tells_changes}
+use Rattle.usb_device.proofs.Attempts.{same_number}
 
 -- while each interface has setting 0, the first bulk endpoint of a direction is served with its own
 -- maximum
@@ -85,10 +87,23 @@ none_above s g is_in n large = by_end (served_at s g is_in n) refl
         (ap max_of_usable is) in
         absurd (omega (arith, large, small.1))
 
+-- the number of a status endpoint
+pub status_number-small : (s : Spec) (g : Registers) → (1 ≤ status_number s g)
+    × (status_number s g ≤ 15)
+status_number-small s g = by_end (status_endpoint_of true (text_of s g)) refl
+  where
+    by_end : (o : Option (ℕ × ℕ)) → status_endpoint_of true (text_of s g) ≡ o
+        → (1 ≤ number_or_one o) × (number_or_one o ≤ 15)
+    by_end None is = (omega arith, omega arith)
+    by_end (Some e) is =
+        let usable = status_endpoint-usable true (text_of s g) is in (usable.0, usable.1)
+
 -- no endpoint has a wIndex of more than a byte
 pub served-above : (s : Spec) (g : Registers) (index : ℕ) → 256 ≤ index → served s g index ≡ None
 served-above s g index large =
-    let other : (index == STATUS_ENDPOINT) ≡ false = grind (arith, nat_tests, large) in
+    let small = status_number-small s g in
+    let other : (index == DIRECTION_IN + status_number s g) ≡ false =
+    grind (arith, nat_tests, large, small.0, small.1) in
     rw (
       other,
       none_above s g false index (omega (arith, large)),
@@ -107,13 +122,15 @@ pub served-out : (e most : ℕ) (s : State) → IsSink e most s
     → served s.spec s.registers e ≡ Some (BulkOut e)
 served-out e most s i =
     let small = out_max-small e most s i.endpoint in
-    let other : (e == STATUS_ENDPOINT) ≡ false = grind (arith, nat_tests, small.1) in
+    let other : (e == DIRECTION_IN + status_number s.spec s.registers) ≡ false =
+    grind (arith, nat_tests, small.1) in
     rw (other, is_some-max (served_at s.spec s.registers false e) most i.endpoint) refl
 
 pub served-in : (e most : ℕ) (s : State) → IsSource e most s
     → served s.spec s.registers (DIRECTION_IN + e) ≡ Some (BulkIn e)
 served-in e most s i =
-    let same : (DIRECTION_IN + e == STATUS_ENDPOINT) ≡ (e == 1) = by_one (e == 1) refl in
+    let same : (DIRECTION_IN + e == DIRECTION_IN + number) ≡ (e == number) =
+    by_number (e == number) refl in
     let in_bit : nat_le DIRECTION_IN (DIRECTION_IN + e) ≡ true = grind (arith, nat_tests) in
     let back : DIRECTION_IN + e - DIRECTION_IN ≡ e = omega arith in
     rw (
@@ -125,6 +142,14 @@ served-in e most s i =
       is_some-max (served_at s.spec s.registers true e) most i.endpoint,
     ) refl
   where
-    by_one : (b : Bool) → (e == 1) ≡ b → (DIRECTION_IN + e == STATUS_ENDPOINT) ≡ b
-    by_one true at = grind (arith, nat_tests, at)
-    by_one false at = grind (arith, nat_tests, at)
+    number : ℕ
+    number = status_number s.spec s.registers
+
+    by_number : (b : Bool) → (e == number) ≡ b → (DIRECTION_IN + e == DIRECTION_IN + number) ≡ b
+    by_number true at = grind (arith, nat_tests, at)
+    by_number false at = grind (arith, nat_tests, at)
+
+-- a hub's status endpoint is named in the same way, also where another one has its number
+pub served-status : (s : Spec) (g : Registers) → tells_changes s g ≡ true
+    → served s g (DIRECTION_IN + status_number s g) ≡ Some Changes
+served-status s g tells = rw (same_number (DIRECTION_IN + status_number s g), tells) refl

@@ -1,7 +1,7 @@
 -- What a whole attempt does to the device that it speaks to: each packet of it comes whole, broken
 -- or not at all (8.5).
 use Rattle.std.specs.Prelude.{ℕ, nat_le, nat_lt, ◌==◌, if◌then◌else◌, ◌&&◌, Bool, true, false, List}
-use Rattle.std.specs.Prelude.{[], ◌∷◌, length, Option, None, Some}
+use Rattle.std.specs.Prelude.{[], length, Option, None, Some}
 use Rattle.usb_packet.specs.{OutTok, InTok, SetupTok, Toggle, Zero, One, Packet, Token, Payload}
 use Rattle.usb_packet.specs.declared.Packet.TheVariants as packet
 use Rattle.usb_request.specs.{setup_of}
@@ -12,7 +12,8 @@ use Rattle.usb_device.specs.Transfer.{max_packet, packet_at, toggle_at, Write, i
 use Rattle.usb_device.specs.declared.transfer.InEndpoint.{InEndpoint}
 use Rattle.usb_device.specs.declared.transfer.InEndpoint.TheVariants as by
 use Rattle.usb_port.specs.{PortState}
-use Rattle.usb_device.specs.Bulk.{tells_changes, change_bits}
+use Rattle.usb_device.specs.DeviceSpecs.{hub_ports}
+use Rattle.usb_device.specs.Bulk.{tells_changes, change_bits, change_bytes, status_number}
 use Rattle.usb_device.specs.Rows.{State, Reply, received, unread, forgotten, accepted, payload}
 use Rattle.usb_device.specs.Rows.{is_busy, nak_row, data_row, acknowledged, in_end, in_max}
 use Rattle.usb_device.specs.Rows.{next_packet, in_hesitates}
@@ -126,30 +127,33 @@ source_law d e most max t2 t3 =
     if (in_end d e).state.halted then (heard t2 (Some Stall), d)
     else given_law d e (next_packet d e most (in_end d e).place) max t2 t3
 
--- IN 1 of a configured hub with no byte that is still to be acknowledged
+-- IN of a configured hub's status endpoint with no bits that are still to be acknowledged
 abbrev pub new_changes_law : State → ℕ → ℕ → Way → Way → Reply
 new_changes_law d bits max t2 t3 =
     if bits == 0 then (heard t2 (Some Nak), d) else gave (record d { held = Some bits }) by.Changes
-    max d.changes.toggle (bits ∷ []) t2 t3
+    max d.changes.toggle (change_bytes (hub_ports d.spec.hub) bits) t2 t3
 
 abbrev pub held_law : State → List PortState → Option ℕ → ℕ → Way → Way → Reply
-held_law d row None max t2 t3 = new_changes_law d (change_bits row) max t2 t3
-held_law d row (Some bits) max t2 t3 = gave d by.Changes max d.changes.toggle (bits ∷ []) t2 t3
+held_law d row None max t2 t3 =
+    new_changes_law d (change_bits (hub_ports d.spec.hub) row) max t2 t3
+held_law d row (Some bits) max t2 t3 =
+    gave d by.Changes max d.changes.toggle (change_bytes (hub_ports d.spec.hub) bits) t2 t3
 
--- IN 1 of a configured hub
+-- IN of that endpoint
 abbrev pub changes_law : State → List PortState → ℕ → Way → Way → Reply
 changes_law d row max t2 t3 = if d.changes.halted then (heard t2 (Some Stall), d) else held_law d
     row d.held max t2 t3
 
--- IN of an endpoint that is neither endpoint 0 nor a hub's endpoint 1, by its maximum packet
+-- IN of an endpoint that is neither endpoint 0 nor a hub's status endpoint, by its maximum packet
 abbrev pub in_end_law : State → ℕ → Option ℕ → ℕ → Way → Way → Reply
 in_end_law d e None max t2 t3 = (None, d)
 in_end_law d e (Some most) max t2 t3 = source_law d e most max t2 t3
 
 -- IN of an endpoint that is not endpoint 0
 abbrev pub in_other_law : State → List PortState → ℕ → ℕ → Way → Way → Reply
-in_other_law d row e max t2 t3 = if e == 1 && tells_changes d.spec d.registers then changes_law d
-    row max t2 t3 else in_end_law d e (in_max d e) max t2 t3
+in_other_law d row e max t2 t3 =
+    if e == status_number d.spec d.registers && tells_changes d.spec d.registers
+    then changes_law d row max t2 t3 else in_end_law d e (in_max d e) max t2 t3
 
 -- IN of endpoint 0: a NAK where the device is busy
 abbrev pub in_control_law : State → ℕ → Way → Way → Reply

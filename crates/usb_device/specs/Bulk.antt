@@ -1,13 +1,14 @@
 -- The endpoints of a device besides endpoint 0: which ones there are, their toggles and their halts
 -- (5.8, 8.6, 11.12).
-use Rattle.std.specs.Prelude.{ℕ, ◌+◌, ◌-◌, ◌==◌, nat_lt, nat_le, min, if◌then◌else◌, ◌||◌, ◌&&◌}
+use Rattle.std.specs.Prelude.{ℕ, ◌+◌, ◌-◌, ◌*◌, ◌/◌, ◌%◌, ◌==◌, nat_lt, nat_le, min}
+use Rattle.std.specs.Prelude.{if◌then◌else◌, ◌||◌, ◌&&◌}
 use Rattle.std.specs.Prelude.{Bool, true, false, List, [], ◌∷◌, length, take, slice_get, not}
 use Rattle.std.specs.Prelude.{Option, None, Some, is_some}
 use Rattle.usb_packet.specs.{other, Zero}
-use Rattle.usb_request.specs.{DIRECTION_IN, STATUS_ENDPOINT}
+use Rattle.usb_request.specs.{DIRECTION_IN}
 use Rattle.usb_descriptor.specs.{bulk_out_of, bulk_in_of, configuration_value, total_length}
 use Rattle.usb_descriptor.specs.{usable_under, EndpointTable, UsableEndpoint, belongs_to, end_at}
-use Rattle.usb_descriptor.specs.{with_setting}
+use Rattle.usb_descriptor.specs.{with_setting, status_endpoint_of}
 use Rattle.usb_device.specs.declared.bulk.EndpointState.{EndpointState}
 use Rattle.usb_device.specs.declared.bulk.ServedEndpoint.{ServedEndpoint}
 use Rattle.usb_device.specs.declared.bulk.ServedEndpoint.TheVariants.{BulkOut, BulkIn, Changes}
@@ -87,14 +88,23 @@ abbrev pub is_of_either : ℕ → EndpointTable → EndpointTable → Bool → �
 is_of_either interface before after is_in e =
     belongs_to interface (end_at before is_in e) || belongs_to interface (end_at after is_in e)
 
--- IN 1 of a configured hub tells which of its ports changed (11.12.1)
+-- a configured hub tells which of its ports changed (11.12.1)
 abbrev pub tells_changes : Spec → Registers → Bool
 tells_changes s g = is_some s.hub && not (g.configuration == 0)
+
+-- the number of an endpoint that is picked, and 1 where none is
+abbrev pub number_or_one : Option (ℕ × ℕ) → ℕ
+number_or_one None = 1
+number_or_one (Some end) = end.0
+
+-- the number of the endpoint by which it tells them, its status endpoint (11.12.1, 11.23.1)
+abbrev pub status_number : Spec → Registers → ℕ
+status_number s g = number_or_one (status_endpoint_of true (text_of s g))
 
 -- the endpoint that wIndex names: OUT e is e, IN e is e with the bit of the direction (9.3.4)
 abbrev pub served : Spec → Registers → ℕ → Option ServedEndpoint
 served s g index =
-    if index == STATUS_ENDPOINT && tells_changes s g then Some Changes
+    if index == DIRECTION_IN + status_number s g && tells_changes s g then Some Changes
     else if is_some (served_at s g false index) then Some (BulkOut index)
     else if nat_le DIRECTION_IN index && is_some (served_at s g true (index - DIRECTION_IN))
     then Some (BulkIn (index - DIRECTION_IN))
@@ -117,8 +127,36 @@ changed_bit row i weight = elim (slice_get row i) [
       if has_change p then weight else 0
 ]
 
--- bit N is set where port N, counted from 1, has a change bit set (11.12.4)
-unfoldable pub change_bits : List PortState → ℕ
-change_bits row =
+-- of the first seven ports: bit N is set where port N, counted from 1, has a change bit set
+abbrev pub low_changes : List PortState → ℕ
+low_changes row =
     changed_bit row 0 2 + changed_bit row 1 4 + changed_bit row 2 8 + changed_bit row 3 16 +
     changed_bit row 4 32 + changed_bit row 5 64 + changed_bit row 6 128
+
+-- of the next eight, from bit 0 on
+abbrev pub high_changes : List PortState → ℕ
+high_changes row =
+    changed_bit row 7 1 + changed_bit row 8 2 + changed_bit row 9 4 + changed_bit row 10 8 +
+    changed_bit row 11 16 + changed_bit row 12 32 + changed_bit row 13 64 +
+    changed_bit row 14 128
+
+-- bit N is set where port N, counted from 1, of a hub of so many ports has a change bit set
+-- (11.12.4)
+unfoldable pub change_bits : ℕ → List PortState → ℕ
+change_bits ports row =
+    low_changes row + (if nat_lt 7 ports then 256 * high_changes row else 0)
+
+-- the bytes by which a hub of so many ports tells such bits, the low byte first
+abbrev pub change_bytes : ℕ → ℕ → List ℕ
+change_bytes ports bits =
+    if nat_lt 7 ports then bits % 256 ∷ bits / 256 ∷ [] else bits % 256 ∷ []
+
+-- how many bytes that are: a bit for the hub itself, and one for each port
+abbrev pub status_length : ℕ → ℕ
+status_length ports = ports / 8 + 1
+
+-- the bits that bytes tell
+abbrev pub told_bits : List ℕ → ℕ
+told_bits [] = 0
+told_bits (b ∷ []) = b
+told_bits (b ∷ c ∷ bytes) = b + 256 * c

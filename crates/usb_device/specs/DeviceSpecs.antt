@@ -1,6 +1,6 @@
 -- A device as a plan describes it.
 use Rattle.std.specs.Prelude.{◌≡◌, ◌≤◌, ℕ, List, [], ◌∷◌, length, take, nat_lt, ◌==◌, Bool, true}
-use Rattle.std.specs.Prelude.{false, ◌&&◌, not, Option, None, Some, Ok, Err, All}
+use Rattle.std.specs.Prelude.{false, ◌&&◌, not, if◌then◌else◌, Option, None, Some, Ok, Err, All}
 use Rattle.std.specs.Option.{IfSome}
 use Rattle.std.specs.List.{list_any}
 use Rattle.std.specs.Str.{bytes_eq}
@@ -14,6 +14,11 @@ use Rattle.usb_device.specs.declared.endpoint_spec.EndpointSpec.{EndpointSpec}
 pub record Hub : Type 0 where
   pub ports : ℕ
   pub descriptor : List ℕ
+
+-- how many ports a device has
+abbrev pub hub_ports : Option Hub → ℕ
+hub_ports None = 0
+hub_ports (Some hub) = hub.ports
 
 pub record Spec : Type 0 where
   pub name : List ℕ
@@ -52,7 +57,7 @@ hub_fits low descriptor (Some hub) = not low && has_hub_class descriptor
 
 -- where the first bytes are the descriptor of a hub, it has so many ports
 abbrev pub agrees : ℕ → List ℕ → Bool
-agrees ports bytes = elim (hub_spelled (take HUB_LENGTH bytes)) [
+agrees ports bytes = elim (hub_spelled true (take HUB_LENGTH bytes)) [
   | Ok hub ↦ port_count hub == ports
   | Err fault ↦ true
 ]
@@ -60,7 +65,7 @@ agrees ports bytes = elim (hub_spelled (take HUB_LENGTH bytes)) [
 -- the rules of a hub
 pub record IsHub (h : Hub) : Type 0 where
   pub least : 1 ≤ h.ports
-  pub most : h.ports ≤ 7
+  pub most : h.ports ≤ 15
   pub agree : agrees h.ports h.descriptor ≡ true
 
 -- the rules of a device
@@ -75,13 +80,16 @@ pub record IsSpec (s : Spec) : Type 0 where
   pub endpoints : length s.endpoints ≤ 30
   pub requests : length s.requests ≤ 64
 
+-- the descriptor of a hub whose ports are switched one by one: each of its last two fields has a
+-- bit for each port, in one byte or two
+abbrev pub usual_descriptor : ℕ → List ℕ
+usual_descriptor ports =
+    if nat_lt 7 ports then 11 ∷ HUB ∷ ports ∷ 1 ∷ 0 ∷ 0 ∷ 0 ∷ 0 ∷ 0 ∷ 0xff ∷ 0xff ∷ []
+    else HUB_LENGTH ∷ HUB ∷ ports ∷ 1 ∷ 0 ∷ 0 ∷ 0 ∷ 0 ∷ 0xff ∷ []
+
 -- a hub whose ports are switched one by one
 abbrev pub usual_hub : ℕ → Hub
-usual_hub ports = record {
-  ports = ports;
-  descriptor =
-      HUB_LENGTH ∷ HUB ∷ ports ∷ 1 ∷ 0 ∷ 0 ∷ 0 ∷ 0 ∷ 0xff ∷ [];
-}
+usual_hub ports = record { ports = ports; descriptor = usual_descriptor ports }
 
 abbrev pub no_stalls : Stalls
 no_stalls = record {

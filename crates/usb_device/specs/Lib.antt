@@ -31,12 +31,14 @@ pub mod HolderIndex
 pub mod AloneAttempts
 -- the words of this crate, wherever one stands
 pub use DeviceSpecs.{AreDevices, Hub, IsHub, IsSpec, Spec, agrees, function, has_hub_class}
-pub use DeviceSpecs.{hub_fits, is_named, names_differ, no_stalls, usual_hub}
+pub use DeviceSpecs.{hub_fits, hub_ports, is_named, names_differ, no_stalls, usual_descriptor}
+pub use DeviceSpecs.{usual_hub}
 unfoldable pub use SaidLengths.{said_length, said_lengths}
 pub use EndpointSpecs.{GivesOn, endpoint_row, if_some, packet_in, place_behind}
-pub use Bulk.{advanced, bulk_at, bulk_in, changed_bit, count_down, halted, has_value, is_last}
+pub use Bulk.{advanced, bulk_at, bulk_in, change_bytes, changed_bit, count_down, halted, has_value}
+pub use Bulk.{high_changes, is_last, low_changes, number_or_one, status_length, status_number}
 pub use Bulk.{is_numbered, is_of_either, is_of_setting, rested, served, served_at}
-pub use Bulk.{tells_changes, text_of, text_with, total_of, turned, with_interface}
+pub use Bulk.{tells_changes, text_of, text_with, told_bits, total_of, turned, with_interface}
 unfoldable pub use Bulk.{change_bits}
 pub use Ends.{OutEnd, begun_if, end_numbers, given_on, hesitated, no_in, no_out, pace_by, paced_on}
 pub use Ends.{plugged_in_end, plugged_out, renewed, rested_in, rested_out, steady, taken_on}

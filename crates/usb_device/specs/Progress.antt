@@ -2,7 +2,7 @@
 -- packet ahead where the device did
 -- not see its last ACK, or the device one ahead where the host did not see its own (8.6).
 use Rattle.std.specs.Prelude.{◌≡◌, ◌⊎◌, ⊤, ℕ, zero, suc, ◌+◌, ◌≤◌, ◌==◌, nat_le, ◌&&◌, true}
-use Rattle.std.specs.Prelude.{false, if◌then◌else◌, List, [], ◌∷◌, ◌++◌, length, Option}
+use Rattle.std.specs.Prelude.{false, if◌then◌else◌, List, [], ◌++◌, length, Option}
 use Rattle.std.specs.Prelude.{None, Some, is_some}
 use Rattle.std.specs.List.{concat}
 use Rattle.usb_packet.specs.{Toggle, other, is_same}
@@ -10,7 +10,8 @@ use Rattle.usb_device.specs.declared.answer.Answer.{Answer}
 use Rattle.usb_device.specs.declared.answer.Answer.TheVariants.{Ack, Nak, Stall, Data}
 use Rattle.usb_device.specs.declared.ends.Pace.{Pace}
 use Rattle.usb_device.specs.EndpointSpecs.{GivesOn}
-use Rattle.usb_device.specs.Bulk.{tells_changes}
+use Rattle.usb_device.specs.DeviceSpecs.{hub_ports}
+use Rattle.usb_device.specs.Bulk.{tells_changes, status_number, change_bytes}
 use Rattle.usb_device.specs.Transfer.{reading, read, ending, idle, max_packet, packet_at, Write}
 use Rattle.usb_device.specs.Transfer.{writing, written_on, taken_with, is_done}
 use Rattle.usb_device.specs.Rows.{State, in_data, in_end, in_max, next_packet, next_place, out_end}
@@ -105,7 +106,7 @@ pub record IsPacketOf (w : Write) (bytes : List ℕ) : Type 0 where
 pub record IsSource (e most : ℕ) (s : State) : Type 0 where
   pub endpoint : in_max s e ≡ Some most
   pub not_zero : (e == 0) ≡ false
-  pub alone : (e == 1 && tells_changes s.spec s.registers) ≡ false
+  pub alone : (e == status_number s.spec s.registers && tells_changes s.spec s.registers) ≡ false
 
 -- the host has got what stands before this place, and awaits a toggle
 pub data SourceAt (e most : ℕ) (got : ℕ) (t : Toggle) (s : State) : Type 0 where
@@ -168,11 +169,10 @@ SinkOn e before bytes t (Some Stall) s' = SinkAt e before bytes t s'
     × ((out_end s' e).state.halted ≡ true)
 SinkOn e before bytes t (Some (Data u b)) s' = ⊥
 
--- IN 1 of a configured hub (11.12.3)
+-- IN of a configured hub's status endpoint (11.12.3, 11.12.4)
 
--- The host awaits a toggle: nothing is held back; or a byte was given that did not come, and this
--- is so of it; or a byte came, and its
--- ACK was not seen.
+-- The host awaits a toggle: nothing is held back; or bits were given that did not come, and this
+-- is so of them; or bits came, and their ACK was not seen.
 pub data PollAt (Told : ℕ → Type 0) (t : Toggle) (s : State) : Type 0 where
   level : s.held ≡ None → s.changes.toggle ≡ t → PollAt Told t s
   told : (bits : ℕ) → Told bits → s.held ≡ Some bits → s.changes.toggle ≡ t → PollAt Told t s
@@ -182,11 +182,11 @@ pub data PollAt (Told : ℕ → Type 0) (t : Toggle) (s : State) : Type 0 where
 abbrev pub NeverTold : ℕ → Type 0
 NeverTold bits = ⊥
 
--- a byte came, of which this is so
+-- the bytes of bits came, of which this is so
 pub record ToldByte (Told : ℕ → Type 0) (t : Toggle) (bytes : List ℕ) (s : State) : Type 0 where
   pub bits : ℕ
   pub so : Told bits
-  pub came : bytes ≡ bits ∷ []
+  pub came : bytes ≡ change_bytes (hub_ports s.spec.hub) bits
   pub between : PollAt NeverTold (other t) s
 
 -- after one more IN of a hub whose ports tell these bits

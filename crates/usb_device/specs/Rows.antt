@@ -19,14 +19,14 @@ use Rattle.usb_device.specs.declared.bulk.EndpointState.{EndpointState}
 use Rattle.usb_device.specs.declared.bulk.ServedEndpoint.{ServedEndpoint}
 use Rattle.usb_device.specs.declared.bulk.ServedEndpoint.TheVariants.{BulkOut, BulkIn, Changes}
 use Rattle.usb_port.specs.{PortState}
-use Rattle.usb_device.specs.DeviceSpecs.{Spec}
+use Rattle.usb_device.specs.DeviceSpecs.{Spec, hub_ports}
 use Rattle.usb_device.specs.declared.ends.InEnd.{InEnd}
 use Rattle.usb_device.specs.declared.endpoint_spec.EndpointData.{EndpointData}
 use Rattle.usb_device.specs.declared.endpoint_spec.EndpointData.TheVariants as content
 use Rattle.usb_device.specs.declared.endpoint_spec.EndpointSpec.{EndpointSpec}
 use Rattle.usb_device.specs.Bulk.{rested, turned, halted, bulk_at}
 use Rattle.usb_device.specs.Bulk.{served_at, is_numbered, is_of_setting, tells_changes}
-use Rattle.usb_device.specs.Bulk.{change_bits, with_interface}
+use Rattle.usb_device.specs.Bulk.{change_bits, change_bytes, status_number, with_interface}
 use Rattle.usb_device.specs.EndpointSpecs.{endpoint_row, packet_in, place_behind}
 use Rattle.usb_device.specs.Ends.{OutEnd, no_out, no_in, rested_out, rested_in, with_at, taken_on}
 use Rattle.usb_device.specs.Ends.{begun_if, given_on, hesitated, numbered_from, plugged_out}
@@ -53,7 +53,7 @@ pub record State : Type 0 where
   -- the OUT and the IN endpoints, by their numbers
   pub outs : List OutEnd
   pub ins : List InEnd
-  -- IN 1 of a hub: its state, and the byte that was given and not yet acknowledged
+  -- the status endpoint of a hub: its state, and the bits that were given and not yet acknowledged
   pub changes : EndpointState
   pub held : Option ℕ
   -- what control writes have brought since the plug
@@ -306,17 +306,19 @@ in_ack_row d e None = d
 in_ack_row d e (Some max) =
     with_in d e (given_on (next_place d e max (in_end d e).place) (in_end d e))
 
--- IN 1 of a configured hub with no byte that is still to be acknowledged: the ports with a change
+-- IN of a configured hub's status endpoint with no bits that are still to be acknowledged: the
+-- ports with a change
 abbrev pub new_changes_row : State → ℕ → Reply
 new_changes_row d bits = if bits == 0 then (Some Nak, d) else gives (record d { held = Some bits })
-    by.Changes d.changes.toggle (bits ∷ [])
+    by.Changes d.changes.toggle (change_bytes (hub_ports d.spec.hub) bits)
 
--- IN 1 of a configured hub: the byte that was given before, until the host's ACK of it is seen
+-- IN of that endpoint: the bits that were given before, until the host's ACK of them is seen
 abbrev pub held_row : State → List PortState → Option ℕ → Reply
-held_row d row None = new_changes_row d (change_bits row)
-held_row d row (Some bits) = gives d by.Changes d.changes.toggle (bits ∷ [])
+held_row d row None = new_changes_row d (change_bits (hub_ports d.spec.hub) row)
+held_row d row (Some bits) =
+    gives d by.Changes d.changes.toggle (change_bytes (hub_ports d.spec.hub) bits)
 
--- IN 1 of a configured hub
+-- IN of that endpoint
 abbrev pub changes_row : State → List PortState → Reply
 changes_row d row = if d.changes.halted then (Some Stall, d) else held_row d row d.held
 
@@ -353,7 +355,7 @@ abbrev pub sinks : State → ℕ → ℕ → Toggle → List ℕ → Bool
 sinks d e max t bytes = not (out_end d e).state.halted && not (nat_lt max (length bytes)) &&
     is_same t (out_end d e).state.toggle && not (nat_lt 0 (out_end d e).pace.naks)
 
--- IN of an endpoint that is neither endpoint 0 nor a hub's endpoint 1, by its maximum packet
+-- IN of an endpoint that is neither endpoint 0 nor a hub's status endpoint, by its maximum packet
 abbrev pub in_end_row : State → ℕ → Option ℕ → Reply
 in_end_row d e None = (None, d)
 in_end_row d e (Some max) = source_row d e max
@@ -369,8 +371,9 @@ end_sinks d e (Some max) t bytes = sinks d e max t bytes
 
 -- IN of an endpoint that is not endpoint 0
 abbrev pub in_other_row : State → List PortState → ℕ → Reply
-in_other_row d row e = if e == 1 && tells_changes d.spec d.registers then changes_row d row
-    else in_end_row d e (in_max d e)
+in_other_row d row e =
+    if e == status_number d.spec d.registers && tells_changes d.spec d.registers
+    then changes_row d row else in_end_row d e (in_max d e)
 
 -- a token for this device
 abbrev pub token_row : State → List PortState → TokenKind → ℕ → Reply

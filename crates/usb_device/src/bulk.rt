@@ -1,10 +1,11 @@
 //! The endpoints of a device besides endpoint 0 (5.8, 11.12): which ones there are, their toggles
 //! and their halts.
-ghost use Rattle.std.specs.Prelude.{◌≡◌, ◌≤◌, [], IfNone, IfSome};
+ghost use Rattle.std.specs.Prelude.{◌≡◌, ◌≤◌, true, [], IfNone, IfSome};
+ghost use Rattle.usb_descriptor.specs.Choice.{IsUsable, status_endpoint_of};
 ghost use Rattle.usb_descriptor.specs.Item.{items_of};
 ghost use Rattle.usb_device.specs.Request.{items_at};
 ghost use Rattle.usb_descriptor.specs.Usable.{IsTableOf, usable_under};
-ghost use Rattle.usb_device.specs.Bulk.{turned, halted, count_down, is_last, text_with, total_of, text_of, bulk_in, bulk_at, is_numbered, served, served_at, advanced, tells_changes};
+ghost use Rattle.usb_device.specs.Bulk.{turned, halted, count_down, is_last, text_with, total_of, text_of, bulk_in, bulk_at, is_numbered, served, served_at, advanced, tells_changes, status_number};
 ghost use Rattle.usb_device.specs.ServedBulk.{AreServed};
 
 use crate::ends::EndpointNumber;
@@ -13,7 +14,7 @@ use crate::request::{Registers, has_value};
 use crate::spec::DeviceSpec;
 use usb_descriptor::{ConfigView, Settings, UsableEndpoints, read_config};
 use usb_packet::Toggle;
-use usb_request::endpoint_address::{DIRECTION_IN, STATUS_ENDPOINT};
+use usb_request::endpoint_address::DIRECTION_IN;
 
 /// An endpoint besides endpoint 0, as the device keeps it.
 #[derive(Clone, Copy, Debug)]
@@ -37,7 +38,7 @@ pub enum ServedEndpoint {
     BulkOut(EndpointNumber),
     /// The IN endpoint with this number.
     BulkIn(EndpointNumber),
-    /// IN 1 of a hub.
+    /// The status endpoint of a hub.
     Changes,
 }
 
@@ -50,6 +51,8 @@ pub struct ServedEndpoints {
     pub bulk_in: Option<(u8, u8)>,
     /// All of them.
     pub table: UsableEndpoints,
+    /// The number of the status endpoint, if the device is a hub (11.12.1).
+    pub status: u8,
 }
 
 /// The endpoint after a packet that moved.
@@ -183,6 +186,28 @@ fn table_at(spec: &DeviceSpec, registers: &Registers) -> UsableEndpoints
     table_of(spec.is_low(), &registers.settings, text_of(spec, registers))
 }
 
+/// The endpoint by which a hub tells its changes (11.23.1), if the text is a configuration that has
+/// one.
+#[tactic(auto, using(crate::proofs::Endpoints::endpoints))]
+fn status_in(text: &[u8]) -> Option<(u8, u8)>
+    ensures value { result ≡ status_endpoint_of true text.now }
+    ensures usable { IfSome result IsUsable }
+{
+    read_config(text).ok()?.status_endpoint(true)
+}
+
+/// The number of that endpoint, 1 to 15; 1 if the configuration has none.
+fn status_number(spec: &DeviceSpec, registers: &Registers) -> u8
+    ensures value { result ≡ status_number spec.now registers.now }
+    ensures least { 1 ≤ result }
+    ensures most { result ≤ 15 }
+{
+    match status_in(text_of(spec, registers)) {
+        None => 1,
+        Some((number, _)) => number,
+    }
+}
+
 /// The endpoints that are served by a device with these registers.
 pub fn served_endpoints(spec: &DeviceSpec, registers: &Registers) -> ServedEndpoints
     ensures { AreServed spec.now registers.now result }
@@ -191,6 +216,7 @@ pub fn served_endpoints(spec: &DeviceSpec, registers: &Registers) -> ServedEndpo
         bulk_out: bulk_at(spec, registers, false),
         bulk_in: bulk_at(spec, registers, true),
         table: table_at(spec, registers),
+        status: status_number(spec, registers),
     }
 }
 
@@ -204,7 +230,7 @@ pub(crate) fn is_numbered(number: u8, end: Option<(u8, u8)>) -> bool
     }
 }
 
-/// Whether IN 1 reports which ports changed (11.12.1): it does of a configured hub.
+/// Whether the device reports which of its ports changed (11.12.1): a configured hub does.
 pub fn tells_changes(spec: &DeviceSpec, registers: &Registers) -> bool
     ensures { result ≡ tells_changes spec.now registers.now }
 {
@@ -216,7 +242,8 @@ pub fn tells_changes(spec: &DeviceSpec, registers: &Registers) -> bool
 pub fn served(spec: &DeviceSpec, registers: &Registers, index: u16) -> Option<ServedEndpoint>
     ensures { result ≡ served spec.now registers.now index }
 {
-    if index == u16::from(STATUS_ENDPOINT) && tells_changes(spec, registers) {
+    let status = DIRECTION_IN + status_number(spec, registers);
+    if index == u16::from(status) && tells_changes(spec, registers) {
         return Some(ServedEndpoint::Changes);
     }
     if index > 0xff {

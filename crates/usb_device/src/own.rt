@@ -1,9 +1,9 @@
 //! A device without its ports: its transfers, packet by packet (8.5).
 ghost use Rattle.std.specs.Prelude.{◌≡◌, ◌≤◌, ◌==◌, ℕ, List, Option, None, Some, nat_lt, if◌then◌else◌, is_some, length};
-ghost use Rattle.usb_device.specs.Bulk.{is_numbered, with_interface};
+ghost use Rattle.usb_device.specs.Bulk.{change_bytes, is_numbered, with_interface};
 ghost use Rattle.usb_device.specs.EndpointSpecs.{packet_in, place_behind};
 ghost use Rattle.usb_device.specs.declared.endpoint_spec.EndpointData.TheVariants as EndpointData;
-ghost use Rattle.usb_device.specs.DeviceSpecs.{Spec};
+ghost use Rattle.usb_device.specs.DeviceSpecs.{Spec, hub_ports};
 ghost use Rattle.usb_device.specs.Code.{source_bytes, hub_text, text_at, meaning_of, stage_of};
 ghost use Rattle.usb_device.specs.OwnRequests.{own_bytes};
 ghost use Rattle.usb_device.specs.Transfer.{max_packet, packet_at, put_if, reads, Write};
@@ -43,8 +43,8 @@ use usb_request::Setup;
 use usb_request::endpoint_address::DIRECTION_IN;
 
 /// A plugged device, without its ports: it takes one packet after the other, and answers some of
-/// them (8.5). It has endpoint 0, each endpoint of its configuration that a pipe can use, and IN 1
-/// where it is a hub.
+/// them (8.5). It has endpoint 0, each endpoint of its configuration that a pipe can use, and a
+/// status endpoint where it is a hub.
 #[derive(Debug, Drop)]
 pub struct FunctionState {
     spec: Rc<DeviceSpec>,
@@ -61,10 +61,10 @@ pub struct FunctionState {
     outs: OutEnds,
     /// The IN endpoints, by their numbers.
     ins: InEnds,
-    /// IN 1 of a hub.
+    /// The status endpoint of a hub.
     changes: EndpointState,
-    /// The byte that IN 1 gave, until its ACK is seen.
-    held: Option<u8>,
+    /// The bits that it gave, until their ACK is seen.
+    held: Option<u16>,
     /// What control writes have brought since the plug.
     taken: Vec<u8>,
     /// The last control write.
@@ -100,6 +100,28 @@ fn hub_text(spec: &DeviceSpec) -> &[u8]
     match spec.hub() {
         Some(hub) => hub.descriptor(),
         None => &[],
+    }
+}
+
+/// How many ports a device has.
+fn hub_ports(spec: &DeviceSpec) -> u8
+    ensures { result ≡ hub_ports spec.now.hub }
+{
+    match spec.hub() {
+        Some(hub) => hub.ports(),
+        None => 0,
+    }
+}
+
+/// Puts the bytes into the room by which a hub of so many ports tells these bits (11.12.4).
+fn fill_changes(ports: u8, bits: u16, room: &mut ArrayVec<u8, 64>)
+    ensures { room.new.items ≡ change_bytes ports bits }
+{
+    let low = (bits % 256) as u8;
+    if ports > 7 {
+        fill(room, &[low, (bits / 256) as u8]);
+    } else {
+        fill(room, &[low]);
     }
 }
 
@@ -1034,14 +1056,14 @@ impl FunctionState {
         ensures { (answer_with result room.new, self.new)
             ≡ in_other_row self.old (row_of ports.now) ep }
     {
-        if ep == 1 && tells_changes(&self.spec, &self.registers) {
+        if ep == self.served.status && tells_changes(&self.spec, &self.registers) {
             self.give_changes(ports, room)
         } else {
             self.give_end(ep, room)
         }
     }
 
-    /// IN 1 of a configured hub.
+    /// IN of a configured hub's status endpoint.
     fn give_changes(&mut self, ports: &Ports, room: &mut ArrayVec<u8, 64>) -> Option<AnswerPid>
         ensures { (answer_with result room.new, self.new)
             ≡ changes_row self.old (row_of ports.now) }
@@ -1051,19 +1073,23 @@ impl FunctionState {
         }
         match self.held {
             Some(bits) => self.give_bits(bits, room),
-            None => self.give_new_changes(ports.change_bits(), room),
+            None => {
+                let bits = ports.change_bits(hub_ports(&self.spec));
+                self.give_new_changes(bits, room)
+            }
         }
     }
 
-    fn give_bits(&mut self, bits: u8, room: &mut ArrayVec<u8, 64>) -> Option<AnswerPid>
-        ensures { (answer_with result room.new, self.new)
-            ≡ gives self.old by.Changes self.old.changes.toggle (bits ∷ []) }
+    fn give_bits(&mut self, bits: u16, room: &mut ArrayVec<u8, 64>) -> Option<AnswerPid>
+        ensures { let bytes = change_bytes (hub_ports self.old.spec.hub) bits in
+            (answer_with result room.new, self.new)
+            ≡ gives self.old by.Changes self.old.changes.toggle bytes }
     {
-        fill(room, &[bits]);
+        fill_changes(hub_ports(&self.spec), bits, room);
         self.give_data(InEndpoint::Changes, self.changes.toggle)
     }
 
-    fn give_new_changes(&mut self, bits: u8, room: &mut ArrayVec<u8, 64>) -> Option<AnswerPid>
+    fn give_new_changes(&mut self, bits: u16, room: &mut ArrayVec<u8, 64>) -> Option<AnswerPid>
         ensures { (answer_with result room.new, self.new) ≡ new_changes_row self.old bits }
     {
         if bits == 0 {
@@ -1073,7 +1099,7 @@ impl FunctionState {
         self.give_bits(bits, room)
     }
 
-    /// The host's ACK of what IN 1 of a hub gave.
+    /// The host's ACK of what a hub's status endpoint gave.
     fn acknowledge_changes(&mut self)
         ensures { self.new ≡ acknowledged self.old by.Changes }
     {
@@ -1081,7 +1107,7 @@ impl FunctionState {
         self.held = None;
     }
 
-    /// IN of an endpoint that is neither endpoint 0 nor a hub's endpoint 1.
+    /// IN of an endpoint that is neither endpoint 0 nor a hub's status endpoint.
     fn give_end(&mut self, ep: u8, room: &mut ArrayVec<u8, 64>) -> Option<AnswerPid>
         ensures { (answer_with result room.new, self.new)
             ≡ in_end_row self.old ep (in_max self.old ep) }

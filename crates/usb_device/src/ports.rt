@@ -2,7 +2,7 @@
 ghost use Rattle.std.specs.Prelude.{◌≡◌, ◌≤◌, ◌==◌, ◌&&◌, [], None, Some, slice_get, IfOk, IsTrue, false};
 ghost use Rattle.std.specs.Option.{option_copied};
 ghost use Rattle.usb_port.specs.PortStates.{is_attached};
-ghost use Rattle.usb_device.specs.Bulk.{changed_bit, change_bits};
+ghost use Rattle.usb_device.specs.Bulk.{changed_bit, low_changes, high_changes, change_bits};
 ghost use Rattle.usb_port.specs.Calls.{is_reset};
 ghost use Rattle.usb_device.specs.Tree.{new_ports, called, put, changed_at, changed_in, plugged_in, all_off, row_of, device_of};
 ghost use Rattle.usb_device.specs.Places.{ports_kept, stood};
@@ -281,10 +281,23 @@ impl Ports {
         }
     }
 
-    /// Bit N is set if port N, counted from 1, has a change bit set (11.12.4).
+    /// Bit N is set if port N, counted from 1, of a hub of so many ports has a change bit set
+    /// (11.12.4).
     #[tactic(auto, unfolding(crate::specs::Bulk::change_bits))]
-    pub(crate) fn change_bits(&self) -> u8
-        ensures { result ≡ change_bits (row_of self.now) }
+    pub(crate) fn change_bits(&self, ports: u8) -> u16
+        ensures { result ≡ change_bits ports (row_of self.now) }
+    {
+        let low = u16::from(self.low_changes());
+        if ports > 7 {
+            low + 256 * u16::from(self.high_changes())
+        } else {
+            low
+        }
+    }
+
+    /// The same of the first seven ports.
+    fn low_changes(&self) -> u8
+        ensures { result ≡ low_changes (row_of self.now) }
     {
         self.changed_bit(0, 2)
             + self.changed_bit(1, 4)
@@ -293,6 +306,20 @@ impl Ports {
             + self.changed_bit(4, 32)
             + self.changed_bit(5, 64)
             + self.changed_bit(6, 128)
+    }
+
+    /// The same of the next eight, from bit 0 on.
+    fn high_changes(&self) -> u8
+        ensures { result ≡ high_changes (row_of self.now) }
+    {
+        self.changed_bit(7, 1)
+            + self.changed_bit(8, 2)
+            + self.changed_bit(9, 4)
+            + self.changed_bit(10, 8)
+            + self.changed_bit(11, 16)
+            + self.changed_bit(12, 32)
+            + self.changed_bit(13, 64)
+            + self.changed_bit(14, 128)
     }
 
     fn changed_bit(&self, i: usize, weight: u8) -> u8

@@ -13,7 +13,7 @@ pub enum InEndpoint {
     Control,
     /// The bulk IN endpoint with this number.
     Bulk(u8),
-    /// IN 1 of a hub.
+    /// The status endpoint of a hub.
     Changes,
 }
 

@@ -22,6 +22,6 @@ pub use Checking.{BeginsAt, BeginsWith, IsLed, TellsFault, TellsPlan, TellsVerdi
 pub use Trouble.{IsTroubleOf, IsTroubleWithin}
 pub use Slip.{slip_at}
 unfoldable pub use Slip.{counted_words, digit_slip, letter_words, slip_words}
-pub use PathSlip.{IsAt, IsPathSlip, IsPortOf, SpellsPath}
-pub use Entry.{entry_keys, keys_with, value_text, verb_keys}
+pub use PathSlip.{IsAt, IsPathSlip, IsPortOf, SpellsPath, path_in, path_within}
+pub use Entry.{entry_keys, flag_of, keys_with, value_flag, value_text, verb_keys, wide_in}
 pub use declared.key.PlanKey.{PlanKey}

@@ -1,5 +1,5 @@
 -- The lines that tell what a text holds.
-use Rattle.std.specs.Prelude.{ℕ, codes, List, [], ◌++◌, length, decimal, flat_map, Option, Some}
+use Rattle.std.specs.Prelude.{ℕ, Bool, codes, List, [], ◌++◌, length, decimal, flat_map, Option, Some}
 use Rattle.std.specs.Prelude.{None}
 use Rattle.std.specs.Str.{chars}
 use Rattle.usb_device.specs.{Spec}
@@ -29,20 +29,21 @@ unfoldable pub remark_head : List ℕ → List ℕ
 remark_head name = codes "remark: device \"" ++ text_shown (chars name) ++ codes "\", "
 
 -- the line on a device that a host refuses for its bytes
-unfoldable pub remark_line : Spec → Remark → List ℕ
-remark_line spec remark = remark_head spec.name ++ remark_words spec remark ++ codes "\n"
+unfoldable pub remark_line : Bool → Spec → Remark → List ℕ
+remark_line wide spec remark =
+    remark_head spec.name ++ remark_words wide spec remark ++ codes "\n"
 
-abbrev pub line_if : Spec → Option Remark → List ℕ
-line_if spec None = []
-line_if spec (Some remark) = remark_line spec remark
+abbrev pub line_if : Bool → Spec → Option Remark → List ℕ
+line_if wide spec None = []
+line_if wide spec (Some remark) = remark_line wide spec remark
 
--- such a line for each device that has a remark, and for no other
-unfoldable pub remark_lines : List Spec → List ℕ
-remark_lines devices = flat_map (λ spec. line_if spec (remark_of spec)) devices
+-- such a line for each device that has a remark, and for no other; the host takes wide hubs or not
+unfoldable pub remark_lines : Bool → List Spec → List ℕ
+remark_lines wide devices = flat_map (λ spec. line_if wide spec (remark_of wide spec)) devices
 
 -- what is reported of a plan
 abbrev pub plan_report : PlanData → List ℕ
-plan_report p = plan_lines p ++ remark_lines p.devices
+plan_report p = plan_lines p ++ remark_lines p.wide p.devices
 
 -- the entry that a fault is told of
 abbrev pub place_of : PlanFault → Option Place

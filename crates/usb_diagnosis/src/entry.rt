@@ -1,12 +1,12 @@
 //! The entry of a plan's document in which a fault stands.
 
-ghost use Rattle.std.specs.Prelude.{◌≡◌, map, option_map};
+ghost use Rattle.std.specs.Prelude.{◌≡◌, codes, map, option_map};
 ghost use Rattle.toml.specs.Data.{get_member};
 ghost use Rattle.toml.specs.View.{view, table_view};
-ghost use Rattle.usb_diagnosis.specs.Entry.{entry_keys, value_text};
+ghost use Rattle.usb_diagnosis.specs.Entry.{entry_keys, value_flag, value_text, wide_in};
 ghost use Rattle.usb_diagnosis.specs.Key.{key_name};
 
-use crate::key::{DAMAGE_KEYS, DEVICE_KEYS, PlanKey, TOP_KEYS, keys_with};
+use crate::key::{DAMAGE_KEYS, DEVICE_KEYS, PlanKey, TOP_KEYS, WIDE_DEVICE_KEYS, keys_with};
 use toml::{Table, Value};
 use usb_plan::Place;
 
@@ -61,6 +61,19 @@ pub(crate) fn text_at<'a>(table: &'a Table, key: &str) -> Option<&'a str>
     }
 }
 
+/// The flag at a key, false where there is none.
+fn flag_at(table: &Table, key: &str) -> bool
+    ensures { result ≡ value_flag (get_member key.now (table_view table.now)) }
+{
+    match value_at(table, key) {
+        None => false,
+        Some(value) => match value.as_bool() {
+            None => false,
+            Some(flag) => flag,
+        },
+    }
+}
+
 impl<'a> Entry<'a> {
     /// The entry at a place of a document.
     pub(crate) fn at(document: &'a Table, place: Place) -> Option<Self> {
@@ -105,6 +118,24 @@ impl<'a> Entry<'a> {
         self.document
     }
 
+    /// Whether hubs of the plan may have more than 7 ports.
+    pub(crate) fn wide_hubs(&self) -> bool
+        ensures { result ≡ wide_in (table_view self.now.document.now) }
+    {
+        flag_at(self.document, "wide_hubs")
+    }
+
+    /// The key for the number of a hub's ports.
+    pub(crate) fn ports_key(&self) -> PlanKey
+        ensures { key_name result ≡ codes "ports" }
+    {
+        if self.wide_hubs() {
+            PlanKey::WidePorts
+        } else {
+            PlanKey::Ports
+        }
+    }
+
     /// The keys that have a meaning in the entry.
     pub(crate) fn keys(&self) -> &'static [PlanKey]
         ensures { map key_name result.now
@@ -112,6 +143,7 @@ impl<'a> Entry<'a> {
     {
         match self.place {
             Place::Top => &TOP_KEYS,
+            Place::Device(_) if self.wide_hubs() => &WIDE_DEVICE_KEYS,
             Place::Device(_) => &DEVICE_KEYS,
             Place::Event(_) => keys_with(text_at(self.table, "do")),
             Place::Damage(_) => &DAMAGE_KEYS,

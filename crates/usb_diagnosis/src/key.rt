@@ -9,6 +9,7 @@ ghost use Rattle.usb_diagnosis.specs.Key.{key_name};
 pub(crate) enum PlanKey {
     Limit,
     Roots,
+    WideHubs,
     Devices,
     Events,
     Damages,
@@ -18,6 +19,8 @@ pub(crate) enum PlanKey {
     Configs,
     Strings,
     Ports,
+    /// `ports` in a plan with wide hubs.
+    WidePorts,
     HubDescriptor,
     SelfPowered,
     Busy,
@@ -45,6 +48,7 @@ pub(crate) enum PlanKey {
     PolledEndpoint,
     Interface,
     Setting,
+    Said,
     Attempt,
     Packet,
     How,
@@ -52,9 +56,10 @@ pub(crate) enum PlanKey {
 }
 
 /// The keys at the top.
-pub(crate) const TOP_KEYS: [PlanKey; 5] = [
+pub(crate) const TOP_KEYS: [PlanKey; 6] = [
     PlanKey::Limit,
     PlanKey::Roots,
+    PlanKey::WideHubs,
     PlanKey::Devices,
     PlanKey::Events,
     PlanKey::Damages,
@@ -68,6 +73,26 @@ pub(crate) const DEVICE_KEYS: [PlanKey; 16] = [
     PlanKey::Configs,
     PlanKey::Strings,
     PlanKey::Ports,
+    PlanKey::HubDescriptor,
+    PlanKey::SelfPowered,
+    PlanKey::Busy,
+    PlanKey::Silent,
+    PlanKey::Naks,
+    PlanKey::Stalls,
+    PlanKey::Source,
+    PlanKey::HaltAfter,
+    PlanKey::Endpoints,
+    PlanKey::Requests,
+];
+
+/// The keys of a device in a plan with wide hubs.
+pub(crate) const WIDE_DEVICE_KEYS: [PlanKey; 16] = [
+    PlanKey::Name,
+    PlanKey::Speed,
+    PlanKey::Descriptor,
+    PlanKey::Configs,
+    PlanKey::Strings,
+    PlanKey::WidePorts,
     PlanKey::HubDescriptor,
     PlanKey::SelfPowered,
     PlanKey::Busy,
@@ -105,6 +130,8 @@ const PLUG_KEYS: [PlanKey; 4] = [PlanKey::Do, PlanKey::After, PlanKey::Path, Pla
 const PATH_KEYS: [PlanKey; 3] = [PlanKey::Do, PlanKey::After, PlanKey::Path];
 
 const ALONE_KEYS: [PlanKey; 2] = [PlanKey::Do, PlanKey::After];
+
+const SHOW_KEYS: [PlanKey; 3] = [PlanKey::Do, PlanKey::After, PlanKey::Said];
 
 const SEND_KEYS: [PlanKey; 5] = [
     PlanKey::Do,
@@ -256,6 +283,7 @@ impl PlanKey {
         match self {
             PlanKey::Limit => "limit",
             PlanKey::Roots => "roots",
+            PlanKey::WideHubs => "wide_hubs",
             PlanKey::Devices => "device",
             PlanKey::Events => "event",
             PlanKey::Damages => "damage",
@@ -265,6 +293,7 @@ impl PlanKey {
             PlanKey::Configs => "configs",
             PlanKey::Strings => "strings",
             PlanKey::Ports => "ports",
+            PlanKey::WidePorts => "ports",
             PlanKey::HubDescriptor => "hub_descriptor",
             PlanKey::SelfPowered => "self_powered",
             PlanKey::Busy => "busy",
@@ -292,6 +321,7 @@ impl PlanKey {
             PlanKey::PolledEndpoint => "endpoint",
             PlanKey::Interface => "interface",
             PlanKey::Setting => "setting",
+            PlanKey::Said => "said",
             PlanKey::Attempt => "attempt",
             PlanKey::Packet => "packet",
             PlanKey::How => "how",
@@ -304,6 +334,7 @@ impl PlanKey {
         match self {
             PlanKey::Limit => Kind::Number(0, 100_000_000_000_000),
             PlanKey::Roots | PlanKey::Ports => Kind::Number(1, 7),
+            PlanKey::WidePorts => Kind::Number(1, 15),
             PlanKey::Devices | PlanKey::Events | PlanKey::Damages => Kind::Tables,
             PlanKey::Name | PlanKey::Path | PlanKey::Device => Kind::Text,
             PlanKey::Speed | PlanKey::Do | PlanKey::How => Kind::Word,
@@ -314,6 +345,7 @@ impl PlanKey {
             PlanKey::Configs => Kind::Hexes(8, 65535),
             PlanKey::Strings => Kind::Hexes(256, 255),
             PlanKey::SelfPowered | PlanKey::Busy | PlanKey::Silent => Kind::Flag,
+            PlanKey::WideHubs | PlanKey::Said => Kind::Flag,
             PlanKey::Naks => Kind::Number(0, 200),
             PlanKey::HaltAfter => Kind::Number(1, 65535),
             PlanKey::Endpoints => Kind::Endpoints,
@@ -359,8 +391,11 @@ impl PlanKey {
             PlanKey::Strings => STRING_TEXTS,
             PlanKey::Ports =>
                 "a number from 1 to 7, at full speed, where the descriptor's fifth byte is 09",
+            PlanKey::WidePorts =>
+                "a number from 1 to 15, at full speed, where the descriptor's fifth byte is 09",
             PlanKey::HubDescriptor => HUB_BYTES,
             PlanKey::SelfPowered | PlanKey::Busy | PlanKey::Silent => "true or false",
+            PlanKey::WideHubs | PlanKey::Said => "true or false",
             PlanKey::Naks => "a number from 0 to 200",
             PlanKey::Stalls => STALL_WORDS,
             PlanKey::Source => "two hexadecimal digits for each of at most 65535 bytes",
@@ -425,7 +460,8 @@ fn verb_keys(verb: &str) -> &'static [PlanKey]
     match verb {
         "plug" => &PLUG_KEYS,
         "unplug" | "look" => &PATH_KEYS,
-        "show" | "news" => &ALONE_KEYS,
+        "show" => &SHOW_KEYS,
+        "news" => &ALONE_KEYS,
         "send" => &SEND_KEYS,
         "receive" => &RECEIVE_KEYS,
         "clear" => &CLEAR_KEYS,

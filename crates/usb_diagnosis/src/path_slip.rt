@@ -1,6 +1,10 @@
 //! Why a text is a bad path.
 
-ghost use Rattle.usb_diagnosis.specs.PathSlip.{IsAt, IsPathSlip};
+ghost use Rattle.std.specs.Prelude.{◌≡◌, option_map};
+ghost use Rattle.toml.specs.View.{table_view};
+ghost use Rattle.usb_diagnosis.specs.Entry.{wide_in};
+ghost use Rattle.usb_diagnosis.specs.PathSlip.{IsAt, IsPathSlip, path_in};
+ghost use Rattle.usb_plan.specs.Path.{has_numbers_of};
 
 use crate::entry::{Entry, text_at};
 use crate::shown::{push_number, push_shown};
@@ -11,8 +15,8 @@ use usb_port::PortPath;
 /// Why a text is a bad path.
 #[derive(Drop)]
 pub(crate) enum PathSlip<'a> {
-    /// It is no path of ports.
-    NoPath,
+    /// It is no path of ports, which may have more than 7 ports of a hub or not.
+    NoPath(bool),
     /// It has more ports than a path has.
     TooDeep,
     /// Its first number is above this number of root ports.
@@ -87,36 +91,66 @@ fn hub_slip<'a>(entry: &Entry<'a>, parent: PortPath) -> PathSlip<'a>
     }
 }
 
-/// Whether a byte of a path of ports is right at its place, from 0.
-fn is_path_byte(place: usize, byte: u8) -> bool {
-    if place % 2 == 0 {
-        (b'1'..=b'7').contains(&byte)
+/// A number of a port with a digit more, none above the most.
+fn with_digit(number: u8, digit: u8, most: u8) -> Option<u8> {
+    if !digit.is_ascii_digit() {
+        return None;
+    }
+    let more = number.saturating_mul(10).saturating_add(digit - b'0');
+    if more >= 1 && more <= most {
+        Some(more)
     } else {
-        byte == b'.'
+        None
     }
 }
 
 /// Whether the text is numbers of ports, joined by dots, but too many.
-fn is_too_deep(text: &str) -> bool {
-    let mut place = 0usize;
+fn is_too_deep(wide: bool, text: &str) -> bool {
+    let most = if wide { 15 } else { 7 };
+    let mut dots = 0usize;
+    let mut number = 0;
     for byte in text.as_bytes() {
-        if !is_path_byte(place, *byte) {
+        if *byte == b'.' && number > 0 {
+            dots = dots.saturating_add(1);
+            number = 0;
+        } else if let Some(more) = with_digit(number, *byte, most) {
+            number = more;
+        } else {
             return false;
         }
-        place = place.saturating_add(1);
     }
-    text.len() > 13 && text.len() % 2 == 1
+    number > 0 && dots > 6
+}
+
+/// Whether each number of the path is one that a port of a hub may have.
+#[tactic(auto, unfolding(usb_plan::specs::Path::has_numbers_of))]
+fn has_numbers_of(wide: bool, path: &PortPath) -> bool
+    ensures { result ≡ has_numbers_of wide path.now }
+{
+    let most = if wide { 15 } else { 7 };
+    path.numbers().iter().all(|number| *number <= most)
+}
+
+/// The path of ports that the text spells.
+fn path_in(wide: bool, text: &str) -> Option<PortPath>
+    ensures { result ≡ path_in wide text.now }
+{
+    match PortPath::from_text(text) {
+        Some(path) if has_numbers_of(wide, &path) => Some(path),
+        _ => None,
+    }
 }
 
 /// Why the text is a bad path for the entry.
 pub(crate) fn path_slip<'a>(entry: &Entry<'a>, text: &str) -> PathSlip<'a>
-    ensures { IsPathSlip text.now result }
+    ensures { IsPathSlip (wide_in (table_view entry.now.document.now)) text.now result }
 {
-    let Some(path) = PortPath::from_text(text) else {
-        return if is_too_deep(text) {
+    let wide = entry.wide_hubs();
+    let Some(path) = path_in(wide, text) else {
+        return if is_too_deep(wide, text) {
             PathSlip::TooDeep
         } else {
-            PathSlip::NoPath
+            PathSlip::NoPath(wide)
         };
     };
     let roots = count_at(entry.document(), "roots");
@@ -135,12 +169,12 @@ fn joint(letter: char) -> char {
 }
 
 /// The path that was meant by a text that joins its numbers by other characters.
-fn meant_path(alloc: Global, text: &str) -> Result<Option<PortPath>, AllocError> {
+fn meant_path(alloc: Global, wide: bool, text: &str) -> Result<Option<PortPath>, AllocError> {
     let mut dotted = String::new(alloc);
     for letter in text.chars() {
         dotted.push(joint(letter))?;
     }
-    Ok(PortPath::from_text(dotted.as_str()))
+    Ok(path_in(wide, dotted.as_str()))
 }
 
 fn push_path(out: &mut String, path: &PortPath) -> Result<(), AllocError> {
@@ -148,9 +182,13 @@ fn push_path(out: &mut String, path: &PortPath) -> Result<(), AllocError> {
 }
 
 /// Adds that the text is no path, and which one was meant.
-fn push_no_path(alloc: Global, out: &mut String, text: &str) -> Result<(), AllocError> {
-    out.push_str("no path of ports, each 1 to 7")?;
-    let Some(path) = meant_path(alloc, text)? else {
+fn push_no_path(alloc: Global, out: &mut String, wide: bool, text: &str) -> Result<(), AllocError> {
+    out.push_str(if wide {
+        "no path of ports, each 1 to 15"
+    } else {
+        "no path of ports, each 1 to 7"
+    })?;
+    let Some(path) = meant_path(alloc, wide, text)? else {
         return Ok(());
     };
     out.push_str(": did you mean \"")?;
@@ -186,7 +224,7 @@ pub(crate) fn push_path_slip(
     slip: &PathSlip<'_>,
 ) -> Result<(), AllocError> {
     match slip {
-        PathSlip::NoPath => push_no_path(alloc, out, text),
+        PathSlip::NoPath(wide) => push_no_path(alloc, out, *wide, text),
         PathSlip::TooDeep => out.push_str("too deep: a path has at most 7 ports"),
         PathSlip::NoRoot(roots) => push_roots(alloc, out, *roots),
         PathSlip::Nothing(path) => {

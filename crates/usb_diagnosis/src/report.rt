@@ -51,36 +51,47 @@ fn push_head(alloc: Global, out: &mut String, name: &str) -> Result<(), AllocErr
 fn push_line(
     alloc: Global,
     out: &mut String,
+    wide: bool,
     spec: &DeviceSpec,
     remark: Remark,
 ) -> Result<(), AllocError>
     ensures { OnOk result
-        (string_bytes out.new ≡ string_bytes out.old ++ remark_line spec.now remark) }
+        (string_bytes out.new ≡ string_bytes out.old ++ remark_line wide spec.now remark) }
 {
     push_head(alloc, out, spec.name())?;
-    push_remark(alloc, out, spec, remark)?;
+    push_remark(alloc, out, spec, wide, remark)?;
     out.push_str("\n")
 }
 
-/// Adds the line on a device, if a host refuses it for its bytes.
-fn push_line_if(alloc: Global, out: &mut String, spec: &DeviceSpec) -> Result<(), AllocError>
+/// Adds the line on a device, if a host refuses it for its bytes, one that takes wide hubs or not.
+fn push_line_if(
+    alloc: Global,
+    out: &mut String,
+    wide: bool,
+    spec: &DeviceSpec,
+) -> Result<(), AllocError>
     ensures { OnOk result (string_bytes out.new
-        ≡ string_bytes out.old ++ line_if spec.now (remark_of spec.now)) }
+        ≡ string_bytes out.old ++ line_if wide spec.now (remark_of wide spec.now)) }
 {
-    match remark_of(spec) {
+    match remark_of(spec, wide) {
         None => Ok(()),
-        Some(remark) => push_line(alloc, out, spec, remark),
+        Some(remark) => push_line(alloc, out, wide, spec, remark),
     }
 }
 
 /// Adds the lines on all such devices.
 #[tactic(auto, unfolding(crate::specs::Report::remark_lines))]
-fn push_remarks(alloc: Global, out: &mut String, devices: &[DeviceSpec]) -> Result<(), AllocError>
+fn push_remarks(
+    alloc: Global,
+    out: &mut String,
+    wide: bool,
+    devices: &[DeviceSpec],
+) -> Result<(), AllocError>
     ensures { OnOk result
-        (string_bytes out.new ≡ string_bytes out.old ++ remark_lines devices.now) }
+        (string_bytes out.new ≡ string_bytes out.old ++ remark_lines wide devices.now) }
 {
     'devices: for device in devices {
-        push_line_if(alloc, out, device)?;
+        push_line_if(alloc, out, wide, device)?;
     }
     Ok(())
 }
@@ -90,7 +101,7 @@ pub(crate) fn plan_report(alloc: Global, plan: &Plan) -> Result<String, AllocErr
     ensures { IfOk result (λ lines. string_bytes lines ≡ plan_report plan.now) }
 {
     let mut lines = plan_lines(alloc, plan)?;
-    push_remarks(alloc, &mut lines, plan.devices())?;
+    push_remarks(alloc, &mut lines, plan.wide_hubs(), plan.devices())?;
     Ok(lines)
 }
 

@@ -140,11 +140,12 @@ fn device_trouble<'a>(entry: &Entry<'a>) -> Option<Trouble<'a>>
             return wrong_at(entry, PlanKey::Name);
         }
     }
-    if entry.value(PlanKey::Ports).is_none() {
+    let ports = entry.ports_key();
+    if entry.value(ports).is_none() {
         return wrong_at(entry, PlanKey::HubDescriptor);
     }
     if entry.text(PlanKey::Speed) == Some("low") || has_other_class(entry) {
-        return wrong_at(entry, PlanKey::Ports);
+        return wrong_at(entry, ports);
     }
     None
 }

@@ -105,8 +105,7 @@ run_drawn style plan before thrown first opens items k result now ends caused si
       limit = run_limit Tree of_run never false first items result k ends
           ∙ limit_opened plan first opens;
       single = single;
-      lists = run_lists_right plan opens.rules opens.paths Tree of_run never false first items k
-          result opens.traced ends;
+      lists = run_lists_right plan Tree of_run never false first items k result opens ends;
       text = text;
     })
 

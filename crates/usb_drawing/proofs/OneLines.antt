@@ -9,7 +9,7 @@ use Rattle.std.specs.List.{AllByRecursion}
 use Rattle.std.proofs.lemmas.List.Elements.{All-from_recursion}
 use Rattle.std.proofs.lemmas.Str.{inside_one}
 use Rattle.hex.specs.Hex.{encode_with, lower_digits, upper_digits}
-use Rattle.usb_port.specs.{path_text}
+use Rattle.usb_port.specs.{number_text, path_text}
 use Rattle.usb_enum.specs.{Cause, Silent, Busy, Stalled, BadDevice, TooDeep, BadConfiguration}
 use Rattle.usb_enum.specs.{NoPower, BadHub, Lost, NoAddress, Request, Accepted, Finding, HubFacts}
 use Rattle.usb_enum.specs.{Strings, configuration_of, need_of}
@@ -21,19 +21,26 @@ use Rattle.usb_drawing.specs.{Style, Lines, Ascii, art, branch, goes_on, trunk, 
 use Rattle.usb_drawing.specs.{ports_text, address_column, cause_number, cause_words, device_text}
 use Rattle.usb_drawing.specs.{finding_text, identity_text, ids_text, power_text, speed_column}
 use Rattle.usb_drawing.specs.{stall_words, strings_text, supply_text, word_digits, heading_end}
-use Rattle.usb_drawing.specs.{deepest, drawing_lines, entry_line, drawn_entries, gap, granted_at}
-use Rattle.usb_drawing.specs.{heading, is_pair, is_shown, labelled_text, rule_text}
+use Rattle.usb_drawing.specs.{columns, drawing_lines, entry_line, drawn_entries, gap, granted_at}
+use Rattle.usb_drawing.specs.{heading, is_pair, is_shown, labelled_text, rule_text, widest}
 use Rattle.usb_drawing.specs.{shown_or_escaped, shown_unit, shown_units, string_text}
 use Rattle.usb_class.specs.{ClassCodes, class_text, class_word, hid_word, word_or_number}
-use Rattle.usb_drawing.proofs.NoLineFeeds.{HasNoLineFeed, lower, no_line_feed-append}
+use Rattle.usb_drawing.proofs.NoLineFeeds.{HasNoLineFeed, choice, lower, no_line_feed-append}
 use Rattle.usb_drawing.proofs.NoLineFeeds.{no_line_feed-cons, number, one_no_line_feed, upper}
 use Rattle.usb_drawing.proofs.RuleLines.{rule_unbroken}
+
+port_number : (n : ℕ) → HasNoLineFeed (number_text n)
+unfolding number_text
+port_number n = choice (nat_lt n 10) ((48 + n) ∷ []) (49 ∷ (38 + n) ∷ [])
+    (one_no_line_feed (48 + n) (λ e. omega (arith, e)))
+    (no_line_feed-cons 49 ((38 + n) ∷ []) (λ e. omega (arith, e))
+    (one_no_line_feed (38 + n) (λ e. omega (arith, e))))
 
 path : (numbers : List ℕ) → HasNoLineFeed (path_text numbers)
 unfolding path_text
 path [] = refl
-path (n ∷ []) = one_no_line_feed (48 + n) (λ e. omega (arith, e))
-path (n ∷ m ∷ ns) = no_line_feed-cons (48 + n) (46 ∷ path_text (m ∷ ns)) (λ e. omega (arith, e))
+path (n ∷ []) = port_number n
+path (n ∷ m ∷ ns) = no_line_feed-append (number_text n) (46 ∷ path_text (m ∷ ns)) (port_number n)
     (path (m ∷ ns))
 
 -- Art
@@ -65,10 +72,9 @@ art_unbroken style path behind =
     (trunks_unbroken style path behind level)
     (branch_unbroken style (goes_on path level behind))
 
-gap_unbroken : (levels : ℕ) → HasNoLineFeed (gap levels)
+gap_unbroken : (blanks : ℕ) → HasNoLineFeed (gap blanks)
 gap_unbroken zero = refl
-gap_unbroken (suc levels) = no_line_feed-append (gap levels) (codes "     ") (gap_unbroken levels)
-    refl
+gap_unbroken (suc blanks) = no_line_feed-append (gap blanks) (codes " ") (gap_unbroken blanks) refl
 
 -- Strings
 
@@ -303,22 +309,22 @@ unfolding entry_line
 entry_unbroken style most granted e behind =
     let a = art style e.0 behind in
     let p = path_text e.0 in
-    let g = gap (most - length e.0) in
+    let g = gap (most - columns e.0) in
     no_line_feed-append (a ++ p ++ g ++ codes "  ") (finding_text style granted e.1)
     (no_line_feed-append (a ++ p ++ g) (codes "  ")
     (no_line_feed-append (a ++ p) g (no_line_feed-append a p (art_unbroken style e.0 behind)
-    (path e.0)) (gap_unbroken (most - length e.0))) refl)
+    (path e.0)) (gap_unbroken (most - columns e.0))) refl)
     (finding_unbroken style granted e.1)
 
-entries_unbroken : (style : Style) (tree : SpecTree) (all entries : Entries)
-    → AllByRecursion HasNoLineFeed (drawn_entries style tree all entries)
-entries_unbroken style tree all [] = tt
-entries_unbroken style tree all (e ∷ behind) = (
-  no_line_feed-append (entry_line style (deepest all) (granted_at e.0 all) e behind)
-      (rule_text (tree e.0) e.1)
-      (entry_unbroken style (deepest all) (granted_at e.0 all) e behind)
-      (rule_unbroken (tree e.0) e.1),
-  entries_unbroken style tree all behind,
+entries_unbroken : (style : Style) (wide : Bool) (tree : SpecTree) (all entries : Entries)
+    → AllByRecursion HasNoLineFeed (drawn_entries style wide tree all entries)
+entries_unbroken style wide tree all [] = tt
+entries_unbroken style wide tree all (e ∷ behind) = (
+  no_line_feed-append (entry_line style (widest all) (granted_at e.0 all) e behind)
+      (rule_text wide (tree e.0) e.1)
+      (entry_unbroken style (widest all) (granted_at e.0 all) e behind)
+      (rule_unbroken wide (tree e.0) e.1),
+  entries_unbroken style wide tree all behind,
 )
 
 heading_end_unbroken : (entries : Entries) → HasNoLineFeed (heading_end entries)
@@ -332,11 +338,11 @@ heading_unbroken n entries =
     (no_line_feed-append (codes "listing ") (decimal n) refl (number n))
     (heading_end_unbroken entries)
 
-pub drawing_lines-unbroken : (style : Style) (n : ℕ) (tree : SpecTree) (entries : Entries)
-    → All HasNoLineFeed (drawing_lines style n tree entries)
+pub drawing_lines-unbroken : (style : Style) (n : ℕ) (wide : Bool) (tree : SpecTree) (entries : Entries)
+    → All HasNoLineFeed (drawing_lines style n wide tree entries)
 unfolding drawing_lines
-drawing_lines-unbroken style n tree entries =
-    All-from_recursion HasNoLineFeed (heading n entries ∷ drawn_entries style tree entries entries) (
+drawing_lines-unbroken style n wide tree entries =
+    All-from_recursion HasNoLineFeed (heading n entries ∷ drawn_entries style wide tree entries entries) (
       heading_unbroken n entries,
-      entries_unbroken style tree entries entries,
+      entries_unbroken style wide tree entries entries,
     )

@@ -1,5 +1,5 @@
 -- No rule that is told has a newline.
-use Rattle.std.proofs.Common.{refl, ℕ, ◌-◌, ◌==◌, Bool, List, [], ◌++◌, length, drop, Option, None}
+use Rattle.std.proofs.Common.{refl, ℕ, ◌-◌, ◌==◌, ◌||◌, not, Bool, true, false, List, [], ◌++◌, length, drop, Option, None}
 use Rattle.std.proofs.Common.{Some, get_or, nat_lt, slice_index_or, codes, decimal}
 use Rattle.usb_descriptor.specs.{DescriptorFault}
 use Rattle.usb_descriptor.specs.declared.fault.DescriptorFault.TheVariants as flaw
@@ -8,8 +8,8 @@ use Rattle.usb_enum.specs.{Cause, Finding}
 use Rattle.usb_enum.specs.declared.finding.Finding.TheVariants.{Device, Refused}
 use Rattle.usb_remarks.specs.{Remark, TextRemark, config_words, count_words, cut_words}
 use Rattle.usb_remarks.specs.{descriptor_words, device_words, given_words, head_words, hub_bytes}
-use Rattle.usb_remarks.specs.{hub_words, index_words, item_rule, item_words, key_words}
-use Rattle.usb_remarks.specs.{missing_words, packet_rule, passing_words, portless_words, ports_words}
+use Rattle.usb_remarks.specs.{hub_words, index_words, is_count, item_rule, item_words, key_words, length_rule}
+use Rattle.usb_remarks.specs.{missing_words, packet_rule, passing_words, portless_words, ports_rule, ports_words}
 use Rattle.usb_remarks.specs.{remark_of, remark_words, repeated_words, rule_words, said_total}
 use Rattle.usb_remarks.specs.{small_words, text_words}
 use Rattle.usb_remarks.specs.declared.remark.Remark.TheVariants as remark
@@ -104,21 +104,33 @@ in_text text (part.Head fault) = head text fault
 in_text text part.Cut = cut text
 in_text text (part.Item at fault) = item text at fault
 
-lengths : (bytes : List ℕ) → HasNoLineFeed (ports_words bytes)
-lengths bytes = choice (nat_lt (get_or bytes 0 0) 9) _ _
-    (one_rule 0 (codes "bDescLength is ") (get_or bytes 0 0) (codes ", it is at least 9") refl refl)
-    (one_rule 2 (codes "bNbrPorts is ") (get_or bytes 2 0) (codes ", it is 1 to 7") refl refl)
+least : (long : Bool) → HasNoLineFeed (length_rule long)
+least true = refl
+least false = refl
 
-hub : (bytes : List ℕ) (fault : DescriptorFault) → HasNoLineFeed (hub_words bytes fault)
+most : (wide : Bool) → HasNoLineFeed (ports_rule wide)
+most true = refl
+most false = refl
+
+lengths : (wide : Bool) (bytes : List ℕ) → HasNoLineFeed (ports_words wide bytes)
+lengths wide bytes =
+    let short = nat_lt (get_or bytes 0 0) 9 in
+    choice (short || is_count wide (get_or bytes 2 0)) _ _
+    (one_rule 0 (codes "bDescLength is ") (get_or bytes 0 0) (length_rule (not short)) refl
+    (least (not short)))
+    (one_rule 2 (codes "bNbrPorts is ") (get_or bytes 2 0) (ports_rule wide) refl (most wide))
+
+hub : (wide : Bool) (bytes : List ℕ) (fault : DescriptorFault)
+    → HasNoLineFeed (hub_words wide bytes fault)
 unfolding hub_words
-hub bytes flaw.Short = one_rule 0 (codes "the text has ") (length bytes)
+hub wide bytes flaw.Short = one_rule 0 (codes "the text has ") (length bytes)
     (codes " bytes, a hub descriptor has 9") refl refl
-hub bytes flaw.WrongType = one_rule 1 (codes "bDescriptorType is ") (get_or bytes 1 0)
+hub wide bytes flaw.WrongType = one_rule 1 (codes "bDescriptorType is ") (get_or bytes 1 0)
     (codes ", of a hub it is 41") refl refl
-hub bytes flaw.Length = lengths bytes
-hub bytes flaw.MaxPacket = lengths bytes
-hub bytes flaw.Total = lengths bytes
-hub bytes flaw.NoConfiguration = lengths bytes
+hub wide bytes flaw.Length = lengths wide bytes
+hub wide bytes flaw.MaxPacket = lengths wide bytes
+hub wide bytes flaw.Total = lengths wide bytes
+hub wide bytes flaw.NoConfiguration = lengths wide bytes
 
 -- Keys
 
@@ -160,30 +172,33 @@ portless bytes = no_line_feed-append (key_words (codes "descriptor"))
     (one_rule 4 (codes "bDeviceClass is ") (get_or bytes 4 0) (codes ", of a hub: it needs `ports`")
     refl refl)
 
-given : (bytes : List ℕ) (fault : DescriptorFault) → HasNoLineFeed (given_words bytes fault)
-given bytes fault = no_line_feed-append (key_words (codes "hub_descriptor")) (hub_words bytes fault)
-    (key (codes "hub_descriptor") refl) (hub bytes fault)
+given : (wide : Bool) (bytes : List ℕ) (fault : DescriptorFault)
+    → HasNoLineFeed (given_words wide bytes fault)
+given wide bytes fault = no_line_feed-append (key_words (codes "hub_descriptor"))
+    (hub_words wide bytes fault) (key (codes "hub_descriptor") refl) (hub wide bytes fault)
 
-told : (spec : Spec) (r : Remark) → HasNoLineFeed (remark_words spec r)
+told : (wide : Bool) (spec : Spec) (r : Remark) → HasNoLineFeed (remark_words wide spec r)
 unfolding remark_words
-told spec (remark.Device fault) = in_descriptor spec fault
-told spec (remark.Text n t) = configuration spec.configs n t
-told spec (remark.Repeated n) = again spec.configs n
-told spec (remark.Missing n) = missing spec.descriptor n
-told spec remark.NoPorts = portless spec.descriptor
-told spec (remark.Hub fault) = given (hub_bytes spec.hub) fault
+told wide spec (remark.Device fault) = in_descriptor spec fault
+told wide spec (remark.Text n t) = configuration spec.configs n t
+told wide spec (remark.Repeated n) = again spec.configs n
+told wide spec (remark.Missing n) = missing spec.descriptor n
+told wide spec remark.NoPorts = portless spec.descriptor
+told wide spec (remark.Hub fault) = given wide (hub_bytes spec.hub) fault
 
 -- What is drawn
 
-if_told : (spec : Spec) (cause : Cause) (r : Option Remark) → HasNoLineFeed (rule_if spec cause r)
-if_told spec cause None = refl
-if_told spec cause (Some r) = choice (is_cause_of r cause) _ _
-    (no_line_feed-append (codes "; ") (remark_words spec r) refl (told spec r)) refl
+if_told : (wide : Bool) (spec : Spec) (cause : Cause) (r : Option Remark)
+    → HasNoLineFeed (rule_if wide spec cause r)
+if_told wide spec cause None = refl
+if_told wide spec cause (Some r) = choice (is_cause_of r cause) _ _
+    (no_line_feed-append (codes "; ") (remark_words wide spec r) refl (told wide spec r)) refl
 
-of_plugged : (spec : Option Spec) (cause : Cause) → HasNoLineFeed (rule_of spec cause)
-of_plugged None cause = refl
-of_plugged (Some spec) cause = if_told spec cause (remark_of spec)
+of_plugged : (wide : Bool) (spec : Option Spec) (cause : Cause) → HasNoLineFeed (rule_of wide spec cause)
+of_plugged wide None cause = refl
+of_plugged wide (Some spec) cause = if_told wide spec cause (remark_of wide spec)
 
-pub rule_unbroken : (spec : Option Spec) (finding : Finding) → HasNoLineFeed (rule_text spec finding)
-rule_unbroken spec (Device d) = refl
-rule_unbroken spec (Refused cause) = of_plugged spec cause
+pub rule_unbroken : (wide : Bool) (spec : Option Spec) (finding : Finding)
+    → HasNoLineFeed (rule_text wide spec finding)
+rule_unbroken wide spec (Device d) = refl
+rule_unbroken wide spec (Refused cause) = of_plugged wide spec cause

@@ -1,5 +1,5 @@
 -- The lines of a drawn listing, one for each entry.
-use Rattle.std.specs.Prelude.{ℕ, zero, suc, ◌-◌, Bool, true, false, not, ◌==◌, max, List, []}
+use Rattle.std.specs.Prelude.{ℕ, zero, suc, ◌+◌, ◌-◌, ◌*◌, Bool, true, false, not, ◌==◌, max, List, []}
 use Rattle.std.specs.Prelude.{◌∷◌, ◌++◌, length, Option, None, Some, codes, decimal, nat_eq}
 use Rattle.std.specs.Prelude.{if◌then◌else◌}
 use Rattle.std.specs.List.{list_all}
@@ -37,35 +37,38 @@ supply_from (Some hub) entries = listed_supply hub entries
 abbrev pub granted_at : List ℕ → Entries → Option ℕ
 granted_at path entries = supply_from (parent_of path) entries
 
--- how many numbers the longest path has
-abbrev pub deepest : Entries → ℕ
-deepest [] = 0
-deepest (entry ∷ entries) = max (length entry.0) (deepest entries)
+-- the columns that art and path take: three of art for each number, and the path's text
+abbrev pub columns : List ℕ → ℕ
+columns path = 3 * length path + length (path_text path)
 
--- the blanks behind the path of an entry that stands so many levels above the deepest: three of
--- art, a dot and a digit each
+-- those of the widest path
+abbrev pub widest : Entries → ℕ
+widest [] = 0
+widest (entry ∷ entries) = max (columns entry.0) (widest entries)
+
+-- so many blanks
 abbrev pub gap : ℕ → List ℕ
 gap zero = []
-gap (suc levels) = gap levels ++ codes "     "
+gap (suc blanks) = gap blanks ++ codes " "
 
 -- art, path, and what was found there; the entries behind it are given
 unfoldable pub entry_line : Style → ℕ → Option ℕ → List ℕ × Finding → Entries → List ℕ
 entry_line style most granted entry behind =
-    art style entry.0 behind ++ path_text entry.0 ++ gap (most - length entry.0) ++ codes "  " ++
+    art style entry.0 behind ++ path_text entry.0 ++ gap (most - columns entry.0) ++ codes "  " ++
     finding_text style granted entry.1
 
 -- the line of an entry of a listing, with the rule that a refused device's bytes break; what is
--- plugged where is given
-abbrev pub ruled_line : Style → SpecTree → Entries → List ℕ × Finding → Entries → List ℕ
-ruled_line style tree all entry behind =
-    entry_line style (deepest all) (granted_at entry.0 all) entry behind ++ rule_text (tree entry.0)
-    entry.1
+-- plugged where is given, and whether the host takes wide hubs
+abbrev pub ruled_line : Style → Bool → SpecTree → Entries → List ℕ × Finding → Entries → List ℕ
+ruled_line style wide tree all entry behind =
+    entry_line style (widest all) (granted_at entry.0 all) entry behind ++
+    rule_text wide (tree entry.0) entry.1
 
 -- a line for each of the entries, which are the last ones of a listing
-abbrev pub drawn_entries : Style → SpecTree → Entries → Entries → List (List ℕ)
-drawn_entries style tree all [] = []
-drawn_entries style tree all (entry ∷ behind) = ruled_line style tree all entry behind
-    ∷ drawn_entries style tree all behind
+abbrev pub drawn_entries : Style → Bool → SpecTree → Entries → Entries → List (List ℕ)
+drawn_entries style wide tree all [] = []
+drawn_entries style wide tree all (entry ∷ behind) = ruled_line style wide tree all entry behind
+    ∷ drawn_entries style wide tree all behind
 
 -- what stands behind the number of a listing
 abbrev pub heading_end : Entries → List ℕ
@@ -76,9 +79,9 @@ unfoldable pub heading : ℕ → Entries → List ℕ
 heading number entries = codes "listing " ++ decimal number ++ heading_end entries
 
 -- the heading, and a line for each entry by rising path
-unfoldable pub drawing_lines : Style → ℕ → SpecTree → Entries → List (List ℕ)
-drawing_lines style number tree entries = heading number entries ∷ drawn_entries style tree entries
-    entries
+unfoldable pub drawing_lines : Style → ℕ → Bool → SpecTree → Entries → List (List ℕ)
+drawing_lines style number wide tree entries = heading number entries
+    ∷ drawn_entries style wide tree entries entries
 
 -- bytes among which is no newline
 abbrev pub is_unbroken : List ℕ → Bool

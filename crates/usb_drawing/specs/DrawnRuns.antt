@@ -21,7 +21,7 @@ use Rattle.usb_drawing.specs.Drawings.{drawing_lines}
 -- the lines of an item of a plan's run, all but those of a listing as in mode Tree; the number is
 -- that of a listing
 abbrev pub drawn_lines : Style → PlanData → ℕ → Item → List (List ℕ)
-drawn_lines style plan number (Listing entries taken) = drawing_lines style number
+drawn_lines style plan number (Listing entries taken said) = drawing_lines style number plan.wide
     (tree_after plan taken) entries
 drawn_lines style plan number (Sent path sent) = item_lines number (Sent path sent)
 drawn_lines style plan number (Received path received) = item_lines number (Received path received)

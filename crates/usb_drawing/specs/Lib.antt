@@ -17,8 +17,8 @@ pub use Devices.{power_text, refused_text, speed_column, stall_words, supply_tex
 unfoldable pub use Devices.{identity_text, strings_text}
 pub use Rules.{index_after, is_bad_configuration, is_bad_device, is_bad_hub, is_cause_of}
 pub use Rules.{is_stalled_config, rule_if, rule_of, rule_text}
-pub use Drawings.{deepest, drawn_entries, finding_supply, gap, granted_at, heading_end}
-pub use Drawings.{hub_supply, is_unbroken, listed_supply, ruled_line, supply_from}
+pub use Drawings.{columns, drawn_entries, finding_supply, gap, granted_at, heading_end}
+pub use Drawings.{hub_supply, is_unbroken, listed_supply, ruled_line, supply_from, widest}
 unfoldable pub use Drawings.{drawing_lines, entry_line, heading}
 pub use DrawnRuns.{Drawn, DrawnText, IsDrawn, MarksDrawing, RunDrawn, drawn_item, drawn_lines}
 pub use DrawnRuns.{of_plan, unread}

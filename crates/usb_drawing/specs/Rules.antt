@@ -45,18 +45,19 @@ is_cause_of (remark.Missing index) cause = is_stalled_config cause
 is_cause_of remark.NoPorts cause = is_bad_hub cause
 is_cause_of (remark.Hub fault) cause = is_bad_hub cause
 
--- what is said of a remark on a device that is refused for a cause
-abbrev pub rule_if : Spec → Cause → Option Remark → List ℕ
-rule_if spec cause None = []
-rule_if spec cause (Some remark) = if is_cause_of remark cause
-    then codes "; " ++ remark_words spec remark else []
+-- what is said of a remark on a device that is refused for a cause, by a host that takes wide hubs
+-- or not
+abbrev pub rule_if : Bool → Spec → Cause → Option Remark → List ℕ
+rule_if wide spec cause None = []
+rule_if wide spec cause (Some remark) = if is_cause_of remark cause
+    then codes "; " ++ remark_words wide spec remark else []
 
 -- the rule that the bytes of what is plugged break
-abbrev pub rule_of : Option Spec → Cause → List ℕ
-rule_of None cause = []
-rule_of (Some spec) cause = rule_if spec cause (remark_of spec)
+abbrev pub rule_of : Bool → Option Spec → Cause → List ℕ
+rule_of wide None cause = []
+rule_of wide (Some spec) cause = rule_if wide spec cause (remark_of wide spec)
 
 -- the rule behind what was found: none of an accepted device
-abbrev pub rule_text : Option Spec → Finding → List ℕ
-rule_text spec (Device device) = []
-rule_text spec (Refused cause) = rule_of spec cause
+abbrev pub rule_text : Bool → Option Spec → Finding → List ℕ
+rule_text wide spec (Device device) = []
+rule_text wide spec (Refused cause) = rule_of wide spec cause

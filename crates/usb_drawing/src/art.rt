@@ -81,7 +81,7 @@ fn branch(style: Style, goes_on: bool) -> &'static str
     }
 }
 
-/// Whether a later entry is beside the path at a level. A listing has at most 896 entries, a port each of the
+/// Whether a later entry is beside the path at a level. A listing has at most 1,912 entries, a port each of the
 /// root and of 127 hubs.
 fn goes_on(path: &PortPath, level: usize, behind: &[(PortPath, Finding)]) -> bool
     requires { level < length path.now }

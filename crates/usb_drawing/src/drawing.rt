@@ -74,7 +74,7 @@ fn draw_run<W: Write>(
     Ok(())
 }
 
-/// The lines of an item of a plan's run; the number is that of a listing.
+/// The lines of an item of a plan's run; the number is that of a listing. What refused devices said is not drawn.
 fn drawn_lines(
     alloc: Global,
     style: Style,
@@ -85,7 +85,7 @@ fn drawn_lines(
     ensures { IfOk result (λ lines. lines ≡ drawn_lines style plan.now number item.now) }
 {
     match item {
-        Item::Listing(tree, taken) => {
+        Item::Listing(tree, taken, _) => {
             drawing_lines(alloc, style, number, plan, *taken, tree.entries())
         }
         Item::Sent(_, _) | Item::Received(_, _) | Item::Cleared(_, _) => {

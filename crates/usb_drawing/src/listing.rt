@@ -1,10 +1,10 @@
 //! The lines of a drawn listing.
-ghost use Rattle.std.specs.Prelude.{◌≡◌, ◌+◌, ◌++◌, ◌∷◌, All, ℕ, List, length, slice_get, true, Some, OnOk, IfOk};
+ghost use Rattle.std.specs.Prelude.{◌≡◌, ◌+◌, ◌++◌, ◌∷◌, All, ℕ, Bool, List, length, slice_get, true, Some, OnOk, IfOk};
 ghost use Rattle.usb_enum.specs.declared.finding.Finding.{Finding as AFinding};
 ghost use Rattle.usb_table.specs.Listing.{SpecTree, tree_after};
 ghost use Rattle.usb_table.specs.TableEntries.{Entries};
 ghost use Rattle.usb_drawing.specs.declared.art.Style.{Style as AStyle};
-ghost use Rattle.usb_drawing.specs.Drawings.{deepest, drawing_lines, entry_line, drawn_entries, finding_supply, gap, granted_at, heading, heading_end, hub_supply, is_unbroken, listed_supply, ruled_line};
+ghost use Rattle.usb_drawing.specs.Drawings.{columns, drawing_lines, entry_line, drawn_entries, finding_supply, gap, granted_at, heading, heading_end, hub_supply, is_unbroken, listed_supply, ruled_line, widest};
 
 use crate::art::{Style, push_art};
 use crate::device::push_finding;
@@ -32,7 +32,7 @@ pub fn drawing_lines(
     entries: &[(PortPath, Finding)],
 ) -> Result<Lines, AllocError>
     ensures { IfOk result (λ lines. lines
-        ≡ drawing_lines style number (tree_after plan.now taken) entries.now) }
+        ≡ drawing_lines style number plan.now.wide (tree_after plan.now taken) entries.now) }
 {
     let mut lines = Lines::new(alloc);
     lines.push(heading(alloc, number, entries)?)?;
@@ -75,9 +75,9 @@ fn push_entries(
     entries: &[(PortPath, Finding)],
 ) -> Result<(), AllocError>
     ensures { OnOk result (lines.new ≡ lines.old
-        ++ drawn_entries style (tree_after plan.now taken) entries.now entries.now) }
+        ++ drawn_entries style plan.now.wide (tree_after plan.now taken) entries.now entries.now) }
 {
-    let most = deepest(entries);
+    let most = widest(entries);
     let mut rest = entries;
     'entries: while let Some((entry, behind)) = rest.split_first() {
         let granted = granted_at(&entry.0, entries);
@@ -106,32 +106,39 @@ fn entry_line(
     let mut line = Vec::new(alloc);
     push_art(&mut line, style, path, behind)?;
     push_path(&mut line, path)?;
-    push_gap(&mut line, most.saturating_sub(path.numbers().len()))?;
+    push_gap(&mut line, most.saturating_sub(columns(path)))?;
     line.extend_from_slice(b"  ")?;
     push_finding(alloc, &mut line, style, granted, &entry.1)?;
     Ok(line)
 }
 
-/// Adds the blanks after the path of an entry that is this number of levels above the deepest.
-fn push_gap(out: &mut Vec<u8>, levels: usize) -> Result<(), AllocError>
-    ensures { OnOk result (out.new.items ≡ out.old.items ++ gap levels) }
+/// Adds blanks.
+fn push_gap(out: &mut Vec<u8>, blanks: usize) -> Result<(), AllocError>
+    ensures { OnOk result (out.new.items ≡ out.old.items ++ gap blanks) }
 {
-    'levels: for level in 0..levels {
-        out.extend_from_slice(b"     ")?;
+    'blanks: for blank in 0..blanks {
+        out.extend_from_slice(b" ")?;
     }
     Ok(())
 }
 
-/// How many numbers the longest path has.
-fn deepest(entries: &[(PortPath, Finding)]) -> usize
-    ensures { result ≡ deepest entries.now }
+/// The columns that art and path take.
+fn columns(path: &PortPath) -> usize
+    ensures { result ≡ columns path.now }
+{
+    3 * path.numbers().len() + path.text().len()
+}
+
+/// The columns of the widest path.
+fn widest(entries: &[(PortPath, Finding)]) -> usize
+    ensures { result ≡ widest entries.now }
 {
     let Some((entry, behind)) = entries.split_first() else {
         return 0;
     };
-    let depth = entry.0.numbers().len();
-    let further = deepest(behind);
-    if depth < further { further } else { depth }
+    let own = columns(&entry.0);
+    let further = widest(behind);
+    if own < further { further } else { own }
 }
 
 /// What the port at a path gives, in mA, if the listing says it.
@@ -179,14 +186,14 @@ fn hub_supply(hub: &Option<HubFacts>) -> Option<u16>
 /// A drawn listing leaves no entry out, and gives each one line.
 pub fn drawing_laws()
     // One line is the heading, and each other one an entry's.
-    ensures count { (style : AStyle) (number : ℕ) (tree : SpecTree) (entries : Entries)
-        → length (drawing_lines style number tree entries) ≡ length entries + 1 }
+    ensures count { (style : AStyle) (number : ℕ) (wide : Bool) (tree : SpecTree) (entries : Entries)
+        → length (drawing_lines style number wide tree entries) ≡ length entries + 1 }
     // The lines are in the order of the entries, accepted or refused.
-    ensures order { (style : AStyle) (number : ℕ) (tree : SpecTree) (before behind : Entries)
-        (e : List ℕ × AFinding)
-        → slice_get (drawing_lines style number tree (before ++ e ∷ behind)) (length before + 1)
-        ≡ Some (ruled_line style tree (before ++ e ∷ behind) e behind) }
+    ensures order { (style : AStyle) (number : ℕ) (wide : Bool) (tree : SpecTree)
+        (before behind : Entries) (e : List ℕ × AFinding)
+        → slice_get (drawing_lines style number wide tree (before ++ e ∷ behind)) (length before + 1)
+        ≡ Some (ruled_line style wide tree (before ++ e ∷ behind) e behind) }
     // No line has a newline.
-    ensures whole { (style : AStyle) (number : ℕ) (tree : SpecTree) (entries : Entries)
-        → All (λ line. is_unbroken line ≡ true) (drawing_lines style number tree entries) }
+    ensures whole { (style : AStyle) (number : ℕ) (wide : Bool) (tree : SpecTree) (entries : Entries)
+        → All (λ line. is_unbroken line ≡ true) (drawing_lines style number wide tree entries) }
 {}

@@ -22,12 +22,14 @@ pub(crate) fn push_rule(
     entry: &(PortPath, Finding),
 ) -> Result<(), AllocError>
     ensures { OnOk result (out.new.items
-        ≡ out.old.items ++ rule_text (tree_after plan.now taken entry.now.0) entry.now.1) }
+        ≡ out.old.items ++ rule_text plan.now.wide (tree_after plan.now taken entry.now.0)
+        entry.now.1) }
 {
     match &entry.1 {
         Finding::Device(_) => Ok(()),
         Finding::Refused(cause) => {
-            push_rule_of(alloc, out, device_at(plan, taken, &entry.0), *cause)
+            let device = device_at(plan, taken, &entry.0);
+            push_rule_of(alloc, out, plan.wide_hubs(), device, *cause)
         }
     }
 }
@@ -36,15 +38,16 @@ pub(crate) fn push_rule(
 fn push_rule_of(
     alloc: Global,
     out: &mut Vec<u8>,
+    wide: bool,
     device: Option<&DeviceSpec>,
     cause: Cause,
 ) -> Result<(), AllocError>
     ensures { OnOk result (out.new.items
-        ≡ out.old.items ++ rule_of (option_copied device.entry) cause) }
+        ≡ out.old.items ++ rule_of wide (option_copied device.entry) cause) }
 {
     match device {
         None => Ok(()),
-        Some(spec) => push_rule_if(alloc, out, spec, cause),
+        Some(spec) => push_rule_if(alloc, out, wide, spec, cause),
     }
 }
 
@@ -52,19 +55,20 @@ fn push_rule_of(
 fn push_rule_if(
     alloc: Global,
     out: &mut Vec<u8>,
+    wide: bool,
     spec: &DeviceSpec,
     cause: Cause,
 ) -> Result<(), AllocError>
-    ensures { OnOk result (out.new.items ≡ out.old.items ++ rule_of (Some spec.now) cause) }
+    ensures { OnOk result (out.new.items ≡ out.old.items ++ rule_of wide (Some spec.now) cause) }
 {
-    let Some(remark) = remark_of(spec) else {
+    let Some(remark) = remark_of(spec, wide) else {
         return Ok(());
     };
     if !is_cause_of(remark, cause) {
         return Ok(());
     }
     let mut words = String::from_str(alloc, "; ")?;
-    push_remark(alloc, &mut words, spec, remark)?;
+    push_remark(alloc, &mut words, spec, wide, remark)?;
     out.extend_from_slice(words.as_bytes())
 }
 

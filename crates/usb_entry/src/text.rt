@@ -222,7 +222,7 @@ fn push_identity(
 ///
 /// The descriptors do not have the speed. If the notes do not have it, it is `low` for a device that is no hub and
 /// whose packets have at most 8 bytes, on control and interrupt endpoints alone. Nor do the descriptors have the number
-/// of ports of a hub: a plan takes 1 to 7.
+/// of ports of a hub: a plan takes 1 to 7, and with `wide_hubs` 1 to 15.
 ///
 /// # Errors
 ///

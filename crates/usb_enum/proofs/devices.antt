@@ -3,4 +3,5 @@ pub mod Enumerations
 pub mod Frames
 pub mod Presence
 pub mod ReachedDevices
+pub mod SaidBytes
 pub mod SharedAddresses

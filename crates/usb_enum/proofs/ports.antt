@@ -2,4 +2,5 @@
 pub mod Hubs
 pub mod Ports
 pub mod Powers
+pub mod StatusEndpoints
 pub mod WorkingBuses

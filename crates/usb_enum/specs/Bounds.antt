@@ -36,9 +36,9 @@ text_bound = read_bound CONFIGURATION_LENGTH + read_bound 0
 abbrev pub strings_bound : ℕ
 strings_bound = 4 * read_bound 255
 
--- nine bytes of the hub descriptor, two of the status, and power for seven ports
+-- nine bytes of the hub descriptor, two of the status, and power for 15 ports
 abbrev pub hub_bound : ℕ
-hub_bound = read_bound HUB_LENGTH + read_bound 2 + 7 * write_bound
+hub_bound = read_bound HUB_LENGTH + read_bound 2 + 15 * write_bound
 
 -- 255 configurations, the choice of one, what a hub is asked, and the strings
 abbrev pub configured_bound : ℕ

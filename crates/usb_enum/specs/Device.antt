@@ -1,13 +1,15 @@
 -- Device descriptors, as they are read of a device.
-use Rattle.std.specs.Prelude.{◌≡◌, ◌⊎◌, ◌≤◌, ⊤, ℕ, ◌==◌, true, false, List, [], Bool, ◌&&◌, Option}
+use Rattle.std.specs.Prelude.{◌≡◌, ◌⊎◌, ◌≤◌, ⊤, ℕ, ◌==◌, nat_le, true, false, List, [], Bool}
+use Rattle.std.specs.Prelude.{◌&&◌, Option}
 use Rattle.std.specs.Prelude.{Some, None, is_some, slice_index_or, Result, Ok, Err, is_ok}
-use Rattle.std.specs.Prelude.{if◌then◌else◌}
+use Rattle.std.specs.Prelude.{if◌then◌else◌, IfSome}
 use Rattle.usb_request.specs.{HUB_CLASS}
 use Rattle.usb_hub.specs.{HubPort, Root, External}
 use Rattle.usb_world.specs.{World}
 use Rattle.usb_port.specs.{IsPortNumber}
 use Rattle.usb_transaction.specs.{Target, IsTarget}
-use Rattle.usb_descriptor.specs.{status_endpoint_of, device_spelled, device_class}
+use Rattle.usb_device.specs.{status_length}
+use Rattle.usb_descriptor.specs.{status_endpoint_of, most_ports, device_spelled, device_class}
 use Rattle.usb_descriptor.specs.{manufacturer_index, product_index, serial_index, max_packet_0}
 use Rattle.usb_enum.specs.declared.cause.Cause.TheVariants.{BadDevice, TooDeep}
 use Rattle.usb_enum.specs.declared.finding.Accepted.{Accepted}
@@ -75,21 +77,44 @@ abbrev pub IsStarted : ℕ → Option HubFacts → Type 0
 IsStarted address (Some facts) = HasStarted address facts
 IsStarted address None = ⊤
 
--- one to seven ports, which give what a hub's ports may
+-- one to 15 ports, which give what a hub's ports may
 pub record AreFacts (facts : HubFacts) : Type 0 where
   pub ports : IsPortNumber facts.ports
   pub supply : (facts.supply ≡ 500) ⊎ (facts.supply ≡ 100)
 
+-- one packet of the status endpoint holds the changes of so many ports (11.12.4)
+abbrev pub holds_changes : Option (ℕ × ℕ) → ℕ → Bool
+holds_changes None ports = false
+holds_changes (Some endpoint) ports = nat_le (status_length ports) endpoint.1
+
+-- this text has such a status endpoint
+pub record HasStatus (text : List ℕ) (ports : ℕ) : Type 0 where
+  pub endpoint : ℕ × ℕ
+  pub is : status_endpoint_of true text ≡ Some endpoint
+  pub holds : status_length ports ≤ endpoint.1
+
+-- a host that takes no wide hubs takes seven ports at most, and endpoint 1 alone
+pub record FitsHost (wide : Bool) (text : List ℕ) (facts : HubFacts) : Type 0 where
+  pub few : facts.ports ≤ most_ports wide
+  pub status : is_some (status_endpoint_of wide text) ≡ true
+
 -- a hub of this text has a status endpoint, and these facts
-pub record CanServe (text : List ℕ) (told : HubFacts) : Type 0 where
+pub record CanServe (wide : Bool) (text : List ℕ) (told : HubFacts) : Type 0 where
   pub facts : AreFacts told
-  pub status : is_some (status_endpoint_of text) ≡ true
+  pub status : HasStatus text told.ports
+  pub fits : FitsHost wide text told
 
 -- a hub, and nothing else, has facts and a status endpoint
 abbrev pub HasFacts : List ℕ → List ℕ → Option HubFacts → Type 0
 HasFacts bytes text (Some facts) = (is_hub_device bytes ≡ true) × AreFacts facts
-    × (is_some (status_endpoint_of text) ≡ true)
+    × HasStatus text facts.ports
 HasFacts bytes text None = is_hub_device bytes ≡ false
+
+-- the same of a hub that this host takes
+pub record HasFittingFacts (wide : Bool) (bytes text : List ℕ) (told : Option HubFacts) : Type 0
+  where
+    pub has : HasFacts bytes text told
+    pub fits : IfSome told (FitsHost wide text)
 
 -- endpoint 0 of a device at a port that was reset, before it has its address
 pub record IsUnaddressed (port : HubPort) (target : Target) : Type 0 where

@@ -1,5 +1,5 @@
 -- What a hub is asked once it is configured (11.24.2).
-use Rattle.std.specs.Prelude.{◌≡◌, ℕ, zero, suc, false, Ok}
+use Rattle.std.specs.Prelude.{◌≡◌, ℕ, zero, suc, true, false, Ok}
 use Rattle.std.specs.Global.{Vec}
 use Rattle.usb_request.specs.{PORT_POWER, get_hub_descriptor, get_status, set_port_feature}
 use Rattle.usb_world.specs.{World}
@@ -13,7 +13,7 @@ use Rattle.usb_enum.specs.declared.hub.HubFacts.{HubFacts}
 pub record CountTold (hub : Target) (old new : World) (count : ℕ) : Type 0 where
   pub bytes : Vec ℕ
   pub asked : Queried hub get_hub_descriptor old (Ok bytes) new
-  pub good : hub_spelled bytes.items ≡ Ok bytes.items
+  pub good : hub_spelled true bytes.items ≡ Ok bytes.items
   pub said : count ≡ port_count bytes.items
 
 -- its status, which says what its ports give

@@ -15,6 +15,7 @@ pub mod PresentDevices
 pub mod Readings
 pub mod Reasons
 pub mod Refusals
+pub mod Said
 pub mod Stops
 pub mod StringRequests
 pub mod Text
@@ -28,7 +29,8 @@ pub use Bounds.{enumeration_bound, examination_bound, examined_by, hub_bound, pa
 pub use Bounds.{read_bound, reset_bound, strings_bound, text_bound, texts_bound, unaddressed_bound}
 pub use Bounds.{widest_enumeration, widest_pass}
 pub use Calls.{CalledAt, SettlesReset, StatusAt}
-pub use Device.{AreFacts, CanServe, HasFacts, HasStarted, IsStarted, IsUnaddressed, LAST_TIER}
+pub use Device.{AreFacts, CanServe, FitsHost, HasFacts, HasFittingFacts, HasStarted, HasStatus}
+pub use Device.{IsStarted, IsUnaddressed, LAST_TIER, holds_changes}
 pub use Device.{configuration_of, device_bytes, fits_tier, is_device, is_hub_device, needs_pre}
 pub use Device.{string_indexes, target_of}
 pub use FairEnumerations.{Faulted, FaultsFor, HasServer, HubPends, IsFairAt, Missed, Misses}
@@ -36,7 +38,7 @@ pub use FairEnumerations.{PassEnds, PendingOr, ServesAt, StopsFairly, StopsFor}
 pub use Findings.{Begins, Closes, Disables, EmptiesPorts, Enumerates, FewAttempts, FindingIsTrue}
 pub use Findings.{FindingStands, GivenUp, GivesUp, HandsOn, IsAccepted, IsCause, IsDisabled, IsFair}
 pub use Findings.{IsFound, IsLeft, IsListed, IsOwn, IsWhole, JustifiesRefusal, LastDisabled}
-pub use Findings.{TakesFor}
+pub use Findings.{ExaminesAt, TakesFor}
 pub use Frames.{FoundAt, OnlyAsks, OnlyAt, OnlySets, OnlyTells, StaysBut}
 pub use Hub.{CountTold, IsPowered, Powered, Started, SupplyTold}
 pub use LastRequests.{Leads}
@@ -44,7 +46,7 @@ pub use LearnedFacts.{DeviceFact, Explained, ExplainsSet, FailureReason, Hears, 
 pub use Losses.{FewLosses, NoNewStretch}
 pub use Parts.{Answered, Both, Ending, FailsAt, IsDone, KeepingSteps, Part, Read, StopsAt}
 pub use Parts.{StopsConfiguring, StopsDescriptor, StopsExamining, StopsHead, StopsHub, StopsPower}
-pub use Parts.{StopsRead, StopsStart, StopsWithout, TakesAddressed}
+pub use Parts.{EndsWithout, StopsRead, StopsStart, StopsWithout, TakesAddressed}
 pub use Places.{HasEmptyPorts, IsDisabledAt, IsKnownAs, IsOccupied, IsPlaced, IsReachedAt, IsThere}
 pub use PresentDevices.{AnswersSo, AtPath, Awaits, AwaitsAddress, Finds, HasDescriptor, HasHead}
 pub use PresentDevices.{HasReadings, HasSpeed, HasTaken, IsAddressed, IsInOrder, IsOrderly}
@@ -55,8 +57,8 @@ pub use Readings.{HasTotal, IsGoodHub, Ruled, bytes_given, language_of, no_strin
 pub use Reasons.{AllTexts, BadChosen, BadDescriptor, BadText, Because, CannotStart, CauseAllowed}
 pub use Reasons.{CauseAllowedAt, CauseAllowedAtStart, CauseAllowedOfHub, DescriptorRead}
 pub use Reasons.{DescriptorTold, EndsFailing, EndsFor, EndsReading, FailsAs, FaultBy, HasReason}
-pub use Reasons.{HubFails, IsAny, IsNamed, IsSpokenTo, NoAnswerTold, NotEnabled, PassTold}
-pub use Reasons.{PortFails, RefusedAs, RefusedBefore, RefusedEarly, RefusedFor, StoppedAs}
+pub use Reasons.{HoldsTooFew, HubFails, IsAny, IsNamed, IsSpokenTo, NoAnswerTold, NotEnabled}
+pub use Reasons.{PassTold, PortFails, RefusedAs, RefusedBefore, RefusedEarly, RefusedFor, StoppedAs}
 pub use Reasons.{StoppedFor, StoppedWithout, StopsAtPort, StopsDevice, TextRead, TextsAsked}
 pub use Reasons.{answered, bad_descriptor, bad_front, bad_head, bad_hub, bad_text, bad_total}
 pub use Reasons.{by_answer, early, lacks_power, late, no_descriptor, no_power, no_status, none_free}
@@ -66,6 +68,9 @@ pub use Refusals.{RefusesDescriptor, RefusesNoPort, address_fault, cause_in, cho
 pub use Refusals.{early_fault, hub_fault, no_fault, setting_fault, start_fault, unaddressed_fault}
 pub use Refusals.{whole_fault}
 unfoldable pub use Refusals.{addressed_fault, configured_fault, device_fault, head_fault}
+pub use Said.{Answers, BeginsWith, IsAnswer, IsSaid, IsSaidAt, IsSaidFor, IsSaidWhole, Says}
+pub use Said.{WasSaid}
+pub use Stops.{ComesEarly, IsEarly, IsEarlyRequest, IsEarlyStop}
 pub use Stops.{CanFail, CauseAllowedIn, CauseAllowedOfDevice, CauseAllowedWithout, FaultAllowed}
 pub use Stops.{FaultAllowedAt, FitsStop, FitsTier, IsHubStop, IsPlain, IsPlainStop, IsReported}
 pub use Stops.{IsReportedStop, IsStopWithout, StopFaults, answered_or, at_port, fault_at_port}

@@ -1,6 +1,6 @@
 -- What a part of an enumeration says: how many attempts it makes, what it keeps of all else, and
 -- what it gives or why it stops.
-use Rattle.std.specs.Prelude.{ℕ, List, Option, Result, MatchResult, ⊤}
+use Rattle.std.specs.Prelude.{ℕ, Bool, List, Option, Result, MatchResult, ⊤}
 use Rattle.usb_device.specs.{Spec}
 use Rattle.usb_world.specs.{World}
 use Rattle.usb_bus.specs.{StepRun}
@@ -21,6 +21,7 @@ use Rattle.usb_enum.specs.Reasons.{CauseAllowedOfHub}
 use Rattle.usb_enum.specs.Refusals.{IsRefusedFor, Refuses, RefusesDescriptor, RefusesNoPort}
 use Rattle.usb_enum.specs.Refusals.{configured_fault, head_fault, hub_fault, start_fault}
 use Rattle.usb_enum.specs.Refusals.{unaddressed_fault, whole_fault}
+use Rattle.usb_enum.specs.Said.{Says}
 
 -- at most so many attempts were made, and this was kept
 pub record KeepingSteps (Keeps : World → World → Type 0) (most : ℕ) (old : World)
@@ -64,18 +65,18 @@ StopsRead t wrong = Both (λ old new stop. CauseAllowed t stop old new)
     (λ old new stop. FailureReason (Refuses t wrong stop) t old new)
 
 -- the same of what a hub is asked
-abbrev pub StopsHub : Target → World → World → Stop → Type 0
-StopsHub t = Both (λ old new stop. CauseAllowedOfHub t stop old new)
-    (λ old new stop. FailureReason (Refuses t hub_fault stop) t old new)
+abbrev pub StopsHub : Bool → Target → World → World → Stop → Type 0
+StopsHub wide t = Both (λ old new stop. CauseAllowedOfHub wide t stop old new)
+    (λ old new stop. FailureReason (Refuses t (hub_fault wide) stop) t old new)
 
 -- why a hub that has this configuration text cannot be started
-abbrev pub StopsStart : Target → List ℕ → World → World → Stop → Type 0
-StopsStart t text = Both (λ old new stop. CauseAllowedAtStart t text stop old new)
-    (λ old new stop. ExplainsSet (Refuses t (start_fault text) stop) t old new)
+abbrev pub StopsStart : Bool → Target → List ℕ → World → World → Stop → Type 0
+StopsStart wide t text = Both (λ old new stop. CauseAllowedAtStart wide t text stop old new)
+    (λ old new stop. ExplainsSet (Refuses t (start_fault wide text) stop) t old new)
 
 -- why its first so many ports are not given power
-abbrev pub StopsPower : Target → ℕ → World → World → Stop → Type 0
-StopsPower t ports = Both (λ old new stop. CauseAllowedOfHub t stop old new)
+abbrev pub StopsPower : Bool → Target → ℕ → World → World → Stop → Type 0
+StopsPower wide t ports = Both (λ old new stop. CauseAllowedOfHub wide t stop old new)
     (λ old new stop. ExplainsSet (RefusesNoPort t ports stop) t old new)
 
 -- why the head of a device descriptor, or all of it, was not read
@@ -103,15 +104,22 @@ abbrev pub StopsWithout : HubPort → World → World → Stop → Type 0
 StopsWithout port = Both (λ old new stop. StoppedWithout port stop old new)
     (λ old new stop. StopsFairly unaddressed_fault port 0 stop old new)
 
+-- besides, what was said
+pub record EndsWithout (port : HubPort) (before now : List ℕ) (old new : World) (stop : Stop) :
+    Type 0 where
+  pub stops : StopsWithout port old new stop
+  pub said : Says port 0 before now old new
+
 -- why a device of this descriptor is not configured, in a tier and at a port of so many mA
-abbrev pub StopsConfiguring : Target → List ℕ → ℕ → ℕ → World → World → Stop → Type 0
-StopsConfiguring t bytes tier supply = Both (StopsDevice t bytes tier supply)
-    (λ old new stop. FailureReason (Refuses t (configured_fault tier supply bytes) stop) t old new)
+abbrev pub StopsConfiguring : Target → List ℕ → Bool → ℕ → ℕ → World → World → Stop → Type 0
+StopsConfiguring t bytes wide tier supply = Both (StopsDevice t bytes wide tier supply)
+    (λ old new stop.
+    FailureReason (Refuses t (configured_fault wide tier supply bytes) stop) t old new)
 
 -- why one at a port is not
-abbrev pub StopsExamining : HubPort → ℕ → ℕ → ℕ → World → World → Stop → Type 0
-StopsExamining port address tier supply = Both (StopsAtPort port address tier supply)
-    (λ old new stop. StopsFairly (whole_fault tier supply) port address stop old new)
+abbrev pub StopsExamining : HubPort → ℕ → Bool → ℕ → ℕ → World → World → Stop → Type 0
+StopsExamining port address wide tier supply = Both (StopsAtPort port address wide tier supply)
+    (λ old new stop. StopsFairly (whole_fault wide tier supply) port address stop old new)
 
 -- a call at the port is done, or failed
 abbrev pub IsDone : World → World → Unit {0} → Type 0

@@ -116,23 +116,25 @@ pub record HasTaken (port : HubPort) (given : ℕ) (old new : World) (device : A
 -- Of a device that is read and configured
 
 -- what a device told of its ports, where it is one that told of any, is so of its description
-abbrev pub TellsPorts : List ℕ → Option HubFacts → Spec → Type 0
-TellsPorts text (Some facts) spec = Ruled (IsGoodHub text facts) spec
-TellsPorts text None spec = ⊤
+abbrev pub TellsPorts : Bool → List ℕ → Option HubFacts → Spec → Type 0
+TellsPorts wide text (Some facts) spec = Ruled (IsGoodHub wide text facts) spec
+TellsPorts wide text None spec = ⊤
 
 -- what a device told of its ports, what was learned of it, and how they were given power
-pub record LearnsPorts (device : Addressed) (text : List ℕ) (old new : World)
+pub record LearnsPorts (wide : Bool) (device : Addressed) (text : List ℕ) (old new : World)
     (told : Option HubFacts) : Type 0 where
   pub served : IsStarted device.target.addr told
-  pub learned : DeviceFact (AtMaximum device.target (TellsPorts text told)) device.target old new
+  pub learned : DeviceFact (AtMaximum device.target (TellsPorts wide text told)) device.target
+      old new
   pub started : (facts : HubFacts) → told ≡ Some facts → Started device.target old new facts
 
 -- what was read is the description's, by the bytes of its device descriptor
-pub record HasReadings (bytes : List ℕ) (device : Accepted) (spec : Spec) : Type 0 where
-  pub configs : HasConfigurations (configuration_count bytes) device.configs spec
-  pub allowed : spec.stalls.set_config ≡ false
-  pub ports : TellsPorts (configuration_of device) device.hub spec
-  pub strings : device.strings ≡ strings_by spec (string_indexes bytes)
+pub record HasReadings (wide : Bool) (bytes : List ℕ) (device : Accepted) (spec : Spec) : Type 0
+  where
+    pub configs : HasConfigurations (configuration_count bytes) device.configs spec
+    pub allowed : spec.stalls.set_config ≡ false
+    pub ports : TellsPorts wide (configuration_of device) device.hub spec
+    pub strings : device.strings ≡ strings_by spec (string_indexes bytes)
 
 -- a device has the description and the address that it had; of the target's device this is so, it
 -- has this configuration with each interface at setting 0, and its endpoints began again

@@ -1,6 +1,6 @@
 -- What was read of a device, said of its description (9.4, 9.6, 11.24.2).
-use Rattle.std.specs.Prelude.{◌≡◌, ℕ, ◌==◌, true, false, if◌then◌else◌, List, take, Option, None}
-use Rattle.std.specs.Prelude.{Some, option_map, option_and_then, Ok}
+use Rattle.std.specs.Prelude.{◌≡◌, ℕ, ◌==◌, Bool, true, false, if◌then◌else◌, List, take, Option}
+use Rattle.std.specs.Prelude.{None, Some, option_map, option_and_then, Ok}
 use Rattle.std.specs.Global.{Vec}
 use Rattle.usb_resources.specs.{supply_of}
 use Rattle.usb_request.specs.{CONFIGURATION_LENGTH, HUB_LENGTH}
@@ -62,10 +62,10 @@ no_strings = record { manufacturer = None; product = None; serial_number = None 
 -- Hubs
 
 -- its hub descriptor is good, and says so many ports
-pub record HasPorts (ports : ℕ) (spec : Spec) : Type 0 where
+pub record HasPorts (wide : Bool) (ports : ℕ) (spec : Spec) : Type 0 where
   pub text : List ℕ
   pub given : hub_given spec ≡ Some text
-  pub good : hub_spelled (take HUB_LENGTH text) ≡ Ok (take HUB_LENGTH text)
+  pub good : hub_spelled wide (take HUB_LENGTH text) ≡ Ok (take HUB_LENGTH text)
   pub said : ports ≡ port_count (take HUB_LENGTH text)
 
 -- it gives its status, which says what its ports supply
@@ -74,8 +74,8 @@ pub record HasSupply (supply : ℕ) (spec : Spec) : Type 0 where
   pub said : supply ≡ supply_of false spec.self_powered
 
 -- it is a hub that a host can use with this configuration text, and tells these facts
-pub record IsGoodHub (text : List ℕ) (facts : HubFacts) (spec : Spec) : Type 0 where
-  pub good : is_good_hub spec text ≡ true
+pub record IsGoodHub (wide : Bool) (text : List ℕ) (facts : HubFacts) (spec : Spec) : Type 0 where
+  pub good : is_good_hub wide spec text ≡ true
   pub told : facts_of spec ≡ Some facts
 
 -- so it is of a description that keeps the rules of devices

@@ -1,6 +1,6 @@
 -- Why an enumeration stops: the last request, and what was answered to it (9.1.2, 9.4, 11.24.2).
-use Rattle.std.specs.Prelude.{◌≡◌, ◌⊎◌, ◌&&◌, ℕ, List, [], ◌∷◌, ◌++◌, length, take, true, false}
-use Rattle.std.specs.Prelude.{slice_index_or, Option, None, Some, Result, Ok, Err, ⊤}
+use Rattle.std.specs.Prelude.{◌≡◌, ◌⊎◌, ◌&&◌, ℕ, List, [], ◌∷◌, ◌++◌, length, take, Bool, true}
+use Rattle.std.specs.Prelude.{false, slice_index_or, Option, None, Some, Result, Ok, Err, ⊤}
 use Rattle.std.specs.Global.{Vec}
 use Rattle.usb_request.specs.{Setup, CONFIGURATION_LENGTH, DEVICE_HEAD_LENGTH, DEVICE_LENGTH}
 use Rattle.usb_request.specs.{PORT_POWER, get_device_descriptor, get_configuration_descriptor}
@@ -27,7 +27,8 @@ use Rattle.usb_enum.specs.declared.finding.Finding.{Finding}
 use Rattle.usb_enum.specs.declared.finding.Finding.TheVariants as finding
 use Rattle.usb_enum.specs.declared.stop.Stop.{Stop}
 use Rattle.usb_enum.specs.declared.stop.Stop.TheVariants.{Refused, Fault}
-use Rattle.usb_enum.specs.Device.{LAST_TIER, is_device, is_hub_device, needs_pre}
+use Rattle.usb_enum.specs.Device.{LAST_TIER, holds_changes, is_device, is_hub_device, needs_pre}
+use Rattle.usb_enum.specs.Hub.{CountTold}
 use Rattle.usb_enum.specs.LastRequests.{Leads}
 use Rattle.usb_enum.specs.Stops.{FaultAllowed, CauseAllowedIn, CauseAllowedOfDevice, fault_at_port}
 use Rattle.usb_enum.specs.Text.{any_has_value, choice_of, config_text_of}
@@ -128,32 +129,40 @@ CauseAllowed t (Fault why) old new = FaultAllowed why new
 
 -- it refuses its descriptor, or gives a bad one; it refuses its status, or gives one of another
 -- length; or it refuses power to a port
-pub data HubFails (t : Target) (old new : World) : Type 0 where
+pub data HubFails (wide : Bool) (t : Target) (old new : World) : Type 0 where
   no_descriptor : EndsFailing t (λ setup. setup ≡ get_hub_descriptor) pipe.Stalled old new
-      → HubFails t old new
+      → HubFails wide t old new
   bad_descriptor : (bytes : List ℕ) (why : DescriptorFault)
-      → EndsReading t get_hub_descriptor bytes old new → hub_spelled bytes ≡ Err why
-      → HubFails t old new
+      → EndsReading t get_hub_descriptor bytes old new → hub_spelled wide bytes ≡ Err why
+      → HubFails wide t old new
   no_status : (before : World) (answer : Result (Vec ℕ) PipeFault) → Leads old before
       → Reads t get_status before answer new → said_in device_status get_status.length answer
-      ≡ Err pipe.Stalled → HubFails t old new
+      ≡ Err pipe.Stalled → HubFails wide t old new
   no_power : (port : ℕ) → EndsFailing t (λ setup. setup ≡ set_port_feature PORT_POWER port)
-      pipe.Stalled old new → HubFails t old new
+      pipe.Stalled old new → HubFails wide t old new
 
--- so it is of a hub that is asked, or one that is started with a configuration text, which may have
--- no endpoint for its changes
-abbrev pub CauseAllowedOfHub : Target → Stop → World → World → Type 0
-CauseAllowedOfHub t (Refused why) old new = (why ≡ cause.BadHub × HubFails t old new)
+-- so it is of a hub that is asked
+abbrev pub CauseAllowedOfHub : Bool → Target → Stop → World → World → Type 0
+CauseAllowedOfHub wide t (Refused why) old new = (why ≡ cause.BadHub × HubFails wide t old new)
     ⊎ Because t old new why
-CauseAllowedOfHub t (Fault why) old new = FaultAllowed why new
+CauseAllowedOfHub wide t (Fault why) old new = FaultAllowed why new
 
-abbrev pub CannotStart : Target → List ℕ → World → World → Type 0
-CannotStart t text old new = (status_endpoint_of text ≡ None × new ≡ old) ⊎ HubFails t old new
+-- its descriptor says more ports than a packet of its status endpoint holds changes of (11.12.4)
+pub record HoldsTooFew (wide : Bool) (t : Target) (text : List ℕ) (old new : World) : Type 0 where
+  pub ports : ℕ
+  pub count : CountTold t old new ports
+  pub small : holds_changes (status_endpoint_of wide text) ports ≡ false
 
-abbrev pub CauseAllowedAtStart : Target → List ℕ → Stop → World → World → Type 0
-CauseAllowedAtStart t text (Refused why) old new = (why ≡ cause.BadHub × CannotStart t text old new)
-    ⊎ Because t old new why
-CauseAllowedAtStart t text (Fault why) old new = FaultAllowed why new
+-- and of one that is started with a configuration text: it has no endpoint for its changes, or a
+-- small one, or it fails
+abbrev pub CannotStart : Bool → Target → List ℕ → World → World → Type 0
+CannotStart wide t text old new = (status_endpoint_of wide text ≡ None × new ≡ old)
+    ⊎ (HoldsTooFew wide t text old new ⊎ HubFails wide t old new)
+
+abbrev pub CauseAllowedAtStart : Bool → Target → List ℕ → Stop → World → World → Type 0
+CauseAllowedAtStart wide t text (Refused why) old new =
+    (why ≡ cause.BadHub × CannotStart wide t text old new) ⊎ Because t old new why
+CauseAllowedAtStart wide t text (Fault why) old new = FaultAllowed why new
 
 -- Why a device of this device descriptor is refused
 
@@ -164,7 +173,8 @@ pub record AllTexts (t : Target) (bytes : List ℕ) (texts : List (List ℕ)) (o
     pub all : length texts ≡ configuration_count bytes
 
 -- it is a hub, one of them is chosen, and with it the hub cannot be started
-pub record BadChosen (t : Target) (bytes : List ℕ) (supply : ℕ) (old new : World) : Type 0 where
+pub record BadChosen (t : Target) (bytes : List ℕ) (wide : Bool) (supply : ℕ) (old new : World) :
+    Type 0 where
   pub hub : is_hub_device bytes ≡ true
   pub texts : List (List ℕ)
   pub read : World
@@ -173,28 +183,30 @@ pub record BadChosen (t : Target) (bytes : List ℕ) (supply : ℕ) (old new : W
   pub choice : choice_of supply texts ≡ Some chosen
   pub set : World
   pub led : Leads read set
-  pub fails : CannotStart t (slice_index_or texts chosen []) set new
+  pub fails : CannotStart wide t (slice_index_or texts chosen []) set new
 
 -- by an answer; as a hub in the last tier; since no configuration needs as little power as the port
 -- gives; or as a hub that is bad
-pub data RefusedAs (t : Target) (bytes : List ℕ) (tier supply : ℕ) (old new : World) : Cause
-    → Type 0 where
-  by_answer : {why : Cause} → Because t old new why → RefusedAs t bytes tier supply old new why
+pub data RefusedAs (t : Target) (bytes : List ℕ) (wide : Bool) (tier supply : ℕ)
+    (old new : World) : Cause → Type 0 where
+  by_answer : {why : Cause} → Because t old new why → RefusedAs t bytes wide tier supply old new why
   too_deep : tier ≡ LAST_TIER → is_hub_device bytes ≡ true → new ≡ old
-      → RefusedAs t bytes tier supply old new cause.TooDeep
+      → RefusedAs t bytes wide tier supply old new cause.TooDeep
   lacks_power : (texts : List (List ℕ)) → AllTexts t bytes texts old new
-      → choice_of supply texts ≡ None → RefusedAs t bytes tier supply old new cause.NoPower
-  bad_hub : BadChosen t bytes supply old new → RefusedAs t bytes tier supply old new cause.BadHub
+      → choice_of supply texts ≡ None → RefusedAs t bytes wide tier supply old new cause.NoPower
+  bad_hub : BadChosen t bytes wide supply old new
+      → RefusedAs t bytes wide tier supply old new cause.BadHub
 
 -- so it is at a stop, which fits the tier
-abbrev pub StoppedAs : Target → List ℕ → ℕ → ℕ → Stop → World → World → Type 0
-StoppedAs t bytes tier supply (Refused why) old new = RefusedAs t bytes tier supply old new why
-StoppedAs t bytes tier supply (Fault why) old new = FaultAllowed why new
+abbrev pub StoppedAs : Target → List ℕ → Bool → ℕ → ℕ → Stop → World → World → Type 0
+StoppedAs t bytes wide tier supply (Refused why) old new =
+    RefusedAs t bytes wide tier supply old new why
+StoppedAs t bytes wide tier supply (Fault why) old new = FaultAllowed why new
 
-pub record StopsDevice (t : Target) (bytes : List ℕ) (tier supply : ℕ) (old new : World)
-    (stop : Stop) : Type 0 where
+pub record StopsDevice (t : Target) (bytes : List ℕ) (wide : Bool) (tier supply : ℕ)
+    (old new : World) (stop : Stop) : Type 0 where
   pub fits : CauseAllowedOfDevice tier stop new
-  pub because : StoppedAs t bytes tier supply stop old new
+  pub because : StoppedAs t bytes wide tier supply stop old new
 
 -- At a port
 
@@ -252,23 +264,23 @@ DescriptorTold t old new (Some bytes) = DescriptorRead t bytes old new
 DescriptorTold t old new None = EndsFailing t IsAny pipe.NoAnswer old new
 
 -- whenever it is refused
-pub data RefusedFor (port : HubPort) (address tier supply : ℕ) (old new : World) : Cause
-    → Type 0 where
+pub data RefusedFor (port : HubPort) (address : ℕ) (wide : Bool) (tier supply : ℕ)
+    (old new : World) : Cause → Type 0 where
   early : {why : Cause} → RefusedEarly port address old new why
-      → RefusedFor port address tier supply old new why
+      → RefusedFor port address wide tier supply old new why
   late : {why : Cause} (t : Target) (bytes : List ℕ) (mid : World) → IsSpokenTo port address t
-      → DescriptorRead t bytes old mid → RefusedAs t bytes tier supply mid new why
-      → RefusedFor port address tier supply old new why
+      → DescriptorRead t bytes old mid → RefusedAs t bytes wide tier supply mid new why
+      → RefusedFor port address wide tier supply old new why
 
-abbrev pub StoppedFor : HubPort → ℕ → ℕ → ℕ → Stop → World → World → Type 0
-StoppedFor port address tier supply (Refused why) old new =
-    RefusedFor port address tier supply old new why
-StoppedFor port address tier supply (Fault why) old new = FaultBy port why old new
+abbrev pub StoppedFor : HubPort → ℕ → Bool → ℕ → ℕ → Stop → World → World → Type 0
+StoppedFor port address wide tier supply (Refused why) old new =
+    RefusedFor port address wide tier supply old new why
+StoppedFor port address wide tier supply (Fault why) old new = FaultBy port why old new
 
-pub record StopsAtPort (port : HubPort) (address tier supply : ℕ) (old new : World) (stop : Stop) :
-    Type 0 where
+pub record StopsAtPort (port : HubPort) (address : ℕ) (wide : Bool) (tier supply : ℕ)
+    (old new : World) (stop : Stop) : Type 0 where
   pub fits : CauseAllowedIn port tier stop new
-  pub because : StoppedFor port address tier supply stop old new
+  pub because : StoppedFor port address wide tier supply stop old new
 
 -- where no address was free
 abbrev pub StoppedWithout : HubPort → Stop → World → World → Type 0
@@ -278,24 +290,25 @@ StoppedWithout port stop old new = (stop ≡ Refused cause.NoAddress)
 -- Of a whole enumeration
 
 -- the cause was found at a moment, at an address that is free; or none is
-pub data HasReason (port : HubPort) (addresses : Addresses) (tier supply : ℕ) (old new : World) :
-    Cause → Type 0 where
+pub data HasReason (port : HubPort) (addresses : Addresses) (wide : Bool) (tier supply : ℕ)
+    (old new : World) : Cause → Type 0 where
   refused_for : {why : Cause} (address : ℕ) → IsFree addresses address
-      → RefusedFor port address tier supply old new why
-      → HasReason port addresses tier supply old new why
+      → RefusedFor port address wide tier supply old new why
+      → HasReason port addresses wide tier supply old new why
   refused_early : {why : Cause} → IsFull addresses → RefusedEarly port 0 old new why
-      → HasReason port addresses tier supply old new why
-  none_free : IsFull addresses → HasReason port addresses tier supply old new cause.NoAddress
+      → HasReason port addresses wide tier supply old new why
+  none_free : IsFull addresses → HasReason port addresses wide tier supply old new cause.NoAddress
 
-pub record RefusedBefore (port : HubPort) (addresses : Addresses) (tier supply : ℕ)
+pub record RefusedBefore (port : HubPort) (addresses : Addresses) (wide : Bool) (tier supply : ℕ)
     (old new : World) (why : Cause) : Type 0 where
   pub moment : World
-  pub reason : HasReason port addresses tier supply old moment why
+  pub reason : HasReason port addresses wide tier supply old moment why
   pub led : Leads moment new
 
 -- a refusal names what ended it, and a hub is lost where a request about the port failed
-abbrev pub EndsFor : HubPort → Addresses → ℕ → ℕ → World → Result Finding EnumFault → World → Type 0
-EndsFor port addresses tier supply old (Ok (finding.Device device)) new = ⊤
-EndsFor port addresses tier supply old (Ok (finding.Refused why)) new =
-    RefusedBefore port addresses tier supply old new why
-EndsFor port addresses tier supply old (Err why) new = FaultBy port why old new
+abbrev pub EndsFor : HubPort → Addresses → Bool → ℕ → ℕ → World → Result Finding EnumFault → World
+    → Type 0
+EndsFor port addresses wide tier supply old (Ok (finding.Device device)) new = ⊤
+EndsFor port addresses wide tier supply old (Ok (finding.Refused why)) new =
+    RefusedBefore port addresses wide tier supply old new why
+EndsFor port addresses wide tier supply old (Err why) new = FaultBy port why old new

@@ -82,36 +82,35 @@ cause_in (Ok chosen) = None
 cause_in (Err cause) = Some cause
 
 -- by the whole table, in a tier and at a port that gives so many mA
-abbrev pub whole_fault : ℕ → ℕ → Spec → Option Cause
-whole_fault tier supply spec = cause_in (verdict spec tier supply)
+abbrev pub whole_fault : Bool → ℕ → ℕ → Spec → Option Cause
+whole_fault wide tier supply spec = cause_in (verdict spec wide tier supply)
 
 -- with what a hub gives
-abbrev pub hub_fault : Spec → Option Cause
-hub_fault spec = if gives_hub spec spec.hub then None else Some BadHub
+abbrev pub hub_fault : Bool → Spec → Option Cause
+hub_fault wide spec = if gives_hub wide spec spec.hub then None else Some BadHub
 
 -- with a hub that has this configuration text
-abbrev pub start_fault : List ℕ → Spec → Option Cause
-start_fault text spec = if is_good_hub spec text then None else Some BadHub
+abbrev pub start_fault : Bool → List ℕ → Spec → Option Cause
+start_fault wide text spec = if is_good_hub wide spec text then None else Some BadHub
 
 -- with the request that configures it
 abbrev pub setting_fault : Spec → Option Cause
 setting_fault spec = if spec.stalls.set_config then Some (Stalled request.SetConfig) else None
 
 -- with a device, a hub or none, that is to be set to one of these configurations
-abbrev pub chosen_fault : Bool → List (List ℕ) → Option ℕ → Spec → Option Cause
-chosen_fault hub texts None spec = Some NoPower
-chosen_fault hub texts (Some chosen) spec =
-    option_or (setting_fault spec) (if hub then start_fault (slice_index_or texts chosen []) spec
-    else None)
+abbrev pub chosen_fault : Bool → Bool → List (List ℕ) → Option ℕ → Spec → Option Cause
+chosen_fault wide hub texts None spec = Some NoPower
+chosen_fault wide hub texts (Some chosen) spec = option_or (setting_fault spec)
+    (if hub then start_fault wide (slice_index_or texts chosen []) spec else None)
 
 -- behind its device descriptor, which is this, in a tier and at a port that gives so many mA
-unfoldable pub configured_fault : ℕ → ℕ → List ℕ → Spec → Option Cause
-configured_fault tier supply bytes spec =
+unfoldable pub configured_fault : Bool → ℕ → ℕ → List ℕ → Spec → Option Cause
+configured_fault wide tier supply bytes spec =
     let count = configuration_count bytes in
     let texts = texts_below spec count in
     if is_hub_device bytes && tier == LAST_TIER then Some TooDeep
     else option_or (first_fault spec count)
-    (chosen_fault (is_hub_device bytes) texts (choice_of supply texts) spec)
+    (chosen_fault wide (is_hub_device bytes) texts (choice_of supply texts) spec)
 
 -- Of the head of the device descriptor
 

@@ -8,6 +8,8 @@ use Rattle.usb_pipe.specs.{PipeFault}
 use Rattle.usb_pipe.specs.declared.fault.PipeFault.TheVariants as pipe
 use Rattle.usb_enum.specs.declared.cause.Cause.{Cause}
 use Rattle.usb_enum.specs.declared.cause.Cause.TheVariants as cause
+use Rattle.usb_enum.specs.declared.cause.Request.{Request}
+use Rattle.usb_enum.specs.declared.cause.Request.TheVariants as request
 use Rattle.usb_enum.specs.declared.fault.EnumFault.{EnumFault}
 use Rattle.usb_enum.specs.declared.fault.EnumFault.TheVariants as fault
 use Rattle.usb_enum.specs.declared.stop.Stop.{Stop}
@@ -111,7 +113,36 @@ IsPlain cause.BadHub = ⊥
 IsPlain cause.Lost = ⊤
 IsPlain cause.NoAddress = ⊥
 
+-- a request that comes before the whole device descriptor is read
+abbrev pub IsEarlyRequest : Request → Type 0
+IsEarlyRequest request.Device = ⊤
+IsEarlyRequest request.Address = ⊤
+IsEarlyRequest request.Config = ⊥
+IsEarlyRequest request.SetConfig = ⊥
+
+-- a cause that may come before that
+abbrev pub IsEarly : Cause → Type 0
+IsEarly cause.Silent = ⊤
+IsEarly cause.Busy = ⊤
+IsEarly (cause.Stalled named) = IsEarlyRequest named
+IsEarly cause.BadDevice = ⊤
+IsEarly cause.TooDeep = ⊥
+IsEarly (cause.BadConfiguration index) = ⊥
+IsEarly cause.NoPower = ⊥
+IsEarly cause.BadHub = ⊥
+IsEarly cause.Lost = ⊤
+IsEarly cause.NoAddress = ⊥
+
+-- that, or no address was free
+abbrev pub ComesEarly : Cause → Type 0
+ComesEarly why = (why ≡ cause.NoAddress) ⊎ IsEarly why
+
 -- so it is at a stop
+abbrev pub IsEarlyStop : Stop → Type 0
+IsEarlyStop (Refused why) = IsEarly why
+IsEarlyStop (Fault f) = ⊤
+
+-- so it is of a plain cause
 abbrev pub IsPlainStop : Stop → Type 0
 IsPlainStop (Refused why) = IsPlain why
 IsPlainStop (Fault f) = ⊤
@@ -121,9 +152,9 @@ abbrev pub IsHubStop : Stop → Type 0
 IsHubStop (Refused why) = (why ≡ cause.BadHub) ⊎ IsPlain why
 IsHubStop (Fault f) = ⊤
 
--- no address was free, or the cause is a plain one
+-- no address was free, or the cause is an early one
 abbrev pub IsStopWithout : Stop → Type 0
-IsStopWithout (Refused why) = (why ≡ cause.NoAddress) ⊎ IsPlain why
+IsStopWithout (Refused why) = ComesEarly why
 IsStopWithout (Fault f) = ⊤
 
 -- the cause fits the tier

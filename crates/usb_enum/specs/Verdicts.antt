@@ -9,8 +9,7 @@ use Rattle.usb_resources.specs.{supply_of}
 use Rattle.usb_request.specs.{CONFIGURATION_LENGTH, DEVICE_HEAD_LENGTH, DEVICE_LENGTH, HUB_LENGTH}
 use Rattle.usb_descriptor.specs.{device_head_of, configuration_count, config_head_of, config_of}
 use Rattle.usb_descriptor.specs.{configuration_value, total_in, status_endpoint_of, hub_spelled}
-use Rattle.usb_device.specs.{Spec, Hub, State}
-use Rattle.usb_world.specs.{hub_ports}
+use Rattle.usb_device.specs.{Spec, Hub, State, hub_ports}
 use Rattle.usb_enum.specs.declared.cause.Cause.{Cause}
 use Rattle.usb_enum.specs.declared.cause.Cause.TheVariants.{Silent, Busy, Stalled, BadDevice}
 use Rattle.usb_enum.specs.declared.cause.Cause.TheVariants.{TooDeep, BadConfiguration, NoPower}
@@ -23,7 +22,7 @@ use Rattle.usb_enum.specs.declared.finding.Finding.{Finding}
 use Rattle.usb_enum.specs.declared.finding.Finding.TheVariants.{Device, Refused}
 use Rattle.usb_enum.specs.declared.hub.HubFacts.{HubFacts}
 use Rattle.usb_enum.specs.Device.{is_device, is_hub_device, string_indexes, configuration_of}
-use Rattle.usb_enum.specs.Device.{LAST_TIER}
+use Rattle.usb_enum.specs.Device.{LAST_TIER, holds_changes}
 use Rattle.usb_enum.specs.Text.{any_has_value, choice_of, string_units, first_language_of}
 
 -- Configurations
@@ -66,14 +65,17 @@ texts_of spec = texts_below spec (configuration_count spec.descriptor)
 -- Hubs
 
 -- it has ports, gives its hub descriptor and its status, and its descriptor is one
-abbrev pub gives_hub : Spec → Option Hub → Bool
-gives_hub spec None = false
-gives_hub spec (Some hub) = not spec.stalls.hub && not spec.stalls.status &&
-    is_ok (hub_spelled (take HUB_LENGTH hub.descriptor))
+abbrev pub gives_hub : Bool → Spec → Option Hub → Bool
+gives_hub wide spec None = false
+gives_hub wide spec (Some hub) = not spec.stalls.hub && not spec.stalls.status &&
+    is_ok (hub_spelled wide (take HUB_LENGTH hub.descriptor))
 
--- a hub that a host can use, with this configuration text
-abbrev pub is_good_hub : Spec → List ℕ → Bool
-is_good_hub spec text = is_some (status_endpoint_of text) && gives_hub spec spec.hub
+-- a hub that a host can use, with this configuration text: one packet of its status endpoint holds
+-- the changes of its ports (11.12.4)
+abbrev pub is_good_hub : Bool → Spec → List ℕ → Bool
+is_good_hub wide spec text =
+    holds_changes (status_endpoint_of wide text) (hub_ports spec.hub) &&
+    gives_hub wide spec spec.hub
 
 -- what a hub says of its ports
 abbrev pub facts_of : Spec → Option HubFacts
@@ -83,23 +85,25 @@ facts_of spec = if is_hub_device spec.descriptor then Some
 -- The rows
 
 -- of a device that is to be set to a configuration
-abbrev pub set_verdict : Spec → List (List ℕ) → Option ℕ → Result ℕ Cause
-set_verdict spec texts None = Err NoPower
-set_verdict spec texts (Some chosen) =
+abbrev pub set_verdict : Bool → Spec → List (List ℕ) → Option ℕ → Result ℕ Cause
+set_verdict wide spec texts None = Err NoPower
+set_verdict wide spec texts (Some chosen) =
     if spec.stalls.set_config then Err (Stalled request.SetConfig)
-    else if is_hub_device spec.descriptor && not (is_good_hub spec (slice_index_or texts chosen []))
+    else if is_hub_device spec.descriptor &&
+    not (is_good_hub wide spec (slice_index_or texts chosen []))
     then Err BadHub
     else Ok chosen
 
 -- of a device whose configurations are to be read
-abbrev pub read_verdict : Spec → ℕ → Option Cause → Result ℕ Cause
-read_verdict spec supply (Some cause) = Err cause
-read_verdict spec supply None = set_verdict spec (texts_of spec) (choice_of supply (texts_of spec))
+abbrev pub read_verdict : Bool → Spec → ℕ → Option Cause → Result ℕ Cause
+read_verdict wide spec supply (Some cause) = Err cause
+read_verdict wide spec supply None =
+    set_verdict wide spec (texts_of spec) (choice_of supply (texts_of spec))
 
--- the index of the configuration that the device is set to, or why it is refused, in a tier and at
--- a port that gives so many mA
-unfoldable pub verdict : Spec → ℕ → ℕ → Result ℕ Cause
-verdict spec tier supply =
+-- the index of the configuration that the device is set to, or why it is refused: by whether the host
+-- takes wide hubs, in a tier, and at a port that gives so many mA
+unfoldable pub verdict : Spec → Bool → ℕ → ℕ → Result ℕ Cause
+verdict spec wide tier supply =
     if spec.silent then Err Silent
     else if spec.busy then Err Busy
     else if spec.stalls.device then Err (Stalled request.Device)
@@ -108,7 +112,7 @@ verdict spec tier supply =
     else if spec.stalls.address then Err (Stalled request.Address)
     else if not (is_device spec.low (take DEVICE_LENGTH spec.descriptor)) then Err BadDevice
     else if is_hub_device spec.descriptor && tier == LAST_TIER then Err TooDeep
-    else read_verdict spec supply (first_fault spec (configuration_count spec.descriptor))
+    else read_verdict wide spec supply (first_fault spec (configuration_count spec.descriptor))
 
 -- it answers with the head of a device descriptor: none of the rows before the address holds
 abbrev pub gives_head : Spec → Bool
@@ -151,10 +155,10 @@ pub record IsAs (spec : Spec) (device : Accepted) : Type 0 where
 
 -- what a host finds in a device: accepted as it is, set to the configuration that the rows say; or
 -- refused with its cause
-abbrev pub IsFindingOf : Spec → ℕ → ℕ → Finding → Type 0
-IsFindingOf spec tier supply (Device device) = (verdict spec tier supply ≡ Ok device.chosen)
-    × IsAs spec device
-IsFindingOf spec tier supply (Refused cause) = verdict spec tier supply ≡ Err cause
+abbrev pub IsFindingOf : Spec → Bool → ℕ → ℕ → Finding → Type 0
+IsFindingOf spec wide tier supply (Device device) =
+    (verdict spec wide tier supply ≡ Ok device.chosen) × IsAs spec device
+IsFindingOf spec wide tier supply (Refused cause) = verdict spec wide tier supply ≡ Err cause
 
 -- a device that would have been given an address, where each is taken
 pub record IsWithout (full : Type 0) (spec : Spec) (finding : Finding) : Type 0 where
@@ -163,8 +167,8 @@ pub record IsWithout (full : Type 0) (spec : Spec) (finding : Finding) : Type 0 
   pub refused : finding ≡ Refused NoAddress
 
 -- what is found in a device: what its description says, or that no address is free
-abbrev pub IsRight : Type 0 → Spec → ℕ → ℕ → Finding → Type 0
-IsRight full spec tier supply finding = IsFindingOf spec tier supply finding
+abbrev pub IsRight : Type 0 → Spec → Bool → ℕ → ℕ → Finding → Type 0
+IsRight full spec wide tier supply finding = IsFindingOf spec wide tier supply finding
     ⊎ IsWithout full spec finding
 
 -- a device has the address and the configuration that are listed

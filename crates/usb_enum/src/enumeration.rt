@@ -6,13 +6,14 @@ ghost use Rattle.usb_hub.specs.Port.{IsAsked, order_bound};
 ghost use Rattle.usb_hub.specs.Requests.{StillWorks};
 ghost use Rattle.usb_enum.specs.Addresses.{AtPort};
 ghost use Rattle.usb_enum.specs.Bounds.{unaddressed_bound, examination_bound, enumeration_bound, configured_bound, configured_by, hub_bound};
-ghost use Rattle.usb_enum.specs.Device.{HasFacts, fits_tier, is_hub_device};
-ghost use Rattle.usb_enum.specs.Findings.{Enumerates, GivenUp, HandsOn, IsAccepted, IsFound, IsListed, IsWhole, TakesFor};
+ghost use Rattle.usb_enum.specs.Device.{HasFittingFacts, fits_tier, is_hub_device};
+ghost use Rattle.usb_enum.specs.Findings.{Enumerates, ExaminesAt, GivenUp, HandsOn, IsAccepted, IsFound, IsListed, IsWhole, TakesFor};
 ghost use Rattle.usb_enum.specs.Frames.{OnlySets, OnlyTells};
-ghost use Rattle.usb_enum.specs.Parts.{Part, KeepingSteps, StopsConfiguring, StopsExamining, StopsStart, StopsWithout};
+ghost use Rattle.usb_enum.specs.Parts.{EndsWithout, Part, KeepingSteps, StopsConfiguring, StopsExamining, StopsStart};
 ghost use Rattle.usb_enum.specs.PresentDevices.{LearnsPorts};
+ghost use Rattle.usb_enum.specs.Said.{IsSaid, IsSaidAt};
 ghost use Rattle.usb_enum.specs.Stops.{FaultAllowedAt, FitsStop, IsHubStop, IsReported, IsReportedStop, IsStopWithout, EnumWorks, StopNotOfBus, StopWorks};
-ghost use Rattle.usb_enum.specs.TextLengths.{FewFor, FewFrom};
+ghost use Rattle.usb_enum.specs.TextLengths.{FewFor};
 
 use crate::addressed::Addressed;
 use crate::configurations::{choose_configuration, read_configurations};
@@ -21,6 +22,7 @@ use crate::passes::{passes, unaddressed};
 use crate::stop::{Stop, answered_or, at_port};
 use crate::strings::read_strings;
 use crate::{Accepted, Cause, ConfigText, EnumFault, Finding, HubFacts, Request};
+use arrayvec::ArrayVec;
 use std::alloc::Global;
 use usb_bus::Bus;
 use usb_hub::{HubPort, clear_port, set_configuration};
@@ -30,11 +32,24 @@ use usb_resources::{Address, AddressPool};
 /// The last tier in which a device may be (4.1.1).
 const LAST_TIER: u8 = 7;
 
+/// What is known of a port, and what the host takes there.
+#[derive(Clone, Copy, Debug, PartialEq, Eq)]
+pub struct Place {
+    /// The tier of a device at the port, 2 at the root, to 7 (4.1.1).
+    pub tier: u8,
+    /// What the port gives, in mA.
+    pub supply: u16,
+    /// Whether the host takes wide hubs: of 8 to 15 ports, and with a status endpoint of any
+    /// number (11.12.1, 11.23.1).
+    pub wide: bool,
+}
+
 /// Enumerates the device at a port (9.1.2): the port is reset, and the device is given the least
 /// free address, read and configured.
 ///
-/// `tier` is the device's tier, 2 at the root, and `supply` what the port gives, in mA. A device
-/// that is refused has its port disabled and leaves the pool as it was.
+/// A device that is refused has its port disabled and leaves the pool as it was. `said` gets the
+/// bytes of the last read of its device descriptor that it answered, none where it answered none:
+/// 8 bytes are asked for at address 0, and 18 at its own (9.6.1).
 ///
 /// The caller has let go of all that it knew at the port and below it: no device there holds an
 /// address that is taken in the pool. So a port that is still enabled is disabled before, and what
@@ -53,25 +68,27 @@ pub fn enumerate<B: Bus>(
     bus: &mut B,
     pool: &mut AddressPool,
     port: HubPort,
-    tier: u8,
-    supply: u16,
+    place: Place,
+    said: &mut ArrayVec<u8, 18>,
 ) -> Result<Finding, EnumFault>
     requires port { IsAsked B.modelled (B.world bus.old) port }
     ensures uses { UsesBus B.modelled (Steps B.world B.trace) B.spent B.ports B.failed
         (enumeration_bound port) (λ last. IfErr result (λ fault. IsReported fault last))
         bus.old bus.new }
-    ensures told { B.modelled ≡ true
-        → IfErr result (λ fault. FaultAllowedAt port fault (B.world bus.new)) }
+    ensures told { B.modelled ≡ true → MatchResult result
+        (IsSaid port pool.old said.new.items (B.world bus.old) (B.world bus.new))
+        (λ fault. FaultAllowedAt port fault (B.world bus.new)) }
     ensures pool { TakesFor result pool.old pool.new }
-    ensures found { IfOk result (IsFound pool.old tier supply) }
-    ensures ends { B.modelled ≡ true
-        → Enumerates port pool.old tier supply (B.world bus.old) result (B.world bus.new) }
+    ensures found { IfOk result (IsFound pool.old place.wide place.tier place.supply) }
+    ensures ends { B.modelled ≡ true → Enumerates port pool.old place.wide place.tier place.supply
+        (B.world bus.old) result (B.world bus.new) }
 {
+    said.clear();
     let Some(address) = pool.take() else {
-        let stop = without_address(alloc, bus, port);
+        let stop = without_address(alloc, bus, port, said);
         return give_up(bus, port, stop);
     };
-    match examine(alloc, bus, port, address, tier, supply) {
+    match examine(alloc, bus, port, address, place, said) {
         Ok(device) => Ok(Finding::Device(device)),
         Err(stop) => {
             let finding = give_up(bus, port, stop);
@@ -82,7 +99,12 @@ pub fn enumerate<B: Bus>(
 }
 
 /// Goes on until a device would be given its address, if none is free.
-fn without_address<B: Bus>(alloc: Global, bus: &mut B, port: HubPort) -> Stop
+fn without_address<B: Bus>(
+    alloc: Global,
+    bus: &mut B,
+    port: HubPort,
+    said: &mut ArrayVec<u8, 18>,
+) -> Stop
     requires { IsAsked B.modelled (B.world bus.old) port }
     ensures any_bus { Spends B.spent B.ports (unaddressed_bound port) bus.old bus.new
         × IsReportedStop result (B.failed bus.new) }
@@ -90,11 +112,12 @@ fn without_address<B: Bus>(alloc: Global, bus: &mut B, port: HubPort) -> Stop
     ensures steps { B.modelled ≡ true → KeepingSteps (AtPort port 0) (unaddressed_bound port)
         (B.world bus.old) (B.trace bus.old) (B.world bus.new) (B.trace bus.new) }
     ensures stops { B.modelled ≡ true
-        → StopsWithout port (B.world bus.old) (B.world bus.new) result }
+        → EndsWithout port said.old.items said.new.items (B.world bus.old) (B.world bus.new)
+        result }
     ensures works { B.modelled ≡ true
         → StopNotOfBus result → StillWorks (B.world bus.old) (B.world bus.new) }
 {
-    match unaddressed(alloc, bus, port) {
+    match unaddressed(alloc, bus, port, said) {
         Ok(_) => Stop::Refused(Cause::NoAddress),
         Err(stop) => stop,
     }
@@ -126,22 +149,25 @@ fn examine<B: Bus>(
     bus: &mut B,
     port: HubPort,
     address: Address,
-    tier: u8,
-    supply: u16,
+    place: Place,
+    said: &mut ArrayVec<u8, 18>,
 ) -> Result<Accepted, Stop>
     requires port { IsAsked B.modelled (B.world bus.old) port }
     ensures any_bus { Spends B.spent B.ports (examination_bound port) bus.old bus.new
         × IfErr result (λ stop. IsReportedStop stop (B.failed bus.new)) }
     ensures whole { MatchResult result
-        (λ device. (device.address ≡ address) × IsWhole supply device) (FitsStop tier) }
+        (λ device. (device.address ≡ address) × IsWhole place.wide place.supply device
+        × (said.new.items ≡ device.bytes))
+        (λ stop. FitsStop place.tier stop × IsSaidAt stop said.new.items) }
     ensures part { B.modelled ≡ true → Part B.world B.trace (AtPort port address)
-        (examination_bound port) (IsAccepted port address tier supply)
-        (StopsExamining port address tier supply) bus.old result bus.new }
-    ensures few { B.modelled ≡ true → FewFrom port address (B.world bus.old) (B.world bus.new) }
+        (examination_bound port) (IsAccepted port address place.wide place.tier place.supply)
+        (StopsExamining port address place.wide place.tier place.supply) bus.old result bus.new }
+    ensures made { B.modelled ≡ true → ExaminesAt port address said.old.items said.new.items
+        (B.world bus.old) (B.world bus.new) }
     ensures works { B.modelled ≡ true → StopWorks result (B.world bus.old) (B.world bus.new) }
 {
-    let device = passes(alloc, bus, port, address.number())?;
-    configure(alloc, bus, address, device, tier, supply)
+    let device = passes(alloc, bus, port, address.number(), said)?;
+    configure(alloc, bus, address, device, place)
 }
 
 /// Reads and configures a device that has its address.
@@ -150,31 +176,32 @@ fn configure<B: Bus>(
     bus: &mut B,
     address: Address,
     device: Addressed,
-    tier: u8,
-    supply: u16,
+    place: Place,
 ) -> Result<Accepted, Stop>
     requires { device.target.addr ≡ address }
     ensures any_bus { Spends B.spent B.ports configured_bound bus.old bus.new
         × IfErr result (λ stop. IsReportedStop stop (B.failed bus.new)) }
     ensures whole { MatchResult result
-        (λ device. (device.address ≡ address) × IsWhole supply device) (FitsStop tier) }
+        (λ found. (found.address ≡ address) × IsWhole place.wide place.supply found
+        × (found.bytes ≡ device.bytes)) (FitsStop place.tier) }
     ensures part { B.modelled ≡ true → Part B.world B.trace (OnlySets address)
-        configured_bound (IsListed device tier)
-        (StopsConfiguring device.target device.bytes tier supply) bus.old result bus.new }
+        configured_bound (IsListed device place.wide place.tier)
+        (StopsConfiguring device.target device.bytes place.wide place.tier place.supply)
+        bus.old result bus.new }
     ensures few { B.modelled ≡ true
         → FewFor configured_by device.target (B.world bus.old) (B.world bus.new) }
     ensures works { B.modelled ≡ true → StopWorks result (B.world bus.old) (B.world bus.new) }
 {
     let target = device.target;
-    fits_tier(&device, tier)?;
+    fits_tier(&device, place.tier)?;
     let configs = read_configurations(alloc, bus, target, device.configurations())?;
-    let Some(chosen) = choose_configuration(alloc, &configs, supply)? else {
+    let Some(chosen) = choose_configuration(alloc, &configs, place.supply)? else {
         return Err(Stop::Refused(Cause::NoPower));
     };
     let value = configs.as_slice()[chosen].value();
     let stalled = Cause::Stalled(Request::SetConfig);
     answered_or(stalled, set_configuration(bus, target, value))?;
-    let hub = hub_facts(alloc, bus, &device, &configs.as_slice()[chosen])?;
+    let hub = hub_facts(alloc, bus, &device, &configs.as_slice()[chosen], place.wide)?;
     let strings = read_strings(alloc, bus, target, device.string_indexes())?;
     Ok(Accepted {
         address,
@@ -203,19 +230,20 @@ fn hub_facts<B: Bus>(
     bus: &mut B,
     device: &Addressed,
     text: &ConfigText,
+    wide: bool,
 ) -> Result<Option<HubFacts>, Stop>
     ensures any_bus { Spends B.spent B.ports hub_bound bus.old bus.new
         × IfErr result (λ stop. IsReportedStop stop (B.failed bus.new)) }
-    ensures hub { MatchResult result (HasFacts device.now.bytes text.now)
+    ensures hub { MatchResult result (HasFittingFacts wide device.now.bytes text.now)
         (λ stop. (is_hub_device device.now.bytes ≡ true) × IsHubStop stop) }
     ensures part { B.modelled ≡ true
         → Part B.world B.trace (OnlyTells device.now.target.addr) hub_bound
-        (LearnsPorts device.now text.now) (StopsStart device.now.target text.now)
+        (LearnsPorts wide device.now text.now) (StopsStart wide device.now.target text.now)
         bus.old result bus.new }
     ensures works { B.modelled ≡ true → StopWorks result (B.world bus.old) (B.world bus.new) }
 {
     if !device.is_hub() {
         return Ok(None);
     }
-    Ok(Some(start_hub(alloc, bus, device.target, text)?))
+    Ok(Some(start_hub(alloc, bus, device.target, text, wide)?))
 }

@@ -12,6 +12,8 @@
 //!   (`EndsFor`).
 //! - *Few attempts* (`FewAttempts`): at most 250,000, and 100 for each byte of the longest
 //!   configuration texts in the plan.
+//! - *What a device said is its own* (`IsSaid`): the bytes came from a read of its device
+//!   descriptor, which begins with them. They are all 18 where it is refused for what comes behind.
 //!
 //! Over any bus, `enumerate` takes the least free address exactly if it accepts, and an accepted
 //! device has good descriptors (`IsFound`). *Only tested*: PRE on the bus. `docs/PROVED.md` has the
@@ -27,12 +29,13 @@ mod fault;
 mod finding;
 mod hub;
 mod passes;
+mod said;
 mod stop;
 mod strings;
 mod text;
 
 pub use cause::{Cause, Request};
-pub use enumeration::enumerate;
+pub use enumeration::{Place, enumerate};
 pub use fault::EnumFault;
 pub use finding::{Accepted, Finding};
 pub use hub::HubFacts;

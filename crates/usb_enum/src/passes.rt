@@ -16,11 +16,15 @@ ghost use Rattle.usb_enum.specs.PresentDevices.{Awaits, WasReset};
 ghost use Rattle.usb_enum.specs.Reasons.{DescriptorTold, PassTold};
 ghost use Rattle.usb_enum.specs.Refusals.{FindsHead, FindsDescriptor, no_fault, early_fault, addressed_fault};
 ghost use Rattle.usb_bus.specs.Traces.{Spends};
-ghost use Rattle.usb_enum.specs.Stops.{IsPlainStop, IsReported, IsReportedStop, EnumWorks, StopWorks};
+ghost use Rattle.usb_enum.specs.Readings.{AtMaximum};
+ghost use Rattle.usb_enum.specs.Said.{Answers, BeginsWith, Says};
+ghost use Rattle.usb_enum.specs.Stops.{IsEarlyStop, IsReported, IsReportedStop, EnumWorks, StopWorks};
 
 use crate::addressed::Addressed;
+use crate::said::keep;
 use crate::stop::{Stop, answered_or, at_port};
 use crate::{Cause, EnumFault, Request};
+use arrayvec::ArrayVec;
 use std::alloc::Global;
 use usb_bus::Bus;
 use usb_descriptor::{device_head, read_device};
@@ -75,7 +79,7 @@ fn reset<B: Bus>(alloc: Global, bus: &mut B, port: HubPort) -> Result<bool, Stop
     requires port { IsAsked B.modelled (B.world bus.old) port }
     ensures any_bus { Spends B.spent B.ports (reset_bound port) bus.old bus.new
         × IfErr result (λ stop. IsReportedStop stop (B.failed bus.new)) }
-    ensures plain { IfErr result IsPlainStop }
+    ensures plain { IfErr result IsEarlyStop }
     ensures part { B.modelled ≡ true → (a : ℕ) → Part B.world B.trace (AtPort port a)
         (reset_bound port) (λ old new low. WasReset low port a old new)
         (StopsAt port a no_fault) bus.old result bus.new }
@@ -120,18 +124,26 @@ fn needs_pre(port: HubPort) -> bool
 
 /// The maximum packet of endpoint 0, from the first eight bytes of the device descriptor.
 #[tactic(auto, using(usb_pipe::proofs::Interface::bound_wide), unfolding(usb_descriptor::specs::Device::device_head_of))]
-fn first_maximum<B: Bus>(alloc: Global, bus: &mut B, unaddressed: Target) -> Result<u8, Stop>
+fn first_maximum<B: Bus>(
+    alloc: Global,
+    bus: &mut B,
+    unaddressed: Target,
+    said: &mut ArrayVec<u8, 18>,
+) -> Result<u8, Stop>
     requires target { IsTarget unaddressed }
     requires max { unaddressed.max ≡ 8 }
     ensures any_bus { Spends B.spent B.ports (read_bound DEVICE_HEAD_LENGTH) bus.old bus.new
         × IfErr result (λ stop. IsReportedStop stop (B.failed bus.new)) }
-    ensures fits { MatchResult result (λ max. (8 ≤ max) × (max ≤ 64)) IsPlainStop }
+    ensures fits { MatchResult result (λ max. (8 ≤ max) × (max ≤ 64)) IsEarlyStop }
     ensures read { B.modelled ≡ true → Read B.world B.trace (read_bound DEVICE_HEAD_LENGTH)
         (FindsHead unaddressed) (StopsHead unaddressed) bus.old result bus.new }
+    ensures said { B.modelled ≡ true → Answers (BeginsWith said.new.items) unaddressed
+        DEVICE_HEAD_LENGTH said.old.items said.new.items (B.world bus.old) (B.world bus.new) }
     ensures works { B.modelled ≡ true → StopWorks result (B.world bus.old) (B.world bus.new) }
 {
     let stalled = Cause::Stalled(Request::Device);
     let bytes = answered_or(stalled, get_device(alloc, bus, unaddressed, HEAD))?;
+    keep(said, bytes.as_slice());
     match device_head(bytes.as_slice(), unaddressed.low) {
         Ok(max) => Ok(max),
         Err(_) => Err(Stop::Refused(Cause::BadDevice)),
@@ -140,16 +152,24 @@ fn first_maximum<B: Bus>(alloc: Global, bus: &mut B, unaddressed: Target) -> Res
 
 /// The device descriptor, or `None` if the device gave no answer.
 #[tactic(auto, using(usb_pipe::proofs::Interface::bound_wide))]
-fn descriptor<B: Bus>(alloc: Global, bus: &mut B, target: Target) -> Result<Option<[u8; 18]>, Stop>
+fn descriptor<B: Bus>(
+    alloc: Global,
+    bus: &mut B,
+    target: Target,
+    said: &mut ArrayVec<u8, 18>,
+) -> Result<Option<[u8; 18]>, Stop>
     requires target { IsTarget target }
     requires max { 8 ≤ target.max }
     ensures any_bus { Spends B.spent B.ports (read_bound DEVICE_LENGTH) bus.old bus.new
         × IfErr result (λ stop. IsReportedStop stop (B.failed bus.new)) }
     ensures device { MatchResult result
-        (λ found. IfSome found (λ bytes. is_device target.low bytes ≡ true)) IsPlainStop }
+        (λ found. IfSome found (λ bytes. (is_device target.low bytes ≡ true)
+        × (said.new.items ≡ bytes))) IsEarlyStop }
     ensures read { B.modelled ≡ true → Read B.world B.trace (read_bound DEVICE_LENGTH)
         (Both (DescriptorTold target) (FindsDescriptor target)) (StopsDescriptor target)
         bus.old result bus.new }
+    ensures said { B.modelled ≡ true → Answers (AtMaximum target (BeginsWith said.new.items))
+        target DEVICE_LENGTH said.old.items said.new.items (B.world bus.old) (B.world bus.new) }
     ensures works { B.modelled ≡ true → StopWorks result (B.world bus.old) (B.world bus.new) }
 {
     let outcome = get_device(alloc, bus, target, WHOLE);
@@ -157,6 +177,7 @@ fn descriptor<B: Bus>(alloc: Global, bus: &mut B, target: Target) -> Result<Opti
         return Ok(None);
     }
     let bytes = answered_or(Cause::Stalled(Request::Device), outcome)?;
+    keep(said, bytes.as_slice());
     match bytes.as_slice().first_chunk::<DEVICE_LENGTH>() {
         Some(bytes) => device_bytes(bytes, target.low),
         None => Err(Stop::Refused(Cause::BadDevice)),
@@ -175,14 +196,21 @@ fn device_bytes(bytes: &[u8; 18], low: bool) -> Result<Option<[u8; 18]>, Stop>
 }
 
 /// The device at address 0, once its port is reset and its maximum packet is known.
-pub(crate) fn unaddressed<B: Bus>(alloc: Global, bus: &mut B, port: HubPort) -> Result<Target, Stop>
+pub(crate) fn unaddressed<B: Bus>(
+    alloc: Global,
+    bus: &mut B,
+    port: HubPort,
+    said: &mut ArrayVec<u8, 18>,
+) -> Result<Target, Stop>
     requires port { IsAsked B.modelled (B.world bus.old) port }
     ensures any_bus { Spends B.spent B.ports (unaddressed_bound port) bus.old bus.new
         × IfErr result (λ stop. IsReportedStop stop (B.failed bus.new)) }
-    ensures target { MatchResult result (IsUnaddressed port) IsPlainStop }
+    ensures target { MatchResult result (IsUnaddressed port) IsEarlyStop }
     ensures part { B.modelled ≡ true → (a : ℕ) → Part B.world B.trace (AtPort port a)
         (unaddressed_bound port) (λ old new target. Awaits target port a old new)
         (StopsAt port a early_fault) bus.old result bus.new }
+    ensures said { B.modelled ≡ true → (a : ℕ)
+        → Says port a said.old.items said.new.items (B.world bus.old) (B.world bus.new) }
     ensures works { B.modelled ≡ true → StopWorks result (B.world bus.old) (B.world bus.new) }
 {
     let low = reset(alloc, bus, port)?;
@@ -197,6 +225,7 @@ pub(crate) fn unaddressed<B: Bus>(alloc: Global, bus: &mut B, port: HubPort) -> 
             low,
             pre,
         },
+        said,
     )?;
     Ok(Target {
         addr,
@@ -213,6 +242,7 @@ fn pass<B: Bus>(
     bus: &mut B,
     port: HubPort,
     address: u8,
+    said: &mut ArrayVec<u8, 18>,
 ) -> Result<Option<Addressed>, Stop>
     requires port { IsAsked B.modelled (B.world bus.old) port }
     requires least { 1 ≤ address }
@@ -220,20 +250,23 @@ fn pass<B: Bus>(
     ensures any_bus { Spends B.spent B.ports (pass_bound port) bus.old bus.new
         × IfErr result (λ stop. IsReportedStop stop (B.failed bus.new)) }
     ensures addressed { MatchResult result
-        (λ found. IfSome found (λ device. device.target.addr ≡ address)) IsPlainStop }
+        (λ found. IfSome found (λ device. (device.target.addr ≡ address)
+        × (said.new.items ≡ device.bytes))) IsEarlyStop }
     ensures part { B.modelled ≡ true → Part B.world B.trace (AtPort port address)
         (pass_bound port) (Both (PassTold port address) (PassEnds port address))
         (StopsAt port address addressed_fault) bus.old result bus.new }
+    ensures said { B.modelled ≡ true
+        → Says port address said.old.items said.new.items (B.world bus.old) (B.world bus.new) }
     ensures works { B.modelled ≡ true → StopWorks result (B.world bus.old) (B.world bus.new) }
 {
-    let target = unaddressed(alloc, bus, port)?;
+    let target = unaddressed(alloc, bus, port, said)?;
     let stalled = Cause::Stalled(Request::Address);
     answered_or(stalled, set_address(bus, target, address))?;
     let target = Target {
         addr: address,
         ..target
     };
-    match descriptor(alloc, bus, target)? {
+    match descriptor(alloc, bus, target, said)? {
         Some(bytes) => Ok(Some(Addressed { target, bytes })),
         None => Ok(None),
     }
@@ -246,20 +279,24 @@ pub(crate) fn passes<B: Bus>(
     bus: &mut B,
     port: HubPort,
     address: u8,
+    said: &mut ArrayVec<u8, 18>,
 ) -> Result<Addressed, Stop>
     requires port { IsAsked B.modelled (B.world bus.old) port }
     requires least { 1 ≤ address }
     requires most { address < 128 }
     ensures any_bus { Spends B.spent B.ports (PASSES * pass_bound port) bus.old bus.new
         × IfErr result (λ stop. IsReportedStop stop (B.failed bus.new)) }
-    ensures addressed { MatchResult result (λ device. device.target.addr ≡ address) IsPlainStop }
+    ensures addressed { MatchResult result (λ device. (device.target.addr ≡ address)
+        × (said.new.items ≡ device.bytes)) IsEarlyStop }
     ensures part { B.modelled ≡ true → Part B.world B.trace (AtPort port address)
         (PASSES * pass_bound port) (TakesAddressed port address)
         (StopsAt port address addressed_fault) bus.old result bus.new }
+    ensures said { B.modelled ≡ true
+        → Says port address said.old.items said.new.items (B.world bus.old) (B.world bus.new) }
     ensures works { B.modelled ≡ true → StopWorks result (B.world bus.old) (B.world bus.new) }
 {
     for _pass in 0..PASSES {
-        if let Some(device) = pass(alloc, bus, port, address)? {
+        if let Some(device) = pass(alloc, bus, port, address, said)? {
             return Ok(device);
         }
     }

@@ -65,12 +65,13 @@ impl ConfigText {
         2 * u16::from(self.view().max_power())
     }
 
-    /// The number and the maximum packet of the status endpoint of a hub (11.12.1).
-    pub fn status_endpoint(&self) -> Option<(u8, u8)>
-        ensures value { result ≡ status_endpoint_of self.now }
+    /// The number and the maximum packet of the status endpoint of a hub (11.12.1). It is endpoint 1
+    /// where there is one; else, where `wide`, the first interrupt IN endpoint (11.23.1).
+    pub fn status_endpoint(&self, wide: bool) -> Option<(u8, u8)>
+        ensures value { result ≡ status_endpoint_of wide self.now }
         ensures usable { IfSome result IsUsable }
     {
-        self.view().status_endpoint()
+        self.view().status_endpoint(wide)
     }
 
     /// The number and the maximum packet of the first bulk OUT endpoint (5.8).

@@ -1,11 +1,11 @@
 -- The far end as plain data, what it does at each question, and the lines that go out behind it.
-use Rattle.std.specs.Prelude.{◌≡◌, ◌⊎◌, ◌&&◌, ℕ, ◌+◌, ◌==◌, nat_lt, Bool, true, false, not}
+use Rattle.std.specs.Prelude.{◌≡◌, ◌⊎◌, ◌&&◌, ◌||◌, ℕ, ◌+◌, ◌*◌, ◌==◌, nat_lt, Bool, true, false, not}
 use Rattle.std.specs.Prelude.{if◌then◌else◌, List, [], ◌∷◌, ◌++◌, length, map, Option, Some, None, Err}
 use Rattle.std.specs.Io.KnownBytes.{Appends}
 use Rattle.std.specs.Str.{bytes_eq}
 use Rattle.usb_packet.specs.{TokenKind, OutTok, InTok, SetupTok, Speed, Zero, speed_has_pre}
 use Rattle.usb_packet.specs.{speed_is_low}
-use Rattle.usb_port.specs.{PortCall, status_of}
+use Rattle.usb_port.specs.{PortCall, path_text, status_of}
 use Rattle.usb_request.specs.{bytes_of, Setup as SetupData}
 use Rattle.usb_world.specs.declared.event.Ask.{Ask}
 use Rattle.usb_world.specs.declared.event.Ask.TheVariants as ask
@@ -17,7 +17,8 @@ use Rattle.usb_sim.specs.{Ghosts, trace_of, tracer_of, world_of}
 use Rattle.usb_bus.specs.{lines_between, next_due, step_lines, Attempts, TakesEvent}
 use Rattle.usb_lines.specs.{Pipe, LineFault}
 use Rattle.usb_lines.specs.declared.line.LineFault.TheVariants as line
-use Rattle.usb_wire.specs.{said_line, send_limit, send_to_limit, write_limit, kind_asked, Answer}
+use Rattle.usb_wire.specs.{said_line, send_limit, send_room, send_to_limit, write_limit}
+use Rattle.usb_wire.specs.{kind_asked, Answer}
 use Rattle.usb_wire.specs.{Roots, Ack, Nak, Stall, ControlOut, ClearOf, Poll, ReceiveFrom, SendTo}
 use Rattle.usb_wire.specs.{Nothing, Data, Done, Show, End, Send, Receive, Clear, ControlIn, Look}
 use Rattle.usb_wire.specs.{Interface, News, Said, Changed, Answered, Asked, DataPacket, Endpoint, Question}
@@ -178,8 +179,9 @@ restart_done f = record {
 
 -- as many bytes as a line has room for
 unfoldable pub send_wanted : List ℕ → List ℕ → Option Answer
-send_wanted path bytes = if nat_lt send_limit (length bytes) then None else Some
-    (Send path (record { items = bytes }))
+send_wanted path bytes =
+    if nat_lt send_limit (length bytes) || nat_lt send_room (length (path_text path) + 2 * length bytes)
+    then None else Some (Send path (record { items = bytes }))
 
 unfoldable pub send_to_wanted : List ℕ → ℕ → List ℕ → Option Answer
 send_to_wanted path endpoint bytes =
@@ -192,7 +194,7 @@ write_wanted path request =
     else Some (ControlOut path (record { setup = request.setup; bytes = request.bytes }))
 
 abbrev pub asked_answer : Ask → Option Answer
-asked_answer ask.Show = Some Show
+asked_answer (ask.Show said) = Some Show
 asked_answer (ask.Send path bytes) = send_wanted path bytes
 asked_answer (ask.Receive path packets) = Some (Receive path packets)
 asked_answer (ask.Clear path) = Some (Clear path)

@@ -21,7 +21,9 @@ use usb_request::feature::{
     C_PORT_CONNECTION, C_PORT_ENABLE, C_PORT_RESET, PORT_ENABLE, PORT_POWER, PORT_RESET,
 };
 use usb_sim::{Ask, Plan, SentBytes, SimBus, Trace, Tracer, WriteRequest};
-use usb_wire::{Answer, ControlWrite, Endpoint, Question, SEND_LIMIT, SEND_TO_LIMIT, WRITE_LIMIT};
+use usb_wire::{
+    Answer, ControlWrite, Endpoint, Question, SEND_LIMIT, SEND_ROOM, SEND_TO_LIMIT, WRITE_LIMIT,
+};
 
 /// The statuses of root ports, port 1 first.
 pub(crate) type Statuses = ArrayVec<[u8; 4], 7>;
@@ -234,7 +236,7 @@ fn asked_answer(ask: Ask) -> Option<Answer>
     ensures { result ≡ asked_answer ask }
 {
     match ask {
-        Ask::Show => Some(Answer::Show),
+        Ask::Show { .. } => Some(Answer::Show),
         Ask::Send(path, bytes) => send_answer(path, &bytes),
         Ask::Receive(path, packets) => Some(Answer::Receive { path, packets }),
         Ask::Clear(path) => Some(Answer::Clear(path)),
@@ -263,7 +265,8 @@ fn asked_answer(ask: Ask) -> Option<Answer>
 fn send_answer(path: PortPath, bytes: &SentBytes) -> Option<Answer>
     ensures { result ≡ send_wanted path bytes.now }
 {
-    if bytes.as_slice().len() > SEND_LIMIT {
+    let count = bytes.as_slice().len();
+    if count > SEND_LIMIT || path.text().len() + 2 * count > SEND_ROOM {
         return None;
     }
     let mut sent = ArrayVec::new();

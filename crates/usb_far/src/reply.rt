@@ -9,8 +9,8 @@ use arrayvec::ArrayVec;
 use usb_sim::Trace;
 use usb_wire::{Asked, Question, Said, said_line};
 
-/// Room for the status of each root port and an answer: eight lines of 1,024 bytes.
-const ROOM: usize = 8200;
+/// Room for the status of each root port and an answer: eight lines of up to 1,026 bytes.
+const ROOM: usize = 8216;
 
 /// The lines that go out after a question.
 pub(crate) type Reply = ArrayVec<u8, ROOM>;
@@ -50,7 +50,7 @@ impl<T: Trace> FarEnd<T> {
     fn changes(&mut self, asked: Asked) -> Reply
         ensures told { ChangesTold asked (far_of self.old) (far_of self.new) result.items }
         ensures bus { self.new.bus ≡ self.old.bus }
-        ensures few { length result.items ≤ 7175 }
+        ensures few { length result.items ≤ 7189 }
     {
         self.phase = Phase::Asks;
         let mut lines = Reply::new();
@@ -78,10 +78,10 @@ fn may_ask(phase: Phase, question: &Question) -> bool
 /// The lines of statuses that are not what was reported, of the ports from a number on.
 #[tactic(auto, unfolding(crate::specs::FarEnd::pushes))]
 fn push_changes(lines: &mut Reply, number: u8, told: &[[u8; 4]], now: &[[u8; 4]])
-    requires room { length lines.old.items + 1025 * length now.now ≤ 7175 }
+    requires room { length lines.old.items + 1027 * length now.now ≤ 7189 }
     requires few { number + length now.now ≤ 100 }
     ensures lines { lines.new.items ≡ lines.old.items ++ pushes number told.now now.now }
-    ensures left { length lines.new.items ≤ length lines.old.items + 1025 * length now.now }
+    ensures left { length lines.new.items ≤ length lines.old.items + 1027 * length now.now }
 {
     let Some((status, rest)) = now.split_first() else {
         return;
@@ -119,9 +119,9 @@ fn behind_first(all: &[[u8; 4]]) -> &[[u8; 4]]
 
 /// The line of what is said, with its newline.
 fn push_said(lines: &mut Reply, said: &Said)
-    requires { length lines.old.items ≤ 7175 }
+    requires { length lines.old.items ≤ 7189 }
     ensures line { lines.new.items ≡ lines.old.items ++ line_of said.now }
-    ensures left { length lines.new.items ≤ length lines.old.items + 1025 }
+    ensures left { length lines.new.items ≤ length lines.old.items + 1027 }
 {
     let line = said_line(said);
     lines

@@ -4,6 +4,7 @@ use Rattle.std.proofs.Common.{false, Bool, ℕ}
 use Rattle.std.proofs.Common.{List, length, Option, None, Some, Result, Ok, Err, IsErr, IsSome}
 use Rattle.std.proofs.Common.{IsSomeAnd}
 use Rattle.std.specs.BTreeMap.{insert_entry}
+use Rattle.arrayvec.specs.ArrayVec.{ArrayVec}
 use Rattle.usb_port.specs.{parent_of, path_cmp, IsPath}
 use Rattle.usb_tree.specs.{is_way, pending}
 use Rattle.usb_world.specs.{World, here}
@@ -53,8 +54,8 @@ pub record ClimbedTo (first path : List ℕ) (a b : HostState) : Type 0 where
   pub sound : IsDroppable first a → IsDroppable path b
   pub backlog : IsDroppable first a → b.world.fault ≡ None → KeepsAll a.world b.world
   pub caused : IsDroppable first a → IsFairTo a.world b.world → pending a.world.roots first ≡ true
-      → CausesBut first a.world a.entries
-      → (pending b.world.roots path ≡ true) × CausesBut path b.world b.entries
+      → CausesBut a.wide first a.world a.entries
+      → (pending b.world.roots path ≡ true) × CausesBut b.wide path b.world b.entries
 
 pub climbed_none : (first : List ℕ) (h : HostState) → ClimbedTo first first h h
 climbed_none first h = record {
@@ -176,6 +177,9 @@ module _ {hub lost : List ℕ} {a b c : HostState} (d : HostState) (r : OnlyBusS
   drop_world : d.world ≡ c.world
   drop_world = ap (λ (h : HostState). h.world) others
 
+  drop_wide : d.wide ≡ c.wide
+  drop_wide = ap (λ (h : HostState). h.wide) others
+
   drop_goes : HostRuns drop_bound a d
   drop_goes = goes_forgotten a (goes_forgotten a x.goes f.others) others
 
@@ -221,9 +225,9 @@ module _ {hub lost : List ℕ} {a b c : HostState} (d : HostState) (r : OnlyBusS
             (λ y away. ap (pipes_at y) table ∙ f.pipes y away)));
       }
 
-  pub drop_done : IsPath lost → table_in d ≡ entered lost (Refused Lost) (table_in c)
-      → DropsOne hub a (Ok tt) d
-  drop_done path table =
+  pub drop_done : IsPath lost → (said : ArrayVec ℕ)
+      → table_in d ≡ entered lost (Refused Lost) said (table_in c) → DropsOne hub a (Ok tt) d
+  drop_done path said table =
       let entries : d.entries ≡ insert_entry path_cmp c.entries lost (Refused Lost) =
       ap (λ (t : Table). t.entries) table in
       let more = waiting-entered_other lost (Refused Lost) c.entries refl in
@@ -235,7 +239,8 @@ module _ {hub lost : List ℕ} {a b c : HostState} (d : HostState) (r : OnlyBusS
         holds = drop_holds (omega (arith, ap waiting entries));
         hubs = λ some. hubs-dropped lost hub a.entries c.entries x.bares.on left entries some;
         owned = drops;
-        sound = lost_drops lost b c d path.0 f.others f.rest f.pipes f.gone drop_world table hub a r
+        sound = lost_drops lost b c d path.0 f.others f.rest f.pipes f.gone drop_world drop_wide
+            said table hub a r
             x.goes.went.spends.onward x drops;
         cut = tt;
         bulk = λ p. tt;

@@ -1,16 +1,17 @@
 -- What a look at a port leaves.
 use Rattle.std.proofs.Common.{◌≡◌, ◌∙◌, ◌⊎◌, ◌+◌, ◌≤◌, arith, inl, inr, ap, refl, subst, sym, true}
 use Rattle.std.proofs.Common.{false, Bool, ℕ, List, None, Result, Ok, Err, OnOk, OnErr}
+use Rattle.arrayvec.specs.ArrayVec.{ArrayVec}
 use Rattle.usb_port.specs.{PortStatus, path_cmp}
 use Rattle.usb_tree.proofs.Interface.{decided}
 use Rattle.usb_hub.specs.{Isolates, StillWorks}
 use Rattle.usb_resources.specs.{IsFull}
 use Rattle.usb_enum.specs.{enumeration_bound, widest_enumeration, Enumerates, FaultAllowedAt}
-use Rattle.usb_enum.specs.{EnumFault, Memory, Finding, IsFound}
+use Rattle.usb_enum.specs.{EnumFault, Memory, Finding, IsFound, IsSaid}
 use Rattle.usb_enum.proofs.Interface.{went_sound}
 use Rattle.usb_table.specs.{KnownPort, Replaced, has_at, without, known_port, tier_of, Table}
-use Rattle.usb_table.specs.{entered, Entries}
-use Rattle.usb_table.proofs.Interface.{known_port-without}
+use Rattle.usb_table.specs.{entered, Entries, said_at}
+use Rattle.usb_table.proofs.Interface.{known_port-without, said_at-entered}
 use Rattle.usb_host.specs.Accounts.{Accounts}
 use Rattle.usb_host.specs.{PaysAtLook, hubs, clearing_bound, HostState, IsOwned, KeepsPort}
 use Rattle.usb_host.specs.{StaysOwned, StaysWhere, claims, FindsSound, IsOpen, ServesSound}
@@ -50,12 +51,14 @@ use Rattle.usb_host.proofs.PortLocations.{stands_at-claim}
 
 module _ {path : List ℕ} {port : KnownPort} {a b : HostState} (s : StandsAt path port a)
     (away : has_at path a.entries ≡ false) (accounts : Accounts a.entries a.addresses)
-    (went : HostSteps (enumeration_bound port.port) a b) (same : b.stopped ≡ a.stopped) where
+    (went : HostSteps (enumeration_bound port.port) a b) (same : b.stopped ≡ a.stopped)
+    (width : b.wide ≡ a.wide) where
   found_goes : HostRuns widest_enumeration a b
-  found_goes = enumeration_goes port.port a b s.askable went same
+  found_goes = enumeration_goes port.port a b s.askable went same width
 
   pub discover_fails : {fault : EnumFault}
-      → Enumerates port.port a.addresses (tier_of path) port.supply a.world (Err fault) b.world
+      → Enumerates port.port a.addresses b.wide (tier_of path) port.supply a.world (Err fault)
+      b.world
       → b.entries ≡ a.entries → b.pipes ≡ a.pipes → b.addresses ≡ a.addresses
       → FaultAllowedAt port.port fault b.world → Discovers path port a (Err fault) b
   discover_fails {fault = fault} x entries pipes pool told =
@@ -68,37 +71,43 @@ module _ {path : List ℕ} {port : KnownPort} {a b : HostState} (s : StandsAt pa
           works = x.works;
         };
         owned = owned;
-        sound = unfound_finds s away accounts went fault x entries pipes pool told owned;
+        sound = unfound_finds s width away accounts went fault x entries pipes pool told owned;
         gave = tt;
       }
 
   -- for what was found there is no memory
   pub discover_lost : {f : Finding}
-      → Enumerates port.port a.addresses (tier_of path) port.supply a.world (Ok f) b.world
+      → Enumerates port.port a.addresses b.wide (tier_of path) port.supply a.world (Ok f) b.world
       → b.entries ≡ a.entries → b.pipes ≡ a.pipes → Discovers path port a (Err Memory) b
   discover_lost {f = f} x entries pipes = record {
     requested = record { goes = found_goes; told = tt; works = λ sound. x.works };
     owned = found_lost b f x.addresses s away accounts entries went.spends.roots;
-    sound = unentered_finds s away accounts went f x entries pipes;
+    sound = unentered_finds s width away accounts went f x entries pipes;
     gave = tt;
   }
 
   pub discover_done : {f : Finding}
-      → Enumerates port.port a.addresses (tier_of path) port.supply a.world (Ok f) b.world
-      → IsFound a.addresses (tier_of path) port.supply f
-      → table_in b ≡ entered path f (table_in a) → Discovers path port a (Ok tt) b
-  discover_done {f = f} x is table =
+      → Enumerates port.port a.addresses b.wide (tier_of path) port.supply a.world (Ok f) b.world
+      → IsFound a.addresses b.wide (tier_of path) port.supply f → (said : ArrayVec ℕ)
+      → IsSaid port.port a.addresses said.items a.world b.world f
+      → table_in b ≡ entered path f said (table_in a) → Discovers path port a (Ok tt) b
+  discover_done {f = f} x is said says table =
       let owned = found_ends b f x.addresses s away accounts (ap (λ (t : Table). t.entries) table)
       went.spends.roots in
       record {
         requested = record { goes = found_goes; told = tt; works = x.works };
         owned = owned;
-        sound = entered_finds s away accounts went f x table owned;
+        sound = entered_finds s width away accounts went f x said table owned;
         gave = record {
           finding = f;
           gave = x;
           is = is;
           entries = ap (λ (t : Table). t.entries) table;
+          said = said.items;
+          says = says;
+          keeps = λ cause same. ap (λ (t : Table). said_at path t) table
+              ∙ ap (λ (g : Finding). said_at path (entered path g said (table_in a))) same
+              ∙ said_at-entered path cause said (table_in a);
         };
       }
 
@@ -297,27 +306,31 @@ module _ {path : List ℕ} {port : KnownPort} {a b c : HostState} (s : StandsAt 
     found_renewed (Ok done) d e = renews path a b c d r f.rest e
     found_renewed (Err fault) d e = tt
 
-    found_anew : (d : HostState)
+    found_anew : (d : HostState) → d.wide ≡ c.wide
         → EntersFound path port c.addresses c.world c.entries d → FindsAnew path a.entries b.world d
-    found_anew d g = record {
+    found_anew d width g = record {
       port = port;
       known = s.known;
       addresses = c.addresses;
-      agrees = subst (λ (es : Entries). Agrees es c.addresses) look_left f.agrees;
+      agrees = rw width (subst (λ (es : Entries). Agrees c.wide es c.addresses) look_left f.agrees);
       found = record {
         finding = g.finding;
-        gave = subst (λ (w : World). Enumerates port.port c.addresses (tier_of path) port.supply w
-            (Ok g.finding) d.world) (ap (λ (h : HostState). h.world) f.others) g.gave;
+        gave = subst (λ (w : World). Enumerates port.port c.addresses d.wide (tier_of path)
+            port.supply w (Ok g.finding) d.world) (ap (λ (h : HostState). h.world) f.others) g.gave;
         is = g.is;
         entries = g.entries
             ∙ ap (λ (es : Entries). insert_entry path_cmp es path g.finding) look_left;
+        said = g.said;
+        says = subst (λ (w : World). IsSaid port.port c.addresses g.said w d.world g.finding)
+            (ap (λ (h : HostState). h.world) f.others) g.says;
+        keeps = g.keeps;
       };
     }
 
     found_looked : (result : Result (Unit {0}) EnumFault) (d : HostState) → Entered path c result d
-        → OnOk result (EntersFound path port c.addresses c.world c.entries d) → IsOwned a
-        → LookedOrLost path a result d
-    found_looked (Ok done) d e g o = record {
+        → d.wide ≡ c.wide → OnOk result (EntersFound path port c.addresses c.world c.entries d)
+        → IsOwned a → LookedOrLost path a result d
+    found_looked (Ok done) d e width g o = record {
       status = status;
       mid = b.world;
       cleared = x.reads (claims a.entries) path (stands_at-claim s) o;
@@ -325,9 +338,9 @@ module _ {path : List ℕ} {port : KnownPort} {a b c : HostState} (s : StandsAt 
         e.finding,
         e.entries ∙ ap (λ (es : Entries). insert_entry path_cmp es path e.finding) look_left,
       );
-      found = λ shown. found_anew d g;
+      found = λ shown. found_anew d width g;
     }
-    found_looked (Err fault) d e g o = found_failed path a c d fault look_left e
+    found_looked (Err fault) d e width g o = found_failed path a c d fault look_left e
 
     found_cut : (result : Result (Unit {0}) EnumFault) (d : HostState)
         → FindsSound path c result d → HostInvariant a
@@ -390,7 +403,8 @@ look_done {path = path} {a = a} {b = b} {d = d} result {status = status} s r x y
       (y.found on)) (λ off. bare_pays s r x y.forgot);
   hubs = renew_hubs y r x.requested.goes;
   looked = cases (λ q h. IsOwned a → LookedOrLost path a q h)
-      (λ on. found_looked s r x y.forgot on result d (y.entered on) (y.found on).gave)
+      (λ on. found_looked s r x y.forgot on result d (y.entered on)
+      (y.found on).requested.goes.wide (y.found on).gave)
       (bare_looked s r x y.forgot);
   order = next_done status b x y;
 }

@@ -119,11 +119,12 @@ read_can (External hub number) old answer new x = inl tt
 
 pub shows : (port : HubPort) (a b : HostState) {answer : Result PortStatus PipeFault}
     {result : Result PortStatus EnumFault} → IsAskable port → HostSteps (status_bound port) a b
-    → b.stopped ≡ a.stopped → IfErr answer (λ fault. FaultAfter 1 a.world fault b.world)
+    → b.stopped ≡ a.stopped → b.wide ≡ a.wide
+    → IfErr answer (λ fault. FaultAfter 1 a.world fault b.world)
     → PortRead port a.world answer b.world → ReadsPort port a.world answer b.world
     → KeepsAsked port a.world answer b.world → result ≡ at_port answer → ShowsPort port a result b
-shows port a b {answer = answer} askable went same fault read tells keeps is = record {
-  requested = requested_by b answer (status_read_goes port a b askable went same)
+shows port a b {answer = answer} askable went same width fault read tells keeps is = record {
+  requested = requested_by b answer (status_read_goes port a b askable went same width)
       (read_can port a.world answer b.world read) (bus_told answer a.world b.world fault)
       (read_works port answer a.world b.world read) is;
   answer = answer;
@@ -140,14 +141,15 @@ cleared_can (External hub number) feature old answer new x = inl tt
 
 pub clears_by : (port : HubPort) (feature : ℕ) (a b : HostState)
     {answer : Result (Unit {0}) PipeFault} {result : Result (Unit {0}) EnumFault}
-    → HostSteps (order_bound port) a b → b.stopped ≡ a.stopped
+    → HostSteps (order_bound port) a b → b.stopped ≡ a.stopped → b.wide ≡ a.wide
     → IfErr answer (λ fault. FaultAfter 1 a.world fault b.world)
     → PortCleared port feature a.world answer b.world
     → KeepsCleared port feature a.world answer b.world
     → CommandsPort port (clear_call feature) a.world answer b.world → result ≡ at_port answer
     → ClearsFeature port feature a result b
-clears_by port feature a b {answer = answer} went same fault effect keeps calls is = record {
-  requested = requested_by b answer (goes_by {k = write_bound} a b went (order_most port) same)
+clears_by port feature a b {answer = answer} went same width fault effect keeps calls is = record {
+  requested = requested_by b answer (goes_by {k = write_bound} a b went (order_most port) same
+      width)
       (cleared_can port feature a.world answer b.world effect)
       (bus_told answer a.world b.world fault)
       (clear_works port feature answer a.world b.world effect) is;
@@ -165,13 +167,14 @@ other_can (External hub number) feature old answer new x = inl tt
 
 pub others_by : {asked : Bool} (port : HubPort) (feature : ℕ) (a b : HostState)
     (answer : Result (Unit {0}) PipeFault) {result : Result (Unit {0}) EnumFault} → asked ≡ true
-    → HostSteps (order_bound port) a b → b.stopped ≡ a.stopped
+    → HostSteps (order_bound port) a b → b.stopped ≡ a.stopped → b.wide ≡ a.wide
     → IfErr answer (λ fault. FaultAfter 1 a.world fault b.world)
     → ClearsOfPort port feature a.world answer b.world → KeepsAddresses a.world b.world
     → KeepsDevices a.world b.world → result ≡ at_port answer
     → ClearsOthers port write_bound (ClearsReported asked port feature) a result b
-others_by port feature a b answer asks went same fault effect addresses devices is = record {
-  requested = requested_by b answer (goes_by {k = write_bound} a b went (order_most port) same)
+others_by port feature a b answer asks went same width fault effect addresses devices is = record {
+  requested = requested_by b answer (goes_by {k = write_bound} a b went (order_most port) same
+      width)
       (other_can port feature a.world answer b.world effect) (bus_told answer a.world b.world fault)
       (port_change_works port feature answer a.world b.world effect) is;
   keeps = record { addresses = addresses; devices = devices };

@@ -179,7 +179,7 @@ module _ {hub : List ℕ} {bits n : ℕ} {a b : HostState} (x : PortsHandled hub
     pays = told_clear bits n a b off x.pays;
   }
 
-  module _ (most : n ≤ 7) {d : HostState} where
+  module _ (most : n ≤ 15) {d : HostState} where
     -- it did, and that was handled
     pub ports_handled : {round : Round} → has_bit bits n ≡ true → HandlesNumber hub n b (Ok round) d
         → PortsHandled hub bits (n + 1) a d
@@ -201,8 +201,8 @@ module _ {hub : List ℕ} {bits n : ℕ} {a b : HostState} (x : PortsHandled hub
       part = part-fails other (part-then {k = n * handling_bound} _ x.part y.part (omega arith)) e
           (omega arith);
       holds = on_failed other (AddsNoWork a d) e;
-      served = on_failed other (HostInvariant a → ServedTold hub bits 8 a d) e;
-      order = on_failed other (BitsHandledSo hub bits 8 a d) e;
+      served = on_failed other (HostInvariant a → ServedTold hub bits 16 a d) e;
+      order = on_failed other (BitsHandledSo hub bits 16 a d) e;
       fails = on_errors other (HostInvariant a → a.world.fault ≡ None
           → PortsFail hub bits a d) (λ i none. record {
             number = n;
@@ -218,7 +218,7 @@ module _ {hub : List ℕ} {bits n : ℕ} {a b : HostState} (x : PortsHandled hub
     }
 
 pub ports_end : {hub : List ℕ} (bits : ℕ) {n : ℕ} {a b : HostState} → PortsHandled hub bits n a b
-    → n ≡ 8 → ServesPorts hub bits a (Ok tt) b
+    → n ≡ 16 → ServesPorts hub bits a (Ok tt) b
 ports_end {hub = hub} bits {a = a} {b = b} x end = record {
   part = part-wider (Unit {0}) x.part (omega arith);
   holds = x.holds;
@@ -314,7 +314,7 @@ module _ {last : Option (List ℕ)} {hub : List ℕ} {round : Round} {a b d : Ho
 
 pub hubs_all_handled : (last : Option (List ℕ)) (round : Round) {a b : HostState}
     → HubsHandled last round a b → IfSome last IsPath → IsLast is_hub last b.entries
-    → Agrees b.entries b.addresses → (a.entries ≡ [] → (round ≡ Quiet) × (b ≡ a))
+    → Agrees b.wide b.entries b.addresses → (a.entries ≡ [] → (round ≡ Quiet) × (b ≡ a))
     → ServesHubs a (Ok round) b
 hubs_all_handled last round {a = a} {b = b} x path none agrees idle = record {
   keeps = record {
@@ -396,7 +396,7 @@ module _ {last : Option (List ℕ)} {path : List ℕ} {round : Round} {a b d : H
   }
 
 pub waiting_end : {last : Option (List ℕ)} {round : Round} {a b : HostState}
-    → WaitingHandled last round a b → IfSome last IsPath → Agrees b.entries b.addresses
+    → WaitingHandled last round a b → IfSome last IsPath → Agrees b.wide b.entries b.addresses
     → (IsFull b.addresses ⊎ IsLast is_waiting last b.entries)
     → (NoneWait a.entries → (round ≡ Quiet) × (b ≡ a)) → LooksAgain a (Ok round) b
 waiting_end {last = last} {round = round} x path agrees all idle = record {

@@ -82,7 +82,7 @@ module _ {result : Result Round HostFault} {a c : HostState} (e : IsErr result) 
     part = x;
     calm = λ is. not_done result e is;
     silent = λ s is. not_done result e is;
-    agrees = on_failed result (Agrees c.entries c.addresses) e;
+    agrees = on_failed result (Agrees c.wide c.entries c.addresses) e;
   }
 
   pub looks_fail : Part looks_bound a result c → (NoneWait a.entries → ⊥) → LooksKeep a result c
@@ -104,19 +104,21 @@ pub polled_hub_not_failed : (pipes left : Pipes) (fault : PipeFault) (old new : 
 polled_hub_not_failed (HubPipe pipe) left (Bus fault) old new x still served = cc
     (x.2.polls.ends.told, still)
 polled_hub_not_failed (Function pipes) left (Bus fault) old new x still served = cc (x.0)
-polled_hub_not_failed Absent left (Bus fault) old new x still served = cc (x.0)
+polled_hub_not_failed (Absent said) left (Bus fault) old new x still served = cc (x.0)
 polled_hub_not_failed (HubPipe pipe) left Memory old new x still served = x.2.polls.room refl
 polled_hub_not_failed (Function pipes) left Memory old new x still served = cc (x.0)
-polled_hub_not_failed Absent left Memory old new x still served = cc (x.0)
+polled_hub_not_failed (Absent said) left Memory old new x still served = cc (x.0)
 polled_hub_not_failed pipes left _ old new x still served = served
 
 pub hub_listed : (o : Option Finding) → IsSome (hub_facts_in o) → IsSome o
 hub_listed None some = absurd (cc some)
 hub_listed (Some f) some = refl
 
-part_where : (a c : HostState) → (HostInvariant a → PartStays a c) → PartStays a c
-part_where a c f = record {
+part_where : (a c : HostState) → c.wide ≡ a.wide → (HostInvariant a → PartStays a c)
+    → PartStays a c
+part_where a c wide f = record {
   sound = record {
+    wide = wide;
     sound = λ s. (f s).sound.sound s;
     caused = λ s fair q. (f s).sound.caused s fair q;
   };
@@ -125,23 +127,24 @@ part_where a c f = record {
 }
 
 module _ {hub : List ℕ} {answer : Result (Option (ArrayVec ℕ)) PipeFault} (a b : HostState)
-    (agrees : Agrees a.entries a.addresses) (same : b.entries ≡ a.entries)
-    (pool : b.addresses ≡ a.addresses) (stopped : b.stopped ≡ a.stopped) (went : HostSteps 768 a b)
+    (agrees : Agrees a.wide a.entries a.addresses) (same : b.entries ≡ a.entries)
+    (pool : b.addresses ≡ a.addresses) (stopped : b.stopped ≡ a.stopped)
+    (width : b.wide ≡ a.wide) (went : HostSteps 768 a b)
     (keeps : KeepsPolled hub (table_in a) a.world answer (table_in b) b.world)
     (through : GoesThrough hub (table_in a) (table_in b))
     (asks : PipesPolled (pipes_at hub (table_in a)) a.world answer (pipes_at hub (table_in b))
     b.world) where
-  agrees_on : Agrees b.entries b.addresses
-  agrees_on = rw same (rw pool agrees)
+  agrees_on : Agrees b.wide b.entries b.addresses
+  agrees_on = rw (width, same) (rw pool agrees)
 
   polled : StaysOwned a b
   polled = stays_kept a b same went.spends.roots keeps.levels.worlds.addresses
 
   goes : HostRuns 768 a b
-  goes = record { went = went; going = stopped }
+  goes = record { went = went; going = stopped; wide = width }
 
   sound : IsOk answer → KeepsInvariant a b
-  sound ok = sound_kept 768 hub (IsOk answer) a b agrees same went keeps.levels (λ still. ok)
+  sound ok = sound_kept 768 hub (IsOk answer) a b agrees same width went keeps.levels (λ still. ok)
 
   pub hub_stays : HostInvariant a → a.world.fault ≡ None → StaysWhere (Unit {0}) a b
   hub_stays s before = where_polled hub a b answer through asks
@@ -161,14 +164,15 @@ module _ {hub : List ℕ} {answer : Result (Option (ArrayVec ℕ)) PipeFault} (a
   }
 
   -- it has nothing to tell
-  pub hub_quiet : (pipes left : Pipes) → IsOk answer
+  pub hub_quiet : (pipes : Pipes) → IsOk answer
       → ArePipesIf (accepted_device_at hub a.entries) (is_below_hub hub) pipes
-      → PipesPolled pipes a.world (Ok None) left b.world → HubKeeps hub a (Ok Quiet) b
-  hub_quiet pipes left ok are asked = record {
+      → PipesPolled pipes a.world (Ok None) (pipes_at hub (table_in b)) b.world
+      → HubKeeps hub a (Ok Quiet) b
+  hub_quiet pipes ok are asked = record {
     part = record { goes = goes_wider goes (omega arith); owned = polled; sound = part ok };
     calm = λ is still. keeps.levels.worlds.rests still;
     silent = λ s is still none.
-        poll_silent b agrees_on ((sound ok).sound s) still hub pipes left a.world (rw same are)
+        poll_silent b agrees_on ((sound ok).sound s) still hub pipes a.world (rw same are)
         asked none;
   }
 
@@ -179,7 +183,8 @@ module _ {hub : List ℕ} {answer : Result (Option (ArrayVec ℕ)) PipeFault} (a
     part = record {
       goes = host_goes_then goes q (omega arith);
       owned = stays_owned_then polled owned;
-      sound = part_where a c (λ s. part_then 768 a b c goes.went q.went (part ok) (told s));
+      sound = part_where a c (q.wide ∙ goes.wide) (λ s. part_then 768 a b c goes.went q.went (part
+          ok) (told s));
     };
     calm = λ is. absurd (cc is);
     silent = λ s is. absurd (cc is);
@@ -201,8 +206,10 @@ module _ {hub : List ℕ} {answer : Result (Option (ArrayVec ℕ)) PipeFault} (a
           let rooted = polled.rooted s.rooted in
           let found : finding_at hub b.entries ≡ Some (Device there.device) =
           ap (λ (es : Entries). finding_at hub es) same ∙ there.found in
-          let known = known_kept 768 hub (IsOk answer) a b agrees same went keeps.levels s still in
-          let truthful = truthful_kept 768 hub (IsOk answer) a b agrees same went keeps.levels s
+          let known = known_kept 768 hub (IsOk answer) a b agrees same width went keeps.levels s
+          still in
+          let truthful = truthful_kept 768 hub (IsOk answer) a b agrees same width went keeps.levels
+          s
           still in
           let on = reached_at b.world (accounted b agrees_on rooted) known
           truthful hub found none in
@@ -224,8 +231,8 @@ module _ {hub : List ℕ} {answer : Result (Option (ArrayVec ℕ)) PipeFault} (a
   pub hub_droppable : IsSome (hub_facts_at hub a.entries) → HostInvariant a → IsDroppable hub b
   hub_droppable listed s = record {
     listed = there listed;
-    but = but_kept 768 hub (IsOk answer) a b agrees same went keeps.levels s;
-    there = λ still. occupied_kept 768 hub (IsOk answer) a b agrees same went keeps.levels s
+    but = but_kept 768 hub (IsOk answer) a b agrees same width went keeps.levels s;
+    there = λ still. occupied_kept 768 hub (IsOk answer) a b agrees same width went keeps.levels s
         (there listed) still agrees_on;
   }
 
@@ -239,7 +246,7 @@ module _ {hub : List ℕ} {answer : Result (Option (ArrayVec ℕ)) PipeFault} (a
           goes = host_goes_then goes q (omega arith);
           owned = dropped_hub_owned hub a c (there listed) polled drops;
           sound = sound_dropped (Ok tt) 768 a b c goes q (hub_droppable listed)
-              (caused_kept 768 hub (IsOk answer) a b agrees same went keeps.levels) hub_bulk
+              (caused_kept 768 hub (IsOk answer) a b agrees same width went keeps.levels) hub_bulk
               (plugs_kept a b went.spends.onward same) dropped (pends failed listed);
         };
         calm = λ is. absurd (cc is);

@@ -17,10 +17,12 @@ use Rattle.usb_hub.proofs.Interface.{failed_works}
 use Rattle.usb_table.specs.{TableFault, TransferFault, Pipes, Hub, Function, Absent, PipesPolled}
 use Rattle.usb_table.specs.{EndpointChoice, FunctionPipes, PipesThrough, PipesSent, PipesReceived}
 use Rattle.usb_table.specs.{PipesReported, PipesCleared, PipesClearedOf, PipeDid, NotTried}
-use Rattle.usb_table.specs.{InterfaceSetIf, Table, ThroughIf, SentThrough, ReceivedThrough, ReportedThrough}
+use Rattle.usb_table.specs.{InterfaceSetIf, Table, ThroughIf, SentThrough, ReceivedThrough}
+use Rattle.usb_table.specs.{ReportedThrough}
 use Rattle.usb_table.specs.{ClearedOfThrough, ClearedBy, ClearedAfter, ClearedIf, first_pipe}
 use Rattle.usb_table.specs.{pipe_to, polls_through, receives_through, sends_through, table_answer}
-use Rattle.usb_table.specs.{NoDevice, NoEndpoint, clear_miss, clears_miss, first_unclear, polls_miss}
+use Rattle.usb_table.specs.{NoDevice, NoEndpoint, clear_miss, clears_miss, first_unclear}
+use Rattle.usb_table.specs.{polls_miss}
 use Rattle.usb_table.specs.{receives_miss, sends_miss}
 use Rattle.usb_table.specs.declared.fault.TableFault.TheVariants as table
 use Rattle.usb_enum.specs.{EnumFault, EnumWorks, ParentLost, Bus, Memory}
@@ -44,11 +46,12 @@ pub polled_works : (pipes left : Pipes) (answer : Result (Option (ArrayVec ℕ))
 polled_works (Hub pipe) left answer old new x sound =
     made_works 1 0 answer old new x.2.polls.ends sound
 polled_works (Function pipes) left answer old new x sound = same_works old new x.2
-polled_works Absent left answer old new x sound = same_works old new x.2
+polled_works (Absent said) left answer old new x sound = same_works old new x.2
 
 -- Through one pipe
 
-sends_work : {bytes : List ℕ} {pipe : PipeState} (old : World) (answer : Result (Unit {0}) PipeFault)
+sends_work : {bytes : List ℕ} {pipe : PipeState} (old : World) (answer : Result (Unit {0})
+    PipeFault)
     {left : PipeState} (new : World) → Sends bytes pipe old answer left new
     → WorksAfter answer old new
 sends_work {bytes} {pipe} old answer new =
@@ -138,8 +141,8 @@ through_works pick miss So each (Hub pipe) old result left new x =
     untried_works NoEndpoint (Hub pipe) old result left new x
 through_works pick miss So each (Function pipes) old result left new x =
     if_works So each (miss pipes) (pick pipes) old result x.0 new x.2
-through_works pick miss So each Absent old result left new x =
-    untried_works NoDevice Absent old result left new x
+through_works pick miss So each (Absent said) old result left new x =
+    untried_works NoDevice (Absent said) old result left new x
 
 halt_works : (pipe left : Option PipeState) (old : World) (answer : Result (Unit {0}) PipeFault)
     (new : World) → ClearedBy pipe old answer left new → WorksAfter answer old new
@@ -166,7 +169,8 @@ both_work : (why : Option TransferFault) (pipes left : FunctionPipes) (old : Wor
 both_work (Some why) pipes left old result new x =
     untried_works why pipes old result left new x
 both_work None pipes left old result new x =
-    second_works x.first (first_unclear true pipes) (first_pipe true pipes) x.rest_in old x.mid result new
+    second_works x.first (first_unclear true pipes) (first_pipe true pipes) x.rest_in old x.mid
+    result new
     (halt_works (first_pipe false pipes) x.rest_out old x.first x.mid x.out) x.into
 
 halts_work : (pipes : Pipes) (old : World) (result : Result (Unit {0}) TableFault) (left : Pipes)
@@ -175,7 +179,8 @@ halts_work (Hub pipe) old result left new x =
     untried_works NoEndpoint (Hub pipe) old result left new x
 halts_work (Function pipes) old result left new x =
     both_work (clear_miss pipes) pipes x.0 old result new x.2
-halts_work Absent old result left new x = untried_works NoDevice Absent old result left new x
+halts_work (Absent said) old result left new x = untried_works NoDevice (Absent said) old result
+    left new x
 
 -- As the host tells it
 

@@ -1,4 +1,5 @@
 -- What a host knows stays so.
+pub mod ChangeWords
 pub mod DroppedHubs
 pub mod FinishedPorts
 pub mod FoundDevices

@@ -32,19 +32,19 @@ abbrev pub roots_bound : ℕ
 roots_bound = 7 * handling_bound
 
 abbrev pub told_bound : ℕ
-told_bound = 7 * handling_bound
+told_bound = 15 * handling_bound
 
 -- a poll, and what it tells
 abbrev pub hub_poll_bound : ℕ
 hub_poll_bound = transaction_bound + drop_bound + told_bound
 
--- there are fewer than 8 ^ 7 paths, and each is polled at most once, and looked at again at most
+-- there are fewer than 16 ^ 7 paths, and each is polled at most once, and looked at again at most
 -- once
 abbrev pub hubs_bound : ℕ
-hubs_bound = 2097152 * hub_poll_bound
+hubs_bound = 268435456 * hub_poll_bound
 
 abbrev pub looks_bound : ℕ
-looks_bound = 2097152 * handling_bound
+looks_bound = 268435456 * handling_bound
 
 abbrev pub round_bound : ℕ
 round_bound = roots_bound + hubs_bound + looks_bound

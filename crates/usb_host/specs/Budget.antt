@@ -27,16 +27,16 @@ pub record Weights : Type 0 where
 
 -- a change that asks for no look, a hub that is listed, a look, an event
 abbrev pub stray_weight : Weights → ℕ
-stray_weight c = 19968 + c.polls
+stray_weight c = 35968 + c.polls
 
 abbrev pub hub_weight : Weights → ℕ
-hub_weight c = 31168 + c.polls
+hub_weight c = 47168 + c.polls
 
 abbrev pub look_weight : Weights → ℕ
-look_weight c = 321104 + 100 * c.most + 3 * c.polls
+look_weight c = 369104 + 100 * c.most + 3 * c.polls
 
 abbrev pub event_weight : Weights → ℕ
-event_weight c = 2611968 + 800 * c.most + 26 * c.polls
+event_weight c = 2992000 + 800 * c.most + 25 * c.polls
 
 -- the attempts that are enough for what is left to do
 abbrev pub debt : Weights → HostState → ℕ
@@ -98,11 +98,10 @@ pub record PaysPart {A : Type 0} (most : Weights → ℕ) (Done : Weights → A 
 abbrev pub handling_most : Weights → ℕ
 handling_most c = 268400 + 100 * c.most
 
--- a port was handled: that is paid, and the polls of a round, a poll that told, and six statuses;
--- or its status told of no change, and few attempts
--- were made
+-- a port was handled: that is paid, and the polls of a round, a poll that told, and fourteen
+-- statuses; or its status told of no change, and few attempts were made
 pub data PortPaid (c : Weights) (path : List ℕ) (old new : HostState) : Type 0 where
-  paid : Pays c (c.polls + 12768) old new → PortPaid c path old new
+  paid : Pays c (c.polls + 28768) old new → PortPaid c path old new
   idle : (status : PortStatus) (mid : World) → PortStatusAt path status old.world mid
       → status.connection_changed ≡ false → status.reset_changed ≡ false
       → Costs c 2000 old new → PortPaid c path old new
@@ -125,22 +124,22 @@ pub record ShowsChange (w : World) (path : List ℕ) : Type 0 where
 pub record ShowsTold (hub : List ℕ) (bits : ℕ) (h : HostState) : Type 0 where
   pub number : ℕ
   pub least : 1 ≤ number
-  pub few : number ≤ 7
+  pub few : number ≤ 15
   pub set : has_bit bits number ≡ true
-  pub known : (n : ℕ) → 1 ≤ n → n ≤ 7 → has_bit bits n ≡ true → IsPath (hub ++ (n ∷ []))
+  pub known : (n : ℕ) → 1 ≤ n → n ≤ 15 → has_bit bits n ≡ true → IsPath (hub ++ (n ∷ []))
       × IsSome (known_port (hub ++ (n ∷ [])) h.entries)
-  pub shows : (n : ℕ) → 1 ≤ n → n ≤ 7 → has_bit bits n ≡ true
+  pub shows : (n : ℕ) → 1 ≤ n → n ≤ 15 → has_bit bits n ≡ true
       → ShowsChange h.world (hub ++ (n ∷ []))
 
 -- a status of each port, and then a handling
 abbrev pub told_most : Weights → ℕ
-told_most c = 16000 + handling_most c
+told_most c = 32000 + handling_most c
 
 -- the ports of which a hub told were handled: but for statuses all is paid; and where they show
 -- their changes, so are these, a poll, and the polls of
 -- a round
 pub record ToldPaid (hub : List ℕ) (bits : ℕ) (c : Weights) (old new : HostState) : Type 0 where
-  pub costs : Costs c 16000 old new
+  pub costs : Costs c 32000 old new
   pub shown : ShowsTold hub bits old → Pays c (c.polls + 768) old new
 
 -- Hubs

@@ -51,14 +51,15 @@ pub record MovesAnyBus {A : Type 0} (modelled : Bool) (most : ℕ)
   pub calls : TransfersAnyBus modelled most old result new
   pub refuses : old.stopped ≡ false → MovesOrRefuses asked old result new
 
--- `new`, whatever was done before over a bus in this world, with this trace: its root ports lost
--- power and have it again, and no device is known. At no attempt so far two reachable devices may
--- have held one address, since that stays told
-pub record NewTells (w : World) (t : Option (List ℕ)) (host : HostState) : Type 0 where
-  pub opens : host ≡ opening_host w t
-  pub traced : Traced w t host.world host.trace
-  pub owning : w.shared ≡ false → HostMapHolds host
-  pub sound : w.shared ≡ false → HostInvariant host
+-- `new` and `with_wide_hubs`, whatever was done before over a bus in this world, with this trace:
+-- its root ports lost power and have it again, and no device is known. At no attempt so far two
+-- reachable devices may have held one address, since that stays told
+pub record NewTells (wide : Bool) (w : World) (t : Option (List ℕ)) (host : HostState) : Type 0
+  where
+    pub opens : host ≡ opening_host wide w t
+    pub traced : Traced w t host.world host.trace
+    pub owning : w.shared ≡ false → HostMapHolds host
+    pub sound : w.shared ≡ false → HostInvariant host
 
 -- a round failed: this is what the host had done, and then it stopped
 pub record StopsIn (old new : HostState) : Type 0 where

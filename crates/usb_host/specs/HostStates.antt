@@ -40,6 +40,7 @@ pub record HostState : Type 0 where
   pub addresses : Addresses  -- those that are taken
   pub numbers : DeviceNumbers
   pub reported : ReportedDevices  -- to the caller, by `next_news`
+  pub wide : Bool  -- whether it takes hubs of 8 to 15 ports, for good
   pub stopped : Bool
 
 -- each port of a row lost power and has it again, and what is on it stays
@@ -49,8 +50,8 @@ repowered (vacant b k) = vacant (powered_on (powered_off b)) (repowered k)
 repowered (taken b s a k) = taken (powered_on (powered_off b)) s a (repowered k)
 
 -- the root ports lost power and have it again, and no device is known
-abbrev pub opening_host : World → Option (List ℕ) → HostState
-opening_host w t = record {
+abbrev pub opening_host : Bool → World → Option (List ℕ) → HostState
+opening_host wide w t = record {
   world = record w { roots = repowered w.roots };
   trace = t;
   counts = no_counts;
@@ -60,6 +61,7 @@ opening_host w t = record {
   addresses = set.empty;
   numbers = first_numbers;
   reported = [];
+  wide = wide;
   stopped = false;
 }
 

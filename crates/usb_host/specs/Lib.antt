@@ -90,7 +90,7 @@ pub use Service.{LooksAt, LooksFail, LooksOnceMore, LosesParent, NoneHears, Poll
 pub use Service.{PortsFail, Renews, RenewsPort, RootsFail, RootsServed, PartsFail, RoundParts}
 pub use Service.{ServedAt, ServedBelow, ServedOrLost, ServedTold, ServesEach, ServesHub}
 pub use Service.{ServesHubs, ServesOwn, ServesPort, ServesPorts, ServesRoots, ServesTold}
-pub use Service.{Tidied, WentByParts, bit_clear, bit_set, drop_failed, first_byte}
+pub use Service.{Tidied, WentByParts, bit_clear, bit_set, drop_failed}
 pub use Service.{OwnHandled, OwnServed, ServesFor, all_done, at_connection, at_error, at_others}
 pub use Service.{hub_failed, own_known, own_unknown, DoneAt, BelowHandledSo, BitsHandledSo}
 pub use Service.{EachAsked, EachWaitingAsked, HandledSo, HubAsked, HubsAsked, LookedSo}

@@ -51,7 +51,12 @@ Remains old new = new ≡ record old {
 
 -- what a driver may know of the accepted devices
 abbrev pub known_in : HostState → Known
-known_in h = record { entries = h.entries; numbers = h.numbers; reported = h.reported }
+known_in h = record {
+  entries = h.entries;
+  numbers = h.numbers;
+  reported = h.reported;
+  wide = h.wide;
+}
 
 -- over any bus: each device that is still listed keeps its number, and no number is given twice
 abbrev pub KeepsNumbers : HostState → HostState → Type 0
@@ -70,10 +75,11 @@ pub record HostGoes (most : ℕ) (old new : HostState) : Type 0 where
 abbrev pub HostSteps : ℕ → HostState → HostState → Type 0
 HostSteps most old new = StepRun most old.world old.trace new.world new.trace
 
--- so it went, and the host goes on
+-- so it went, and the host goes on as the one that it is
 pub record HostRuns (most : ℕ) (old new : HostState) : Type 0 where
   pub went : HostSteps most old new
   pub going : new.stopped ≡ old.stopped
+  pub wide : new.wide ≡ old.wide
 
 -- no entry has changed, and no more root ports are left alone
 pub record StaysQuiet (old new : HostState) : Type 0 where

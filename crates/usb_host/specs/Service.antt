@@ -7,6 +7,7 @@ use Rattle.std.specs.BTreeMap.{insert_entry}
 use Rattle.arrayvec.specs.ArrayVec.{ArrayVec}
 use Rattle.usb_port.specs.{path_cmp, parent_of, IsPath, has_bit}
 use Rattle.usb_port.specs.{PortStatus}
+use Rattle.usb_device.specs.{told_bits}
 use Rattle.usb_world.specs.{BusFault, PlanData, World, changes, root_port_at, root_row, roots_of}
 use Rattle.usb_transaction.specs.{NoThreeDamaged}
 use Rattle.usb_pipe.specs.{PipeFault, ByteTold}
@@ -94,11 +95,6 @@ pub data LookedOnce (path : List ℕ) (old new : HostState) : Type 0 where
 
 -- A hub
 
--- the first byte of a status change, which has a bit for each of a hub's ports (11.12.4)
-abbrev pub first_byte : List ℕ → ℕ
-first_byte [] = 0
-first_byte (byte ∷ rest) = byte
-
 -- a port of a hub was served, where one that is known has that path; else nothing was done
 pub data ServedBelow (hub : List ℕ) (number : ℕ) (old new : HostState) : Type 0 where
   port_known : ServedAt (hub ++ (number ∷ [])) old new → ServedBelow hub number old new
@@ -133,7 +129,7 @@ pub data HubPolled (hub : List ℕ) (old new : HostState) : Round → Type 0 whe
       → HubPolled hub old new Quiet
   told_some : (packet : ArrayVec ℕ) (mid : HostState) → PolledOnce hub old (Ok (Some packet)) mid
       → (byte : ByteTold (BitsOf hub old.world mid.world) packet.items)
-      → ServedTold hub byte.bits 8 mid new → HubPolled hub old new Worked
+      → ServedTold hub byte.bits 16 mid new → HubPolled hub old new Worked
   not_heard : (fault : PipeFault) (mid : HostState) → PolledOnce hub old (Err fault) mid
       → NoneHears hub old mid.world → HasLost hub mid.entries new.entries
       → HubPolled hub old new Worked
@@ -405,14 +401,14 @@ pub data OwnServed (hub : List ℕ) (old new : HostState) : Type 0 where
 -- what a hub reported was handled: its own changes where it reports itself alone, else its ports
 pub data ReportHandled (hub : List ℕ) (bits : ℕ) (old new : HostState) : Type 0 where
   own_reported : bits ≡ 1 → OwnServed hub old new → ReportHandled hub bits old new
-  ports_reported : bits ≢ 1 → BitsHandledSo hub bits 8 old new → ReportHandled hub bits old new
+  ports_reported : bits ≢ 1 → BitsHandledSo hub bits 16 old new → ReportHandled hub bits old new
 
 -- a hub was polled: it answered that it has no change; or with bits, and what it reported was
 -- handled; or the poll failed, and it, or a hub above it, is listed as lost
 pub data HubAsked (hub : List ℕ) (old new : HostState) : Round → Type 0 where
   asked_none : PolledOnce hub old (Ok None) new → HubAsked hub old new Quiet
   asked_some : (packet : ArrayVec ℕ) (mid : HostState) → PolledOnce hub old (Ok (Some packet)) mid
-      → ReportHandled hub (first_byte packet.items) mid new → HubAsked hub old new Worked
+      → ReportHandled hub (told_bits packet.items) mid new → HubAsked hub old new Worked
   asked_failed : (fault : PipeFault) (mid : HostState) → PolledOnce hub old (Err fault) mid
       → HasLost hub mid.entries new.entries → HubAsked hub old new Worked
 
@@ -529,8 +525,8 @@ pub record ServesPorts (hub : List ℕ) (bits : ℕ) (old : HostState)
     (result : Result (Unit {0}) HostFault) (new : HostState) : Type 0 where
   pub part : Part told_bound old result new
   pub holds : OnOk result (AddsNoWork old new)
-  pub served : OnOk result (HostInvariant old → ServedTold hub bits 8 old new)
-  pub order : OnOk result (BitsHandledSo hub bits 8 old new)
+  pub served : OnOk result (HostInvariant old → ServedTold hub bits 16 old new)
+  pub order : OnOk result (BitsHandledSo hub bits 16 old new)
   pub fails : OnErr result (HostInvariant old → old.world.fault ≡ None
       → PortsFail hub bits old new)
   pub pays : PaysPart told_most (λ c done. ToldPaid hub bits c) old result new

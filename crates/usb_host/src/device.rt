@@ -1,4 +1,4 @@
-//! An accepted device with its number.
+//! An accepted device with its number, and what a refused one said.
 ghost use Rattle.std.specs.Prelude.{◌≡◌};
 
 use crate::Host;
@@ -39,9 +39,11 @@ impl<'a> Device<'a> {
 }
 
 impl<B: Bus> Host<B> {
-    ghost use Rattle.std.specs.Prelude.{◌≡◌};
+    ghost use Rattle.std.specs.Prelude.{◌≡◌, option_copied};
+    ghost use Rattle.usb_table.specs.Tables.{said_at};
     ghost use Rattle.usb_host.specs.Numbers.{NumbersFit, device_in};
     ghost use Rattle.usb_host.specs.Progress.{known_in};
+    ghost use Rattle.usb_host.specs.Transfers.{table_in};
 
     /// The accepted device at a path, hubs too; `None` if none is listed there.
     pub fn device(&self, path: &PortPath) -> Option<Device<'_>>
@@ -57,5 +59,14 @@ impl<B: Bus> Host<B> {
             }),
             _ => None,
         }
+    }
+
+    /// What the refused device at a path said of itself (9.6.1): the bytes of its device descriptor
+    /// that were read last, 0 to 18. `None` if no refused device is listed there. A hub that was lost
+    /// said nothing.
+    pub fn said(&self, path: &PortPath) -> Option<&[u8]>
+        ensures { option_copied result ≡ said_at path.now (table_in self.now) }
+    {
+        self.table.said(path)
     }
 }

@@ -45,6 +45,7 @@ pub struct Host<B: Bus> {
     pub(crate) left: LeftPorts<B>,
     pub(crate) numbers: Numbers,
     pub(crate) reported: Reported,
+    pub(crate) wide: bool,
     pub(crate) stopped: bool,
 }
 
@@ -69,10 +70,11 @@ impl<B: Bus> Model for Host<B> {
       addresses = h.pool;
       numbers = h.numbers;
       reported = h.reported;
+      wide = h.wide;
       stopped = h.stopped;
     } };
 
-    ghost invariant = { λ h. Agrees h.table.entries h.pool };
+    ghost invariant = { λ h. Agrees h.wide h.table.entries h.pool };
 }
 
 impl<B: Bus> Host<B> {
@@ -81,11 +83,37 @@ impl<B: Bus> Host<B> {
     /// The host of a bus, which knows of no device. It takes the power of each root port and gives
     /// it again (11.24.2.2, 11.24.2.13): a device there is disabled, and reported as plugged (11.5.1). So
     /// the bus may be one that another host had, also one that has stopped (`into_bus`).
+    ///
+    /// It takes hubs of 1 to 7 ports whose status endpoint is number 1, and refuses others.
     pub fn new(alloc: Global, bus: B) -> Host<B>
         ensures any_bus { (result.entries ≡ []) × ((result.stopped ≡ false)
             × (result.counts.left ≡ none_left)) }
         ensures known { (result.numbers ≡ first_numbers) × (result.reported ≡ []) }
-        ensures tells { B.modelled ≡ true → NewTells (B.world bus) (B.trace bus) result }
+        ensures wide { result.wide ≡ false }
+        ensures tells { B.modelled ≡ true → NewTells false (B.world bus) (B.trace bus) result }
+    {
+        Host::opened(alloc, bus, false)
+    }
+
+    /// The same, of a host that also takes hubs of 8 to 15 ports (11.23.2.1), and status endpoints
+    /// of numbers 1 to 15 (11.12.1).
+    pub fn with_wide_hubs(alloc: Global, bus: B) -> Host<B>
+        ensures any_bus { (result.entries ≡ []) × ((result.stopped ≡ false)
+            × (result.counts.left ≡ none_left)) }
+        ensures known { (result.numbers ≡ first_numbers) × (result.reported ≡ []) }
+        ensures wide { result.wide ≡ true }
+        ensures tells { B.modelled ≡ true → NewTells true (B.world bus) (B.trace bus) result }
+    {
+        Host::opened(alloc, bus, true)
+    }
+
+    /// The host of a bus, which takes wide hubs or does not.
+    fn opened(alloc: Global, bus: B, wide: bool) -> Host<B>
+        ensures any_bus { (result.entries ≡ []) × ((result.stopped ≡ false)
+            × (result.counts.left ≡ none_left)) }
+        ensures known { (result.numbers ≡ first_numbers) × (result.reported ≡ []) }
+        ensures wide { result.wide ≡ wide }
+        ensures tells { B.modelled ≡ true → NewTells wide (B.world bus) (B.trace bus) result }
     {
         let mut bus = bus;
         let roots = bus.root_ports();
@@ -101,6 +129,7 @@ impl<B: Bus> Host<B> {
             left: LeftPorts::new(),
             numbers: Numbers::new(),
             reported: Reported::new(),
+            wide,
             stopped: false,
         }
     }
@@ -120,7 +149,7 @@ impl<B: Bus> Host<B> {
     pub fn bus_mut(&mut self) -> &mut B
         ensures world { B.world result.now ≡ self.old.world }
         ensures trace { B.trace result.now ≡ self.old.trace }
-        ensures agree { Agrees self.old.entries self.old.addresses }
+        ensures agree { Agrees self.old.wide self.old.entries self.old.addresses }
         ensures* writes_back { sem 𝓛 (Lends (the_row B.row B.Bus) B.row self.entry result
             (λ b. record self.old {
               world = B.world b;
@@ -148,6 +177,7 @@ impl<B: Bus> Host<B> {
             left: _,
             numbers: _,
             reported: _,
+            wide: _,
             stopped: _,
         } = self;
         bus
@@ -161,7 +191,7 @@ impl<B: Bus> Host<B> {
     pub fn tree(&self) -> Result<Tree, HostFault>
         ensures entries { IfOk result (λ tree. tree ≡ self.now.entries) }
         ensures memory { IfErr result (λ fault. fault ≡ HostFault.Memory) }
-        ensures agree { Agrees self.now.entries self.now.addresses }
+        ensures agree { Agrees self.now.wide self.now.entries self.now.addresses }
     {
         Ok(Tree::new(self.table.entries(self.alloc)?))
     }

@@ -12,6 +12,9 @@
 //! - **A device is the same as long as its number is.** Over any bus, an accepted device that stays
 //!   listed keeps its number, and no number is given twice (`KeepsNumbers`; `Host::device`,
 //!   `next_news`).
+//! - **Which hubs are taken.** A host takes hubs of 1 to 7 ports, or with `Host::with_wide_hubs`
+//!   of 1 to 15 (11.23.2.1). It stays so (`KeepsNumbers`). What a refused device said of itself is
+//!   kept (*EntersFound*; `Host::said`).
 //! - **A transfer is refused just where it cannot go.** Over any bus, a call through the pipe to one
 //!   endpoint tells that there is no device, no such endpoint or a broken pipe. Then it attempts
 //!   nothing and changes no pipe (*MovesOrRefuses*; `Host::send_to` and the others).

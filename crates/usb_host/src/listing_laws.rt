@@ -1,7 +1,7 @@
 //! What a host knows stays so as events come; and where it has nothing left to do, its listing is what is plugged.
 //!
 //! Each call does nothing; what it ensures is for proofs to cite.
-ghost use Rattle.std.specs.Prelude.{◌≡◌, ℕ, List, Option, Result, Ok, false};
+ghost use Rattle.std.specs.Prelude.{◌≡◌, ℕ, Bool, List, Option, Result, Ok, false};
 ghost use Rattle.usb_resources.specs.Pool.{Addresses};
 ghost use Rattle.usb_world.specs.declared.event.Ask.{Ask};
 ghost use Rattle.usb_world.specs.declared.types.BusFault.{BusFault};
@@ -30,7 +30,7 @@ pub fn known_stays()
 /// reported a fault.
 pub fn known_stays_at_events()
     ensures sound { (old new : HostState) (due : Option (Option Ask))
-        → Agrees old.entries old.addresses
+        → Agrees old.wide old.entries old.addresses
         → TakesEvent old.world old.trace (Ok due) new.world new.trace → OnlyBusSteps old new
         → KeepsInvariant old new }
     ensures owning { (old new : HostState) (result : Result (Option (Option Ask)) BusFault)
@@ -41,8 +41,8 @@ pub fn known_stays_at_events()
 /// If nothing is left to do, a host that knows its ports, and of which each accepted device and each cause is so,
 /// lists what is plugged.
 pub fn settled_matches()
-    ensures { (w : World) (entries : Entries) (addresses : Addresses)
-        → Accounted (roots_of w) entries addresses → PortsListed w entries
-        → DevicesAccurate w entries
-        → RefusalsJustified w entries → IsAtRest w entries → Matches w entries }
+    ensures { (wide : Bool) (w : World) (entries : Entries) (addresses : Addresses)
+        → Accounted wide (roots_of w) entries addresses → PortsListed w entries
+        → DevicesAccurate wide w entries → RefusalsJustified wide w entries
+        → IsAtRest w entries → Matches wide w entries }
 {}

@@ -8,13 +8,14 @@ ghost use Rattle.usb_host.specs.HostStates.{Frees};
 ghost use Rattle.usb_host.specs.Numbers.{AreNumbers, with_number};
 
 use crate::numbers::Numbers;
+use arrayvec::ArrayVec;
 use std::alloc::AllocError;
 use usb_enum::Finding;
 use usb_port::PortPath;
 use usb_resources::{Address, AddressPool};
 use usb_table::{DeviceTable, address_of};
 
-/// Enters a finding, and gives an accepted device its number. If memory is refused or no number is
+/// Enters a finding, with what a refused device said, and gives an accepted device its number. If memory is refused or no number is
 /// left, its address is released.
 pub(crate) fn enter(
     table: &mut DeviceTable,
@@ -22,12 +23,13 @@ pub(crate) fn enter(
     numbers: &mut Numbers,
     path: PortPath,
     finding: Finding,
+    said: ArrayVec<u8, 18>,
 ) -> Result<(), AllocError>
     requires away { has_at path table.old.entries ≡ false }
     requires sound { IsSoundFinding finding }
     requires new { HasNewAddress finding table.old.entries }
     ensures ok { OnOk result
-        ((table.new ≡ entered path finding table.old) × (pool.new ≡ pool.old)) }
+        ((table.new ≡ entered path finding said table.old) × (pool.new ≡ pool.old)) }
     ensures err { OnErr result ((table.new ≡ table.old) × Frees finding pool.old pool.new) }
     ensures given { OnOk result (numbers.new ≡ with_number finding numbers.old) }
     ensures kept { OnErr result (numbers.new ≡ numbers.old) }
@@ -38,7 +40,7 @@ pub(crate) fn enter(
         release(pool, address);
         return Err(AllocError);
     }
-    let entered = table.insert(path, finding);
+    let entered = table.insert(path, finding, said);
     if entered.is_ok() {
         numbers.give(address);
     } else {

@@ -27,8 +27,9 @@ ghost use Rattle.usb_host.specs.ToldFaults.{HostReported, PartFaultAllowed, Host
 use crate::HostFault;
 use crate::host::{Host, Round};
 use crate::pool::{enter, release};
+use arrayvec::ArrayVec;
 use usb_bus::Bus;
-use usb_enum::{Cause, EnumFault, Finding, enumerate};
+use usb_enum::{Cause, EnumFault, Finding, Place, enumerate};
 use usb_hub::{
     HubPort, PipeFault, PortStatus, clear_hub_changes, clear_port, clear_port_change, has_root,
     port_status,
@@ -519,13 +520,19 @@ impl<B: Bus> Host<B> {
         ensures entered { Entered path.now self.old result self.new }
         ensures finds { B.modelled ≡ true → Discovers path.now port self.old result self.new }
     {
+        let place = Place {
+            tier: tier(path),
+            supply: port.supply,
+            wide: self.wide,
+        };
+        let mut said = ArrayVec::new();
         let finding = enumerate(
             self.alloc,
             &mut self.bus,
             &mut self.pool,
             port.port,
-            tier(path),
-            port.supply,
+            place,
+            &mut said,
         )?;
         Ok(enter(
             &mut self.table,
@@ -533,6 +540,7 @@ impl<B: Bus> Host<B> {
             &mut self.numbers,
             path.duplicate(),
             finding,
+            said,
         )?)
     }
 
@@ -549,7 +557,8 @@ impl<B: Bus> Host<B> {
         // for the checker: a path has one to seven numbers
         let _numbers = lost.numbers();
         self.forget(&lost);
-        Ok(self.table.insert(lost, Finding::Refused(Cause::Lost))?)
+        let lost_hub = Finding::Refused(Cause::Lost);
+        Ok(self.table.insert(lost, lost_hub, ArrayVec::new())?)
     }
 
     /// Disables the port at a path, or the nearest one above it that can be disabled. A root port that was left alone

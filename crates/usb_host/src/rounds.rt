@@ -1,6 +1,7 @@
 //! The parts of a round.
 ghost use Rattle.std.specs.Prelude.{◌≡◌, true, IfErr, ◌⊎◌, IfSome, IfNone, IsSome};
 ghost use Rattle.usb_port.specs.Path.{IsPath};
+ghost use Rattle.usb_device.specs.Bulk.{told_bits};
 ghost use Rattle.usb_table.specs.Listing.{hub_facts_at};
 ghost use Rattle.usb_table.specs.Findings.{is_hub, is_waiting};
 ghost use Rattle.usb_table.specs.NextEntries.{ComesAfter, IsNext, IsLast};
@@ -9,7 +10,7 @@ ghost use Rattle.usb_host.specs.Agreement.{Agrees};
 ghost use Rattle.usb_host.specs.Ports.{Waits};
 ghost use Rattle.usb_host.specs.Bounds.{hub_poll_bound, hubs_bound, looks_bound, roots_bound, round_bound, told_bound};
 ghost use Rattle.usb_host.specs.Progress.{HostGoes, HostSpends, KeepsNumbers, QuietKeeps, either};
-ghost use Rattle.usb_host.specs.Service.{LooksAgain, ServesEach, ServesHub, ServesHubs, ServesPorts, ServesTold, WentByParts, first_byte};
+ghost use Rattle.usb_host.specs.Service.{LooksAgain, ServesEach, ServesHub, ServesHubs, ServesPorts, ServesTold, WentByParts};
 ghost use Rattle.usb_host.specs.ToldFaults.{HostWorks, PartFaultAllowed};
 
 use crate::HostFault;
@@ -97,7 +98,7 @@ impl<B: Bus> Host<B> {
         match self.table.poll(&mut self.bus, hub) {
             Ok(None) => Ok(Round::Quiet),
             Ok(Some(bits)) => {
-                self.service_reported(hub, first_byte(bits.as_slice()))?;
+                self.service_reported(hub, told_bits(bits.as_slice()))?;
                 Ok(Round::Worked)
             }
             Err(PipeFault::Bus(fault)) => Err(HostFault::Bus(fault)),
@@ -109,7 +110,7 @@ impl<B: Bus> Host<B> {
     }
 
     /// Handles a hub's status-change bitmap: its ports, and the hub itself if none of them has a change.
-    fn service_reported(&mut self, hub: &PortPath, bits: u8) -> Result<(), HostFault>
+    fn service_reported(&mut self, hub: &PortPath, bits: u16) -> Result<(), HostFault>
         requires { IsPath hub.now }
         ensures spends { HostSpends told_bound self.old self.new }
         ensures numbers { KeepsNumbers self.old self.new }
@@ -125,7 +126,7 @@ impl<B: Bus> Host<B> {
     }
 
     /// Handles each port of a hub whose bit is set, by rising number, as long as the hub is known.
-    fn serve_ports(&mut self, hub: &PortPath, bits: u8) -> Result<(), HostFault>
+    fn serve_ports(&mut self, hub: &PortPath, bits: u16) -> Result<(), HostFault>
         requires { IsPath hub.now }
         ensures spends { HostSpends told_bound self.old self.new }
         ensures numbers { KeepsNumbers self.old self.new }
@@ -133,7 +134,7 @@ impl<B: Bus> Host<B> {
         ensures serves { B.modelled ≡ true → ServesPorts hub.now bits self.old result self.new }
         ensures works { B.modelled ≡ true → HostWorks self.old result self.new }
     {
-        'ports: for number in 1..8u8 {
+        'ports: for number in 1..16u8 {
             if bits >> number & 1 == 1 {
                 self.handle_below(hub, number)?;
             }
@@ -164,7 +165,7 @@ impl<B: Bus> Host<B> {
     fn next_hub(&self, last: &Option<PortPath>) -> Option<PortPath>
         ensures some { IfSome result (IsNext is_hub last.now self.now.entries) }
         ensures none { IfNone result (IsLast is_hub last.now self.now.entries) }
-        ensures agree { Agrees self.now.entries self.now.addresses }
+        ensures agree { Agrees self.now.wide self.now.entries self.now.addresses }
     {
         self.table.next_hub(last.as_ref())
     }
@@ -174,7 +175,7 @@ impl<B: Bus> Host<B> {
         ensures some { IfSome result (λ path. Waits path self.now × ComesAfter last.now path) }
         ensures none { IfNone result
             (IsFull self.now.addresses ⊎ IsLast is_waiting last.now self.now.entries) }
-        ensures agree { Agrees self.now.entries self.now.addresses }
+        ensures agree { Agrees self.now.wide self.now.entries self.now.addresses }
     {
         if self.pool.is_full() {
             return None;
@@ -183,12 +184,13 @@ impl<B: Bus> Host<B> {
     }
 }
 
-/// The first byte of a status change, which has a bit for each of a hub's ports (11.12.4).
-fn first_byte(bits: &[u8]) -> u8
-    ensures { result ≡ first_byte bits.now }
+/// The bits of a status change: bit 0 of the hub itself, bit n of port n, in one byte or two (11.12.4).
+fn told_bits(bits: &[u8]) -> u16
+    ensures { result ≡ told_bits bits.now }
 {
-    match bits.first() {
-        Some(byte) => *byte,
-        None => 0,
+    match bits {
+        [] => 0,
+        [low] => u16::from(*low),
+        [low, high, ..] => u16::from(*low) + 256 * u16::from(*high),
     }
 }

@@ -11,3 +11,4 @@ mod news;
 mod polls;
 mod quirks;
 mod second;
+mod wide;

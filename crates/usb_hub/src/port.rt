@@ -24,7 +24,7 @@ pub enum HubPort {
     External {
         /// The hub's endpoint 0.
         hub: Target,
-        /// The port's number, 1 to 7.
+        /// The port's number, 1 to 15.
         port: u8,
     },
 }

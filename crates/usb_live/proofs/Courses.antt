@@ -1,5 +1,5 @@
 -- How a course goes on at each call.
-use Rattle.std.proofs.Common.{◌≡◌, ◌≢◌, ◌∙◌, ℕ, zero, suc, ◌+◌, ◌^◌, ◌≤◌, ◌<◌, ◌⊎◌, inl, inr, List}
+use Rattle.std.proofs.Common.{◌≡◌, ◌≢◌, ◌∙◌, ℕ, zero, suc, ◌+◌, ◌^◌, ◌≤◌, ◌<◌, ◌⊎◌, inl, inr, List, []}
 use Rattle.std.proofs.Common.{Option, Some, None, Result, Ok, Err, refl, sym, ap, subst, arith}
 use Rattle.std.proofs.Common.{Bool, is_ok, true, false, nat_lt, if◌then◌else◌}
 use Rattle.std.proofs.lemmas.Bool.{cases_lt}
@@ -18,7 +18,8 @@ use Rattle.usb_stream.specs.{Restarts, restart_of}
 use Rattle.usb_stream.specs.{SaysHello, WritesLines, bus_fault, greeted, kept_of, question_for}
 use Rattle.usb_stream.specs.{roots_if, streams, unasked, unread_of, written_of, StreamBus}
 use Rattle.usb_stream.specs.{LiveFault}
-use Rattle.usb_live.specs.{LiveCourse, CourseTo, EndsBy, EndsLiveAs, IsShown, StandsAtStage, Lives}
+use Rattle.usb_text.specs.{lines_text, listing_lines}
+use Rattle.usb_live.specs.{LiveCourse, LiveHost, CourseTo, EndsBy, EndsLiveAs, IsShown, StandsAtStage, Lives}
 use Rattle.usb_live.specs.{is_nothing, is_wait, listed, owed_by, owed_left, owes, questions_in}
 use Rattle.usb_live.specs.{settles, stage_behind, stage_behind_answer, told_text, LiveEnd, Line}
 use Rattle.usb_live.specs.{Memory, Rounds, Owed}
@@ -35,8 +36,8 @@ left_behind q r0 r1 w0 w1 j (Err f) k h = h.spent
 
 -- ---- one step
 
-pub on_asks : {st : Stage} {o : Owed} {limit m : ℕ} {u r : Pipe} {b w : OutPipe} {k : Kept}
-    → CourseTo st o limit m u b r w k → CourseTo Asks o limit m u b r w k
+pub on_asks : {st : Stage} {o : Owed} {host : LiveHost} {m : ℕ} {u r : Pipe} {b w : OutPipe} {k : Kept}
+    → CourseTo st o host m u b r w k → CourseTo Asks o host m u b r w k
 on_asks c = record {
   asked = c.asked;
   course = c.course;
@@ -62,7 +63,7 @@ owes_one owed.Nothing item fits = cc
 owes_one _ item fits = refl
 
 number_more : (item : Item) (m : ℕ) → number_of item m ≤ m + 1
-number_more (Listing entries taken) m = omega arith
+number_more (Listing entries taken said) m = omega arith
 number_more _ m = omega arith
 
 -- once it is told, it is a listing more at most, and is owed no more
@@ -72,11 +73,11 @@ owes_told o item m n (Ok done) fits few =
     omega (arith, few, owes_one o item fits, number_more item m)
 owes_told o item m n (Err f) fits few = few
 
-asked_on : {st : Stage} {o : Owed} {limit m : ℕ} {u : Pipe} {b : OutPipe}
+asked_on : {st : Stage} {o : Owed} {host : LiveHost} {m : ℕ} {u : Pipe} {b : OutPipe}
     (r0 r1 : Pipe) (w0 w1 : OutPipe) (j k : Kept) (q : Question)
-    (result : Result Answer LiveFault) → CourseTo st o limit m u b r0 w0 j → j.fault ≡ None
+    (result : Result Answer LiveFault) → CourseTo st o host m u b r0 w0 j → j.fault ≡ None
     → is_wait q ≡ false
-    → AsksOnce q (streams r0 r1 w0 w1) j result k → CourseTo Asks o limit m u b r1 w1 k
+    → AsksOnce q (streams r0 r1 w0 w1) j result k → CourseTo Asks o host m u b r1 w1 k
 asked_on r0 r1 w0 w1 j k q result c sound plain h =
     let fewer = left_behind q r0 r1 w0 w1 j result k h in
     let few = c.few in
@@ -90,12 +91,12 @@ asked_on r0 r1 w0 w1 j k q result c sound plain h =
     }
 
 -- what is wanted was asked
-wanted_on : {st : Stage} {limit m : ℕ} {u : Pipe} {b : OutPipe} (r0 r1 : Pipe) (w0 w1 : OutPipe)
+wanted_on : {st : Stage} {host : LiveHost} {m : ℕ} {u : Pipe} {b : OutPipe} (r0 r1 : Pipe) (w0 w1 : OutPipe)
     (j k : Kept)
-    (result : Result Answer LiveFault) → CourseTo st owed.Nothing limit m u b r0 w0 j → j.fault ≡
+    (result : Result Answer LiveFault) → CourseTo st owed.Nothing host m u b r0 w0 j → j.fault ≡
     None
     → AsksOnce Wait (streams r0 r1 w0 w1) j result k
-    → CourseTo Asks (owed_by result) limit m u b r1 w1 k
+    → CourseTo Asks (owed_by result) host m u b r1 w1 k
 wanted_on r0 r1 w0 w1 j k result c sound h =
     let fewer = left_behind Wait r0 r1 w0 w1 j result k h in
     let few = c.few in
@@ -108,9 +109,9 @@ wanted_on r0 r1 w0 w1 j k result c sound h =
       at = tt;
     }
 
-course_nothing_asked : {st : Stage} {o : Owed} {limit m : ℕ} {u : Pipe} {b : OutPipe}
-    (r0 r1 : Pipe) (w0 w1 : OutPipe) (j k : Kept) → CourseTo st o limit m u b r0 w0 j
-    → AsksNoQuestion (streams r0 r1 w0 w1) j k → CourseTo Asks o limit m u b r1 w1 k
+course_nothing_asked : {st : Stage} {o : Owed} {host : LiveHost} {m : ℕ} {u : Pipe} {b : OutPipe}
+    (r0 r1 : Pipe) (w0 w1 : OutPipe) (j k : Kept) → CourseTo st o host m u b r0 w0 j
+    → AsksNoQuestion (streams r0 r1 w0 w1) j k → CourseTo Asks o host m u b r1 w1 k
 course_nothing_asked r0 r1 w0 w1 j k c h =
     record {
       asked = c.asked;
@@ -126,11 +127,11 @@ attempt_plain (attempt.Setup to bytes) = refl
 attempt_plain (attempt.Out to toggle bytes) = refl
 attempt_plain (attempt.In to) = refl
 
-attempts_on : {st : Stage} {o : Owed} {limit m : ℕ} {u : Pipe} {b : OutPipe}
+attempts_on : {st : Stage} {o : Owed} {host : LiveHost} {m : ℕ} {u : Pipe} {b : OutPipe}
     (r0 r1 : Pipe) (w0 w1 : OutPipe) (j k : Kept) (q : Question)
     (most : ℕ) (result : Result Outcome BusFault) → is_wait q ≡ false
-    → CourseTo st o limit m u b r0 w0 j → j.fault ≡ None
-    → AttemptsBy q most (streams r0 r1 w0 w1) j result k → CourseTo Asks o limit m u b r1 w1 k
+    → CourseTo st o host m u b r0 w0 j → j.fault ≡ None
+    → AttemptsBy q most (streams r0 r1 w0 w1) j result k → CourseTo Asks o host m u b r1 w1 k
 attempts_on r0 r1 w0 w1 j k q most (Ok outcome) plain c sound h =
     asked_on r0 r1 w0 w1 j k q (Ok h.got) c sound plain h.asked
 attempts_on r0 r1 w0 w1 j k q most (Err told) plain c sound h =
@@ -139,31 +140,31 @@ attempts_on r0 r1 w0 w1 j k q most (Err told) plain c sound h =
 -- ---- one call, of a bus that may have a fault
 
 -- behind a fault nothing goes on
-by_fault : {R W : Type 0} (rem : R → Option (List ℕ)) (con : W → Option (List ℕ)) (limit m : ℕ)
+by_fault : {R W : Type 0} (rem : R → Option (List ℕ)) (con : W → Option (List ℕ)) (host : LiveHost) (m : ℕ)
     (u : Pipe) (b : OutPipe) (old new : StreamBus R W) (st : Stage)
     (ow : Owed) (o : Option LiveFault) → (kept_of old).fault ≡ o
     → ((f : LiveFault) → (kept_of old).fault ≡ Some f → new ≡ old)
-    → ((kept_of old).fault ≡ None → CourseTo Asks ow limit m u b (unread_of rem new)
+    → ((kept_of old).fault ≡ None → CourseTo Asks ow host m u b (unread_of rem new)
     (written_of con new) (kept_of new))
-    → CourseTo st ow limit m u b (unread_of rem old) (written_of con old) (kept_of old)
-    → CourseTo Asks ow limit m u b (unread_of rem new) (written_of con new) (kept_of new)
-by_fault {R} {W} rem con limit m u b old new st ow (Some f) is same on c =
-    subst (λ (x : StreamBus R W). CourseTo Asks ow limit m u b (unread_of rem x) (written_of con x)
+    → CourseTo st ow host m u b (unread_of rem old) (written_of con old) (kept_of old)
+    → CourseTo Asks ow host m u b (unread_of rem new) (written_of con new) (kept_of new)
+by_fault {R} {W} rem con host m u b old new st ow (Some f) is same on c =
+    subst (λ (x : StreamBus R W). CourseTo Asks ow host m u b (unread_of rem x) (written_of con x)
     (kept_of x)) (sym (same f is)) (on_asks c)
-by_fault rem con limit m u b old new st ow None is same on c = on is
+by_fault rem con host m u b old new st ow None is same on c = on is
 
-pub attempt_on : {R W : Type 0} (rem : R → Option (List ℕ)) (con : W → Option (List ℕ)) (limit m :
-    ℕ)
+pub attempt_on : {R W : Type 0} (rem : R → Option (List ℕ)) (con : W → Option (List ℕ))
+    (host : LiveHost) (m : ℕ)
     (u : Pipe) (b : OutPipe) (old new : StreamBus R W) (st : Stage)
     (ow : Owed) (a : Attempt) (result : Result Outcome BusFault)
     → ((f : LiveFault) → (kept_of old).fault ≡ Some f → (result ≡ Err (bus_fault f)) × (new ≡ old))
     → ((kept_of old).fault ≡ None → AttemptsByLine a
     (streams (unread_of rem old) (unread_of rem new) (written_of con old)
     (written_of con new)) (kept_of old) result (kept_of new))
-    → CourseTo st ow limit m u b (unread_of rem old) (written_of con old) (kept_of old)
-    → CourseTo Asks ow limit m u b (unread_of rem new) (written_of con new) (kept_of new)
-attempt_on rem con limit m u b old new st ow a result again asks c =
-    by_fault rem con limit m u b old new st ow (kept_of old).fault refl (λ f e. (again f e).1)
+    → CourseTo st ow host m u b (unread_of rem old) (written_of con old) (kept_of old)
+    → CourseTo Asks ow host m u b (unread_of rem new) (written_of con new) (kept_of new)
+attempt_on rem con host m u b old new st ow a result again asks c =
+    by_fault rem con host m u b old new st ow (kept_of old).fault refl (λ f e. (again f e).1)
     (λ e. attempts_on (unread_of rem old) (unread_of rem new) (written_of con old)
     (written_of con new) (kept_of old) (kept_of new) (question_for a)
     (destination_of a).max result (attempt_plain a) c e (asks e)) c
@@ -180,10 +181,10 @@ port_within_roots zero roots none one beyond = none refl
 port_within_roots (suc p) roots none one beyond =
     beyond_or p roots one beyond (cases_lt roots (suc p))
 
-calls_by : {st : Stage} {o : Owed} {limit m : ℕ} {u : Pipe} {b : OutPipe}
+calls_by : {st : Stage} {o : Owed} {host : LiveHost} {m : ℕ} {u : Pipe} {b : OutPipe}
     (r0 r1 : Pipe) (w0 w1 : OutPipe) (j k : Kept) (port : ℕ) (call : Option PortCall)
-    → CourseTo st o limit m u b r0 w0 j → j.fault ≡ None → Calls port call (streams r0 r1 w0 w1) j k
-    → CourseTo Asks o limit m u b r1 w1 k
+    → CourseTo st o host m u b r0 w0 j → j.fault ≡ None → Calls port call (streams r0 r1 w0 w1) j k
+    → CourseTo Asks o host m u b r1 w1 k
 calls_by r0 r1 w0 w1 j k port None c sound h = course_nothing_asked r0 r1 w0 w1 j k c h
 calls_by r0 r1 w0 w1 j k port (Some call) c sound h =
     port_within_roots port j.roots (λ e. course_nothing_asked r0 r1 w0 w1 j k c (h.1 e))
@@ -191,31 +192,31 @@ calls_by r0 r1 w0 w1 j k port (Some call) c sound h =
     c sound refl one.asked)
     (λ beyond. course_nothing_asked r0 r1 w0 w1 j k c (h.2 beyond))
 
-pub call_on : {R W : Type 0} (rem : R → Option (List ℕ)) (con : W → Option (List ℕ)) (limit m : ℕ)
+pub call_on : {R W : Type 0} (rem : R → Option (List ℕ)) (con : W → Option (List ℕ)) (host : LiveHost) (m : ℕ)
     (u : Pipe) (b : OutPipe) (old new : StreamBus R W) (st : Stage)
     (ow : Owed) (port : ℕ) (call : Option PortCall) → ((kept_of old).fault ≢ None → new ≡ old)
     → ((kept_of old).fault ≡ None → Calls port call
     (streams (unread_of rem old) (unread_of rem new) (written_of con old)
     (written_of con new)) (kept_of old) (kept_of new))
-    → CourseTo st ow limit m u b (unread_of rem old) (written_of con old) (kept_of old)
-    → CourseTo Asks ow limit m u b (unread_of rem new) (written_of con new) (kept_of new)
-call_on rem con limit m u b old new st ow port call again asks c =
-    by_fault rem con limit m u b old new st ow (kept_of old).fault refl
+    → CourseTo st ow host m u b (unread_of rem old) (written_of con old) (kept_of old)
+    → CourseTo Asks ow host m u b (unread_of rem new) (written_of con new) (kept_of new)
+call_on rem con host m u b old new st ow port call again asks c =
+    by_fault rem con host m u b old new st ow (kept_of old).fault refl
     (λ f e. again (λ none. let clash : Some f ≡ None = sym e ∙ none in cc))
     (λ e. calls_by (unread_of rem old) (unread_of rem new) (written_of con old) (written_of con new)
     (kept_of old) (kept_of new) port call c e (asks e)) c
 
-pub restart_on : {R W : Type 0} (rem : R → Option (List ℕ)) (con : W → Option (List ℕ)) (limit m :
-    ℕ)
+pub restart_on : {R W : Type 0} (rem : R → Option (List ℕ)) (con : W → Option (List ℕ))
+    (host : LiveHost) (m : ℕ)
     (u : Pipe) (b : OutPipe) (old new : StreamBus R W) (st : Stage)
     (ow : Owed) (address number : ℕ) (is_in : Bool) → ((kept_of old).fault ≢ None → new ≡ old)
     → ((kept_of old).fault ≡ None → Restarts address number is_in
     (streams (unread_of rem old) (unread_of rem new) (written_of con old)
     (written_of con new)) (kept_of old) (kept_of new))
-    → CourseTo st ow limit m u b (unread_of rem old) (written_of con old) (kept_of old)
-    → CourseTo Asks ow limit m u b (unread_of rem new) (written_of con new) (kept_of new)
-restart_on rem con limit m u b old new st ow address number is_in again asks c =
-    by_fault rem con limit m u b old new st ow (kept_of old).fault refl
+    → CourseTo st ow host m u b (unread_of rem old) (written_of con old) (kept_of old)
+    → CourseTo Asks ow host m u b (unread_of rem new) (written_of con new) (kept_of new)
+restart_on rem con host m u b old new st ow address number is_in again asks c =
+    by_fault rem con host m u b old new st ow (kept_of old).fault refl
     (λ f e. again (λ none. let clash : Some f ≡ None = sym e ∙ none in cc))
     (λ e. let one = asks e in
     asked_on (unread_of rem old) (unread_of rem new) (written_of con old) (written_of con new)
@@ -223,11 +224,11 @@ restart_on rem con limit m u b old new st ow address number is_in again asks c =
 
 -- ---- what is wanted, and what is told
 
-waits_by : {st : Stage} {limit m : ℕ} {u : Pipe} {b : OutPipe} (r0 r1 : Pipe) (w0 w1 : OutPipe)
+waits_by : {st : Stage} {host : LiveHost} {m : ℕ} {u : Pipe} {b : OutPipe} (r0 r1 : Pipe) (w0 w1 : OutPipe)
     (j k : Kept) (result : Result Answer LiveFault)
-    → CourseTo st owed.Nothing limit m u b r0 w0 j → j.fault ≡ None
+    → CourseTo st owed.Nothing host m u b r0 w0 j → j.fault ≡ None
     → AsksOnce Wait (streams r0 r1 w0 w1) j result k
-    → CourseTo (stage_behind_answer result) (owed_by result) limit m u b r1 w1 k
+    → CourseTo (stage_behind_answer result) (owed_by result) host m u b r1 w1 k
 unfolding wanted_on
 waits_by r0 r1 w0 w1 j k (Ok answer.End) c sound h =
     let on = wanted_on r0 r1 w0 w1 j k (Ok answer.End) c sound h in
@@ -254,32 +255,32 @@ nothing_is owed.Nothing h = refl
 nothing_is _ h = cc
 
 -- behind a fault it is told again, and the stage is as at any other answer
-pub wait_on : {R W : Type 0} (rem : R → Option (List ℕ)) (con : W → Option (List ℕ)) (limit m : ℕ)
+pub wait_on : {R W : Type 0} (rem : R → Option (List ℕ)) (con : W → Option (List ℕ)) (host : LiveHost) (m : ℕ)
     (u : Pipe) (b : OutPipe) (old new : StreamBus R W) (st : Stage)
     (result : Result Answer LiveFault) (o : Option LiveFault) → (kept_of old).fault ≡ o
     → ((f : LiveFault) → (kept_of old).fault ≡ Some f → (result ≡ Err f) × (new ≡ old))
     → ((kept_of old).fault ≡ None → AsksOnce Wait
     (streams (unread_of rem old) (unread_of rem new) (written_of con old)
     (written_of con new)) (kept_of old) result (kept_of new))
-    → CourseTo st owed.Nothing limit m u b (unread_of rem old) (written_of con old) (kept_of old)
-    → CourseTo (stage_behind_answer result) (owed_by result) limit m u b (unread_of rem new)
+    → CourseTo st owed.Nothing host m u b (unread_of rem old) (written_of con old) (kept_of old)
+    → CourseTo (stage_behind_answer result) (owed_by result) host m u b (unread_of rem new)
     (written_of con new) (kept_of new)
-wait_on {R} {W} rem con limit m u b old new st result (Some f) is again asks c =
+wait_on {R} {W} rem con host m u b old new st result (Some f) is again asks c =
     let (told, same) = again f is in
-    subst (λ (a : Result Answer LiveFault). CourseTo (stage_behind_answer a) (owed_by a) limit m u b
+    subst (λ (a : Result Answer LiveFault). CourseTo (stage_behind_answer a) (owed_by a) host m u b
     (unread_of rem new) (written_of con new) (kept_of new)) (sym told)
-    (subst (λ (x : StreamBus R W). CourseTo Asks owed.Nothing limit m u b (unread_of rem x)
+    (subst (λ (x : StreamBus R W). CourseTo Asks owed.Nothing host m u b (unread_of rem x)
     (written_of con x) (kept_of x)) (sym same) (on_asks c))
-wait_on rem con limit m u b old new st result None is again asks c =
+wait_on rem con host m u b old new st result None is again asks c =
     waits_by (unread_of rem old) (unread_of rem new) (written_of con old) (written_of con new)
     (kept_of old) (kept_of new) result c is (asks is)
 
-told_on : {st : Stage} {o : Owed} {limit m : ℕ} {u : Pipe} {b : OutPipe} (r : Pipe)
+told_on : {st : Stage} {o : Owed} {host : LiveHost} {m : ℕ} {u : Pipe} {b : OutPipe} (r : Pipe)
     (w0 w1 : OutPipe) (j k : Kept) (item : Item) (result : Result (Unit {0}) LiveFault)
-    → CourseTo st o limit m u b r w0 j → j.fault ≡ None → k.left ≡ j.left → settles o item ≡ true
+    → CourseTo st o host m u b r w0 j → j.fault ≡ None → k.left ≡ j.left → settles o item ≡ true
     → IsShown item → WritesLines (told_text (number_of item m) item) w0 w1 j result k
-    → CourseTo Asks (owed_left o result) limit (listed m item result) u b r w1 k
-told_on {st} {o} {limit} {m} r w0 w1 j k item result c sound same fits shown h = record {
+    → CourseTo Asks (owed_left o result) host (listed m item result) u b r w1 k
+told_on {st} {o} {host} {m} r w0 w1 j k item result c sound same fits shown h = record {
   asked = c.asked;
   course = LiveCourse.told item result c.course sound fits shown h;
   few = ap (λ (n : ℕ). c.asked + n) same ∙ c.few;
@@ -294,22 +295,22 @@ same_left : (lines : List ℕ) (w0 w1 : OutPipe) (j : Kept)
 same_left lines w0 w1 j (Ok done) k h = ap (λ (x : Kept). x.left) h.1
 same_left lines w0 w1 j (Err f) k h = ap (λ (x : Kept). x.left) h.2
 
-course_tells : {o : Owed} {limit m : ℕ} {u : Pipe} {b : OutPipe} (st : Stage) (r : Pipe)
+course_tells : {o : Owed} {host : LiveHost} {m : ℕ} {u : Pipe} {b : OutPipe} (st : Stage) (r : Pipe)
     (w0 w1 : OutPipe) (j k : Kept) (item : Item) (done : Unit {0})
-    → CourseTo st o limit m u b r w0 j → j.fault ≡ None → settles o item ≡ true → IsShown item
+    → CourseTo st o host m u b r w0 j → j.fault ≡ None → settles o item ≡ true → IsShown item
     → WritesLines (told_text (number_of item m) item) w0 w1 j (Ok done) k
-    → CourseTo (stage_behind st item) owed.Nothing limit (number_of item m) u b r w1 k
+    → CourseTo (stage_behind st item) owed.Nothing host (number_of item m) u b r w1 k
 unfolding told_on
-course_tells {o} {limit} {m} Asks r w0 w1 j k item done c sound fits shown h =
+course_tells {o} {host} {m} Asks r w0 w1 j k item done c sound fits shown h =
     told_on r w0 w1 j k item (Ok done) c sound
     (same_left (told_text (number_of item m) item) w0 w1 j (Ok done) k h) fits shown h
-course_tells {o} {limit} {m} Over r w0 w1 j k item done c sound fits shown h =
+course_tells {o} {host} {m} Over r w0 w1 j k item done c sound fits shown h =
     told_on r w0 w1 j k item (Ok done) c sound
     (same_left (told_text (number_of item m) item) w0 w1 j (Ok done) k h) fits shown h
-course_tells {o} {limit} {m} EndWanted r w0 w1 j k (Listing entries taken) done c sound fits shown h
+course_tells {o} {host} {m} EndWanted r w0 w1 j k (Listing entries taken said) done c sound fits shown h
     =
-    let same = same_left (told_text (m + 1) (Listing entries taken)) w0 w1 j (Ok done) k h in
-    let on = told_on r w0 w1 j k (Listing entries taken) (Ok done) c sound same fits shown h in
+    let same = same_left (told_text (m + 1) (Listing entries taken said)) w0 w1 j (Ok done) k h in
+    let on = told_on r w0 w1 j k (Listing entries taken said) (Ok done) c sound same fits shown h in
     record {
       asked = on.asked;
       course = on.course;
@@ -321,16 +322,18 @@ course_tells {o} {limit} {m} EndWanted r w0 w1 j k (Listing entries taken) done 
         j = j;
         wanted = c.at;
         entries = entries;
-        shown = shown;
-        listed = h;
+        shown = shown.0;
+        listed = subst (λ (s : List (List ℕ)).
+            WritesLines (lines_text (listing_lines (m + 1) entries s)) w0 w1 j (Ok done) k)
+            shown.1 h;
       };
     }
-course_tells {o} {limit} {m} EndWanted r w0 w1 j k item done c sound fits shown h =
+course_tells {o} {host} {m} EndWanted r w0 w1 j k item done c sound fits shown h =
     told_on r w0 w1 j k item (Ok done) c sound
     (same_left (told_text (number_of item m) item) w0 w1 j (Ok done) k h) fits shown h
 
 -- an item was told well; the reader stays
-pub tell_on : {R W : Type 0} (rem : R → Option (List ℕ)) (con : W → Option (List ℕ)) (limit m : ℕ)
+pub tell_on : {R W : Type 0} (rem : R → Option (List ℕ)) (con : W → Option (List ℕ)) (host : LiveHost) (m : ℕ)
     (u : Pipe) (b : OutPipe) (old new : StreamBus R W) (st : Stage)
     (ow : Owed) (item : Item) (text : List ℕ) (result : Result (Unit {0}) LiveFault)
     (o : Option LiveFault)
@@ -340,36 +343,36 @@ pub tell_on : {R W : Type 0} (rem : R → Option (List ℕ)) (con : W → Option
     → unread_of rem new ≡ unread_of rem old
     → ((kept_of old).fault ≡ None → WritesLines text (written_of con old) (written_of con new)
     (kept_of old) result (kept_of new))
-    → CourseTo st ow limit m u b (unread_of rem old) (written_of con old) (kept_of old)
-    → CourseTo (stage_behind st item) owed.Nothing limit (number_of item m) u b (unread_of rem new)
+    → CourseTo st ow host m u b (unread_of rem old) (written_of con old) (kept_of old)
+    → CourseTo (stage_behind st item) owed.Nothing host (number_of item m) u b (unread_of rem new)
     (written_of con new) (kept_of new)
-tell_on rem con limit m u b old new st ow item text (Err e) o ok spelled fits shown is again reader
+tell_on rem con host m u b old new st ow item text (Err e) o ok spelled fits shown is again reader
     told c = cc
-tell_on rem con limit m u b old new st ow item text (Ok done) (Some f) ok spelled fits shown is
+tell_on rem con host m u b old new st ow item text (Ok done) (Some f) ok spelled fits shown is
     again reader told c = let (clash, same) = again f is in cc
-tell_on rem con limit m u b old new st ow item text (Ok done) None ok spelled fits shown is again
+tell_on rem con host m u b old new st ow item text (Ok done) None ok spelled fits shown is again
     reader told c =
     let so = subst (λ (t : List ℕ). WritesLines t (written_of con old) (written_of con new)
     (kept_of old) (Ok done) (kept_of new)) spelled (told is) in
-    subst (λ (r : Pipe). CourseTo (stage_behind st item) owed.Nothing limit (number_of item m) u b r
+    subst (λ (r : Pipe). CourseTo (stage_behind st item) owed.Nothing host (number_of item m) u b r
     (written_of con new) (kept_of new)) (sym reader)
     (course_tells st (unread_of rem old) (written_of con old) (written_of con new) (kept_of old)
     (kept_of new) item done c is fits shown so)
 
 -- the writer failed, and what is owed is owed still
-tells_off : {st : Stage} {o : Owed} {limit m : ℕ} {u : Pipe} {b : OutPipe} (r : Pipe)
+tells_off : {st : Stage} {o : Owed} {host : LiveHost} {m : ℕ} {u : Pipe} {b : OutPipe} (r : Pipe)
     (w0 w1 : OutPipe) (j k : Kept) (item : Item)
     (result : Result (Unit {0}) LiveFault) → is_ok result ≡ false
-    → CourseTo st o limit m u b r w0 j → j.fault ≡ None → settles o item ≡ true → IsShown item
+    → CourseTo st o host m u b r w0 j → j.fault ≡ None → settles o item ≡ true → IsShown item
     → WritesLines (told_text (number_of item m) item) w0 w1 j result k
-    → CourseTo Asks o limit m u b r w1 k
+    → CourseTo Asks o host m u b r w1 k
 tells_off r w0 w1 j k item (Ok done) bad c sound fits shown h = cc
-tells_off {st} {o} {limit} {m} r w0 w1 j k item (Err f) bad c sound fits shown h =
+tells_off {st} {o} {host} {m} r w0 w1 j k item (Err f) bad c sound fits shown h =
     told_on r w0 w1 j k item (Err f) c sound
     (same_left (told_text (number_of item m) item) w0 w1 j (Err f) k h) fits shown h
 
 -- an item was told, or a front of it
-pub tell_off : {R W : Type 0} (rem : R → Option (List ℕ)) (con : W → Option (List ℕ)) (limit m : ℕ)
+pub tell_off : {R W : Type 0} (rem : R → Option (List ℕ)) (con : W → Option (List ℕ)) (host : LiveHost) (m : ℕ)
     (u : Pipe) (b : OutPipe) (old new : StreamBus R W) (st : Stage)
     (ow : Owed) (item : Item) (text : List ℕ) (result : Result (Unit {0}) LiveFault)
     → is_ok result ≡ false → text ≡ told_text (number_of item m) item → settles ow item ≡ true
@@ -378,14 +381,14 @@ pub tell_off : {R W : Type 0} (rem : R → Option (List ℕ)) (con : W → Optio
     → unread_of rem new ≡ unread_of rem old
     → ((kept_of old).fault ≡ None → WritesLines text (written_of con old) (written_of con new)
     (kept_of old) result (kept_of new))
-    → CourseTo st ow limit m u b (unread_of rem old) (written_of con old) (kept_of old)
-    → CourseTo Asks ow limit m u b (unread_of rem new) (written_of con new) (kept_of new)
-tell_off rem con limit m u b old new st ow item text result bad spelled fits shown again reader told
+    → CourseTo st ow host m u b (unread_of rem old) (written_of con old) (kept_of old)
+    → CourseTo Asks ow host m u b (unread_of rem new) (written_of con new) (kept_of new)
+tell_off rem con host m u b old new st ow item text result bad spelled fits shown again reader told
     c =
-    by_fault rem con limit m u b old new st ow (kept_of old).fault refl (λ f is. (again f is).1)
+    by_fault rem con host m u b old new st ow (kept_of old).fault refl (λ f is. (again f is).1)
     (λ is. let so = subst (λ (t : List ℕ). WritesLines t (written_of con old) (written_of con new)
     (kept_of old) result (kept_of new)) spelled (told is) in
-    subst (λ (r : Pipe). CourseTo Asks ow limit m u b r (written_of con new) (kept_of new))
+    subst (λ (r : Pipe). CourseTo Asks ow host m u b r (written_of con new) (kept_of new))
     (sym reader)
     (tells_off (unread_of rem old) (written_of con old) (written_of con new) (kept_of old)
     (kept_of new) item result bad c is fits shown so)) c
@@ -395,13 +398,13 @@ number_fits : (count n left limit owing : ℕ) → owing ≡ 1 → count + owing
     → limit < 2 ^ 64 → count + 1 < 2 ^ 64
 number_fits count n left limit owing one few all bound = omega (arith, one, few, all, bound)
 
-pub has_number : {st : Stage} {o : Owed} {limit m : ℕ} {u r : Pipe} {b w : OutPipe} {k : Kept}
-    (item : Item) → settles o item ≡ true → limit < 2 ^ 64
-    → ∥ CourseTo st o limit m u b r w k ∥₁ → m + 1 < 2 ^ 64
-has_number {st} {o} {limit} {m} {u} {r} {b} {w} {k} item fits bound course =
+pub has_number : {st : Stage} {o : Owed} {host : LiveHost} {m : ℕ} {u r : Pipe} {b w : OutPipe} {k : Kept}
+    (item : Item) → settles o item ≡ true → host.limit < 2 ^ 64
+    → ∥ CourseTo st o host m u b r w k ∥₁ → m + 1 < 2 ^ 64
+has_number {st} {o} {host} {m} {u} {r} {b} {w} {k} item fits bound course =
     elim (cases_lt (m + 1) (2 ^ 64)) [
       | inl less ↦ less
-      | inr more ↦ absurd (not_there course (λ c. let less = number_fits m c.asked k.left limit
+      | inr more ↦ absurd (not_there course (λ c. let less = number_fits m c.asked k.left host.limit
           (owes o) (owes_one o item fits) c.numbered c.few bound in omega (arith, less, more)))
     ]
 
@@ -422,11 +425,11 @@ left_greeted (Ok (answer.Roots roots)) k = left_roots roots k
 left_greeted (Ok _) k = refl
 left_greeted (Err f) k = refl
 
-greeted_course : {limit : ℕ} (u r : Pipe) (b w : OutPipe) (mid : Kept)
-    (result : Result Answer LiveFault) → AsksOnce Hello (streams u r b w) (unasked limit) result mid
-    → CourseTo Asks owed.Nothing limit 0 u b r w (greeted result mid)
-greeted_course {limit} u r b w mid result h =
-    let fewer = left_behind Hello u r b w (unasked limit) result mid h in
+greeted_course : {host : LiveHost} (u r : Pipe) (b w : OutPipe) (mid : Kept)
+    (result : Result Answer LiveFault) → AsksOnce Hello (streams u r b w) (unasked host.wide host.limit) result mid
+    → CourseTo Asks owed.Nothing host 0 u b r w (greeted result mid)
+greeted_course {host} u r b w mid result h =
+    let fewer = left_behind Hello u r b w (unasked host.wide host.limit) result mid h in
     let same = left_greeted result mid in
     record {
       asked = questions_in result;
@@ -436,21 +439,21 @@ greeted_course {limit} u r b w mid result h =
       at = tt;
     }
 
-pub opens : {limit : ℕ} (u r : Pipe) (b w : OutPipe) (k : Kept) → SaysHello limit (streams u r b w)
+pub opens : {host : LiveHost} (u r : Pipe) (b w : OutPipe) (k : Kept) → SaysHello host.wide host.limit (streams u r b w)
     k
-    → CourseTo Asks owed.Nothing limit 0 u b r w k
-opens {limit} u r b w k h = subst (λ (x : Kept). CourseTo Asks owed.Nothing limit 0 u b r w x)
+    → CourseTo Asks owed.Nothing host 0 u b r w k
+opens {host} u r b w k h = subst (λ (x : Kept). CourseTo Asks owed.Nothing host 0 u b r w x)
     (sym h.kept) (greeted_course u r b w h.mid h.result h.asked)
 
 -- ---- the end
 
-ends_as : {st : Stage} {o : Owed} {limit m : ℕ} {u r : Pipe} {b w : OutPipe} {k : Kept}
+ends_as : {st : Stage} {o : Owed} {host : LiveHost} {m : ℕ} {u r : Pipe} {b w : OutPipe} {k : Kept}
     (fault : Option LiveFault) (lines left : ℕ)
     (ended : Result (Unit {0}) LiveEnd) → fault ≡ k.fault → lines ≡ k.lines → left ≡ k.left
-    → EndsBy fault lines left st ended → (c : CourseTo st o limit m u b r w k)
-    → EndsLiveAs ended limit u b r w k c.asked
-ends_as {st} {o} {limit} {m} {u} {r} {b} {w} {k} fault lines left (Ok done) is same none by c =
-    subst (λ (s : Stage). StandsAtStage s limit m u b r w k c.asked) by.1 c.at
+    → EndsBy fault lines left st ended → (c : CourseTo st o host m u b r w k)
+    → EndsLiveAs ended host u b r w k c.asked
+ends_as {st} {o} {host} {m} {u} {r} {b} {w} {k} fault lines left (Ok done) is same none by c =
+    subst (λ (s : Stage). StandsAtStage s host m u b r w k c.asked) by.1 c.at
 ends_as fault lines left (Err (Line number f)) is same none by c = (sym is ∙ by.0, by.1 ∙ same)
 ends_as fault lines left (Err (Rounds number)) is same none by c =
     let few = c.few in
@@ -458,12 +461,12 @@ ends_as fault lines left (Err (Rounds number)) is same none by c =
     (sym is ∙ by.0, by.1 ∙ same, omega (arith, few, none, all))
 ends_as fault lines left (Err Memory) is same none by c = sym is ∙ by
 
-pub lives : {st : Stage} {o : Owed} {limit m : ℕ} {u r : Pipe} {b w : OutPipe} {k : Kept}
+pub lives : {st : Stage} {o : Owed} {host : LiveHost} {m : ℕ} {u r : Pipe} {b w : OutPipe} {k : Kept}
     (fault : Option LiveFault) (lines left : ℕ)
     (ended : Result (Unit {0}) LiveEnd) → fault ≡ k.fault → lines ≡ k.lines → left ≡ k.left
-    → EndsBy fault lines left st ended → CourseTo st o limit m u b r w k
-    → Lives limit u r b w ended
-lives {st} {o} {limit} {m} {u} {r} {b} {w} {k} fault lines left ended is same none by c =
+    → EndsBy fault lines left st ended → CourseTo st o host m u b r w k
+    → Lives host u r b w ended
+lives {st} {o} {host} {m} {u} {r} {b} {w} {k} fault lines left ended is same none by c =
     let few = c.few in
     record {
       asked = c.asked;

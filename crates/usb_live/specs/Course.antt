@@ -1,6 +1,6 @@
 -- What a host and a far end say to each other, from the hello on.
 use Rattle.std.specs.Prelude.{◌≡◌, ⊤, ℕ, ◌+◌, ◌≤◌, ◌==◌, ◌&&◌, nat_le, nat_lt, Bool, true, false}
-use Rattle.std.specs.Prelude.{List, length, Option, Some, None, Result, Ok, Err}
+use Rattle.std.specs.Prelude.{List, [], length, Option, Some, None, Result, Ok, Err}
 use Rattle.std.specs.Global.{Vec}
 use Rattle.std.specs.Str.{bytes_eq}
 use Rattle.usb_table.specs.{Entries, TransferFault}
@@ -66,7 +66,7 @@ is_there path endpoint at named = bytes_eq path at && (endpoint == named)
 -- interface; or that transfer at that path, through that endpoint. If it did not fail, a send or a
 -- write moved all bytes, and a read at most those asked for
 abbrev pub settles : Owed → Item → Bool
-settles owed.Listing (Listing entries taken) = true
+settles owed.Listing (Listing entries taken said) = true
 settles (owed.Send path count) (Sent at sent) = bytes_eq path at && is_count count sent
 settles (owed.Receive path) (Received at received) = bytes_eq path at
 settles (owed.Clear path) (Cleared at cleared) = bytes_eq path at
@@ -95,9 +95,17 @@ is_wait other = false
 
 -- of a private function: where a listing is wanted, it is of these entries
 abbrev pub ListsEntries : Answer → Entries → Option Item → Type 0
-ListsEntries answer.Show entries item = item ≡ Some (Listing entries 0)
-ListsEntries answer.End entries item = item ≡ Some (Listing entries 0)
+ListsEntries answer.Show entries item = item ≡ Some (Listing entries 0 [])
+ListsEntries answer.End entries item = item ≡ Some (Listing entries 0 [])
 ListsEntries other entries item = ⊤
+
+-- a host: whether it takes wide hubs, and the most questions that it asks
+pub record LiveHost : Type 0 where
+  pub wide : Bool
+  pub limit : ℕ
+
+abbrev pub live_host : Bool → ℕ → LiveHost
+live_host wide limit = record { wide = wide; limit = limit }
 
 -- how many questions went out, or a front of one
 abbrev pub questions_in : Result Answer LiveFault → ℕ
@@ -110,9 +118,11 @@ owes owed.Nothing = 0
 owes other = 1
 
 -- a listing is of entries that a host may hold: they rise by path, each is at a root port or at a
--- port of a hub that is listed, no two have one address, and accepted devices are whole
+-- port of a hub that is listed, no two have one address, and accepted devices are whole. What
+-- refused devices said is not told
 abbrev pub IsShown : Item → Type 0
-IsShown (Listing entries taken) = (addresses : Addresses) × Agrees entries addresses
+IsShown (Listing entries taken said) =
+    ((wide : Bool) × (addresses : Addresses) × Agrees wide entries addresses) × (said ≡ [])
 IsShown other = ⊤
 
 -- how many listings were told, behind an item that was told, or a front of it
@@ -124,54 +134,54 @@ listed count item (Err f) = count
 -- next or left a fault, and items were told between them: behind what was wanted the one that this
 -- owes, once, and before it is asked again what is wanted; behind a fault nothing was asked or
 -- told. So many listings were told, numbered from 1 on
-pub data LiveCourse (limit : ℕ) (unread : Pipe) (before : OutPipe) : Owed → ℕ → Pipe → OutPipe
+pub data LiveCourse (host : LiveHost) (unread : Pipe) (before : OutPipe) : Owed → ℕ → Pipe → OutPipe
     → Kept → ℕ → Type 0 where
   opened : {left : Pipe} {now : OutPipe} (k : Kept) (result : Result Answer LiveFault)
-      → AsksOnce Hello (streams unread left before now) (unasked limit) result k
-      → LiveCourse limit unread before owed.Nothing 0 left now (greeted result k)
+      → AsksOnce Hello (streams unread left before now) (unasked host.wide host.limit) result k
+      → LiveCourse host unread before owed.Nothing 0 left now (greeted result k)
       (questions_in result)
   asked : {o : Owed} {m : ℕ} {r left : Pipe} {w now : OutPipe} {j k : Kept} {n : ℕ} (q : Question)
       (result : Result Answer LiveFault)
-      → LiveCourse limit unread before o m r w j n → j.fault ≡ None → is_wait q ≡ false
+      → LiveCourse host unread before o m r w j n → j.fault ≡ None → is_wait q ≡ false
       → AsksOnce q (streams r left w now) j result k
-      → LiveCourse limit unread before o m left now k (n + questions_in result)
+      → LiveCourse host unread before o m left now k (n + questions_in result)
   wanted : {m : ℕ} {r left : Pipe} {w now : OutPipe} {j k : Kept} {n : ℕ}
       (result : Result Answer LiveFault)
-      → LiveCourse limit unread before owed.Nothing m r w j n → j.fault ≡ None
+      → LiveCourse host unread before owed.Nothing m r w j n → j.fault ≡ None
       → AsksOnce Wait (streams r left w now) j result k
-      → LiveCourse limit unread before (owed_by result) m left now k (n + questions_in result)
+      → LiveCourse host unread before (owed_by result) m left now k (n + questions_in result)
   told : {o : Owed} {m : ℕ} {left : Pipe} {w now : OutPipe} {j k : Kept} {n : ℕ} (item : Item)
       (result : Result (Unit {0}) LiveFault)
-      → LiveCourse limit unread before o m left w j n → j.fault ≡ None → settles o item ≡ true
+      → LiveCourse host unread before o m left w j n → j.fault ≡ None → settles o item ≡ true
       → IsShown item → WritesLines (told_text (number_of item m) item) w now j result k
-      → LiveCourse limit unread before (owed_left o result) (listed m item result) left now k n
+      → LiveCourse host unread before (owed_left o result) (listed m item result) left now k n
   still : {o : Owed} {m : ℕ} {r left : Pipe} {w now : OutPipe} {j k : Kept} {n : ℕ}
-      → LiveCourse limit unread before o m r w j n
+      → LiveCourse host unread before o m r w j n
       → AsksNoQuestion (streams r left w now) j k
-      → LiveCourse limit unread before o m left now k n
+      → LiveCourse host unread before o m left now k n
 
 -- the host asked last what is wanted, and that was the end; so many listings were told before
-pub record WantsEnd (limit count : ℕ) (unread : Pipe) (before : OutPipe) (left : Pipe)
+pub record WantsEnd (host : LiveHost) (count : ℕ) (unread : Pipe) (before : OutPipe) (left : Pipe)
     (now : OutPipe) (k : Kept) (n : ℕ) : Type 0 where
   pub r : Pipe
   pub w : OutPipe
   pub j : Kept
   pub m : ℕ
-  pub course : LiveCourse limit unread before owed.Nothing count r w j m
+  pub course : LiveCourse host unread before owed.Nothing count r w j m
   pub sound : j.fault ≡ None
   pub ended : AskedWell Wait (streams r left w now) j answer.End k
   pub one : n ≡ m + 1
 
 -- behind that it told a listing, the next one, and nothing more
-pub record IsOver (limit : ℕ) (unread : Pipe) (before : OutPipe) (left : Pipe) (now : OutPipe)
+pub record IsOver (host : LiveHost) (unread : Pipe) (before : OutPipe) (left : Pipe) (now : OutPipe)
     (k : Kept) (n : ℕ) : Type 0 where
   pub count : ℕ
   pub w : OutPipe
   pub j : Kept
-  pub wanted : WantsEnd limit count unread before left w j n
+  pub wanted : WantsEnd host count unread before left w j n
   pub entries : Entries
-  pub shown : (addresses : Addresses) × Agrees entries addresses
-  pub listed : WritesLines (lines_text (listing_lines (count + 1) entries)) w now j (Ok tt) k
+  pub shown : (wide : Bool) × (addresses : Addresses) × Agrees wide entries addresses
+  pub listed : WritesLines (lines_text (listing_lines (count + 1) entries [])) w now j (Ok tt) k
 
 -- how far it is behind an answer to what is wanted, and behind an item that was told
 abbrev pub stage_behind_answer : Result Answer LiveFault → Stage
@@ -179,34 +189,34 @@ stage_behind_answer (Ok answer.End) = EndWanted
 stage_behind_answer other = Asks
 
 abbrev pub stage_behind : Stage → Item → Stage
-stage_behind EndWanted (Listing entries taken) = Over
+stage_behind EndWanted (Listing entries taken said) = Over
 stage_behind stage item = Asks
 
-abbrev pub StandsAtStage : Stage → ℕ → ℕ → Pipe → OutPipe → Pipe → OutPipe → Kept → ℕ → Type 0
-StandsAtStage Asks limit count unread before left now k n = ⊤
-StandsAtStage EndWanted limit count unread before left now k n =
-    WantsEnd limit count unread before left now k n
-StandsAtStage Over limit count unread before left now k n = IsOver limit unread before left now k n
+abbrev pub StandsAtStage : Stage → LiveHost → ℕ → Pipe → OutPipe → Pipe → OutPipe → Kept → ℕ → Type 0
+StandsAtStage Asks host count unread before left now k n = ⊤
+StandsAtStage EndWanted host count unread before left now k n =
+    WantsEnd host count unread before left now k n
+StandsAtStage Over host count unread before left now k n = IsOver host unread before left now k n
 
 -- a course of at most so many questions, each item told behind a question that it answers
-pub record CourseTo (stage : Stage) (o : Owed) (limit count : ℕ) (unread : Pipe)
+pub record CourseTo (stage : Stage) (o : Owed) (host : LiveHost) (count : ℕ) (unread : Pipe)
     (before : OutPipe) (left : Pipe) (now : OutPipe) (k : Kept) : Type 0 where
   pub asked : ℕ
-  pub course : LiveCourse limit unread before o count left now k asked
-  pub few : asked + k.left ≡ limit
+  pub course : LiveCourse host unread before o count left now k asked
+  pub few : asked + k.left ≡ host.limit
   pub numbered : count + owes o ≤ asked
-  pub at : StandsAtStage stage limit count unread before left now k asked
+  pub at : StandsAtStage stage host count unread before left now k asked
 
 -- it ended because the end was wanted, or because of a fault, which is told with the number of
 -- lines that were read; Rounds tells that as many questions were asked as there may be
-abbrev pub EndsLiveAs : Result (Unit {0}) LiveEnd → ℕ → Pipe → OutPipe → Pipe → OutPipe → Kept → ℕ
+abbrev pub EndsLiveAs : Result (Unit {0}) LiveEnd → LiveHost → Pipe → OutPipe → Pipe → OutPipe → Kept → ℕ
     → Type 0
-EndsLiveAs (Ok done) limit unread before left now k n = IsOver limit unread before left now k n
-EndsLiveAs (Err (Line number f)) limit unread before left now k n = (k.fault ≡ Some f)
+EndsLiveAs (Ok done) host unread before left now k n = IsOver host unread before left now k n
+EndsLiveAs (Err (Line number f)) host unread before left now k n = (k.fault ≡ Some f)
     × (number ≡ k.lines)
-EndsLiveAs (Err (Rounds number)) limit unread before left now k n = (k.fault ≡ None)
-    × (number ≡ k.lines) × (n ≡ limit)
-EndsLiveAs (Err Memory) limit unread before left now k n = k.fault ≡ None
+EndsLiveAs (Err (Rounds number)) host unread before left now k n = (k.fault ≡ None)
+    × (number ≡ k.lines) × (n ≡ host.limit)
+EndsLiveAs (Err Memory) host unread before left now k n = k.fault ≡ None
 
 -- of a private function: why it ended, by the fault that is kept, the number of lines that were
 -- read, and how many questions are left
@@ -223,12 +233,12 @@ goes_on Worked busy = nat_lt busy 256
 goes_on Quiet busy = false
 
 -- a whole course: at most so many questions were asked
-pub record Lives (limit : ℕ) (unread left : Pipe) (before now : OutPipe)
+pub record Lives (host : LiveHost) (unread left : Pipe) (before now : OutPipe)
     (ended : Result (Unit {0}) LiveEnd) : Type 0 where
   pub asked : ℕ
   pub kept : Kept
   pub owes : Owed
   pub listings : ℕ
-  pub course : LiveCourse limit unread before owes listings left now kept asked
-  pub few : asked ≤ limit
-  pub ends : EndsLiveAs ended limit unread before left now kept asked
+  pub course : LiveCourse host unread before owes listings left now kept asked
+  pub few : asked ≤ host.limit
+  pub ends : EndsLiveAs ended host unread before left now kept asked

@@ -1,5 +1,5 @@
 -- What the host does of what is wanted, and the item that it owes.
-use Rattle.std.specs.Prelude.{◌≡◌, Option, None, Some, Result, Ok, Err, true}
+use Rattle.std.specs.Prelude.{[], ◌≡◌, Option, None, Some, Result, Ok, Err, true}
 use Rattle.usb_world.specs.declared.event.Ask.{Ask}
 use Rattle.usb_world.specs.declared.event.Ask.TheVariants as ask
 use Rattle.usb_wire.specs.{Answer}
@@ -33,7 +33,7 @@ ask_of other = None
 
 -- nothing changed, and the item lists what the host has found, or memory was refused for it
 abbrev pub Lists : HostState → Result (Option Item) RunFault → HostState → Type 0
-Lists old (Ok item) new = (item ≡ Some (Listing new.entries 0)) × (new ≡ old)
+Lists old (Ok item) new = (item ≡ Some (Listing new.entries 0 [])) × (new ≡ old)
 Lists old (Err fault) new = (fault ≡ Memory) × (new ≡ old)
 
 -- a listing was made; all else was done as a run does it at the event of a plan

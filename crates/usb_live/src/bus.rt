@@ -1,8 +1,8 @@
 //! A bus that knows its course.
 ghost use Rattle.std.specs.Prelude.{◌≡◌, ◌^◌, ◌<◌, ℕ, None, false, option_map};
 ghost use Rattle.usb_lines.specs.Pipes.{OutPipe as AnOutPipe, Pipe as APipe, out_pipe_of, pipe_of};
-ghost use Rattle.usb_stream.specs.Stream.{kept_of, unread_of, written_of};
-ghost use Rattle.usb_live.specs.Course.{CourseTo};
+ghost use Rattle.usb_stream.specs.Stream.{SaysHello, kept_of, streams, unread_of, written_of};
+ghost use Rattle.usb_live.specs.Course.{CourseTo, LiveHost, live_host};
 
 use crate::end::{LiveEnd, end_of};
 use crate::owed::{Owed, is_nothing, owed_by, settles};
@@ -17,8 +17,8 @@ use usb_wire::Answer;
 
 /// Where a course begins.
 pub(crate) trait Begun {
-    /// The most questions.
-    ghost limit: { ℕ };
+    /// Whether the host takes wide hubs, and the most questions.
+    ghost host: { LiveHost };
 
     /// The reader.
     ghost unread: { APipe };
@@ -28,7 +28,7 @@ pub(crate) trait Begun {
 }
 
 impl Begun for Brand {
-    ghost limit = { 0 };
+    ghost host = { live_host false 0 };
 
     ghost unread = { record { bytes = None; failed = false } };
 
@@ -44,8 +44,8 @@ pub(crate) struct CourseBus<R: Read, W: Write, B: Begun> {
     /// How many listings were reported.
     listings: u64,
     begun: PhantomData<B>,
-    ghost bounded: { B.limit < 2 ^ 64 },
-    ghost course: { ∥ CourseTo stage owed B.limit listings B.unread B.before
+    ghost bounded: { B.host.limit < 2 ^ 64 },
+    ghost course: { ∥ CourseTo stage owed B.host listings B.unread B.before
         (unread_of R.remaining bus) (written_of W.contents bus) (kept_of bus) ∥₁ },
 }
 
@@ -162,13 +162,13 @@ impl<R: Read, W: Write, B: Begun> CourseBus<R, W, B> {
     ghost use Rattle.std.specs.Prelude.{true};
 
     /// Says the hello.
-    pub(crate) fn open(reader: Watched<R>, writer: Watched<W>, limit: u64) -> Self
-        requires limit { limit ≡ B.limit }
+    pub(crate) fn open(reader: Watched<R>, writer: Watched<W>, limit: u64, wide_hubs: bool) -> Self
+        requires host { live_host wide_hubs limit ≡ B.host }
         requires unread { pipe_of R.remaining reader ≡ B.unread }
         requires before { out_pipe_of W.contents writer ≡ B.before }
     {
         CourseBus {
-            bus: StreamBus::open(reader, writer, limit),
+            bus: stream(reader, writer, limit, wide_hubs),
             stage: Stage::Asks,
             owed: Owed::Nothing,
             listings: 0,
@@ -233,7 +233,7 @@ impl<R: Read, W: Write, B: Begun> CourseBus<R, W, B> {
         self,
         ran: Result<(), LiveEnd>,
     ) -> (Result<(), LiveEnd>, Watched<R>, Watched<W>)
-        ensures { ∥ Lives B.limit B.unread (pipe_of R.remaining result.1) B.before
+        ensures { ∥ Lives B.host B.unread (pipe_of R.remaining result.1) B.before
             (out_pipe_of W.contents result.2) result.0 ∥₁ }
     {
         let CourseBus { bus, stage, .. } = self;
@@ -245,5 +245,23 @@ impl<R: Read, W: Write, B: Begun> CourseBus<R, W, B> {
     /// The bus below.
     pub(crate) fn bus(&self) -> &StreamBus<R, W> {
         &self.bus
+    }
+}
+
+/// The bus of a host, which takes wide hubs or not.
+fn stream<R: Read, W: Write>(
+    reader: Watched<R>,
+    writer: Watched<W>,
+    limit: u64,
+    wide_hubs: bool,
+) -> StreamBus<R, W>
+    ensures { SaysHello wide_hubs limit (streams (pipe_of R.remaining reader)
+        (unread_of R.remaining result) (out_pipe_of W.contents writer)
+        (written_of W.contents result)) (kept_of result) }
+{
+    if wide_hubs {
+        StreamBus::with_wide_hubs(reader, writer, limit)
+    } else {
+        StreamBus::open(reader, writer, limit)
     }
 }

@@ -2,7 +2,7 @@
 ghost use Rattle.std.specs.Prelude.{◌≡◌, IfOk, IfSome, OnOk, false};
 ghost use Rattle.usb_text.specs.ListingLines.{written_lines};
 ghost use Rattle.usb_lines.specs.Pipes.{out_pipe_of, pipe_of};
-ghost use Rattle.usb_live.specs.Course.{IsShown, ListsEntries, Lives, goes_on, told_text};
+ghost use Rattle.usb_live.specs.Course.{IsShown, ListsEntries, Lives, goes_on, live_host, told_text};
 ghost use Rattle.usb_live.specs.Wanted.{IsOwed};
 
 use crate::bus::{Begun, CourseBus};
@@ -26,7 +26,8 @@ type LiveHost<R, W, B> = Host<CourseBus<R, W, B>>;
 
 /// Says the hello to the controller side, finds its devices, and does what is requested until the end
 /// is. Listings, transfers, looks and news are reported in the lines of `usbplan tree`. At most
-/// `limit` questions are asked. Hands the reader and the writer back.
+/// `limit` questions are asked. With `wide_hubs` the host takes hubs of 8 to 15 ports, and status
+/// endpoints of any number (11.23). Hands the reader and the writer back.
 ///
 /// # Errors
 ///
@@ -38,11 +39,13 @@ pub fn live<R: Read + Drop, W: Write + Drop>(
     reader: Watched<R>,
     writer: Watched<W>,
     limit: u64,
+    wide_hubs: bool,
 ) -> (Result<(), LiveEnd>, Watched<R>, Watched<W>)
-    ensures { ∥ Lives limit (pipe_of R.remaining reader) (pipe_of R.remaining result.1)
-        (out_pipe_of W.contents writer) (out_pipe_of W.contents result.2) result.0 ∥₁ }
+    ensures { ∥ Lives (live_host wide_hubs limit) (pipe_of R.remaining reader)
+        (pipe_of R.remaining result.1) (out_pipe_of W.contents writer)
+        (out_pipe_of W.contents result.2) result.0 ∥₁ }
 {
-    course::<R, W, Brand>(alloc, reader, writer, limit)
+    course::<R, W, Brand>(alloc, reader, writer, limit, wide_hubs)
 }
 
 /// The same, of a course that begins where the bound says.
@@ -51,17 +54,32 @@ fn course<R: Read + Drop, W: Write + Drop, B: Begun>(
     reader: Watched<R>,
     writer: Watched<W>,
     limit: u64,
+    wide_hubs: bool,
 ) -> (Result<(), LiveEnd>, Watched<R>, Watched<W>)
-    requires limit { limit ≡ B.limit }
+    requires host { live_host wide_hubs limit ≡ B.host }
     requires unread { pipe_of R.remaining reader ≡ B.unread }
     requires before { out_pipe_of W.contents writer ≡ B.before }
-    ensures { ∥ Lives limit (pipe_of R.remaining reader) (pipe_of R.remaining result.1)
-        (out_pipe_of W.contents writer) (out_pipe_of W.contents result.2) result.0 ∥₁ }
+    ensures { ∥ Lives (live_host wide_hubs limit) (pipe_of R.remaining reader)
+        (pipe_of R.remaining result.1) (out_pipe_of W.contents writer)
+        (out_pipe_of W.contents result.2) result.0 ∥₁ }
 {
-    let bus = CourseBus::<R, W, B>::open(reader, writer, limit);
-    let mut host = Host::new(alloc, bus);
+    let bus = CourseBus::<R, W, B>::open(reader, writer, limit, wide_hubs);
+    let mut host = host_over(alloc, bus, wide_hubs);
     let ran = run(alloc, &mut host, limit);
     host.into_bus().finish(ran)
+}
+
+/// A host over a bus, which takes wide hubs or not.
+fn host_over<R: Read + Drop, W: Write + Drop, B: Begun>(
+    alloc: Global,
+    bus: CourseBus<R, W, B>,
+    wide_hubs: bool,
+) -> LiveHost<R, W, B> {
+    if wide_hubs {
+        Host::with_wide_hubs(alloc, bus)
+    } else {
+        Host::new(alloc, bus)
+    }
 }
 
 /// Makes rounds. After a quiet one, or 257 in a row that worked, it does what is requested, until that is

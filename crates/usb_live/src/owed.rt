@@ -93,7 +93,7 @@ pub(crate) fn settles(owed: &Owed, item: &Item) -> bool
     ensures { result ≡ settles owed.now item.now }
 {
     match (owed, item) {
-        (Owed::Listing, Item::Listing(_, _)) => true,
+        (Owed::Listing, Item::Listing(_, _, _)) => true,
         (Owed::Send(path, count), Item::Sent(at, sent)) => {
             path.numbers() == at.numbers() && is_count(*count, sent)
         }

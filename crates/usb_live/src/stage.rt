@@ -32,7 +32,7 @@ pub(crate) fn stage_behind(stage: Stage, item: &Item) -> Stage
     ensures { result ≡ stage_behind stage item.now }
 {
     match (stage, item) {
-        (Stage::EndWanted, Item::Listing(_, _)) => Stage::Over,
+        (Stage::EndWanted, Item::Listing(_, _, _)) => Stage::Over,
         _ => Stage::Asks,
     }
 }

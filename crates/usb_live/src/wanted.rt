@@ -8,6 +8,7 @@ use std::alloc::Global;
 use usb_bus::Bus;
 use usb_host::Host;
 use usb_run::{Item, RunFault, all_news, answered, counted};
+use usb_text::Said;
 use usb_wire::Answer;
 
 /// Does what is requested, once. Returns the item that is reported of it, if there is one.
@@ -30,7 +31,7 @@ pub(crate) fn item_of<B: Bus>(
 {
     match answer {
         Answer::Show | Answer::End => match host.tree() {
-            Ok(tree) => Ok(Some(Item::Listing(tree, 0))),
+            Ok(tree) => Ok(Some(Item::Listing(tree, 0, Said::none(alloc)))),
             Err(_) => Err(RunFault::Memory),
         },
         Answer::Send { path, bytes } => {

@@ -9,7 +9,7 @@ use Rattle.std.proofs.lemmas.List.{length-take, take-append-drop}
 use Rattle.usb_pcap.specs.{IsForm, IsOneOf, IsPiece, Piece, behind_piece, fits_form, HasForm}
 use Rattle.usb_pcap.specs.{IsPlug, IsReport, has_form, plug_form, report_forms, longest}
 use Rattle.usb_pcap.proofs.Items.{StopsAt, distinct, halts, no_length, piece-complete, piece-sound}
-use Rattle.usb_pcap.proofs.Items.{ports_short}
+use Rattle.usb_port.proofs.Interface.{length-path_text}
 
 -- ---- a form in which each piece ends where the next one begins
 
@@ -207,9 +207,10 @@ plug_front line (
   (p, behind, is_p, (b, last, is_b, (name, none, some, over, e4), e3), e2),
   e1,
 ) =
-    let (d, ports, digit, are, e) = is_p in
-    let few = ports_short 6 ports are in
-    let long_p : length p ≤ 13 = let n = ap length e in omega (arith, n, few) in
+    let (numbers, is, root, e) = is_p in
+    let few = length-path_text numbers in
+    let most = is.1 in
+    let long_p : length p ≤ 20 = let n = ap length e in omega (arith, n, few, most) in
     let long_a : length a ≡ 5 = ap length is_a in
     let long_b : length b ≡ 1 = ap length is_b in
     let head : List ℕ = a ++ (p ++ b) in

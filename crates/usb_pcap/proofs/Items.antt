@@ -11,13 +11,27 @@ use Rattle.std.proofs.lemmas.Bool.Decides.{nat_tests}
 use Rattle.std.proofs.lemmas.Fmt.{decimal_by_steps}
 use Rattle.std.specs.Char.{is_ascii_digit}
 use Rattle.std.specs.Option.{option_and_then}
-use Rattle.usb_pcap.specs.{Item, Port, Byte, Letter, decimal_in, if_found, is_digit, number_on}
+use Rattle.usb_pcap.specs.{Item, Byte, Letter, decimal_in, if_found, is_digit, number_on}
 use Rattle.usb_pcap.specs.{strip, strip_any, with_digit, AreUnits, IsUnit, IsOneOf, IsPiece, Piece}
 use Rattle.usb_pcap.specs.{behind_bytes, behind_escape, behind_item, behind_items, behind_piece}
 use Rattle.usb_pcap.specs.{behind_endpoint, is_endpoint, is_escape, is_plain, value_of}
 use Rattle.usb_request.specs.{is_endpoint_address}
 use Rattle.hex.specs.Hex.{encode_with}
-use Rattle.usb_port.specs.{is_port_digit}
+use Rattle.usb_port.specs.{IsPortNumber, number_text, path_of, path_text}
+use Rattle.usb_port.proofs.Interface.{number_text-below, number_text-from, reads_back, some_if}
+use Rattle.usb_pcap.specs.{behind_path, ends_path, is_from_root, path_end}
+use Rattle.std.proofs.Common.{All, take, slice_index}
+use Rattle.std.proofs.Math.Seq.{take-append_seam, drop-append_seam}
+use Rattle.std.proofs.lemmas.List.{take-append-drop}
+use Rattle.std.proofs.lemmas.List.Elements.{All-head, All-tail}
+use Rattle.std.proofs.lemmas.Bool.{cases_lt, le-leb, leb-true}
+use Rattle.std.proofs.lemmas.Str.{IsUtf8-from_ascii}
+use Rattle.std.proofs.lemmas.Str.Ascii.{IsAscii-cons, IsAscii-nil}
+use Rattle.std.specs.List.{position_or_len}
+use Rattle.std.proofs.Common.{cond, unwrap_or}
+use Rattle.std.proofs.lemmas.Bool.{ltb-false}
+use Rattle.std.proofs.lemmas.List.Sums.{prefix_len-le-length}
+use Rattle.std.specs.Str.{IsAscii, IsUtf8}
 use Rattle.usb_pcap.proofs.Reading.{decimal_in-some, found_some, if_either, if-some, map_some}
 use Rattle.usb_pcap.proofs.Reading.{digit_spelled, encode_step, encode_upper-pair, strip-some}
 
@@ -114,14 +128,6 @@ escape-sound s _ rest back e = absurd (cc)
 item-sound : (kind : Item) (text rest : List ℕ) → behind_item kind text ≡ Some rest
     → (item : List ℕ) × IsUnit kind item × (text ≡ item ++ rest)
 unfolding behind_item
-item-sound Port [] rest e = absurd (cc)
-item-sound Port (c ∷ []) rest e = absurd (cc)
-item-sound Port (c ∷ d ∷ text) rest e =
-    if-some (c == 46 && is_port_digit d) (Some text) rest e (λ fit is.
-    let both = and_parts (c == 46) (is_port_digit d) fit in
-    let dot = eqb-true c 46 both.0 in
-    let same = same_Some text rest is in
-    (46 ∷ d ∷ [], (d, both.1, refl), cc))
 item-sound Byte [] rest e = absurd (cc)
 item-sound Byte (h ∷ []) rest e = absurd (cc)
 item-sound Byte (h ∷ l ∷ text) rest e =
@@ -137,13 +143,11 @@ item-sound Letter (c ∷ text) rest e =
 item-complete : (kind : Item) (item rest : List ℕ) → IsUnit kind item
     → behind_item kind (item ++ rest) ≡ Some rest
 unfolding behind_item
-item-complete Port item rest (d, fit, e) = rw (e, fit) refl
 item-complete Byte item rest (h, l, fit, e) = rw (e, fit) refl
 item-complete Letter item rest (inl (c, fit, e)) = rw (e, fit) refl
 item-complete Letter item rest (inr (a, b, c, d, fit, e)) = rw (e, fit) refl
 
 item-some : (kind : Item) (item : List ℕ) → IsUnit kind item → 1 ≤ length item
-item-some Port item (d, fit, e) = rw e (omega arith)
 item-some Byte item (h, l, fit, e) = rw e (omega arith)
 item-some Letter item (inl (c, fit, e)) = rw e (omega arith)
 item-some Letter item (inr (a, b, c, d, fit, e)) = rw e (omega arith)
@@ -223,22 +227,13 @@ items_fewer kind (suc n) (suc m) items few (inr (item, more, is, are, e)) =
     let both = ap length e ∙ length-append item more in
     inr (item, more, is, items_fewer kind n m more (omega (arith, some, both)) are, e)
 
-pub ports_short : (n : ℕ) (items : List ℕ) → AreUnits Port n items → length items ≤ 2 * n
-ports_short zero items are = rw are (omega arith)
-ports_short (suc n) items (inl none) = rw none (omega arith)
-ports_short (suc n) items (inr (item, more, (d, fit, is), are, e)) =
-    let rest = ports_short n more are in
-    let both = ap length e ∙ length-append item more in
-    let two : length item ≡ 2 = ap length is in
-    omega (arith, rest, both, two)
-
 -- ---- where a piece ends
 
 -- a text that goes on with this character does not go on with the piece
 abbrev pub halts : Piece → ℕ → Bool
 halts (Piece.word w) c = true
 halts (Piece.one_of words) c = true
-halts Piece.path c = not (c == 46)
+halts Piece.path c = ends_path c
 halts Piece.endpoint c = true
 halts Piece.number c = not (is_ascii_digit c)
 halts Piece.bytes c = not (is_digit c)
@@ -248,12 +243,6 @@ halts Piece.name c = false
 abbrev pub StopsAt : Piece → List ℕ → Type 0
 StopsAt piece [] = Unit {0}
 StopsAt piece (c ∷ rest) = halts piece c ≡ true
-
-port_end : (rest : List ℕ) → StopsAt Piece.path rest → behind_item Port rest ≡ None
-unfolding behind_item
-port_end [] h = refl
-port_end (c ∷ []) h = refl
-port_end (c ∷ d ∷ rest) h = let non = not-true (c == 46) h in rw non refl
 
 byte_end : (rest : List ℕ) → StopsAt Piece.bytes rest → behind_item Byte rest ≡ None
 unfolding behind_item
@@ -404,19 +393,133 @@ piece_endpoint-sound (h ∷ l ∷ text) rest e =
       ap (λ t. h ∷ l ∷ t) (same_Some text rest is),
     ))
 
+-- each byte of a path's text is a digit or a dot
+abbrev all_in_path : List ℕ → Bool
+all_in_path [] = true
+all_in_path (c ∷ text) = not (ends_path c) && all_in_path text
+
+digit_in_path : (d : ℕ) → 48 ≤ d → d ≤ 57 → not (ends_path d) ≡ true
+digit_in_path d low high = grind (arith, nat_tests)
+
+number_in_path : (n : ℕ) (text : List ℕ) → IsPortNumber n → all_in_path text ≡ true
+    → all_in_path (number_text n ++ text) ≡ true
+number_in_path n text is rest = elim (cases_lt n 10) [
+  | inl below ↦ rw (
+    number_text-below n below,
+    digit_in_path (48 + n) (omega arith) (omega arith),
+    rest,
+  ) refl
+  | inr from ↦ rw (
+    number_text-from n from,
+    digit_in_path (38 + n) (omega arith) (omega (arith, is.1)),
+    rest,
+  ) refl
+]
+
+text_in_path : (p : List ℕ) → All IsPortNumber p → all_in_path (path_text p) ≡ true
+unfolding path_text
+text_in_path [] h = refl
+text_in_path (n ∷ []) h = subst (λ t. all_in_path t ≡ true) (append-nil (number_text n))
+    (number_in_path n [] (All-head IsPortNumber n [] h) refl)
+text_in_path (n ∷ m ∷ p) h =
+    number_in_path n (46 ∷ path_text (m ∷ p)) (All-head IsPortNumber n (m ∷ p) h)
+    (rw (text_in_path (m ∷ p) (All-tail IsPortNumber n (m ∷ p) h)) refl)
+
+path_stop : (rest : List ℕ) → StopsAt Piece.path rest → position_or_len ends_path rest ≡ 0
+path_stop [] stop = refl
+path_stop (c ∷ rest) stop = rw stop refl
+
+first_end : (text rest : List ℕ) → all_in_path text ≡ true → StopsAt Piece.path rest
+    → position_or_len ends_path (text ++ rest) ≡ length text
+first_end [] rest h stop = path_stop rest stop
+first_end (c ∷ text) rest h stop =
+    let both = and_parts (not (ends_path c)) (all_in_path text) h in
+    let on = first_end text rest both.1 stop in
+    rw (both.0, on) (omega arith)
+
+-- it is the first other byte, or the end of the text
+end_if : (few : Bool) (end all : ℕ) → nat_lt end all ≡ few → end ≤ all
+    → unwrap_or (cond few (Some end) None) all ≡ end
+end_if true end all e le = refl
+end_if false end all e le = let over = ltb-false end all e in omega (arith, over, le)
+
+path_end-is : (text : List ℕ) → path_end text ≡ position_or_len ends_path text
+path_end-is text = end_if (nat_lt (position_or_len ends_path text) (length text))
+    (position_or_len ends_path text) (length text) refl
+    (prefix_len-le-length (λ c. not (ends_path c)) text)
+
+pub path_end-within : (text : List ℕ) → path_end text ≤ length text
+path_end-within text = subst (λ n. n ≤ length text) (sym (path_end-is text))
+    (prefix_len-le-length (λ c. not (ends_path c)) text)
+
+cut_at_end : (text rest p : List ℕ) (end : ℕ) → end ≡ length text → path_of text ≡ Some p
+    → slice_index p 0 ≤ 7
+    → (if is_from_root (path_of (take end (text ++ rest))) then Some (drop end (text ++ rest))
+    else None) ≡ Some rest
+cut_at_end text rest p end e found root = rw (
+  e,
+  take-append_seam text rest,
+  drop-append_seam text rest,
+  found,
+  le-leb (slice_index p 0) 7 root,
+) refl
+
+piece_path-complete : (text rest : List ℕ) → IsPiece Piece.path text → StopsAt Piece.path rest
+    → behind_path (text ++ rest) ≡ Some rest
+piece_path-complete text rest (p, is, root, e) stop =
+    let inside : all_in_path text ≡ true = subst (λ t. all_in_path t ≡ true) (sym e)
+    (text_in_path p is.2) in
+    let end : path_end (text ++ rest) ≡ length text = path_end-is (text ++ rest)
+    ∙ first_end text rest inside stop in
+    let found : path_of text ≡ Some p = ap path_of e ∙ reads_back p is in
+    cut_at_end text rest p (path_end (text ++ rest)) end found root
+
+path_found : (o : Option (List ℕ)) → is_from_root o ≡ true → (p : List ℕ) × (o ≡ Some p)
+    × (slice_index p 0 ≤ 7)
+path_found None h = absurd (cc)
+path_found (Some p) h = (p, refl, leb-true (slice_index p 0) 7 h)
+
+piece_path-sound : (text rest : List ℕ) → behind_path text ≡ Some rest → (first : List ℕ)
+    × IsPiece Piece.path first × (text ≡ first ++ rest)
+piece_path-sound text rest e =
+    let end = path_end text in
+    let front : List ℕ = take end text in
+    if-some (is_from_root (path_of front)) (Some (drop end text)) rest e (λ fit is.
+    let (p, found, root) = path_found (path_of front) fit in
+    let own = some_if (Some p) front (sym found) in (
+      front,
+      (p, own.0, root, sym own.1),
+      sym (take-append-drop end text) ∙ ap (λ l. front ++ l) (same_Some (drop end text) rest is),
+    ))
+
+-- a text that is no UTF-8 is of no path
+small_in_path : (c : ℕ) → not (ends_path c) ≡ true → c < 128
+small_in_path c h = grind (arith, nat_tests)
+
+ascii_in_path : (text : List ℕ) → all_in_path text ≡ true → IsAscii text
+ascii_in_path [] h = IsAscii-nil
+ascii_in_path (c ∷ text) h =
+    let both = and_parts (not (ends_path c)) (all_in_path text) h in
+    IsAscii-cons c text (small_in_path c both.0) (ascii_in_path text both.1)
+
+path_by : (o : Option (List ℕ)) (text : List ℕ) → o ≡ path_of text → (IsUtf8 text → ⊥)
+    → is_from_root o ≡ false
+path_by None text e other = refl
+path_by (Some p) text e other =
+    let own = some_if (Some p) text e in
+    let inside : all_in_path text ≡ true = subst (λ t. all_in_path t ≡ true) own.1
+    (text_in_path p own.0.2) in
+    absurd (other (IsUtf8-from_ascii text (ascii_in_path text inside)))
+
+pub no_path : (text : List ℕ) → (IsUtf8 text → ⊥) → is_from_root (path_of text) ≡ false
+no_path text other = path_by (path_of text) text refl other
+
 pub piece-sound : (piece : Piece) (text rest : List ℕ) → behind_piece piece text ≡ Some rest
     → (first : List ℕ) × IsPiece piece first × (text ≡ first ++ rest)
 unfolding behind_piece
 piece-sound (Piece.word w) text rest e = (w, refl, strip-some w text rest e)
 piece-sound (Piece.one_of words) text rest e = strip_any-sound words text rest e
-piece-sound Piece.path [] rest e = absurd (cc)
-piece-sound Piece.path (d ∷ text) rest e =
-    if-some (is_port_digit d) (Some (behind_items Port 6 text)) rest e (λ fit is.
-    let (more, are, whole) = items-sound Port 6 text in (
-      d ∷ more,
-      (d, more, fit, are, refl),
-      ap (λ l. d ∷ l) (whole ∙ ap (λ l. more ++ l) (same_Some (behind_items Port 6 text) rest is)),
-    ))
+piece-sound Piece.path text rest e = piece_path-sound text rest e
 piece-sound Piece.endpoint text rest e = piece_endpoint-sound text rest e
 piece-sound Piece.number text rest e =
     map_some (λ (n : ℕ × List ℕ). n.1) (decimal_in text) rest e (λ n found is.
@@ -489,8 +592,7 @@ unfolding behind_piece
 piece-complete (Piece.word w) text rest h is stop =
     subst (λ t. strip w (t ++ rest) ≡ Some rest) (sym is) (strip-append w rest)
 piece-complete (Piece.one_of words) text rest h is stop = strip_any-complete words text rest h is
-piece-complete Piece.path text rest h (d, more, fit, are, e) stop =
-    rw (e, fit) (ap Some (items-complete Port 6 6 more rest (omega arith) are (port_end rest stop)))
+piece-complete Piece.path text rest h is stop = piece_path-complete text rest is stop
 piece-complete Piece.endpoint text rest h is stop = piece_endpoint-complete text rest is
 piece-complete Piece.number text rest h (n, few, e) stop =
     rw (e, decimal_in-complete n rest few stop) refl

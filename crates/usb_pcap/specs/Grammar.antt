@@ -1,13 +1,15 @@
 -- What the lines of a run are made of, and how a text is read by it.
 use Rattle.std.specs.Prelude.{◌⊎◌, ◌≡◌, ◌≢◌, ℕ, ◌*◌, ◌+◌, ◌^◌, ◌<◌, zero, suc, ◌==◌, ◌&&◌, not}
-use Rattle.std.specs.Prelude.{nat_le, Bool, true, false, List, [], ◌∷◌, ◌++◌, length, map, Option}
-use Rattle.std.specs.Prelude.{Some, None, option_map, codes, decimal, if◌then◌else◌}
+use Rattle.std.specs.Prelude.{nat_le, ◌≤◌, Bool, true, false, List, [], ◌∷◌, ◌++◌, length, map, Option, take}
+use Rattle.std.specs.Prelude.{Some, None, option_map, codes, decimal, if◌then◌else◌, drop, slice_index, position}
+use Rattle.std.specs.Prelude.{unwrap_or}
+use Rattle.std.specs.Char.{is_ascii_digit}
 use Rattle.usb_pcap.specs.declared.item.Item.{Item}
-use Rattle.usb_pcap.specs.declared.item.Item.TheVariants.{Port, Byte, Letter}
+use Rattle.usb_pcap.specs.declared.item.Item.TheVariants.{Byte, Letter}
 use Rattle.usb_pcap.specs.declared.part.Part.{Part}
 use Rattle.usb_pcap.specs.declared.part.Part.TheVariants as part
 use Rattle.usb_packet.specs.{hex_text}
-use Rattle.usb_port.specs.{is_port_digit}
+use Rattle.usb_port.specs.{IsPath, path_of, path_text}
 use Rattle.usb_request.specs.{is_endpoint_address}
 use Rattle.usb_pcap.specs.Text.{decimal_in, if_found, is_digit, strip, strip_any, value_of}
 
@@ -23,9 +25,8 @@ abbrev pub is_escape : ℕ → ℕ → ℕ → ℕ → Bool
 is_escape a b c d = is_digit a && is_digit b && is_digit c && is_digit d &&
     not (a == 48 && b == 48 && is_plain (value_of c * 16 + value_of d))
 
--- a dot and a port's number; two digits; a character of a string, or \uXXXX
+-- two digits; a character of a string, or \uXXXX
 abbrev pub IsUnit : Item → List ℕ → Type 0
-IsUnit Port item = (d : ℕ) × (is_port_digit d ≡ true) × (item ≡ 46 ∷ d ∷ [])
 IsUnit Byte item = (h : ℕ) × (l : ℕ) × ((is_digit h && is_digit l) ≡ true) × (item ≡ h ∷ l ∷ [])
 IsUnit Letter item =
     ((c : ℕ) × (is_plain c ≡ true) × (item ≡ c ∷ []))
@@ -53,12 +54,11 @@ pub data Piece : Type 0 where
   string : Piece
   name : Piece
 
--- the texts of a piece
+-- the texts of a piece; a path begins at a root port, of which there are at most 7
 abbrev pub IsPiece : Piece → List ℕ → Type 0
 IsPiece (Piece.word w) text = text ≡ w
 IsPiece (Piece.one_of words) text = IsOneOf words text
-IsPiece Piece.path text = (d : ℕ) × (more : List ℕ) × (is_port_digit d ≡ true)
-    × AreUnits Port 6 more × (text ≡ d ∷ more)
+IsPiece Piece.path text = (p : List ℕ) × IsPath p × (slice_index p 0 ≤ 7) × (text ≡ path_text p)
 IsPiece Piece.endpoint text = (a : ℕ) × (is_endpoint_address a ≡ true) × (text ≡ hex_text (a ∷ []))
 IsPiece Piece.number text = (n : ℕ) × (n < 2 ^ 64) × (text ≡ decimal n)
 IsPiece Piece.bytes text =
@@ -76,11 +76,6 @@ IsForm (piece ∷ form) text = (first : List ℕ) × (more : List ℕ) × IsPiec
 
 -- ---- reading
 
-abbrev pub behind_port : List ℕ → Option (List ℕ)
-behind_port [] = None
-behind_port (c ∷ []) = None
-behind_port (c ∷ d ∷ text) = if c == 46 && is_port_digit d then Some text else None
-
 abbrev pub behind_byte : List ℕ → Option (List ℕ)
 behind_byte [] = None
 behind_byte (h ∷ []) = None
@@ -97,7 +92,6 @@ behind_letter (c ∷ text) = if is_plain c then Some text else if c == 92 then b
 
 -- what stands behind an item
 unfoldable pub behind_item : Item → List ℕ → Option (List ℕ)
-behind_item Port text = behind_port text
 behind_item Byte text = behind_byte text
 behind_item Letter text = behind_letter text
 
@@ -110,9 +104,22 @@ behind_items kind (suc n) text = elim (behind_item kind text) [
       behind_items kind n rest
 ]
 
+-- neither a digit nor a dot
+abbrev pub ends_path : ℕ → Bool
+ends_path c = not (is_ascii_digit c) && not (c == 46)
+
+-- a root hub has at most 7 ports
+abbrev pub is_from_root : Option (List ℕ) → Bool
+is_from_root None = false
+is_from_root (Some p) = nat_le (slice_index p 0) 7
+
+-- where the digits and dots at the front end
+abbrev pub path_end : List ℕ → ℕ
+path_end text = unwrap_or (position ends_path text) (length text)
+
 abbrev pub behind_path : List ℕ → Option (List ℕ)
-behind_path [] = None
-behind_path (d ∷ text) = if is_port_digit d then Some (behind_items Port 6 text) else None
+behind_path text = if is_from_root (path_of (take (path_end text) text)) then Some
+    (drop (path_end text) text) else None
 
 -- two upper-case digits of an endpoint's address (9.6.6)
 abbrev pub is_endpoint : ℕ → ℕ → Bool

@@ -22,7 +22,8 @@ pub use Record.{damaged, header, host_packets, next_packets, own_mark, pre_mark,
 pub use Record.{record_head}
 pub use Grammar.{AreUnits, IsForm, IsOneOf, IsPiece, IsUnit, Piece, behind_byte, behind_bytes}
 pub use Grammar.{behind_endpoint, behind_escape, behind_letter, behind_name, behind_path}
-pub use Grammar.{behind_port, is_endpoint, is_escape, is_plain, piece_of}
+pub use Grammar.{ends_path, is_endpoint, is_escape, is_from_root, is_plain, path_end}
+pub use Grammar.{piece_of}
 unfoldable pub use Grammar.{behind_item, behind_items, behind_piece, fits_form}
 pub use Report.{HasForm, IsPlug, IsReport, causes, failures, has_form, plug_form, report_forms}
 pub use Shown.{Begins, IsPlainChar, IsShownChar, IsShownText, is_escaped_pair, pair_value}
@@ -35,4 +36,4 @@ pub use declared.capturing.PcapFault.{PcapFault}
 pub use declared.capturing.PcapFault.TheVariants.{Line, NoAttempt, Read, TooLong}
 pub use declared.capturing.PcapFault.TheVariants.{Write}
 pub use declared.item.Item.{Item}
-pub use declared.item.Item.TheVariants.{Byte, Letter, Port}
+pub use declared.item.Item.TheVariants.{Byte, Letter}

@@ -36,6 +36,7 @@ report_forms =
     string ∷ word (codes "\"") ∷ [])
     ∷ (path ∷ word (codes " refused ") ∷ one_of causes ∷ [])
     ∷ (path ∷ word (codes " refused bad configuration ") ∷ number ∷ [])
+    ∷ (path ∷ word (codes " said ") ∷ bytes ∷ [])
     ∷ (word (codes "send ") ∷ path ∷ word (codes " done ") ∷ number ∷ [])
     ∷ (word (codes "receive ") ∷ path ∷ word (codes " done ") ∷ bytes ∷ [])
     ∷ (word (codes "clear ") ∷ path ∷ word (codes " done") ∷ [])

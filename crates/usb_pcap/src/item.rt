@@ -1,15 +1,12 @@
 //! Items of a text, one after the other.
 ghost use Rattle.std.specs.Prelude.{◌≡◌, option_map};
-ghost use Rattle.usb_port.specs.Path.{is_port_digit};
-ghost use Rattle.usb_pcap.specs.Grammar.{behind_byte, behind_escape, behind_item, behind_items, behind_letter, behind_port, is_escape, is_plain};
+ghost use Rattle.usb_pcap.specs.Grammar.{behind_byte, behind_escape, behind_item, behind_items, behind_letter, is_escape, is_plain};
 
 use crate::text::{is_digit, value_of};
 
 /// A kind of items.
 #[derive(Clone, Copy)]
 pub(crate) enum Item {
-    /// A dot and the number of a port.
-    Port,
     /// A byte, as two digits.
     Byte,
     /// A unit of a string, as its character or as `\uXXXX`.
@@ -37,18 +34,8 @@ pub(crate) fn behind_item(kind: Item, text: &[u8]) -> Option<&[u8]>
     ensures { option_map (λ r. r.now) result ≡ behind_item kind text.now }
 {
     match kind {
-        Item::Port => behind_port(text),
         Item::Byte => behind_byte(text),
         Item::Letter => behind_letter(text),
-    }
-}
-
-fn behind_port(text: &[u8]) -> Option<&[u8]>
-    ensures { option_map (λ r. r.now) result ≡ behind_port text.now }
-{
-    match text {
-        [b'.', digit, rest @ ..] if is_port_digit(*digit) => Some(rest),
-        _ => None,
     }
 }
 
@@ -79,13 +66,6 @@ fn behind_escape(text: &[u8]) -> Option<&[u8]>
         [b'u', a, b, c, d, rest @ ..] if is_escape(*a, *b, *c, *d) => Some(rest),
         _ => None,
     }
-}
-
-/// The digit of a port's number.
-pub(crate) fn is_port_digit(c: u8) -> bool
-    ensures { result ≡ is_port_digit c }
-{
-    matches!(c, b'1'..=b'7')
 }
 
 /// A character of a string that stands for itself.

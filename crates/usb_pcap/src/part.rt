@@ -1,11 +1,13 @@
 //! Parts of a line.
-ghost use Rattle.std.specs.Prelude.{◌≡◌, map, option_map};
-ghost use Rattle.usb_pcap.specs.Grammar.{behind_bytes, behind_endpoint, behind_name, behind_path, behind_piece, fits_form, is_endpoint, piece_of};
+ghost use Rattle.std.specs.Prelude.{◌≡◌, ◌≤◌, length, map, option_map, position};
+ghost use Rattle.usb_port.specs.Path.{path_of};
+ghost use Rattle.usb_pcap.specs.Grammar.{behind_bytes, behind_endpoint, behind_name, behind_path, behind_piece, ends_path, fits_form, is_endpoint, is_from_root, path_end, piece_of};
 ghost use Rattle.usb_pcap.specs.Text.{decimal_in, strip, strip_any};
 ghost use Rattle.usb_request.specs.EndpointAddresses.{is_endpoint_address};
 
-use crate::item::{Item, behind_item, behind_items, is_port_digit};
+use crate::item::{Item, behind_item, behind_items};
 use crate::text::{Text, is_digit, value_of};
+use usb_port::PortPath;
 use usb_request::EndpointAddress;
 
 /// A part of a line.
@@ -82,9 +84,51 @@ fn behind_word<'a>(word: &str, text: &'a [u8]) -> Option<&'a [u8]>
 fn behind_path(text: &[u8]) -> Option<&[u8]>
     ensures { option_map (λ r. r.now) result ≡ behind_path text.now }
 {
-    match text {
-        [digit, rest @ ..] if is_port_digit(*digit) => Some(behind_items(Item::Port, 6, rest)),
-        _ => None,
+    let (front, rest) = text.split_at(path_end(text));
+    if is_from_root(front) {
+        Some(rest)
+    } else {
+        None
+    }
+}
+
+/// Where the digits and dots of a path end.
+fn path_end(text: &[u8]) -> usize
+    ensures end { result ≡ path_end text.now }
+    ensures within { result ≤ length text.now }
+{
+    path_stop(text).unwrap_or(text.len())
+}
+
+/// The place of the first byte that no path has.
+fn path_stop(text: &[u8]) -> Option<usize>
+    ensures { result ≡ position ends_path text.now }
+{
+    text.iter().position(|byte| ends_path(*byte))
+}
+
+fn ends_path(byte: u8) -> bool
+    ensures { result ≡ ends_path byte }
+{
+    !byte.is_ascii_digit() && byte != b'.'
+}
+
+/// Whether this is the text of a path, from a root port on: of those there are at most 7.
+fn is_from_root(text: &[u8]) -> bool
+    ensures { result ≡ is_from_root (path_of text.now) }
+{
+    match str::from_utf8(text) {
+        Ok(text) => begins_at_root(PortPath::from_text(text)),
+        Err(_) => false,
+    }
+}
+
+fn begins_at_root(path: Option<PortPath>) -> bool
+    ensures { result ≡ is_from_root path }
+{
+    match path {
+        Some(path) => path.numbers()[0] <= 7,
+        None => false,
     }
 }
 

@@ -36,7 +36,7 @@ const FAILURES: [&str; 6] = [
 const PLUG: [Part; 4] = [Word("plug "), Path, Word(" "), Name];
 
 /// An unplug, the lines of a listing, the lines of transfers, looks and news, a bound.
-const REPORTS: [&[Part]; 32] = [
+const REPORTS: [&[Part]; 33] = [
     &[Word("unplug "), Path],
     &[Word("listing "), Number],
     &[Word("end")],
@@ -65,6 +65,7 @@ const REPORTS: [&[Part]; 32] = [
     ],
     &[Path, Word(" refused "), OneOf(&CAUSES)],
     &[Path, Word(" refused bad configuration "), Number],
+    &[Path, Word(" said "), Bytes],
     &[Word("send "), Path, Word(" done "), Number],
     &[Word("receive "), Path, Word(" done "), Bytes],
     &[Word("clear "), Path, Word(" done")],

@@ -1,13 +1,13 @@
 -- Why a whole transfer fails, where no three attempts running are damaged and the device stays
 -- reachable.
-use Rattle.usb_device.specs.{Location, tells_changes, State, IsSink, IsSource, PollAt, NeverTold}
+use Rattle.usb_device.specs.{Location, State, IsSink, IsSource, PollAt, NeverTold}
 use Rattle.usb_device.specs.{in_end, out_end, GivesWithin, HasPackets, IsPrompt}
 use Rattle.std.specs.Prelude.{◌≡◌, ◌≢◌, ℕ, ◌≤◌, true, false, Option}
 use Rattle.std.specs.Prelude.{Result, Err}
 use Rattle.arrayvec.specs.ArrayVec.{ArrayVec}
 use Rattle.std.specs.Global.{Vec}
 use Rattle.usb_request.specs.{Setup}
-use Rattle.usb_transaction.specs.{Target, Listens}
+use Rattle.usb_transaction.specs.{Target, Listens, IsStatusEndpoint}
 use Rattle.usb_pipe.specs.declared.fault.PipeFault.{PipeFault}
 use Rattle.usb_pipe.specs.declared.fault.PipeFault.TheVariants.{Busy, NoAnswer}
 use Rattle.usb_pipe.specs.EndpointPipes.{PipeState}
@@ -64,6 +64,6 @@ pub record PacketFailure (pipe : PipeState) (result : Result (Option (ArrayVec �
 -- a hub's status endpoint that is not halted tells its bits, or that there are none
 pub record PollingFailure (pipe : Interrupt) (result : Result (Option (ArrayVec ℕ)) PipeFault)
     (x : Location) (s v : State) : Type 0 where
-  pub answered : Listens pipe.target x s → tells_changes s.spec s.registers ≡ true
+  pub answered : Listens pipe.target x s → IsStatusEndpoint pipe.target pipe.ep s
       → PollAt NeverTold pipe.toggle s → s.changes.halted ≡ false → (why : PipeFault)
       → result ≢ Err why

@@ -10,14 +10,15 @@ use Rattle.usb_port.specs.{PortState}
 use Rattle.usb_device.specs.{Spec, EndpointState, ServedEndpoint, BulkOut, BulkIn, Changes, outcome}
 use Rattle.usb_device.specs.{takes_address, first_stage, reading, ending, refused as stage_refused}
 use Rattle.usb_device.specs.{max_packet, State, accepted, NextBytes, NothingMoved}
-use Rattle.usb_device.specs.{tells_changes, rested, row_of, Location, IsRead, StatusGiven, IsSink}
+use Rattle.usb_device.specs.{hub_ports, change_bytes, told_bits, rested, row_of, Location, IsRead}
+use Rattle.usb_device.specs.{StatusGiven, IsSink}
 use Rattle.usb_device.specs.{SinkAt, IsSource, SourceAt, PollAt, NeverTold, OnlyControl, OnlyStage}
 use Rattle.usb_device.specs.{OnlySink, OnlySource, OnlyChanges, in_data, in_end, out_end, next_packet}
 use Rattle.usb_device.specs.{GivesOn}
 use Rattle.usb_world.specs.{BusFault, one_more, World, Step, attempt, root_call, event, report}
 use Rattle.usb_world.specs.{Course}
 use Rattle.usb_transaction.specs.{Target, is_at, ToldSince, AcceptedAt, in_attempt, out_attempt}
-use Rattle.usb_transaction.specs.{IsPacedWithin}
+use Rattle.usb_transaction.specs.{IsPacedWithin, IsStatusEndpoint}
 use Rattle.usb_pipe.specs.declared.condition.Condition.TheVariants.{Ready, Halted}
 use Rattle.usb_pipe.specs.declared.condition.Condition.TheVariants.{Broken as BrokenPipe}
 use Rattle.usb_pipe.specs.EndpointPipes.{PipeState}
@@ -339,14 +340,14 @@ pub record ClearLeaves (is_sent : Bool) (pipe : PipeState) (result : Result (Uni
 
 -- a hub's ports told these bits at a moment of a poll
 abbrev pub ToldOf : Interrupt → World → World → Location → ℕ → Type 0
-ToldOf pipe old new x bits = ToldSince (in_attempt pipe.target 1) old new x bits
+ToldOf pipe old new x bits = ToldSince (in_attempt pipe.target pipe.ep) old new x bits
 
--- the byte of bits that were told, of which one at least is set
+-- the bytes of bits that were told, of which one at least is set
 pub record ByteTold (Told : ℕ → Type 0) (bytes : List ℕ) : Type 0 where
   pub bits : ℕ
   pub some : bits ≢ 0
   pub so : Told bits
-  pub is : bytes ≡ bits ∷ []
+  pub is : told_bits bytes ≡ bits
 
 abbrev pub PollTells : (ℕ → Type 0) → Result (Option (ArrayVec ℕ)) PipeFault → Type 0
 PollTells Told (Ok None) = Told 0
@@ -357,11 +358,15 @@ pub record PollLeaves (pipe : Interrupt) (old : World)
     (result : Result (Option (ArrayVec ℕ)) PipeFault) (left : Interrupt) (new : World)
     (x : Location) (s v : State) : Type 0 where
   pub others : is_at s pipe.target ≡ false → v ≡ s
-  pub frame : tells_changes s.spec s.registers ≡ true → OnlyChanges s v
+  pub frame : IsStatusEndpoint pipe.target pipe.ep s → OnlyChanges s v
   -- the bits are the ports' own at a moment of the poll
-  pub tells : is_at s pipe.target ≡ true → tells_changes s.spec s.registers ≡ true
+  pub tells : is_at s pipe.target ≡ true → IsStatusEndpoint pipe.target pipe.ep s
       → PollAt NeverTold pipe.toggle s → PollTells (ToldOf pipe old new x) result
+  -- there are as many bytes as the hub's ports take (11.12.4)
+  pub bytes : is_at s pipe.target ≡ true → IsStatusEndpoint pipe.target pipe.ep s
+      → PollAt NeverTold pipe.toggle s → (packet : ArrayVec ℕ) → result ≡ Ok (Some packet)
+      → packet.items ≡ change_bytes (hub_ports s.spec.hub) (told_bits packet.items)
   -- both ends are as far, where it did not fail
-  pub level : is_at s pipe.target ≡ true → tells_changes s.spec s.registers ≡ true
+  pub level : is_at s pipe.target ≡ true → IsStatusEndpoint pipe.target pipe.ep s
       → PollAt NeverTold pipe.toggle s → (got : Option (ArrayVec ℕ)) → result ≡ Ok got
       → PollAt NeverTold left.toggle v

@@ -136,15 +136,14 @@ pub record PipePoll (pipe : PipeState) (old : World)
 
 -- Interrupt pipes (5.7)
 
--- a byte of a hub's status endpoint is the bits of its ports at a moment of the poll, and where
--- there is none, no port told of a change
--- then (11.12.3)
+-- what a hub's status endpoint gives is the bits of its ports at a moment of the poll, and where it
+-- gives nothing, no port told of a change then (11.12.3)
 pub record InterruptPoll (pipe : Interrupt) (old : World)
     (result : Result (Option (ArrayVec ℕ)) PipeFault) (left : Interrupt) (new : World) : Type 0
   where
     pub polls : Polls pipe old result left new
     pub settled : IsSettled old.roots
-    pub what : pipe.ep ≡ 1 → Unshared new (EachWas (PollLeaves pipe old result left new) old new)
-    pub why : pipe.ep ≡ 1 → Undamaged old result new (EachWas (PollingFailure pipe result) old new)
+    pub what : Unshared new (EachWas (PollLeaves pipe old result left new) old new)
+    pub why : Undamaged old result new (EachWas (PollingFailure pipe result) old new)
     pub who : OnOk result (Unshared new (Answerer pipe.target old new))
     pub losses : pipe.ep ≢ 0 → IsNoBusFault result → new.losses ≡ old.losses

@@ -29,6 +29,7 @@ no_values = record {
   endpoint = None;
   interface = None;
   setting = None;
+  said = None;
   has_others = false;
 }
 
@@ -113,10 +114,10 @@ or_kept-none : (found : Option Data) → kept_or found None ≡ found
 or_kept-none None = refl
 or_kept-none (Some d) = refl
 
--- what becomes of the values, by which of the ten a key is
+-- what becomes of the values, by which of the eleven a key is
 abbrev values_with_key : Bool → Bool → Bool → Bool → Bool → Bool → Bool → Bool → Bool → Bool
-    → Data → EventValues → EventValues
-values_with_key a b c d e f g h m n x v =
+    → Bool → Data → EventValues → EventValues
+values_with_key a b c d e f g h m n o x v =
     if a then record v { verb = Some x }
     else if b then record v { after = Some x }
     else if c then record v { path = Some x }
@@ -127,126 +128,139 @@ values_with_key a b c d e f g h m n x v =
     else if h then record v { endpoint = Some x }
     else if m then record v { interface = Some x }
     else if n then record v { setting = Some x }
+    else if o then record v { said = Some x }
     else record v { has_others = true }
 
-verb_spared : (b c d e f g h m n : Bool) (x : Data) (v : EventValues)
-    → (values_with_key false b c d e f g h m n x v).verb ≡ v.verb
-verb_spared false false false false false false false false false x v = refl
-verb_spared _ _ _ _ _ _ _ _ _ x v = refl
+verb_spared : (b c d e f g h m n o : Bool) (x : Data) (v : EventValues)
+    → (values_with_key false b c d e f g h m n o x v).verb ≡ v.verb
+verb_spared false false false false false false false false false false x v = refl
+verb_spared _ _ _ _ _ _ _ _ _ _ x v = refl
 
 verb_kept : IsKept (codes "do") (λ v. v.verb)
 unfolding with_value
 verb_kept = record {
   here = λ d v. refl;
-  apart = λ l d v h. rw h (verb_spared _ _ _ _ _ _ _ _ _ d v);
+  apart = λ l d v h. rw h (verb_spared _ _ _ _ _ _ _ _ _ _ d v);
 }
 
-after_spared : (a c d e f g h m n : Bool) (x : Data) (v : EventValues)
-    → (values_with_key a false c d e f g h m n x v).after ≡ v.after
-after_spared false false false false false false false false false x v = refl
-after_spared _ _ _ _ _ _ _ _ _ x v = refl
+after_spared : (a c d e f g h m n o : Bool) (x : Data) (v : EventValues)
+    → (values_with_key a false c d e f g h m n o x v).after ≡ v.after
+after_spared false false false false false false false false false false x v = refl
+after_spared _ _ _ _ _ _ _ _ _ _ x v = refl
 
 after_kept : IsKept (codes "after") (λ v. v.after)
 unfolding with_value
 after_kept = record {
   here = λ d v. refl;
-  apart = λ l d v h. rw h (after_spared _ _ _ _ _ _ _ _ _ d v);
+  apart = λ l d v h. rw h (after_spared _ _ _ _ _ _ _ _ _ _ d v);
 }
 
-path_spared : (a b d e f g h m n : Bool) (x : Data) (v : EventValues)
-    → (values_with_key a b false d e f g h m n x v).path ≡ v.path
-path_spared false false false false false false false false false x v = refl
-path_spared _ _ _ _ _ _ _ _ _ x v = refl
+path_spared : (a b d e f g h m n o : Bool) (x : Data) (v : EventValues)
+    → (values_with_key a b false d e f g h m n o x v).path ≡ v.path
+path_spared false false false false false false false false false false x v = refl
+path_spared _ _ _ _ _ _ _ _ _ _ x v = refl
 
 path_key_kept : IsKept (codes "path") (λ v. v.path)
 unfolding with_value
 path_key_kept = record {
   here = λ d v. refl;
-  apart = λ l d v h. rw h (path_spared _ _ _ _ _ _ _ _ _ d v);
+  apart = λ l d v h. rw h (path_spared _ _ _ _ _ _ _ _ _ _ d v);
 }
 
-device_spared : (a b c e f g h m n : Bool) (x : Data) (v : EventValues)
-    → (values_with_key a b c false e f g h m n x v).device ≡ v.device
-device_spared false false false false false false false false false x v = refl
-device_spared _ _ _ _ _ _ _ _ _ x v = refl
+device_spared : (a b c e f g h m n o : Bool) (x : Data) (v : EventValues)
+    → (values_with_key a b c false e f g h m n o x v).device ≡ v.device
+device_spared false false false false false false false false false false x v = refl
+device_spared _ _ _ _ _ _ _ _ _ _ x v = refl
 
 device_kept : IsKept (codes "device") (λ v. v.device)
 unfolding with_value
 device_kept = record {
   here = λ d v. refl;
-  apart = λ l d v h. rw h (device_spared _ _ _ _ _ _ _ _ _ d v);
+  apart = λ l d v h. rw h (device_spared _ _ _ _ _ _ _ _ _ _ d v);
 }
 
-bytes_spared : (a b c d f g h m n : Bool) (x : Data) (v : EventValues)
-    → (values_with_key a b c d false f g h m n x v).bytes ≡ v.bytes
-bytes_spared false false false false false false false false false x v = refl
-bytes_spared _ _ _ _ _ _ _ _ _ x v = refl
+bytes_spared : (a b c d f g h m n o : Bool) (x : Data) (v : EventValues)
+    → (values_with_key a b c d false f g h m n o x v).bytes ≡ v.bytes
+bytes_spared false false false false false false false false false false x v = refl
+bytes_spared _ _ _ _ _ _ _ _ _ _ x v = refl
 
 bytes_kept : IsKept (codes "bytes") (λ v. v.bytes)
 unfolding with_value
 bytes_kept = record {
   here = λ d v. refl;
-  apart = λ l d v h. rw h (bytes_spared _ _ _ _ _ _ _ _ _ d v);
+  apart = λ l d v h. rw h (bytes_spared _ _ _ _ _ _ _ _ _ _ d v);
 }
 
-packets_spared : (a b c d e g h m n : Bool) (x : Data) (v : EventValues)
-    → (values_with_key a b c d e false g h m n x v).packets ≡ v.packets
-packets_spared false false false false false false false false false x v = refl
-packets_spared _ _ _ _ _ _ _ _ _ x v = refl
+packets_spared : (a b c d e g h m n o : Bool) (x : Data) (v : EventValues)
+    → (values_with_key a b c d e false g h m n o x v).packets ≡ v.packets
+packets_spared false false false false false false false false false false x v = refl
+packets_spared _ _ _ _ _ _ _ _ _ _ x v = refl
 
 packets_kept : IsKept (codes "packets") (λ v. v.packets)
 unfolding with_value
 packets_kept = record {
   here = λ d v. refl;
-  apart = λ l d v h. rw h (packets_spared _ _ _ _ _ _ _ _ _ d v);
+  apart = λ l d v h. rw h (packets_spared _ _ _ _ _ _ _ _ _ _ d v);
 }
 
-setup_spared : (a b c d e f h m n : Bool) (x : Data) (v : EventValues)
-    → (values_with_key a b c d e f false h m n x v).setup ≡ v.setup
-setup_spared false false false false false false false false false x v = refl
-setup_spared _ _ _ _ _ _ _ _ _ x v = refl
+setup_spared : (a b c d e f h m n o : Bool) (x : Data) (v : EventValues)
+    → (values_with_key a b c d e f false h m n o x v).setup ≡ v.setup
+setup_spared false false false false false false false false false false x v = refl
+setup_spared _ _ _ _ _ _ _ _ _ _ x v = refl
 
 setup_kept : IsKept (codes "setup") (λ v. v.setup)
 unfolding with_value
 setup_kept = record {
   here = λ d v. refl;
-  apart = λ l d v h. rw h (setup_spared _ _ _ _ _ _ _ _ _ d v);
+  apart = λ l d v h. rw h (setup_spared _ _ _ _ _ _ _ _ _ _ d v);
 }
 
-endpoint_spared : (a b c d e f g m n : Bool) (x : Data) (v : EventValues)
-    → (values_with_key a b c d e f g false m n x v).endpoint ≡ v.endpoint
-endpoint_spared false false false false false false false false false x v = refl
-endpoint_spared _ _ _ _ _ _ _ _ _ x v = refl
+endpoint_spared : (a b c d e f g m n o : Bool) (x : Data) (v : EventValues)
+    → (values_with_key a b c d e f g false m n o x v).endpoint ≡ v.endpoint
+endpoint_spared false false false false false false false false false false x v = refl
+endpoint_spared _ _ _ _ _ _ _ _ _ _ x v = refl
 
 endpoint_kept : IsKept (codes "endpoint") (λ v. v.endpoint)
 unfolding with_value
 endpoint_kept = record {
   here = λ d v. refl;
-  apart = λ l d v h. rw h (endpoint_spared _ _ _ _ _ _ _ _ _ d v);
+  apart = λ l d v h. rw h (endpoint_spared _ _ _ _ _ _ _ _ _ _ d v);
 }
 
-interface_spared : (a b c d e f g h n : Bool) (x : Data) (v : EventValues)
-    → (values_with_key a b c d e f g h false n x v).interface ≡ v.interface
-interface_spared false false false false false false false false false x v = refl
-interface_spared _ _ _ _ _ _ _ _ _ x v = refl
+interface_spared : (a b c d e f g h n o : Bool) (x : Data) (v : EventValues)
+    → (values_with_key a b c d e f g h false n o x v).interface ≡ v.interface
+interface_spared false false false false false false false false false false x v = refl
+interface_spared _ _ _ _ _ _ _ _ _ _ x v = refl
 
 interface_kept : IsKept (codes "interface") (λ v. v.interface)
 unfolding with_value
 interface_kept = record {
   here = λ d v. refl;
-  apart = λ l d v h. rw h (interface_spared _ _ _ _ _ _ _ _ _ d v);
+  apart = λ l d v h. rw h (interface_spared _ _ _ _ _ _ _ _ _ _ d v);
 }
 
-setting_spared : (a b c d e f g h m : Bool) (x : Data) (v : EventValues)
-    → (values_with_key a b c d e f g h m false x v).setting ≡ v.setting
-setting_spared false false false false false false false false false x v = refl
-setting_spared _ _ _ _ _ _ _ _ _ x v = refl
+setting_spared : (a b c d e f g h m o : Bool) (x : Data) (v : EventValues)
+    → (values_with_key a b c d e f g h m false o x v).setting ≡ v.setting
+setting_spared false false false false false false false false false false x v = refl
+setting_spared _ _ _ _ _ _ _ _ _ _ x v = refl
 
 setting_kept : IsKept (codes "setting") (λ v. v.setting)
 unfolding with_value
 setting_kept = record {
   here = λ d v. refl;
-  apart = λ l d v h. rw h (setting_spared _ _ _ _ _ _ _ _ _ d v);
+  apart = λ l d v h. rw h (setting_spared _ _ _ _ _ _ _ _ _ _ d v);
+}
+
+said_spared : (a b c d e f g h m n : Bool) (x : Data) (v : EventValues)
+    → (values_with_key a b c d e f g h m n false x v).said ≡ v.said
+said_spared false false false false false false false false false false x v = refl
+said_spared _ _ _ _ _ _ _ _ _ _ x v = refl
+
+said_kept : IsKept (codes "said") (λ v. v.said)
+unfolding with_value
+said_kept = record {
+  here = λ d v. refl;
+  apart = λ l d v h. rw h (said_spared _ _ _ _ _ _ _ _ _ _ d v);
 }
 
 or_not_true : (x : Bool) → x ≡ x || not true
@@ -257,18 +271,18 @@ or_not_false : (x : Bool) → true ≡ x || not false
 or_not_false true = refl
 or_not_false false = refl
 
--- whether there was another key, by which of the ten it is
-others_chosen : (a b c d e f g h m n : Bool) (x : Data) (v : EventValues)
-    → (values_with_key a b c d e f g h m n x v).has_others ≡ v.has_others ||
-    not (a || (b || (c || (d || (e || (f || (g || (h || (m || (n || false))))))))))
-others_chosen false false false false false false false false false false x v =
+-- whether there was another key, by which of the eleven it is
+others_chosen : (a b c d e f g h m n o : Bool) (x : Data) (v : EventValues)
+    → (values_with_key a b c d e f g h m n o x v).has_others ≡ v.has_others ||
+    not (a || (b || (c || (d || (e || (f || (g || (h || (m || (n || (o || false)))))))))))
+others_chosen false false false false false false false false false false false x v =
     or_not_false v.has_others
-others_chosen _ _ _ _ _ _ _ _ _ _ x v = or_not_true v.has_others
+others_chosen _ _ _ _ _ _ _ _ _ _ _ x v = or_not_true v.has_others
 
 others_step : (l : List ℕ) (d : Data) (v : EventValues) → (with_value l d v).has_others
     ≡ v.has_others || not (list_any (bytes_eq l) all_event_keys)
 unfolding with_value
-others_step l d v = others_chosen _ _ _ _ _ _ _ _ _ _ d v
+others_step l d v = others_chosen _ _ _ _ _ _ _ _ _ _ _ d v
 
 either_other : (x a b : Bool) → (x || not a) || not b ≡ x || not (a && b)
 either_other true a b = refl
@@ -304,6 +318,7 @@ walked_is es sorted =
     ∙ or_kept-none _ in
     let setting = walked_at (codes "setting") _ setting_kept no_values es sorted
     ∙ or_kept-none _ in
+    let said = walked_at (codes "said") _ said_kept no_values es sorted ∙ or_kept-none _ in
     let others = others_walked no_values ms in
     λ i. record {
       verb = verb i;
@@ -316,5 +331,6 @@ walked_is es sorted =
       endpoint = endpoint i;
       interface = interface i;
       setting = setting i;
+      said = said i;
       has_others = others i;
     }

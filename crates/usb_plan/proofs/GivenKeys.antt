@@ -7,7 +7,7 @@ use Rattle.std.specs.List.{list_any}
 use Rattle.toml.specs.Data.{Data, Members, no_members, member, get_member}
 use Rattle.usb_plan.specs.declared.entry_fault.EntryFault.{EntryFault}
 use Rattle.usb_plan.specs.{BadValue, OtherKeys, Alone, PathDevice, PathBytes, PathPackets}
-use Rattle.usb_plan.specs.{PathEndpoint, PathSetting, PathSetup, names_no_setting}
+use Rattle.usb_plan.specs.{PathEndpoint, PathSetting, PathSetup, Said, names_common}
 use Rattle.usb_plan.specs.{only_named, keys_at, EventValues, event_values, verb_at}
 use Rattle.usb_plan.specs.{action_of, other_keys, SceneData, keys_of, event_keys, verb_fits}
 use Rattle.usb_plan.specs.{keys_given, after_at, event_room, event_with, event_given, event_of}
@@ -92,30 +92,41 @@ to_endpoint = to_setup ++ codes "endpoint" ∷ []
 to_interface : List (List ℕ)
 to_interface = to_endpoint ++ codes "interface" ∷ []
 
+to_setting : List (List ℕ)
+to_setting = to_interface ++ codes "setting" ∷ []
+
 -- the keys of one table
+without_said : (ms : Members) → only_named to_setting ms
+    ≡ not (event_values ms).has_others && is_none (event_values ms).said
+unfolding event_values to_setting to_interface to_endpoint to_setup to_packets to_bytes to_device
+    to_path
+without_said ms = less_named to_setting [] (codes "said") ms _ refl (not_not _)
+
 without_setting : (ms : Members) → only_named to_interface ms
-    ≡ not (event_values ms).has_others && is_none (event_values ms).setting
-unfolding event_values to_interface to_endpoint to_setup to_packets to_bytes to_device to_path
-without_setting ms = less_named to_interface [] (codes "setting") ms _ refl (not_not _)
+    ≡ not (event_values ms).has_others && is_none (event_values ms).said &&
+    is_none (event_values ms).setting
+unfolding event_values to_setting to_interface to_endpoint to_setup to_packets to_bytes to_device
+    to_path
+without_setting ms = less_named to_interface [] (codes "setting") ms _ refl (without_said ms)
 
 without_interface : (ms : Members) → only_named to_endpoint ms
-    ≡ names_no_setting (event_values ms)
+    ≡ names_common (event_values ms)
 unfolding event_values to_interface to_endpoint to_setup to_packets to_bytes to_device to_path
 without_interface ms = less_named to_endpoint [] (codes "interface") ms _ refl (without_setting ms)
 
 without_endpoint : (ms : Members) → only_named to_setup ms
-    ≡ names_no_setting (event_values ms) && is_none (event_values ms).endpoint
+    ≡ names_common (event_values ms) && is_none (event_values ms).endpoint
 unfolding event_values to_endpoint to_setup to_packets to_bytes to_device to_path
 without_endpoint ms = less_named to_setup [] (codes "endpoint") ms _ refl (without_interface ms)
 
 without_setup : (ms : Members) → only_named to_packets ms
-    ≡ names_no_setting (event_values ms) && is_none (event_values ms).endpoint &&
+    ≡ names_common (event_values ms) && is_none (event_values ms).endpoint &&
     is_none (event_values ms).setup
 unfolding event_values to_setup to_packets to_bytes to_device to_path
 without_setup ms = less_named to_packets [] (codes "setup") ms _ refl (without_endpoint ms)
 
 without_packets : (ms : Members) → only_named to_bytes ms
-    ≡ names_no_setting (event_values ms) && is_none (event_values ms).endpoint &&
+    ≡ names_common (event_values ms) && is_none (event_values ms).endpoint &&
     is_none (event_values ms).setup && is_none (event_values ms).packets
 unfolding event_values to_packets to_bytes to_device to_path
 without_packets ms = less_named to_bytes [] (codes "packets") ms _ refl (without_setup ms)
@@ -138,13 +149,13 @@ only_endpoint : List (List ℕ)
 only_endpoint = codes "endpoint" ∷ []
 
 but_setup : (ms : Members) → only_named (to_packets ++ only_endpoint) ms
-    ≡ names_no_setting (event_values ms) && is_none (event_values ms).setup
+    ≡ names_common (event_values ms) && is_none (event_values ms).setup
 unfolding event_values only_endpoint to_endpoint to_setup to_packets to_bytes to_device to_path
 but_setup ms =
     less_named to_packets only_endpoint (codes "setup") ms _ refl (without_interface ms)
 
 but_packets : (ms : Members) → only_named (to_bytes ++ only_endpoint) ms
-    ≡ names_no_setting (event_values ms) && is_none (event_values ms).setup &&
+    ≡ names_common (event_values ms) && is_none (event_values ms).setup &&
     is_none (event_values ms).packets
 unfolding event_values only_endpoint to_packets to_bytes to_device to_path
 but_packets ms = less_named to_bytes only_endpoint (codes "packets") ms _ refl (but_setup ms)
@@ -182,13 +193,15 @@ only_setting : List (List ℕ)
 only_setting = codes "interface" ∷ codes "setting" ∷ []
 
 with_setting : (ms : Members) → only_named (to_bytes ++ only_setting) ms
-    ≡ not (event_values ms).has_others && is_none (event_values ms).endpoint &&
-    is_none (event_values ms).setup && is_none (event_values ms).packets
-unfolding event_values only_setting to_setup to_packets to_bytes to_device to_path
+    ≡ not (event_values ms).has_others && is_none (event_values ms).said &&
+    is_none (event_values ms).endpoint && is_none (event_values ms).setup &&
+    is_none (event_values ms).packets
+unfolding event_values only_setting to_setting to_interface to_endpoint to_setup to_packets to_bytes
+    to_device to_path
 with_setting ms =
     less_named to_bytes only_setting (codes "packets") ms _ refl
     (less_named to_packets only_setting (codes "setup") ms _ refl
-    (less_named to_setup only_setting (codes "endpoint") ms _ refl (not_not _)))
+    (less_named to_setup only_setting (codes "endpoint") ms _ refl (without_said ms)))
 
 setting_fits : (ms : Members) → only_named (to_path ++ only_setting) ms
     ≡ verb_fits PathSetting (event_values ms)
@@ -197,12 +210,36 @@ setting_fits ms =
     less_named to_path only_setting (codes "device") ms _ refl
     (less_named to_device only_setting (codes "bytes") ms _ refl (with_setting ms))
 
+-- the same, where the key of `show` may stand
+only_said : List (List ℕ)
+only_said = codes "said" ∷ []
+
+with_said : (ms : Members) → only_named (to_packets ++ only_said) ms
+    ≡ not (event_values ms).has_others && is_none (event_values ms).setting &&
+    is_none (event_values ms).interface && is_none (event_values ms).endpoint &&
+    is_none (event_values ms).setup
+unfolding event_values only_said to_interface to_endpoint to_setup to_packets to_bytes to_device
+    to_path
+with_said ms =
+    less_named to_packets only_said (codes "setup") ms _ refl
+    (less_named to_setup only_said (codes "endpoint") ms _ refl
+    (less_named to_endpoint only_said (codes "interface") ms _ refl
+    (less_named to_interface only_said (codes "setting") ms _ refl (not_not _))))
+
+said_fits : (ms : Members) → only_named (event_keys only_said) ms ≡ verb_fits Said (event_values ms)
+unfolding event_values verb_fits only_said to_packets to_bytes to_device to_path
+said_fits ms =
+    less_named (event_keys []) only_said (codes "path") ms _ refl
+    (less_named to_path only_said (codes "device") ms _ refl
+    (less_named to_device only_said (codes "bytes") ms _ refl
+    (less_named to_bytes only_said (codes "packets") ms _ refl (with_said ms))))
+
 answer : Bool → Result (Unit {0}) EntryFault
 answer b = if b then Ok tt else Err BadValue
 
 pub keys_given-event_values : (keys : OtherKeys) (ms : Members) → keys_given keys (event_values ms)
     ≡ keys_of keys ms
-unfolding keys_given keys_of keys_at answer only_endpoint only_setting to_device to_path
+unfolding keys_given keys_of keys_at answer only_endpoint only_said only_setting to_device to_path
 keys_given-event_values Alone ms = ap answer (sym (alone_fits ms))
 keys_given-event_values Path ms = ap answer (sym (path_fits ms))
 keys_given-event_values PathDevice ms = ap answer (sym (path_device_fits ms))
@@ -211,6 +248,7 @@ keys_given-event_values PathPackets ms = ap answer (sym (packets_fits ms))
 keys_given-event_values PathEndpoint ms = ap answer (sym (endpoint_fits ms))
 keys_given-event_values PathSetup ms = ap answer (sym (setup_fits ms))
 keys_given-event_values PathSetting ms = ap answer (sym (setting_fits ms))
+keys_given-event_values Said ms = ap answer (sym (said_fits ms))
 
 -- an event by the values of its table
 pub event_in_refused : (scene : SceneData) (count : ℕ) (ms : Members) (v : EventValues)

@@ -1,6 +1,6 @@
 -- Lists of devices and events grow at their end.
 use Rattle.std.proofs.Common.{◌≡◌, ℕ, ◌+◌, ◌<◌, ◌≤◌, List, [], ◌∷◌, ◌++◌, length, get_or, drop, map}
-use Rattle.std.proofs.Common.{true, Result, Ok, refl}
+use Rattle.std.proofs.Common.{Bool, true, Result, Ok, refl}
 use Rattle.std.proofs.lemmas.Bool.{and_parts}
 use Rattle.std.proofs.lemmas.List.{drop_all}
 use Rattle.toml.specs.Data.{as_table}
@@ -41,32 +41,35 @@ damages_fit-push last (x ∷ damages) d h new =
     let parts = and_parts (damage_fits last x) (damages_fit x.attempt damages) h in
     rw (parts.0, damages_fit-push x.attempt damages d parts.1 new)
 
-pub devices_from-next : (done : List Spec) (vs : List Value) (i : ℕ) (v : Value)
+pub devices_from-next : (wide : Bool) (done : List Spec) (vs : List Value) (i : ℕ) (v : Value)
     (r : Result Spec PlanFault) → i < length vs → v ≡ get_or vs i v
-    → entry_at (place.Device (i + 1)) (device_in done (as_table (view v))) ≡ r
-    → devices_from (i + 1) done (map view (drop i vs))
-    ≡ (r >>= λ s. devices_from (i + 1 + 1) (done ++ s ∷ []) (map view (drop (i + 1) vs)))
+    → entry_at (place.Device (i + 1)) (device_in wide done (as_table (view v))) ≡ r
+    → devices_from wide (i + 1) done (map view (drop i vs))
+    ≡ (r >>= λ s. devices_from wide (i + 1 + 1) (done ++ s ∷ []) (map view (drop (i + 1) vs)))
 unfolding devices_from
-devices_from-next done vs i v r lt is e = rw (view_drop vs i v lt is, e) refl
+devices_from-next wide done vs i v r lt is e = rw (view_drop vs i v lt is, e) refl
 
-pub devices_from-end : (n : ℕ) (done : List Spec) (vs : List Value) (i : ℕ) → length vs ≤ i
-    → devices_from n done (map view (drop i vs)) ≡ Ok done
+pub devices_from-end : (wide : Bool) (n : ℕ) (done : List Spec) (vs : List Value) (i : ℕ)
+    → length vs ≤ i → devices_from wide n done (map view (drop i vs)) ≡ Ok done
 unfolding devices_from
-devices_from-end n done vs i le = rw (drop_all i vs le)
+devices_from-end wide n done vs i le = rw (drop_all i vs le)
 
-pub events_from-next : (roots : ℕ) (specs : List Spec) (done : List Event) (vs : List Value) (i : ℕ)
-    (v : Value) (r : Result Event PlanFault) → i < length vs → v ≡ get_or vs i v
-    → entry_at (place.Event (i + 1)) (event_in (scene_after roots specs done) (length done)
+pub events_from-next : (roots : ℕ) (wide : Bool) (specs : List Spec) (done : List Event)
+    (vs : List Value) (i : ℕ) (v : Value) (r : Result Event PlanFault) → i < length vs
+    → v ≡ get_or vs i v
+    → entry_at (place.Event (i + 1)) (event_in (scene_after roots wide specs done) (length done)
     (as_table (view v))) ≡ r
-    → events_from roots specs (i + 1) done (map view (drop i vs)) ≡ (r >>= λ e. events_from roots
-    specs (i + 1 + 1) (done ++ e ∷ []) (map view (drop (i + 1) vs)))
+    → events_from roots wide specs (i + 1) done (map view (drop i vs))
+    ≡ (r >>= λ e. events_from roots wide specs (i + 1 + 1) (done ++ e ∷ [])
+    (map view (drop (i + 1) vs)))
 unfolding events_from
-events_from-next roots specs done vs i v r lt is e = rw (view_drop vs i v lt is, e) refl
+events_from-next roots wide specs done vs i v r lt is e = rw (view_drop vs i v lt is, e) refl
 
-pub events_from-end : (roots : ℕ) (specs : List Spec) (n : ℕ) (done : List Event) (vs : List Value)
-    (i : ℕ) → length vs ≤ i → events_from roots specs n done (map view (drop i vs)) ≡ Ok done
+pub events_from-end : (roots : ℕ) (wide : Bool) (specs : List Spec) (n : ℕ) (done : List Event)
+    (vs : List Value) (i : ℕ) → length vs ≤ i
+    → events_from roots wide specs n done (map view (drop i vs)) ≡ Ok done
 unfolding events_from
-events_from-end roots specs n done vs i le = rw (drop_all i vs le)
+events_from-end roots wide specs n done vs i le = rw (drop_all i vs le)
 
 pub damages_from-next : (done : List Damage) (vs : List Value) (i : ℕ) (v : Value)
     (r : Result Damage PlanFault) → i < length vs → v ≡ get_or vs i v

@@ -18,12 +18,13 @@ use Rattle.usb_plan.specs.{quirks_of, flag_at, stalls_at, source_at, naks_at, bu
 use Rattle.usb_plan.specs.{halt_at, halt_in, name_in, name_at, speed_at, descriptor_at, with_quirks}
 use Rattle.usb_plan.specs.{with_halt, with_hub, named_device, HubFits, FewNaks, HaltsLater}
 use Rattle.usb_plan.specs.{identity_with, identity_of, device_of_parts, device_with, read_device}
-use Rattle.usb_plan.specs.{device_in, read_path, free_path, taken_path, verb_at, action_of}
+use Rattle.usb_plan.specs.{device_in, has_numbers_of, read_path, free_path, taken_path, verb_at, action_of}
 use Rattle.usb_plan.specs.{EventValues, event_values, device_index_at, bytes_at, packets_at}
 use Rattle.usb_plan.specs.{plug_of, unplug_of, send_of, receive_of, clear_of, control_of, look_of}
 use Rattle.usb_plan.specs.{asked, request_at, after_at, event_room, interrupt_of, any_endpoint}
 use Rattle.usb_plan.specs.{out_endpoint, in_endpoint, in_endpoint_at, send_to, receive_from}
 use Rattle.usb_plan.specs.{send_with, receive_with, clear_with, clear_end, interface_of, byte_at}
+use Rattle.usb_plan.specs.{show_of}
 use Rattle.usb_plan.specs.declared.action.Request.{Request}
 use Rattle.usb_plan.specs.declared.action.Request.TheVariants.{Read, Write}
 use Rattle.usb_plan.specs.{event_with, event_of, event_in, attempt_at, packet_number, way_at}
@@ -34,7 +35,7 @@ use Rattle.usb_plan.specs.declared.quirks.Quirks.{Quirks}
 use Rattle.usb_plan.specs.declared.bulk.Bulk.{Bulk}
 use Rattle.usb_plan.specs.declared.fault.Place.{Place}
 use Rattle.usb_world.specs.{Event, Action, Plug, Unplug, Send, Receive, Clear, Look, SendTo}
-use Rattle.usb_world.specs.{ReceiveFrom, Poll, ClearOf, SetInterface}
+use Rattle.usb_world.specs.{ReceiveFrom, Poll, ClearOf, SetInterface, Show}
 use Rattle.usb_world.specs.{Damage, Harm, Lose, LosePre, Flip, is_rooted, has_port, is_taken}
 use Rattle.usb_world.specs.{action_fits, event_fits, harm_fits, damage_fits}
 use Rattle.usb_world.specs.declared.event.Action.TheVariants.{Change, Ask}
@@ -203,14 +204,14 @@ read_bulk_ok ms b h =
     let same : e2.value ≡ b.halt_after = cc e2.rest in
     halt_at_ok (get_member (codes "halt_after") ms) b.halt_after (e2.good ∙ ap Ok same)
 
-class_at_ok : (ports descriptor : Option Data) (low : Bool) (bytes : List ℕ) (u : Unit {0})
+class_at_ok : (wide : Bool) (ports descriptor : Option Data) (low : Bool) (bytes : List ℕ) (u : Unit {0})
     (hub : Option Hub) → class_at ports (Ok low) (Ok bytes) ≡ Ok u
-    → hub_at ports descriptor ≡ Ok hub → hub_fits low bytes hub ≡ true
+    → hub_at wide ports descriptor ≡ Ok hub → hub_fits low bytes hub ≡ true
 unfolding class_at hub_at no_hub is_low_speed is_other
-class_at_ok None None low bytes u hub c h = let same : None ≡ hub = cc h in rw (← same) refl
-class_at_ok None (Some d) low bytes u hub c h = cc h
-class_at_ok (Some p) descriptor low bytes u None c h = refl
-class_at_ok (Some p) descriptor low bytes u (Some hub) c h =
+class_at_ok wide None None low bytes u hub c h = let same : None ≡ hub = cc h in rw (← same) refl
+class_at_ok wide None (Some d) low bytes u hub c h = cc h
+class_at_ok wide (Some p) descriptor low bytes u None c h = refl
+class_at_ok wide (Some p) descriptor low bytes u (Some hub) c h =
     let test = ok_unless (low || not (has_hub_class bytes)) (Ok tt) BadValue u c in
     fits low (has_hub_class bytes) test.0
   where
@@ -249,33 +250,34 @@ identity_with_ok name low descriptor class hub i h =
       hub_is = e4.good ∙ (let same : e4.value ≡ i.hub = cc e4.rest in ap Ok same);
     }
 
-identity_is : (earlier : List Spec) (ms : Members) (i : Identity) → identity_of earlier ms ≡ Ok i
+identity_is : (wide : Bool) (earlier : List Spec) (ms : Members) (i : Identity)
+    → identity_of wide earlier ms ≡ Ok i
     → IdentityIs (name_at earlier (get_member (codes "name") ms))
     (speed_at (get_member (codes "speed") ms)) (descriptor_at (get_member (codes "descriptor") ms))
     (class_at (get_member (codes "ports") ms) (speed_at (get_member (codes "speed") ms))
     (descriptor_at (get_member (codes "descriptor") ms)))
-    (hub_at (get_member (codes "ports") ms) (get_member (codes "hub_descriptor") ms)) i
+    (hub_at wide (get_member (codes "ports") ms) (get_member (codes "hub_descriptor") ms)) i
 unfolding identity_of
-identity_is earlier ms i h = identity_with_ok _ _ _ _ _ i h
+identity_is wide earlier ms i h = identity_with_ok _ _ _ _ _ i h
 
-pub identity_of_ok : (earlier : List Spec) (ms : Members) (i : Identity)
-    → identity_of earlier ms ≡ Ok i → HubFits i
-identity_of_ok earlier ms i h =
-    let is = identity_is earlier ms i h in
+pub identity_of_ok : (wide : Bool) (earlier : List Spec) (ms : Members) (i : Identity)
+    → identity_of wide earlier ms ≡ Ok i → HubFits i
+identity_of_ok wide earlier ms i h =
+    let is = identity_is wide earlier ms i h in
     let ports = get_member (codes "ports") ms in
     let good : class_at ports (Ok i.low) (Ok i.descriptor) ≡ Ok tt =
     rw (← is.low_is, ← is.descriptor_is) is.class_is in
-    class_at_ok ports (get_member (codes "hub_descriptor") ms) i.low i.descriptor tt i.hub good
+    class_at_ok wide ports (get_member (codes "hub_descriptor") ms) i.low i.descriptor tt i.hub good
     is.hub_is
 
-device_with_ok : (earlier : List Spec) (ms : Members) (i : Result Identity EntryFault)
+device_with_ok : (wide : Bool) (earlier : List Spec) (ms : Members) (i : Result Identity EntryFault)
     (c : Result DeviceTexts EntryFault) (q : Result Quirks EntryFault) (b : Result Bulk EntryFault)
     (tables : Result DeviceTables EntryFault) (keys left : Result (Unit {0}) EntryFault)
-    (s : Spec) → i ≡ identity_of earlier ms
+    (s : Spec) → i ≡ identity_of wide earlier ms
     → left ≡ device.device_room earlier → device_with i c q b tables keys left ≡ Ok s
     → Joins earlier s
 unfolding device_with
-device_with_ok earlier ms i c q b tables keys left s i_is room_is h =
+device_with_ok wide earlier ms i c q b tables keys left s i_is room_is h =
     let e0 = bind_good (least_fault _) _ s h in
     let e1 = bind_good i _ s e0.rest in
     let e2 = bind_good c _ s e1.rest in
@@ -283,7 +285,7 @@ device_with_ok earlier ms i c q b tables keys left s i_is room_is h =
     let e4 = bind_good b _ s e3.rest in
     let e5 = bind_good tables _ s e4.rest in
     let left_good = good_part _ e0.value 6 left e0.good refl in
-    let is = identity_is earlier ms e1.value (sym i_is ∙ e1.good) in
+    let is = identity_is wide earlier ms e1.value (sym i_is ∙ e1.good) in
     let same : device_of_parts e1.value e2.value e3.value e4.value e5.value ≡ s = cc e5.rest in
     let name : e1.value.name ≡ s.name =
     sym (device_of_parts_name e1.value e2.value e3.value e4.value e5.value)
@@ -294,16 +296,17 @@ device_with_ok earlier ms i c q b tables keys left s i_is room_is h =
           is.name_is);
     }
 
-read_device_ok : (earlier : List Spec) (ms : Members) (s : Spec) → read_device earlier ms ≡ Ok s
+read_device_ok : (wide : Bool) (earlier : List Spec) (ms : Members) (s : Spec)
+    → read_device wide earlier ms ≡ Ok s
     → Joins earlier s
 unfolding read_device
-read_device_ok earlier ms s h = device_with_ok earlier ms _ _ _ _ _ _ _ s refl refl h
+read_device_ok wide earlier ms s h = device_with_ok wide earlier ms _ _ _ _ _ _ _ s refl refl h
 
-pub device_in_ok : (earlier : List Spec) (o : Option Members) (s : Spec)
-    → device_in earlier o ≡ Ok s → Joins earlier s
+pub device_in_ok : (wide : Bool) (earlier : List Spec) (o : Option Members) (s : Spec)
+    → device_in wide earlier o ≡ Ok s → Joins earlier s
 unfolding device_in
-device_in_ok earlier o s h = let ms = bind_good (ok_or o BadValue) _ s h in
-    read_device_ok earlier ms.value s ms.rest
+device_in_ok wide earlier o s h = let ms = bind_good (ok_or o BadValue) _ s h in
+    read_device_ok wide earlier ms.value s ms.rest
 
 read_path_ok : (scene : SceneData) (o : Option Data) (p : List ℕ) → read_path scene o ≡ Ok p
     → is_rooted scene.roots p ≡ true
@@ -311,9 +314,11 @@ unfolding read_path
 read_path_ok scene o p h =
     let text = bind_good (read_text o) _ p h in
     let path = bind_good (ok_or (path_of text.value) BadPath) _ p text.rest in
-    let test = ok_if (is_rooted scene.roots path.value) (Ok path.value) BadPath p path.rest in
+    let test = ok_if (is_rooted scene.roots path.value && has_numbers_of scene.wide path.value)
+    (Ok path.value) BadPath p path.rest in
     let same : path.value ≡ p = cc test.1 in
-    rw (← same) test.0
+    rw (← same)
+    (and_parts (is_rooted scene.roots path.value) (has_numbers_of scene.wide path.value) test.0).0
 
 record FreePath (scene : SceneData) (p : List ℕ) : Type 0 where
   port : has_port scene.roots scene.devices scene.plugged p ≡ true
@@ -530,11 +535,20 @@ look_of_ok scene v a h =
     let same : Ask (Look path.value) ≡ a = cc path.rest in
     rw (← same) (read_path_ok scene v.path path.value path.good)
 
+show_of_ok : (scene : SceneData) (v : EventValues) (a : Action) → show_of v ≡ Ok a
+    → FitsScene scene a
+unfolding show_of
+show_of_ok scene v a h =
+    let said = bind_good (flag_at v.said) _ a h in
+    let same : Ask (Show said.value) ≡ a = cc said.rest in
+    rw (← same) refl
+
 action_of_ok : (verb : Verb) (scene : SceneData) (v : EventValues) (a : Action)
     → action_of verb scene v ≡ Ok a → FitsScene scene a
 unfolding action_of
 action_of_ok verb.Plug scene v a h = plug_of_ok scene v a h
 action_of_ok verb.Unplug scene v a h = unplug_of_ok scene v a h
+action_of_ok verb.Show scene v a h = show_of_ok scene v a h
 action_of_ok verb.Send scene v a h = send_of_ok scene v a h
 action_of_ok verb.Receive scene v a h = receive_of_ok scene v a h
 action_of_ok verb.Clear scene v a h = clear_of_ok scene v a h
@@ -671,8 +685,9 @@ top_of_ok ms top h =
     let e0 = bind_good (least_fault _) _ top h in
     let e1 = bind_good (limit_at (get_member (codes "limit") ms)) _ top e0.rest in
     let e2 = bind_good (roots_at (get_member (codes "roots") ms)) _ top e1.rest in
-    let same_limit : e1.value ≡ top.limit = cc e2.rest in
-    let same_roots : e2.value ≡ top.roots = cc e2.rest in
+    let e3 = bind_good (flag_at (get_member (codes "wide_hubs") ms)) _ top e2.rest in
+    let same_limit : e1.value ≡ top.limit = cc e3.rest in
+    let same_roots : e2.value ≡ top.roots = cc e3.rest in
     let roots = roots_at_ok (get_member (codes "roots") ms) top.roots (e2.good
     ∙ ap Ok same_roots) in
     record {

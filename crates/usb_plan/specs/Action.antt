@@ -9,17 +9,18 @@ use Rattle.usb_plan.specs.declared.entry_fault.EntryFault.TheVariants.{UnknownDe
 use Rattle.usb_plan.specs.declared.action.OtherKeys.{OtherKeys}
 use Rattle.usb_plan.specs.declared.action.OtherKeys.TheVariants.{Alone, Path, PathDevice, PathBytes}
 use Rattle.usb_plan.specs.declared.action.OtherKeys.TheVariants.{PathPackets, PathSetup}
-use Rattle.usb_plan.specs.declared.action.OtherKeys.TheVariants.{PathEndpoint, PathSetting}
+use Rattle.usb_plan.specs.declared.action.OtherKeys.TheVariants.{PathEndpoint, PathSetting, Said}
 use Rattle.usb_plan.specs.EntryFault.{fault_in_part, least_fault, ◌>>=◌}
 use Rattle.usb_plan.specs.Endpoints.{address_at}
 use Rattle.usb_plan.specs.EventMembers.{EventValues}
 use Rattle.usb_plan.specs.Keys.{keys_at}
+use Rattle.usb_plan.specs.Quirks.{flag_at}
 use Rattle.usb_plan.specs.Value.{read_text, byte_at, number_at, hex_bytes}
 use Rattle.usb_plan.specs.Path.{read_path, free_path, taken_path}
 use Rattle.usb_plan.specs.Scene.{SceneData}
 use Rattle.usb_request.specs.{Setup, DIRECTION_IN, setup_of}
 use Rattle.usb_world.specs.{Action, Plug, Unplug, Send, Receive, Clear, ControlIn, ControlOut}
-use Rattle.usb_world.specs.{Look, SendTo, ReceiveFrom, Poll, ClearOf, SetInterface}
+use Rattle.usb_world.specs.{Show, Look, SendTo, ReceiveFrom, Poll, ClearOf, SetInterface}
 use Rattle.usb_world.specs.{Write as Written}
 use Rattle.usb_world.specs.declared.event.Ask.{Ask as Asked}
 use Rattle.usb_plan.specs.declared.action.Request.{Request}
@@ -203,6 +204,10 @@ clear_of scene v = clear_with v.endpoint (read_path scene v.path)
 unfoldable pub control_of : SceneData → EventValues → Result Action EntryFault
 control_of scene v = control (read_path scene v.path) (request_at v) (given v.bytes)
 
+-- what refused devices said is listed too, where the key `said` says so
+unfoldable pub show_of : EventValues → Result Action EntryFault
+show_of v = flag_at v.said >>= λ said. Ok (Ask (Show said))
+
 unfoldable pub look_of : SceneData → EventValues → Result Action EntryFault
 look_of scene v = read_path scene v.path >>= λ path. Ok (Ask (Look path))
 
@@ -225,38 +230,43 @@ other_names PathPackets = codes "path" ∷ codes "packets" ∷ codes "endpoint" 
 other_names PathEndpoint = codes "path" ∷ codes "endpoint" ∷ []
 other_names PathSetup = codes "path" ∷ codes "bytes" ∷ codes "setup" ∷ []
 other_names PathSetting = codes "path" ∷ codes "interface" ∷ codes "setting" ∷ []
+other_names Said = codes "said" ∷ []
 
 -- no key but these, `do` and `after`
 unfoldable pub keys_of : OtherKeys → Members → Result (Unit {0}) EntryFault
 keys_of keys ms = keys_at (event_keys (other_names keys)) ms
 
--- no other key, and neither of those that `interface` alone has
-abbrev pub names_no_setting : EventValues → Bool
-names_no_setting v = not v.has_others && is_none v.setting && is_none v.interface
+-- no other key, and none of those that go with `show` or `interface` alone
+abbrev pub names_common : EventValues → Bool
+names_common v =
+    not v.has_others && is_none v.said && is_none v.setting && is_none v.interface
 
 -- the same by what stands at the keys: no other key, and nothing at those that do not go with `do`
 unfoldable pub verb_fits : OtherKeys → EventValues → Bool
 verb_fits Alone v =
-    names_no_setting v && is_none v.endpoint && is_none v.setup && is_none v.packets &&
+    names_common v && is_none v.endpoint && is_none v.setup && is_none v.packets &&
     is_none v.bytes && is_none v.device && is_none v.path
 verb_fits Path v =
-    names_no_setting v && is_none v.endpoint && is_none v.setup && is_none v.packets &&
+    names_common v && is_none v.endpoint && is_none v.setup && is_none v.packets &&
     is_none v.bytes && is_none v.device
 verb_fits PathDevice v =
-    names_no_setting v && is_none v.endpoint && is_none v.setup && is_none v.packets &&
+    names_common v && is_none v.endpoint && is_none v.setup && is_none v.packets &&
     is_none v.bytes
 verb_fits PathBytes v =
-    names_no_setting v && is_none v.setup && is_none v.packets && is_none v.device
+    names_common v && is_none v.setup && is_none v.packets && is_none v.device
 verb_fits PathPackets v =
-    names_no_setting v && is_none v.setup && is_none v.bytes && is_none v.device
+    names_common v && is_none v.setup && is_none v.bytes && is_none v.device
 verb_fits PathEndpoint v =
-    names_no_setting v && is_none v.setup && is_none v.packets && is_none v.bytes &&
+    names_common v && is_none v.setup && is_none v.packets && is_none v.bytes &&
     is_none v.device
 verb_fits PathSetup v =
-    names_no_setting v && is_none v.endpoint && is_none v.packets && is_none v.device
+    names_common v && is_none v.endpoint && is_none v.packets && is_none v.device
 verb_fits PathSetting v =
-    not v.has_others && is_none v.endpoint && is_none v.setup && is_none v.packets &&
-    is_none v.bytes && is_none v.device
+    not v.has_others && is_none v.said && is_none v.endpoint && is_none v.setup &&
+    is_none v.packets && is_none v.bytes && is_none v.device
+verb_fits Said v =
+    not v.has_others && is_none v.setting && is_none v.interface && is_none v.endpoint &&
+    is_none v.setup && is_none v.packets && is_none v.bytes && is_none v.device && is_none v.path
 
 unfoldable pub keys_given : OtherKeys → EventValues → Result (Unit {0}) EntryFault
 keys_given keys v = if verb_fits keys v then Ok tt else Err BadValue

@@ -107,14 +107,14 @@ identity_with name low descriptor class hub = do
   Ok (record { name = n; low = l; descriptor = d; hub = h })
 
 -- the keys of what a device is, beside the earlier ones
-unfoldable pub identity_of : List Spec → Members → Result Identity EntryFault
-identity_of earlier ms =
+unfoldable pub identity_of : Bool → List Spec → Members → Result Identity EntryFault
+identity_of wide earlier ms =
     identity_with (name_at earlier (get_member (codes "name") ms))
     (speed_at (get_member (codes "speed") ms))
     (descriptor_at (get_member (codes "descriptor") ms))
     (class_at (get_member (codes "ports") ms) (speed_at (get_member (codes "speed") ms))
     (descriptor_at (get_member (codes "descriptor") ms)))
-    (hub_at (get_member (codes "ports") ms) (get_member (codes "hub_descriptor") ms))
+    (hub_at wide (get_member (codes "ports") ms) (get_member (codes "hub_descriptor") ms))
 
 unfoldable pub device_texts_with : Result Texts EntryFault → Result Texts EntryFault
     → Result DeviceTexts EntryFault
@@ -175,17 +175,17 @@ device_with identity texts quirks bulk tables keys room = do
   Ok (device_of_parts i c q b t)
 
 -- the device that a table describes, beside the earlier ones
-unfoldable pub read_device : List Spec → Members → Result Spec EntryFault
-read_device earlier ms =
-    device_with (identity_of earlier ms) (device_texts_of ms) (quirks_of ms) (read_bulk ms)
+unfoldable pub read_device : Bool → List Spec → Members → Result Spec EntryFault
+read_device wide earlier ms =
+    device_with (identity_of wide earlier ms) (device_texts_of ms) (quirks_of ms) (read_bulk ms)
     (device_tables_of ms) (keys_at device_keys ms) (device_room earlier)
 
-unfoldable pub device_in : List Spec → Option Members → Result Spec EntryFault
-device_in earlier table = ok_or table BadValue >>= read_device earlier
+unfoldable pub device_in : Bool → List Spec → Option Members → Result Spec EntryFault
+device_in wide earlier table = ok_or table BadValue >>= read_device wide earlier
 
 -- the devices so far and those of the values; the first is number n
-unfoldable pub devices_from : ℕ → List Spec → List Data → Result (List Spec) PlanFault
-devices_from n done [] = Ok done
-devices_from n done (d ∷ ds) =
-    entry_at (place.Device n) (device_in done (as_table d))
-    >>= λ s. devices_from (n + 1) (done ++ s ∷ []) ds
+unfoldable pub devices_from : Bool → ℕ → List Spec → List Data → Result (List Spec) PlanFault
+devices_from wide n done [] = Ok done
+devices_from wide n done (d ∷ ds) =
+    entry_at (place.Device n) (device_in wide done (as_table d))
+    >>= λ s. devices_from wide (n + 1) (done ++ s ∷ []) ds

@@ -1,6 +1,6 @@
 -- The `event` entries of the document.
 use Rattle.std.specs.Prelude.{ℕ, codes, List, [], ◌∷◌, ◌++◌, ◌+◌, length, Option, ok_or, Result, Ok}
-use Rattle.std.specs.Prelude.{Err, nat_lt, if◌then◌else◌}
+use Rattle.std.specs.Prelude.{Bool, Err, nat_lt, if◌then◌else◌}
 use Rattle.toml.specs.Data.{Data, Members, get_member, as_table}
 use Rattle.usb_plan.specs.declared.entry_fault.EntryFault.{EntryFault}
 use Rattle.usb_plan.specs.declared.entry_fault.EntryFault.TheVariants.{BadValue}
@@ -55,9 +55,10 @@ event_in scene count table = do
   event_of verb scene count ms
 
 -- the events so far and those of the values; the first is number n
-unfoldable pub events_from : ℕ → List Spec → ℕ → List Event → List Data
+unfoldable pub events_from : ℕ → Bool → List Spec → ℕ → List Event → List Data
     → Result (List Event) PlanFault
-events_from roots devices n done [] = Ok done
-events_from roots devices n done (d ∷ ds) =
-    entry_at (place.Event n) (event_in (scene_after roots devices done) (length done) (as_table d))
-    >>= λ e. events_from roots devices (n + 1) (done ++ e ∷ []) ds
+events_from roots wide devices n done [] = Ok done
+events_from roots wide devices n done (d ∷ ds) =
+    entry_at (place.Event n)
+    (event_in (scene_after roots wide devices done) (length done) (as_table d))
+    >>= λ e. events_from roots wide devices (n + 1) (done ++ e ∷ []) ds

@@ -19,12 +19,13 @@ pub record EventValues : Type 0 where
   pub endpoint : Option Data
   pub interface : Option Data
   pub setting : Option Data
+  pub said : Option Data
   pub has_others : Bool
 
 abbrev pub all_event_keys : List (List ℕ)
 all_event_keys =
     codes "do" ∷ codes "after" ∷ codes "path" ∷ codes "device" ∷ codes "bytes" ∷ codes "packets" ∷
-    codes "setup" ∷ codes "endpoint" ∷ codes "interface" ∷ codes "setting" ∷ []
+    codes "setup" ∷ codes "endpoint" ∷ codes "interface" ∷ codes "setting" ∷ codes "said" ∷ []
 
 -- those of a table
 unfoldable pub event_values : Members → EventValues
@@ -39,6 +40,7 @@ event_values ms = record {
   endpoint = get_member (codes "endpoint") ms;
   interface = get_member (codes "interface") ms;
   setting = get_member (codes "setting") ms;
+  said = get_member (codes "said") ms;
   has_others = not (only_named all_event_keys ms);
 }
 
@@ -55,6 +57,7 @@ found m = record {
   endpoint = option_map (λ v. view v.now) m.endpoint;
   interface = option_map (λ v. view v.now) m.interface;
   setting = option_map (λ v. view v.now) m.setting;
+  said = option_map (λ v. view v.now) m.said;
   has_others = m.has_others;
 }
 
@@ -71,4 +74,5 @@ with_value key d v =
     else if bytes_eq key (codes "endpoint") then record v { endpoint = Some d }
     else if bytes_eq key (codes "interface") then record v { interface = Some d }
     else if bytes_eq key (codes "setting") then record v { setting = Some d }
+    else if bytes_eq key (codes "said") then record v { said = Some d }
     else record v { has_others = true }

@@ -6,6 +6,7 @@ use Rattle.usb_plan.specs.declared.entry_fault.EntryFault.{EntryFault}
 use Rattle.usb_plan.specs.declared.entry_fault.EntryFault.TheVariants.{BadValue}
 use Rattle.usb_plan.specs.EntryFault.{◌>>=◌}
 use Rattle.usb_plan.specs.Value.{number_in, hex_in}
+use Rattle.usb_descriptor.specs.{most_ports}
 use Rattle.usb_device.specs.{Hub, has_hub_class, agrees, usual_hub}
 
 -- without `ports` there is no `hub_descriptor`
@@ -24,13 +25,13 @@ unfoldable pub hub_of : ℕ → Option Data → Result (Option Hub) EntryFault
 hub_of ports None = Ok (Some (usual_hub ports))
 hub_of ports (Some d) = hub_with ports (hex_in 255 d)
 
-unfoldable pub hub_in : Option ℤ → Option Data → Result (Option Hub) EntryFault
-hub_in ports descriptor = number_in 1 7 ports >>= λ n. hub_of n descriptor
+unfoldable pub hub_in : Bool → Option ℤ → Option Data → Result (Option Hub) EntryFault
+hub_in wide ports descriptor = number_in 1 (most_ports wide) ports >>= λ n. hub_of n descriptor
 
--- the keys `ports`, 1 to 7, and `hub_descriptor`, both of which may be absent
-unfoldable pub hub_at : Option Data → Option Data → Result (Option Hub) EntryFault
-hub_at None descriptor = no_hub descriptor
-hub_at (Some d) descriptor = hub_in (as_integer d) descriptor
+-- the keys `ports`, 1 to 7 or with wide hubs 1 to 15, and `hub_descriptor`; both may be absent
+unfoldable pub hub_at : Bool → Option Data → Option Data → Result (Option Hub) EntryFault
+hub_at wide None descriptor = no_hub descriptor
+hub_at wide (Some d) descriptor = hub_in wide (as_integer d) descriptor
 
 unfoldable pub is_low_speed : Result Bool EntryFault → Bool
 is_low_speed (Ok low) = low

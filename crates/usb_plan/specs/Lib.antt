@@ -48,18 +48,18 @@ unfoldable pub use Device.{device_tables_of, device_tables_with, device_texts_of
 unfoldable pub use Device.{device_with, devices_from, identity_of, identity_with, name_at, name_in}
 unfoldable pub use Device.{read_device, speed_at, strings_at, with_halt, with_hub, with_quirks}
 pub use Scene.{SceneData, scene_after}
-unfoldable pub use Path.{free_path, read_path, taken_path}
+unfoldable pub use Path.{free_path, has_numbers_of, read_path, taken_path}
 unfoldable pub use Plugged.{first_through}
 pub use EventMembers.{EventValues, all_event_keys, found}
 unfoldable pub use EventMembers.{event_values, with_value}
-pub use Action.{event_keys, names_no_setting, other_names}
+pub use Action.{event_keys, names_common, other_names}
 unfoldable pub use Action.{any_endpoint, asked, bytes_at, clear_end, clear_of, clear_with, control}
 unfoldable pub use Action.{control_of, device_index_at, given, in_endpoint, in_endpoint_at}
 unfoldable pub use Action.{interface_of, interrupt_of, keys_given, keys_of, look_of, no_bytes}
 unfoldable pub use Action.{out_endpoint, packets_at, plug, plug_of, poll, receive, receive_from}
 unfoldable pub use Action.{receive_of, receive_with, request_at, request_with, send, send_of}
-unfoldable pub use Action.{send_to, send_with, set_interface, setup_at, setup_in, unplug_of}
-unfoldable pub use Action.{verb_fits, write_bytes, write_with}
+unfoldable pub use Action.{send_to, send_with, set_interface, setup_at, setup_in, show_of}
+unfoldable pub use Action.{unplug_of, verb_fits, write_bytes, write_with}
 unfoldable pub use Verb.{action_of, other_keys, verb_at, verb_named}
 unfoldable pub use Event.{after_at, event_given, event_in, event_of, event_room, event_with}
 unfoldable pub use Event.{events_from}
@@ -74,7 +74,7 @@ pub use Attempts.{enough_for, is_look, is_look_at, looks_in, moved_in, total_aft
 unfoldable pub use Attempts.{bound_of, greatest_total, moved, plugged_total}
 pub use declared.action.OtherKeys.{OtherKeys}
 pub use declared.action.OtherKeys.TheVariants.{Alone, PathBytes, PathDevice, PathEndpoint}
-pub use declared.action.OtherKeys.TheVariants.{PathPackets, PathSetting, PathSetup}
+pub use declared.action.OtherKeys.TheVariants.{PathPackets, PathSetting, PathSetup, Said}
 pub use declared.damage.Way.{Way}
 pub use declared.device.DeviceTables.{DeviceTables}
 pub use declared.device.DeviceTexts.{DeviceTexts}

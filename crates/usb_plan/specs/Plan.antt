@@ -1,6 +1,6 @@
 -- The plan that a text spells, or its first fault.
 use Rattle.std.specs.Prelude.{◌≤◌, ℕ, ◌^◌, codes, List, [], ◌∷◌, Option, Some, None, Result, Ok}
-use Rattle.std.specs.Prelude.{Err, if◌then◌else◌}
+use Rattle.std.specs.Prelude.{Bool, Err, if◌then◌else◌}
 use Rattle.std.specs.List.{list_all}
 use Rattle.toml.specs.Data.{Data, Items, Members, get_member, as_array}
 use Rattle.toml.specs.Parse.{parse_document}
@@ -12,6 +12,7 @@ use Rattle.usb_plan.specs.declared.fault.PlanFault.TheVariants as fault
 use Rattle.usb_plan.specs.declared.plan.Top.{Top}
 use Rattle.usb_plan.specs.EntryFault.{fault_in_part, least_fault, entry_at, ◌>>=◌}
 use Rattle.usb_plan.specs.Keys.{keys_at}
+use Rattle.usb_plan.specs.Quirks.{flag_at}
 use Rattle.usb_plan.specs.Value.{read_items, number_at, data_list, is_table}
 use Rattle.usb_plan.specs.Device.{devices_from}
 use Rattle.usb_plan.specs.Event.{events_from}
@@ -44,25 +45,29 @@ values_at None = []
 values_at (Some d) = values_in (as_array d)
 
 abbrev pub top_keys : List (List ℕ)
-top_keys = codes "limit" ∷ codes "roots" ∷ codes "device" ∷ codes "event" ∷ codes "damage" ∷ []
+top_keys =
+    codes "limit" ∷ codes "roots" ∷ codes "wide_hubs" ∷ codes "device" ∷ codes "event" ∷
+    codes "damage" ∷ []
 
 unfoldable pub top_with :
-    Result ℕ EntryFault → Result ℕ EntryFault → Result (Unit {0}) EntryFault
-    → Result (Unit {0}) EntryFault
+    Result ℕ EntryFault → Result ℕ EntryFault → Result Bool EntryFault
+    → Result (Unit {0}) EntryFault → Result (Unit {0}) EntryFault
     → Result (Unit {0}) EntryFault → Result (Unit {0}) EntryFault → Result Top EntryFault
-top_with limit roots devices events damages keys = do
-  u ← least_fault (fault_in_part limit ∷ fault_in_part roots ∷ fault_in_part devices ∷ fault_in_part
-      events
+top_with limit roots wide devices events damages keys = do
+  u ← least_fault (fault_in_part limit ∷ fault_in_part roots ∷ fault_in_part wide ∷ fault_in_part
+      devices ∷ fault_in_part events
       ∷ fault_in_part damages ∷ fault_in_part keys ∷ [])
   l ← limit
   r ← roots
-  Ok (record { limit = l; roots = r })
+  w ← wide
+  Ok (record { limit = l; roots = r; wide = w })
 
--- the numbers at the top
+-- the numbers at the top, and whether hubs may be wide
 unfoldable pub top_of : Members → Result Top EntryFault
 top_of ms =
     top_with (limit_at (get_member (codes "limit") ms))
     (roots_at (get_member (codes "roots") ms))
+    (flag_at (get_member (codes "wide_hubs") ms))
     (entries_at (get_member (codes "device") ms))
     (entries_at (get_member (codes "event") ms))
     (entries_at (get_member (codes "damage") ms))
@@ -77,16 +82,16 @@ pub record TopFits (top : Top) : Type 0 where
 -- devices come first, then events, then damages
 unfoldable pub plan_with : Top → List Data → List Data → List Data → Result PlanData PlanFault
 plan_with top devices events damages = do
-  specs ← devices_from 1 [] devices
-  done ← events_from top.roots specs 1 [] events
+  specs ← devices_from top.wide 1 [] devices
+  done ← events_from top.roots top.wide specs 1 [] events
   harms ← damages_from 1 [] damages
   Ok (record {
     limit = top.limit;
     roots = top.roots;
+    wide = top.wide;
     devices = specs;
     events = done;
-    damages =
-        harms;
+    damages = harms;
   })
 
 -- the plan that a table describes: top, devices, events, damages

@@ -5,7 +5,7 @@ use Rattle.toml.specs.Data.{Data}
 use Rattle.usb_plan.specs.declared.action.OtherKeys.{OtherKeys}
 use Rattle.usb_plan.specs.declared.action.OtherKeys.TheVariants.{Alone, Path, PathDevice, PathBytes}
 use Rattle.usb_plan.specs.declared.action.OtherKeys.TheVariants.{PathPackets, PathSetup}
-use Rattle.usb_plan.specs.declared.action.OtherKeys.TheVariants.{PathEndpoint, PathSetting}
+use Rattle.usb_plan.specs.declared.action.OtherKeys.TheVariants.{PathEndpoint, PathSetting, Said}
 use Rattle.usb_plan.specs.declared.entry_fault.EntryFault.{EntryFault}
 use Rattle.usb_plan.specs.declared.entry_fault.EntryFault.TheVariants.{BadValue}
 use Rattle.usb_plan.specs.declared.verb.Verb.{Verb}
@@ -13,7 +13,7 @@ use Rattle.usb_plan.specs.declared.verb.Verb.TheVariants.{Plug, Unplug, Show, Se
 use Rattle.usb_plan.specs.declared.verb.Verb.TheVariants.{Control, Look, News, Interrupt}
 use Rattle.usb_plan.specs.declared.verb.Verb.TheVariants.{Interface}
 use Rattle.usb_plan.specs.Action.{plug_of, unplug_of, send_of, receive_of, clear_of, control_of}
-use Rattle.usb_plan.specs.Action.{look_of, interrupt_of, interface_of}
+use Rattle.usb_plan.specs.Action.{look_of, interrupt_of, interface_of, show_of}
 use Rattle.usb_plan.specs.EntryFault.{◌>>=◌}
 use Rattle.usb_plan.specs.EventMembers.{EventValues}
 use Rattle.usb_plan.specs.Scene.{SceneData}
@@ -45,7 +45,7 @@ verb_at d = read_text d >>= verb_named
 unfoldable pub other_keys : Verb → OtherKeys
 other_keys Plug = PathDevice
 other_keys Unplug = Path
-other_keys Show = Alone
+other_keys Show = Said
 other_keys Send = PathBytes
 other_keys Receive = PathPackets
 other_keys Clear = PathEndpoint
@@ -59,7 +59,7 @@ other_keys Interface = PathSetting
 unfoldable pub action_of : Verb → SceneData → EventValues → Result Action EntryFault
 action_of Plug scene v = plug_of scene v
 action_of Unplug scene v = unplug_of scene v
-action_of Show scene v = Ok (Ask ask.Show)
+action_of Show scene v = show_of v
 action_of Send scene v = send_of scene v
 action_of Receive scene v = receive_of scene v
 action_of Clear scene v = clear_of scene v

@@ -2,8 +2,9 @@
 
 ghost use Rattle.std.specs.Prelude.{◌≡◌, ◌≤◌, option_map};
 ghost use Rattle.toml.specs.View.{view};
-ghost use Rattle.usb_plan.specs.Action.{device_index_at, bytes_at, packets_at, any_endpoint, out_endpoint, in_endpoint, in_endpoint_at, setup_in, setup_at, no_bytes, given, write_bytes, write_with, request_with, request_at, asked, plug, send, receive, send_to, receive_from, poll, clear_end, set_interface, send_with, receive_with, clear_with, control, plug_of, unplug_of, send_of, receive_of, clear_of, control_of, look_of, interrupt_of, interface_of, verb_fits, keys_given};
+ghost use Rattle.usb_plan.specs.Action.{device_index_at, bytes_at, packets_at, any_endpoint, out_endpoint, in_endpoint, in_endpoint_at, setup_in, setup_at, no_bytes, given, write_bytes, write_with, request_with, request_at, asked, plug, send, receive, send_to, receive_from, poll, clear_end, set_interface, send_with, receive_with, clear_with, control, plug_of, unplug_of, send_of, receive_of, clear_of, control_of, look_of, interrupt_of, interface_of, show_of, names_common, verb_fits, keys_given};
 ghost use Rattle.usb_plan.specs.EventMembers.{found};
+ghost use Rattle.usb_plan.specs.declared.action.OtherKeys.TheVariants.{PathSetting, Said};
 ghost use Rattle.usb_request.specs.Layout.{IsToDevice};
 ghost use Rattle.usb_plan.specs.EntryFault.{EqualUnless};
 ghost use Rattle.usb_plan.specs.declared.entry_fault.EntryFault.TheVariants.{Memory};
@@ -12,6 +13,7 @@ use crate::endpoints::address_at;
 use crate::entry_fault::{EntryFault, fault_in_part, least_fault};
 use crate::members::EventMembers;
 use crate::path::{free_path, read_path, taken_path};
+use crate::quirks::flag_at;
 use crate::scene::Scene;
 use crate::value::{byte_at, hex_bytes, number_at, read_text};
 use std::alloc::Global;
@@ -430,6 +432,15 @@ pub(crate) fn control_of(
     control(path, request, given(alloc, members.bytes))
 }
 
+/// Lists what the host found, with what refused devices said if the key `said` says so.
+#[tactic(auto, unfolding(crate::specs::Action::show_of))]
+pub(crate) fn show_of(members: &EventMembers<'_>) -> Result<Action, EntryFault>
+    ensures { result ≡ show_of (found members.now) }
+{
+    let said = flag_at(members.said)?;
+    Ok(Action::Ask(Ask::Show { said }))
+}
+
 /// Looks once more at a port.
 #[tactic(auto, unfolding(crate::specs::Action::look_of))]
 pub(crate) fn look_of(scene: &Scene<'_>, members: &EventMembers<'_>) -> Result<Action, EntryFault>
@@ -482,6 +493,50 @@ pub(crate) enum OtherKeys {
     PathSetup,
     /// `path`, `interface` and `setting`.
     PathSetting,
+    /// Maybe `said`.
+    Said,
+}
+
+/// Whether there is no other key, and none of those that go with `show` or `interface` alone.
+fn names_common(members: &EventMembers<'_>) -> bool
+    ensures { result ≡ names_common (found members.now) }
+{
+    let no_others = !members.has_others;
+    let no_said = members.said.is_none();
+    no_others && no_said && members.setting.is_none() && members.interface.is_none()
+}
+
+/// Whether each key that is there goes with `interface`.
+#[tactic(auto, unfolding(crate::specs::Action::verb_fits))]
+fn interface_fits(members: &EventMembers<'_>) -> bool
+    ensures { result ≡ verb_fits PathSetting (found members.now) }
+{
+    let no_others = !members.has_others;
+    let no_said = members.said.is_none();
+    let no_end = members.endpoint.is_none();
+    let no_setup = members.setup.is_none();
+    let no_packets = members.packets.is_none();
+    let no_bytes = members.bytes.is_none();
+    let no_device = members.device.is_none();
+    no_others && no_said && no_end && no_setup && no_packets && no_bytes && no_device
+}
+
+/// Whether each key that is there goes with `show`.
+#[tactic(auto, unfolding(crate::specs::Action::verb_fits))]
+fn show_fits(members: &EventMembers<'_>) -> bool
+    ensures { result ≡ verb_fits Said (found members.now) }
+{
+    let no_others = !members.has_others;
+    let no_setting = members.setting.is_none();
+    let no_interface = members.interface.is_none();
+    let no_end = members.endpoint.is_none();
+    let no_setup = members.setup.is_none();
+    let no_packets = members.packets.is_none();
+    let no_bytes = members.bytes.is_none();
+    let no_device = members.device.is_none();
+    let no_path = members.path.is_none();
+    let alone = no_others && no_setting && no_interface;
+    alone && no_end && no_setup && no_packets && no_bytes && no_device && no_path
 }
 
 /// Whether each key that is there is one of those, `do` or `after`.
@@ -489,8 +544,7 @@ pub(crate) enum OtherKeys {
 fn fits(keys: OtherKeys, members: &EventMembers<'_>) -> bool
     ensures { result ≡ verb_fits keys (found members.now) }
 {
-    let no_others = !members.has_others;
-    let known = no_others && members.setting.is_none() && members.interface.is_none();
+    let known = names_common(members);
     let no_device = members.device.is_none();
     let no_bytes = members.bytes.is_none();
     let no_packets = members.packets.is_none();
@@ -507,9 +561,8 @@ fn fits(keys: OtherKeys, members: &EventMembers<'_>) -> bool
         OtherKeys::PathPackets => known && no_setup && no_bytes && no_device,
         OtherKeys::PathEndpoint => known && no_setup && no_packets && no_bytes && no_device,
         OtherKeys::PathSetup => known && no_end && no_packets && no_device,
-        OtherKeys::PathSetting => {
-            no_others && no_end && no_setup && no_packets && no_bytes && no_device
-        }
+        OtherKeys::PathSetting => interface_fits(members),
+        OtherKeys::Said => show_fits(members),
     }
 }
 

@@ -173,15 +173,20 @@ fn identity_with(
 
 /// The keys of what a device is.
 #[tactic(auto, using(crate::proofs::MemoryRefusals::identity_unless), unfolding(crate::specs::Device::identity_of))]
-fn identity_of(alloc: Global, earlier: &Devices, table: &Table) -> Result<Identity, EntryFault>
-    ensures { EqualUnless Memory result (identity_of earlier.now (table_view table.now)) }
+fn identity_of(
+    alloc: Global,
+    wide: bool,
+    earlier: &Devices,
+    table: &Table,
+) -> Result<Identity, EntryFault>
+    ensures { EqualUnless Memory result (identity_of wide earlier.now (table_view table.now)) }
 {
     let ports = value_at(table, "ports");
     let name = name_at(alloc, earlier, value_at(table, "name"));
     let low = speed_at(value_at(table, "speed"));
     let descriptor = descriptor_at(alloc, value_at(table, "descriptor"));
     let class = class_at(ports, &low, &descriptor);
-    let hub = hub_at(alloc, ports, value_at(table, "hub_descriptor"));
+    let hub = hub_at(alloc, wide, ports, value_at(table, "hub_descriptor"));
     identity_with(name, low, descriptor, class, hub)
 }
 
@@ -319,12 +324,17 @@ const KEYS: [&str; 16] = [
     "request",
 ];
 
-/// The device that a table describes, beside the earlier ones.
+/// The device that a table describes, beside the earlier ones; it may be a wide hub, or may not.
 #[tactic(auto, unfolding(crate::specs::Device::read_device))]
-fn read_device(alloc: Global, earlier: &Devices, table: &Table) -> Result<DeviceSpec, EntryFault>
-    ensures { EqualUnless Memory result (read_device earlier.now (table_view table.now)) }
+fn read_device(
+    alloc: Global,
+    wide: bool,
+    earlier: &Devices,
+    table: &Table,
+) -> Result<DeviceSpec, EntryFault>
+    ensures { EqualUnless Memory result (read_device wide earlier.now (table_view table.now)) }
 {
-    let identity = identity_of(alloc, earlier, table);
+    let identity = identity_of(alloc, wide, earlier, table);
     let texts = device_texts_of(alloc, table);
     let quirks = quirks_of(table);
     let bulk = read_bulk(alloc, table);
@@ -337,22 +347,23 @@ fn read_device(alloc: Global, earlier: &Devices, table: &Table) -> Result<Device
 #[tactic(auto, unfolding(crate::specs::Device::device_in))]
 fn device_in(
     alloc: Global,
+    wide: bool,
     earlier: &Devices,
     table: Option<&Table>,
 ) -> Result<DeviceSpec, EntryFault>
     ensures { EqualUnless Memory result
-        (device_in earlier.now (option_map (λ t. table_view t.now) table.entry)) }
+        (device_in wide earlier.now (option_map (λ t. table_view t.now) table.entry)) }
 {
-    read_device(alloc, earlier, table.ok_or(EntryFault::BadValue)?)
+    read_device(alloc, wide, earlier, table.ok_or(EntryFault::BadValue)?)
 }
 
 /// The devices that the values describe, or the first fault.
-pub(crate) fn devices_of(alloc: Global, values: &[Value]) -> Result<Devices, PlanFault>
-    ensures { EqualUnless NoMemory result (devices_from 1 [] (map view values.now)) }
+pub(crate) fn devices_of(alloc: Global, wide: bool, values: &[Value]) -> Result<Devices, PlanFault>
+    ensures { EqualUnless NoMemory result (devices_from wide 1 [] (map view values.now)) }
 {
     let mut done = Devices::new(alloc);
     for (i, value) in values.iter().enumerate() {
-        let read = device_in(alloc, &done, value.as_table());
+        let read = device_in(alloc, wide, &done, value.as_table());
         let device = entry_at(Place::Device(i + 1), read)?;
         done.push(device)?;
     }

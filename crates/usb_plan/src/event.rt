@@ -107,15 +107,16 @@ fn event_in(
 pub(crate) fn events_of(
     alloc: Global,
     roots: u8,
+    wide: bool,
     devices: &[DeviceSpec],
     values: &[Value],
 ) -> Result<Events, PlanFault>
     ensures value { EqualUnless NoMemory result
-        (events_from roots devices.now 1 [] (map view values.now)) }
+        (events_from roots wide devices.now 1 [] (map view values.now)) }
     ensures fit { IfOk result (λ events. events_fit roots devices.now [] events ≡ true) }
 {
     let mut done = Events::new(alloc);
-    let mut scene = Scene::new(alloc, roots, devices);
+    let mut scene = Scene::new(alloc, roots, wide, devices);
     for (i, value) in values.iter().enumerate() {
         let count = done.as_slice().len();
         let read = event_in(alloc, &scene, count, value.as_table());

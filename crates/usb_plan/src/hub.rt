@@ -2,6 +2,7 @@
 
 ghost use Rattle.std.specs.Prelude.{◌≡◌, ◌≤◌, option_map};
 ghost use Rattle.toml.specs.View.{view};
+ghost use Rattle.usb_descriptor.specs.Hub.{most_ports};
 ghost use Rattle.usb_plan.specs.EntryFault.{EqualUnless};
 ghost use Rattle.usb_plan.specs.declared.entry_fault.EntryFault.TheVariants.{Memory};
 ghost use Rattle.usb_plan.specs.Hub.{no_hub, hub_with, hub_of, hub_in, hub_at, is_low_speed, is_other, class_at};
@@ -11,6 +12,13 @@ use crate::value::{hex_in, number_in};
 use std::alloc::Global;
 use toml::Value;
 use usb_device::{Bytes, HubSpec, has_hub_class};
+
+/// The most ports that a hub may have: 7, and 15 with wide hubs (11.23.2.1).
+pub(crate) fn most_ports(wide: bool) -> u8
+    ensures { result ≡ most_ports wide }
+{
+    if wide { 15 } else { 7 }
+}
 
 /// Without `ports` there is no `hub_descriptor`.
 #[tactic(auto, unfolding(crate::specs::Hub::no_hub))]
@@ -30,7 +38,7 @@ fn hub_with(
     descriptor: Result<Bytes<255>, EntryFault>,
 ) -> Result<Option<HubSpec>, EntryFault>
     requires least { 1 ≤ ports }
-    requires most { ports ≤ 7 }
+    requires most { ports ≤ 15 }
     ensures { result ≡ hub_with ports descriptor }
 {
     let bytes = descriptor?;
@@ -48,7 +56,7 @@ fn hub_of(
     descriptor: Option<&Value>,
 ) -> Result<Option<HubSpec>, EntryFault>
     requires least { 1 ≤ ports }
-    requires most { ports ≤ 7 }
+    requires most { ports ≤ 15 }
     ensures { EqualUnless Memory result
         (hub_of ports (option_map (λ v. view v.now) descriptor.entry)) }
 {
@@ -61,13 +69,14 @@ fn hub_of(
 #[tactic(auto, unfolding(crate::specs::Hub::hub_in))]
 fn hub_in(
     alloc: Global,
+    wide: bool,
     ports: Option<i64>,
     descriptor: Option<&Value>,
 ) -> Result<Option<HubSpec>, EntryFault>
     ensures { EqualUnless Memory result
-        (hub_in ports (option_map (λ v. view v.now) descriptor.entry)) }
+        (hub_in wide ports (option_map (λ v. view v.now) descriptor.entry)) }
 {
-    let ports = number_in(1, 7, ports)?;
+    let ports = number_in(1, u64::from(most_ports(wide)), ports)?;
     hub_of(alloc, ports as u8, descriptor)
 }
 
@@ -75,16 +84,17 @@ fn hub_in(
 #[tactic(auto, unfolding(crate::specs::Hub::hub_at))]
 pub(crate) fn hub_at(
     alloc: Global,
+    wide: bool,
     ports: Option<&Value>,
     descriptor: Option<&Value>,
 ) -> Result<Option<HubSpec>, EntryFault>
     ensures { EqualUnless Memory result
-        (hub_at (option_map (λ v. view v.now) ports.entry)
+        (hub_at wide (option_map (λ v. view v.now) ports.entry)
         (option_map (λ v. view v.now) descriptor.entry)) }
 {
     match ports {
         None => no_hub(descriptor),
-        Some(ports) => hub_in(alloc, ports.as_integer(), descriptor),
+        Some(ports) => hub_in(alloc, wide, ports.as_integer(), descriptor),
     }
 }
 

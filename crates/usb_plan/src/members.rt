@@ -20,6 +20,7 @@ pub(crate) struct EventMembers<'a> {
     pub endpoint: Option<&'a Value>,
     pub interface: Option<&'a Value>,
     pub setting: Option<&'a Value>,
+    pub said: Option<&'a Value>,
     /// Whether there is any other key.
     pub has_others: bool,
 }
@@ -40,6 +41,7 @@ impl<'a> EventMembers<'a> {
             endpoint: None,
             interface: None,
             setting: None,
+            said: None,
             has_others: false,
         };
         'entries: for (key, value) in table.iter() {
@@ -64,6 +66,7 @@ impl<'a> EventMembers<'a> {
             "endpoint" => self.endpoint = Some(value),
             "interface" => self.interface = Some(value),
             "setting" => self.setting = Some(value),
+            "said" => self.said = Some(value),
             _ => self.has_others = true,
         }
     }

@@ -5,7 +5,8 @@ ghost use Rattle.toml.specs.Data.{get_member};
 ghost use Rattle.toml.specs.View.{view, table_view};
 ghost use Rattle.usb_plan.specs.declared.fault.PlanFault.TheVariants.{Memory};
 ghost use Rattle.usb_plan.specs.EntryFault.{EqualUnless};
-ghost use Rattle.usb_plan.specs.Plan.{limit_at, roots_at, entries_in, entries_at, values_at, top_with, top_of, plan_with, plan_of, spelled_plan, TopFits};
+ghost use Rattle.usb_plan.specs.Keys.{keys_at};
+ghost use Rattle.usb_plan.specs.Plan.{limit_at, roots_at, entries_in, entries_at, values_at, top_keys, top_with, top_of, plan_with, plan_of, spelled_plan, TopFits};
 
 use crate::damage::damages_of;
 use crate::device::devices_of;
@@ -13,6 +14,7 @@ use crate::entry_fault::{EntryFault, entry_at, fault_in_part, least_fault};
 use crate::event::events_of;
 use crate::fault::{Place, PlanFault};
 use crate::keys::keys_at;
+use crate::quirks::flag_at;
 use crate::value::{are_tables, number_at, read_items, value_at};
 use std::alloc::Global;
 use toml::{Table, Value};
@@ -74,29 +76,33 @@ fn values_at<'a>(value: Option<&'a Value>) -> &'a [Value]
     }
 }
 
-/// The numbers at the top.
+/// The numbers at the top, and whether hubs may be wide.
 #[derive(Drop)]
 struct Top {
     /// The most attempts that a run may make.
     limit: u64,
     /// How many root ports there are.
     roots: u8,
+    /// Hubs may have 8 to 15 ports, and status endpoints of any number.
+    wide: bool,
 }
 
 #[tactic(auto, unfolding(crate::specs::Plan::top_with))]
 fn top_with(
     limit: Result<u64, EntryFault>,
     roots: Result<u8, EntryFault>,
+    wide: Result<bool, EntryFault>,
     devices: Result<(), EntryFault>,
     events: Result<(), EntryFault>,
     damages: Result<(), EntryFault>,
     keys: Result<(), EntryFault>,
 ) -> Result<Top, EntryFault>
-    ensures { result ≡ top_with limit roots devices events damages keys }
+    ensures { result ≡ top_with limit roots wide devices events damages keys }
 {
     least_fault(&[
         fault_in_part(&limit),
         fault_in_part(&roots),
+        fault_in_part(&wide),
         fault_in_part(&devices),
         fault_in_part(&events),
         fault_in_part(&damages),
@@ -105,21 +111,33 @@ fn top_with(
     Ok(Top {
         limit: limit?,
         roots: roots?,
+        wide: wide?,
     })
 }
 
-/// The numbers at the top. The arrays are read after them.
+/// The table has no other keys than those at the top.
+fn top_keys_at(table: &Table) -> Result<(), EntryFault>
+    ensures { result ≡ keys_at top_keys (table_view table.now) }
+{
+    keys_at(
+        table,
+        &["limit", "roots", "wide_hubs", "device", "event", "damage"],
+    )
+}
+
+/// The numbers at the top, and whether hubs may be wide. The arrays are read after them.
 #[tactic(auto, unfolding(crate::specs::Plan::top_of))]
 fn top_of(table: &Table) -> Result<Top, EntryFault>
     ensures { result ≡ top_of (table_view table.now) }
 {
     let limit = limit_at(value_at(table, "limit"));
     let roots = roots_at(value_at(table, "roots"));
+    let wide = flag_at(value_at(table, "wide_hubs"));
     let devices = entries_at(value_at(table, "device"));
     let events = entries_at(value_at(table, "event"));
     let damages = entries_at(value_at(table, "damage"));
-    let keys = keys_at(table, &["limit", "roots", "device", "event", "damage"]);
-    top_with(limit, roots, devices, events, damages, keys)
+    let keys = top_keys_at(table);
+    top_with(limit, roots, wide, devices, events, damages, keys)
 }
 
 /// The plan with these numbers, of the devices, events and damages that the values describe.
@@ -135,10 +153,10 @@ fn plan_with(
     ensures { EqualUnless Memory result
         (plan_with top (map view devices.now) (map view events.now) (map view damages.now)) }
 {
-    let devices = devices_of(alloc, devices)?;
-    let events = events_of(alloc, top.roots, devices.as_slice(), events)?;
+    let devices = devices_of(alloc, top.wide, devices)?;
+    let events = events_of(alloc, top.roots, top.wide, devices.as_slice(), events)?;
     let damages = damages_of(alloc, damages)?;
-    Ok(Plan::new(top.limit, top.roots, devices, events, damages))
+    Ok(Plan::new(top.limit, top.roots, top.wide, devices, events, damages))
 }
 
 /// The plan that a table describes, or its first fault.

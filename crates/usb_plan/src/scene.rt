@@ -12,10 +12,11 @@ use usb_device::DeviceSpec;
 use usb_port::PortPath;
 use usb_world::Action;
 
-/// The root ports, the devices of the plan, and which of these are plugged where.
+/// The root ports, whether hubs may be wide, the devices of the plan, and which of these are plugged where.
 #[derive(Drop)]
 pub(crate) struct Scene<'a> {
     roots: u8,
+    wide: bool,
     devices: &'a [DeviceSpec],
     plugged: Plugged,
 }
@@ -25,19 +26,33 @@ impl<'a> Model for Scene<'a> {
 
     ghost Value = { SceneData };
 
-    ghost view = { λ s. record { roots = s.roots; devices = s.devices.now; plugged = s.plugged } };
+    ghost view = { λ s. record {
+      roots = s.roots;
+      wide = s.wide;
+      devices = s.devices.now;
+      plugged = s.plugged;
+    } };
 }
 
 impl<'a> Scene<'a> {
     /// Nothing is plugged.
-    pub(crate) fn new(alloc: Global, roots: u8, devices: &'a [DeviceSpec]) -> Self
-        ensures { result ≡ record { roots = roots; devices = devices.now; plugged = [] } }
+    pub(crate) fn new(alloc: Global, roots: u8, wide: bool, devices: &'a [DeviceSpec]) -> Self
+        ensures { result
+            ≡ record { roots = roots; wide = wide; devices = devices.now; plugged = [] } }
     {
         Scene {
             roots,
+            wide,
             devices,
             plugged: Plugged::new(alloc),
         }
+    }
+
+    /// Whether hubs may have more than 7 ports.
+    pub(crate) fn wide_hubs(&self) -> bool
+        ensures { result ≡ self.now.wide }
+    {
+        self.wide
     }
 
     /// The index of the device of a name.

@@ -9,7 +9,7 @@ ghost use Rattle.usb_plan.specs.declared.entry_fault.EntryFault.TheVariants.{Mem
 
 use crate::action::{
     OtherKeys, clear_of, control_of, interface_of, interrupt_of, look_of, plug_of, receive_of,
-    send_of, unplug_of,
+    send_of, show_of, unplug_of,
 };
 use crate::entry_fault::EntryFault;
 use crate::members::EventMembers;
@@ -71,7 +71,7 @@ pub(crate) fn other_keys(verb: Verb) -> OtherKeys
     match verb {
         Verb::Plug => OtherKeys::PathDevice,
         Verb::Unplug => OtherKeys::Path,
-        Verb::Show => OtherKeys::Alone,
+        Verb::Show => OtherKeys::Said,
         Verb::Send => OtherKeys::PathBytes,
         Verb::Receive => OtherKeys::PathPackets,
         Verb::Clear => OtherKeys::PathEndpoint,
@@ -96,7 +96,7 @@ pub(crate) fn action_of(
     match verb {
         Verb::Plug => plug_of(scene, members),
         Verb::Unplug => unplug_of(scene, members),
-        Verb::Show => Ok(Action::Ask(Ask::Show)),
+        Verb::Show => show_of(members),
         Verb::Send => send_of(alloc, scene, members),
         Verb::Receive => receive_of(scene, members),
         Verb::Clear => clear_of(scene, members),

@@ -110,21 +110,21 @@ is_path p q h e =
       rw c.front (All-take IsPortNumber (length p - 1) p h.2),
     )
 
-power_pos : (k : ℕ) → 1 ≤ 8 ^ k
+power_pos : (k : ℕ) → 1 ≤ 16 ^ k
 power_pos zero = omega arith
-power_pos (suc k) = rw (pow-suc 8 k) (omega (arith, power_pos k))
+power_pos (suc k) = rw (pow-suc 16 k) (omega (arith, power_pos k))
 
-worth_below : (k : ℕ) (p : List ℕ) → All IsPortNumber p → digits_worth k p < 8 ^ k
+worth_below : (k : ℕ) (p : List ℕ) → All IsPortNumber p → digits_worth k p < 16 ^ k
 unfolding digits_worth
 worth_below zero p all = omega arith
 worth_below (suc k) [] all = let pos = power_pos (suc k) in omega (arith, pos)
 worth_below (suc k) (n ∷ p) all =
     let number = All-head IsPortNumber n p all in
-    let first : n * 8 ^ k ≤ 7 * 8 ^ k = mul-le-mul_right (8 ^ k) number.1 in
+    let first : n * 16 ^ k ≤ 15 * 16 ^ k = mul-le-mul_right (16 ^ k) number.1 in
     let rest = worth_below k p (All-tail IsPortNumber n p all) in
-    rw (pow-suc 8 k) (omega (arith, first, rest))
+    rw (pow-suc 16 k) (omega (arith, first, rest))
 
-pub bound : (p : List ℕ) → IsPath p → rank_of p < 8 ^ 7
+pub bound : (p : List ℕ) → IsPath p → rank_of p < 16 ^ 7
 unfolding rank_of
 bound p h = worth_below 7 p h.2
 
@@ -137,7 +137,7 @@ worth_rises zero [] (y ∷ q) all_p all_q short_p short_q less = absurd (omega (
 worth_rises zero (x ∷ p) (y ∷ q) all_p all_q short_p short_q less = absurd (omega (arith, short_q))
 worth_rises (suc k) [] (y ∷ q) all_p all_q short_p short_q less =
     let number = All-head IsPortNumber y q all_q in
-    let first : 1 * 8 ^ k ≤ y * 8 ^ k = mul-le-mul_right (8 ^ k) number.0 in
+    let first : 1 * 16 ^ k ≤ y * 16 ^ k = mul-le-mul_right (16 ^ k) number.0 in
     let pos = power_pos k in
     omega (arith, first, pos)
 worth_rises (suc k) (x ∷ p) (y ∷ q) all_p all_q short_p short_q less =
@@ -147,12 +147,12 @@ worth_rises (suc k) (x ∷ p) (y ∷ q) all_p all_q short_p short_q less =
           let rest = worth_rises k p q (All-tail IsPortNumber x p all_p)
           (All-tail IsPortNumber y q all_q) (omega (arith, short_p)) (omega (arith, short_q))
           (rw tied at less) in
-          let first : x * 8 ^ k ≡ y * 8 ^ k = ap (λ n. n * 8 ^ k) same in
+          let first : x * 16 ^ k ≡ y * 16 ^ k = ap (λ n. n * 16 ^ k) same in
           omega (arith, rest, first)
       | inr other ↦ elim other [
         | inl lower ↦
-            let first : (x + 1) * 8 ^ k ≤ y * 8 ^ k =
-            mul-le-mul_right (8 ^ k) (omega (arith, lower)) in
+            let first : (x + 1) * 16 ^ k ≤ y * 16 ^ k =
+            mul-le-mul_right (16 ^ k) (omega (arith, lower)) in
             let rest = worth_below k p (All-tail IsPortNumber x p all_p) in
             omega (arith, first, rest)
         | inr higher ↦

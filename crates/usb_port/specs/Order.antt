@@ -22,11 +22,11 @@ parent_of path = if nat_lt 1 (length path) then Some (take (length path - 1) pat
 unfoldable pub port_on_hub : List ℕ → ℕ
 port_on_hub path = slice_index path (length path - 1)
 
--- the numbers as digits to the base 8, so many in all
+-- the numbers as digits to the base 16, so many in all
 unfoldable pub digits_worth : ℕ → List ℕ → ℕ
 digits_worth zero path = 0
 digits_worth (suc k) [] = 0
-digits_worth (suc k) (n ∷ ns) = n * 8 ^ k + digits_worth k ns
+digits_worth (suc k) (n ∷ ns) = n * 16 ^ k + digits_worth k ns
 
 unfoldable pub rank_of : List ℕ → ℕ
 rank_of path = digits_worth 7 path

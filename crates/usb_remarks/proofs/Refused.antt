@@ -5,9 +5,9 @@ use Rattle.std.proofs.Common.{Result, Ok, Err, is_ok, if◌then◌else◌, refl,
 use Rattle.std.specs.Option.{option_or, IfSome}
 use Rattle.usb_descriptor.specs.{DescriptorFault, configuration_count, configuration_value}
 use Rattle.usb_descriptor.specs.{device_head_of, device_spelled, hub_spelled, status_endpoint_of}
-use Rattle.usb_device.specs.{Hub, Spec}
+use Rattle.usb_device.specs.{Hub, Spec, hub_ports}
 use Rattle.usb_enum.specs.{BadConfiguration, BadHub, Cause, any_has_value}
-use Rattle.usb_enum.specs.{choice_of, config_fault, first_fault, gives_hub, is_good_text}
+use Rattle.usb_enum.specs.{choice_of, config_fault, first_fault, gives_hub, holds_changes, is_good_text}
 use Rattle.usb_enum.specs.{is_device, is_hub_device, read_verdict, set_verdict, text_fault, text_read}
 use Rattle.usb_enum.specs.{texts_below, texts_of, verdict}
 use Rattle.usb_remarks.specs.{IsRefused, Remark, TextRemark, at_index, config_remark, configs_remark}
@@ -21,20 +21,20 @@ unless_err true cause r h = refl
 unless_err false cause r h = h
 
 -- its device descriptor is malformed
-device_bad : (spec : Spec) (tier supply : ℕ) → is_device spec.low (take 18 spec.descriptor) ≡ false
-    → is_ok (verdict spec tier supply) ≡ false
+device_bad : (spec : Spec) (wide : Bool) (tier supply : ℕ) → is_device spec.low (take 18 spec.descriptor) ≡ false
+    → is_ok (verdict spec wide tier supply) ≡ false
 unfolding verdict
-device_bad spec tier supply bad =
+device_bad spec wide tier supply bad =
     unless_err spec.silent _ _ (unless_err spec.busy _ _ (unless_err spec.stalls.device _ _
     (unless_err (not (is_ok (device_head_of spec.low (take 8 spec.descriptor)))) _ _
     (unless_err spec.stalls.address _ _ (rw bad refl)))))
 
 -- it is refused after its device descriptor
-later_bad : (spec : Spec) (tier supply : ℕ) → is_ok (read_verdict spec supply
+later_bad : (spec : Spec) (wide : Bool) (tier supply : ℕ) → is_ok (read_verdict wide spec supply
     (first_fault spec (configuration_count spec.descriptor))) ≡ false
-    → is_ok (verdict spec tier supply) ≡ false
+    → is_ok (verdict spec wide tier supply) ≡ false
 unfolding verdict
-later_bad spec tier supply bad =
+later_bad spec wide tier supply bad =
     unless_err spec.silent _ _ (unless_err spec.busy _ _ (unless_err spec.stalls.device _ _
     (unless_err (not (is_ok (device_head_of spec.low (take 8 spec.descriptor)))) _ _
     (unless_err spec.stalls.address _ _
@@ -102,18 +102,18 @@ configs_bad spec (suc n) r h =
           (config_bad_one spec n r here)
     ]
 
-read_bad : (spec : Spec) (supply : ℕ) (o : Option Cause) → is_some o ≡ true
-    → is_ok (read_verdict spec supply o) ≡ false
-read_bad spec supply (Some cause) h = refl
-read_bad spec supply None h = absurd cc
+read_bad : (wide : Bool) (spec : Spec) (supply : ℕ) (o : Option Cause) → is_some o ≡ true
+    → is_ok (read_verdict wide spec supply o) ≡ false
+read_bad wide spec supply (Some cause) h = refl
+read_bad wide spec supply None h = absurd cc
 
 -- Hubs
 
-hub_bad : (spec : Spec) (hub : Option Hub) (r : Remark) → hub_remark hub ≡ Some r
-    → gives_hub spec hub ≡ false
-hub_bad spec None r h = refl
-hub_bad spec (Some hub) r h = spelled (not spec.stalls.hub) (not spec.stalls.status)
-    (hub_spelled (take 9 hub.descriptor)) h
+hub_bad : (wide : Bool) (spec : Spec) (hub : Option Hub) (r : Remark) → hub_remark wide hub ≡ Some r
+    → gives_hub wide spec hub ≡ false
+hub_bad wide spec None r h = refl
+hub_bad wide spec (Some hub) r h = spelled (not spec.stalls.hub) (not spec.stalls.status)
+    (hub_spelled wide (take 9 hub.descriptor)) h
   where
     spelled : (a b : Bool) (o : Result (List ℕ) DescriptorFault) → spelled_remark o ≡ Some r
         → (a && b && is_ok o) ≡ false
@@ -122,48 +122,50 @@ hub_bad spec (Some hub) r h = spelled (not spec.stalls.hub) (not spec.stalls.sta
     spelled true false (Err fault) h = refl
     spelled false b (Err fault) h = refl
 
-set_bad : (spec : Spec) (texts : List (List ℕ)) (choice : Option ℕ)
-    → is_hub_device spec.descriptor ≡ true → gives_hub spec spec.hub ≡ false
-    → is_ok (set_verdict spec texts choice) ≡ false
-set_bad spec texts None hub bad = refl
-set_bad spec texts (Some chosen) hub bad = unless_err spec.stalls.set_config _ _ (rw (hub, bad)
-    (neither (is_some (status_endpoint_of (slice_index_or texts chosen []))) chosen))
+set_bad : (wide : Bool) (spec : Spec) (texts : List (List ℕ)) (choice : Option ℕ)
+    → is_hub_device spec.descriptor ≡ true → gives_hub wide spec spec.hub ≡ false
+    → is_ok (set_verdict wide spec texts choice) ≡ false
+set_bad wide spec texts None hub bad = refl
+set_bad wide spec texts (Some chosen) hub bad = unless_err spec.stalls.set_config _ _ (rw (hub, bad)
+    (neither (holds_changes (status_endpoint_of wide (slice_index_or texts chosen []))
+    (hub_ports spec.hub)) chosen))
   where
     neither : (a : Bool) (chosen : ℕ) → is_ok (if not (a && false) then Err BadHub else Ok chosen)
         ≡ false
     neither true chosen = refl
     neither false chosen = refl
 
-bad_hub_read : (spec : Spec) (supply : ℕ) (o : Option Cause) → is_hub_device spec.descriptor ≡ true
-    → gives_hub spec spec.hub ≡ false → is_ok (read_verdict spec supply o) ≡ false
-bad_hub_read spec supply (Some cause) hub bad = refl
-bad_hub_read spec supply None hub bad = set_bad spec (texts_of spec)
+bad_hub_read : (wide : Bool) (spec : Spec) (supply : ℕ) (o : Option Cause) → is_hub_device spec.descriptor ≡ true
+    → gives_hub wide spec spec.hub ≡ false → is_ok (read_verdict wide spec supply o) ≡ false
+bad_hub_read wide spec supply (Some cause) hub bad = refl
+bad_hub_read wide spec supply None hub bad = set_bad wide spec (texts_of spec)
     (choice_of supply (texts_of spec)) hub bad
 
-hub_remarked : (b : Bool) (hub : Option Hub) (r : Remark) → (if b then hub_remark hub else None)
-    ≡ Some r → (b ≡ true) × (hub_remark hub ≡ Some r)
-hub_remarked true hub r h = (refl, h)
-hub_remarked false hub r h = absurd cc
+hub_remarked : (wide b : Bool) (hub : Option Hub) (r : Remark) → (if b then hub_remark wide hub else None)
+    ≡ Some r → (b ≡ true) × (hub_remark wide hub ≡ Some r)
+hub_remarked wide true hub r h = (refl, h)
+hub_remarked wide false hub r h = absurd cc
 
 -- A device with a remark
 
-pub remarked_refused : (spec : Spec) (r : Remark) → remark_of spec ≡ Some r → IsRefused spec
+pub remarked_refused : (wide : Bool) (spec : Spec) (r : Remark) → remark_of wide spec ≡ Some r
+    → IsRefused wide spec
 unfolding remark_of
-remarked_refused spec r is tier supply =
+remarked_refused wide spec r is tier supply =
     split (device_spelled spec.low (take 18 spec.descriptor)) refl is
   where
     split : (o : Result (List ℕ) DescriptorFault) → device_spelled spec.low (take 18 spec.descriptor)
-        ≡ o → device_remark spec o ≡ Some r → is_ok (verdict spec tier supply) ≡ false
-    split (Err fault) spelled h = device_bad spec tier supply (ap is_ok spelled)
+        ≡ o → device_remark wide spec o ≡ Some r → is_ok (verdict spec wide tier supply) ≡ false
+    split (Err fault) spelled h = device_bad spec wide tier supply (ap is_ok spelled)
     split (Ok bytes) spelled h =
-        later_bad spec tier supply (elim (either_some (configs_remark spec.configs
+        later_bad spec wide tier supply (elim (either_some (configs_remark spec.configs
         (configuration_count spec.descriptor)) _ r h) [
-          | inl config ↦ read_bad spec supply _ (configs_bad spec _ r config)
-          | inr hub ↦ (let parts = hub_remarked (is_hub_device spec.descriptor) spec.hub r hub in
-              bad_hub_read spec supply _ parts.0 (hub_bad spec spec.hub r parts.1))
+          | inl config ↦ read_bad wide spec supply _ (configs_bad spec _ r config)
+          | inr hub ↦ (let parts = hub_remarked wide (is_hub_device spec.descriptor) spec.hub r hub in
+              bad_hub_read wide spec supply _ parts.0 (hub_bad wide spec spec.hub r parts.1))
         ])
 
-pub refused_if : (spec : Spec) (o : Option Remark) → o ≡ remark_of spec
-    → IfSome o (λ _. IsRefused spec)
-refused_if spec (Some r) is = remarked_refused spec r (sym is)
-refused_if spec None is = tt
+pub refused_if : (wide : Bool) (spec : Spec) (o : Option Remark) → o ≡ remark_of wide spec
+    → IfSome o (λ _. IsRefused wide spec)
+refused_if wide spec (Some r) is = remarked_refused wide spec r (sym is)
+refused_if wide spec None is = tt

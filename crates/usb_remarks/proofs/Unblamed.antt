@@ -120,47 +120,48 @@ good_configs spec (suc n) h =
 
 -- The verdict
 
-set_other : (spec : Spec) (texts : List (List ℕ)) (choice : Option ℕ)
-    → blames_descriptor (set_verdict spec texts choice) ≡ false
-set_other spec texts None = refl
-set_other spec texts (Some chosen) = other_cause spec.stalls.set_config _ _ refl
+set_other : (wide : Bool) (spec : Spec) (texts : List (List ℕ)) (choice : Option ℕ)
+    → blames_descriptor (set_verdict wide spec texts choice) ≡ false
+set_other wide spec texts None = refl
+set_other wide spec texts (Some chosen) = other_cause spec.stalls.set_config _ _ refl
     (other_cause (is_hub_device spec.descriptor && not
-    (is_good_hub spec (slice_index_or texts chosen []))) BadHub (Ok chosen) refl refl)
+    (is_good_hub wide spec (slice_index_or texts chosen []))) BadHub (Ok chosen) refl refl)
 
-read_other : (spec : Spec) (supply : ℕ) (o : Option Cause) → speaks o ≡ false
-    → blames_descriptor (read_verdict spec supply o) ≡ false
-read_other spec supply (Some cause) h = h
-read_other spec supply None h = set_other spec (texts_of spec) (choice_of supply (texts_of spec))
+read_other : (wide : Bool) (spec : Spec) (supply : ℕ) (o : Option Cause) → speaks o ≡ false
+    → blames_descriptor (read_verdict wide spec supply o) ≡ false
+read_other wide spec supply (Some cause) h = h
+read_other wide spec supply None h = set_other wide spec (texts_of spec) (choice_of supply (texts_of spec))
 
-verdict_other : (spec : Spec) (tier supply : ℕ)
+verdict_other : (spec : Spec) (wide : Bool) (tier supply : ℕ)
     → is_ok (device_head_of spec.low (take 8 spec.descriptor)) ≡ true
     → is_device spec.low (take 18 spec.descriptor) ≡ true
     → speaks (first_fault spec (configuration_count spec.descriptor)) ≡ false
-    → blames_descriptor (verdict spec tier supply) ≡ false
+    → blames_descriptor (verdict spec wide tier supply) ≡ false
 unfolding verdict
-verdict_other spec tier supply head device configs =
+verdict_other spec wide tier supply head device configs =
     other_cause spec.silent _ _ refl (other_cause spec.busy _ _ refl
     (other_cause spec.stalls.device _ _ refl (never (not (is_ok (device_head_of spec.low
     (take 8 spec.descriptor)))) _ _ (ap not head) (other_cause spec.stalls.address _ _ refl
     (never (not (is_device spec.low (take 18 spec.descriptor))) _ _ (ap not device)
     (other_cause (is_hub_device spec.descriptor && tier == 7) _ _ refl
-    (read_other spec supply _ configs)))))))
+    (read_other wide spec supply _ configs)))))))
 
-pub unremarked_unblamed : (spec : Spec) → remark_of spec ≡ None → BlamesNoDescriptor spec
+pub unremarked_unblamed : (wide : Bool) (spec : Spec) → remark_of wide spec ≡ None
+    → BlamesNoDescriptor wide spec
 unfolding remark_of
-unremarked_unblamed spec is tier supply =
+unremarked_unblamed wide spec is tier supply =
     split (device_spelled spec.low (take 18 spec.descriptor)) refl is
   where
     split : (o : Result (List ℕ) DescriptorFault) → device_spelled spec.low (take 18 spec.descriptor)
-        ≡ o → device_remark spec o ≡ None → blames_descriptor (verdict spec tier supply) ≡ false
+        ≡ o → device_remark wide spec o ≡ None → blames_descriptor (verdict spec wide tier supply) ≡ false
     split (Err fault) spelled h = absurd cc
     split (Ok bytes) spelled h =
         let parts = both_none (configs_remark spec.configs (configuration_count spec.descriptor)) _ h
         in
-        verdict_other spec tier supply (head_good spec.low spec.descriptor (ap is_ok spelled))
+        verdict_other spec wide tier supply (head_good spec.low spec.descriptor (ap is_ok spelled))
         (ap is_ok spelled) (good_configs spec (configuration_count spec.descriptor) parts.0)
 
-pub unblamed_if : (spec : Spec) (o : Option Remark) → o ≡ remark_of spec
-    → IfNone o (BlamesNoDescriptor spec)
-unblamed_if spec (Some r) is = tt
-unblamed_if spec None is = unremarked_unblamed spec (sym is)
+pub unblamed_if : (wide : Bool) (spec : Spec) (o : Option Remark) → o ≡ remark_of wide spec
+    → IfNone o (BlamesNoDescriptor wide spec)
+unblamed_if wide spec (Some r) is = tt
+unblamed_if wide spec None is = unremarked_unblamed wide spec (sym is)

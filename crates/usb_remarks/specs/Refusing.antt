@@ -41,10 +41,11 @@ abbrev pub blames_descriptor : Result ℕ Cause → Bool
 blames_descriptor (Ok chosen) = false
 blames_descriptor (Err cause) = is_of_descriptor cause
 
--- where a host refuses the device, that is for another cause
-abbrev pub BlamesNoDescriptor : Spec → Type 0
-BlamesNoDescriptor spec = (tier supply : ℕ) → blames_descriptor (verdict spec tier supply) ≡ false
+-- where a host refuses the device, one that takes wide hubs or not, that is for another cause
+abbrev pub BlamesNoDescriptor : Bool → Spec → Type 0
+BlamesNoDescriptor wide spec = (tier supply : ℕ)
+    → blames_descriptor (verdict spec wide tier supply) ≡ false
 
 -- a host accepts the device in no tier and at no port
-abbrev pub IsRefused : Spec → Type 0
-IsRefused spec = (tier supply : ℕ) → is_ok (verdict spec tier supply) ≡ false
+abbrev pub IsRefused : Bool → Spec → Type 0
+IsRefused wide spec = (tier supply : ℕ) → is_ok (verdict spec wide tier supply) ≡ false

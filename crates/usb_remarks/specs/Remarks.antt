@@ -79,18 +79,19 @@ abbrev pub spelled_remark : Result (List ℕ) DescriptorFault → Option Remark
 spelled_remark (Ok bytes) = None
 spelled_remark (Err fault) = Some (remark.Hub fault)
 
-abbrev pub hub_remark : Option Hub → Option Remark
-hub_remark None = Some remark.NoPorts
-hub_remark (Some hub) = spelled_remark (hub_spelled (take HUB_LENGTH hub.descriptor))
+-- for a host that takes wide hubs or not
+abbrev pub hub_remark : Bool → Option Hub → Option Remark
+hub_remark wide None = Some remark.NoPorts
+hub_remark wide (Some hub) = spelled_remark (hub_spelled wide (take HUB_LENGTH hub.descriptor))
 
 -- on a device, after its device descriptor
-abbrev pub device_remark : Spec → Result (List ℕ) DescriptorFault → Option Remark
-device_remark spec (Err fault) = Some (remark.Device fault)
-device_remark spec (Ok bytes) = option_or
+abbrev pub device_remark : Bool → Spec → Result (List ℕ) DescriptorFault → Option Remark
+device_remark wide spec (Err fault) = Some (remark.Device fault)
+device_remark wide spec (Ok bytes) = option_or
     (configs_remark spec.configs (configuration_count spec.descriptor))
-    (if is_hub_device spec.descriptor then hub_remark spec.hub else None)
+    (if is_hub_device spec.descriptor then hub_remark wide spec.hub else None)
 
--- on a device
-unfoldable pub remark_of : Spec → Option Remark
-remark_of spec = device_remark spec
+-- on a device, for a host that takes wide hubs or not
+unfoldable pub remark_of : Bool → Spec → Option Remark
+remark_of wide spec = device_remark wide spec
     (device_spelled spec.low (take DEVICE_LENGTH spec.descriptor))

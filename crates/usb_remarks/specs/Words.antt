@@ -1,8 +1,9 @@
 -- Remarks in words.
-use Rattle.std.specs.Prelude.{ℕ, ◌+◌, ◌*◌, ◌-◌, ◌==◌, Bool, codes, drop, List, [], ◌++◌, length, get_or}
-use Rattle.std.specs.Prelude.{slice_index_or, decimal, Option, Some, None, nat_lt, if◌then◌else◌}
+use Rattle.std.specs.Prelude.{ℕ, ◌+◌, ◌*◌, ◌-◌, ◌==◌, ◌&&◌, ◌||◌, not, Bool, codes, drop, List, []}
+use Rattle.std.specs.Prelude.{◌++◌, length, get_or, slice_index_or, decimal, Option, Some, None}
+use Rattle.std.specs.Prelude.{nat_le, nat_lt, if◌then◌else◌}
 use Rattle.usb_request.specs.{ENDPOINT, INTERFACE}
-use Rattle.usb_descriptor.specs.{DescriptorFault}
+use Rattle.usb_descriptor.specs.{DescriptorFault, most_ports}
 use Rattle.usb_descriptor.specs.declared.fault.DescriptorFault.TheVariants as flaw
 use Rattle.usb_device.specs.{Hub, Spec}
 use Rattle.usb_remarks.specs.declared.remark.Remark.{Remark}
@@ -88,22 +89,36 @@ text_words bytes (part.Head fault) = head_words bytes fault
 text_words bytes part.Cut = cut_words bytes
 text_words bytes (part.Item at fault) = item_words bytes at fault
 
--- of a hub descriptor's lengths
-abbrev pub ports_words : List ℕ → List ℕ
-ports_words bytes = if nat_lt (get_or bytes 0 0) 9 then rule_words 0 (codes "bDescLength is ")
-    (get_or bytes 0 0) (codes ", it is at least 9") else rule_words 2 (codes "bNbrPorts is ")
-    (get_or bytes 2 0) (codes ", it is 1 to 7")
+-- a host takes this number of ports
+abbrev pub is_count : Bool → ℕ → Bool
+is_count wide ports = nat_le 1 ports && nat_le ports (most_ports wide)
+
+-- the least length of a hub descriptor
+abbrev pub length_rule : Bool → List ℕ
+length_rule long = if long then codes ", with more than 7 ports it is at least 11" else codes
+    ", it is at least 9"
+
+abbrev pub ports_rule : Bool → List ℕ
+ports_rule wide = if wide then codes ", it is 1 to 15" else codes ", it is 1 to 7"
+
+-- of a hub descriptor's length and its number of ports
+abbrev pub ports_words : Bool → List ℕ → List ℕ
+ports_words wide bytes =
+    if nat_lt (get_or bytes 0 0) 9 || is_count wide (get_or bytes 2 0)
+    then rule_words 0 (codes "bDescLength is ") (get_or bytes 0 0)
+    (length_rule (not (nat_lt (get_or bytes 0 0) 9)))
+    else rule_words 2 (codes "bNbrPorts is ") (get_or bytes 2 0) (ports_rule wide)
 
 -- of a hub descriptor
-unfoldable pub hub_words : List ℕ → DescriptorFault → List ℕ
-hub_words bytes flaw.Short = rule_words 0 (codes "the text has ") (length bytes)
+unfoldable pub hub_words : Bool → List ℕ → DescriptorFault → List ℕ
+hub_words wide bytes flaw.Short = rule_words 0 (codes "the text has ") (length bytes)
     (codes " bytes, a hub descriptor has 9")
-hub_words bytes flaw.WrongType = rule_words 1 (codes "bDescriptorType is ") (get_or bytes 1 0)
+hub_words wide bytes flaw.WrongType = rule_words 1 (codes "bDescriptorType is ") (get_or bytes 1 0)
     (codes ", of a hub it is 41")
-hub_words bytes flaw.Length = ports_words bytes
-hub_words bytes flaw.MaxPacket = ports_words bytes
-hub_words bytes flaw.Total = ports_words bytes
-hub_words bytes flaw.NoConfiguration = ports_words bytes
+hub_words wide bytes flaw.Length = ports_words wide bytes
+hub_words wide bytes flaw.MaxPacket = ports_words wide bytes
+hub_words wide bytes flaw.Total = ports_words wide bytes
+hub_words wide bytes flaw.NoConfiguration = ports_words wide bytes
 
 abbrev pub hub_bytes : Option Hub → List ℕ
 hub_bytes None = []
@@ -140,14 +155,15 @@ abbrev pub portless_words : List ℕ → List ℕ
 portless_words bytes = key_words (codes "descriptor") ++ rule_words 4 (codes "bDeviceClass is ")
     (get_or bytes 4 0) (codes ", of a hub: it needs `ports`")
 
-abbrev pub given_words : List ℕ → DescriptorFault → List ℕ
-given_words bytes fault = key_words (codes "hub_descriptor") ++ hub_words bytes fault
+abbrev pub given_words : Bool → List ℕ → DescriptorFault → List ℕ
+given_words wide bytes fault = key_words (codes "hub_descriptor") ++ hub_words wide bytes fault
 
--- a remark on a device: the key with the bytes, the byte, the field with its value, and the rule
-unfoldable pub remark_words : Spec → Remark → List ℕ
-remark_words spec (remark.Device fault) = descriptor_words spec fault
-remark_words spec (remark.Text index t) = config_words spec.configs index t
-remark_words spec (remark.Repeated index) = repeated_words spec.configs index
-remark_words spec (remark.Missing index) = missing_words spec.descriptor index
-remark_words spec remark.NoPorts = portless_words spec.descriptor
-remark_words spec (remark.Hub fault) = given_words (hub_bytes spec.hub) fault
+-- a remark on a device, for a host that takes wide hubs or not: the key with the bytes, the byte, the
+-- field with its value, and the rule
+unfoldable pub remark_words : Bool → Spec → Remark → List ℕ
+remark_words wide spec (remark.Device fault) = descriptor_words spec fault
+remark_words wide spec (remark.Text index t) = config_words spec.configs index t
+remark_words wide spec (remark.Repeated index) = repeated_words spec.configs index
+remark_words wide spec (remark.Missing index) = missing_words spec.descriptor index
+remark_words wide spec remark.NoPorts = portless_words spec.descriptor
+remark_words wide spec (remark.Hub fault) = given_words wide (hub_bytes spec.hub) fault

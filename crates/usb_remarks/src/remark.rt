@@ -75,14 +75,14 @@ fn configs_remark(configs: &[Bytes<65535>], count: usize) -> Option<Remark>
 }
 
 /// What is wrong with a device of the class of hubs.
-fn hub_remark(hub: Option<&HubSpec>) -> Option<Remark>
-    ensures { result ≡ hub_remark (option_copied hub.entry) }
+fn hub_remark(hub: Option<&HubSpec>, wide: bool) -> Option<Remark>
+    ensures { result ≡ hub_remark wide (option_copied hub.entry) }
 {
     let Some(hub) = hub else {
         return Some(Remark::NoPorts);
     };
     let descriptor = hub.descriptor();
-    match read_hub(&descriptor[..descriptor.len().min(HUB_LENGTH)]) {
+    match read_hub(&descriptor[..descriptor.len().min(HUB_LENGTH)], wide) {
         Err(fault) => Some(Remark::Hub(fault)),
         Ok(_) => None,
     }
@@ -90,8 +90,8 @@ fn hub_remark(hub: Option<&HubSpec>) -> Option<Remark>
 
 /// The first rule that the bytes of a device break.
 #[tactic(auto, unfolding(crate::specs::Remarks::remark_of))]
-fn first_remark(spec: &DeviceSpec) -> Option<Remark>
-    ensures { result ≡ remark_of spec.now }
+fn first_remark(spec: &DeviceSpec, wide: bool) -> Option<Remark>
+    ensures { result ≡ remark_of wide spec.now }
 {
     let descriptor = spec.descriptor();
     let front = &descriptor[..descriptor.len().min(DEVICE_LENGTH)];
@@ -103,16 +103,17 @@ fn first_remark(spec: &DeviceSpec) -> Option<Remark>
     if remark.is_some() || device.class() != HUB_CLASS {
         return remark;
     }
-    hub_remark(spec.hub())
+    hub_remark(spec.hub(), wide)
 }
 
 /// Why a host refuses the device for its bytes alone: the first rule that they break. None if it
-/// reads them all; a host may refuse it for another cause even then.
+/// reads them all; a host may refuse it for another cause even then. With `wide` it is a host that
+/// takes hubs of 8 to 15 ports.
 #[tactic(auto, using(crate::proofs::Refused::refused_if, crate::proofs::Unblamed::unblamed_if))]
-pub fn remark_of(spec: &DeviceSpec) -> Option<Remark>
-    ensures value { result ≡ remark_of spec.now }
-    ensures refused { IfSome result (λ _. IsRefused spec.now) }
-    ensures unblamed { IfNone result (BlamesNoDescriptor spec.now) }
+pub fn remark_of(spec: &DeviceSpec, wide: bool) -> Option<Remark>
+    ensures value { result ≡ remark_of wide spec.now }
+    ensures refused { IfSome result (λ _. IsRefused wide spec.now) }
+    ensures unblamed { IfNone result (BlamesNoDescriptor wide spec.now) }
 {
-    first_remark(spec)
+    first_remark(spec, wide)
 }

@@ -1,6 +1,6 @@
 //! Remarks in words.
 ghost use Rattle.std.specs.Prelude.{◌≡◌, ◌++◌, [], drop, get_or, decimal, OnOk, string_bytes, slice_index_or};
-ghost use Rattle.usb_remarks.specs.Words.{config_words, count_words, cut_words, descriptor_words, device_words, given_words, head_words, hub_bytes, hub_words, index_words, item_rule, item_words, key_words, missing_words, packet_rule, passing_words, portless_words, ports_words, remark_words, repeated_words, rule_words, said_total, small_words, text_words};
+ghost use Rattle.usb_remarks.specs.Words.{config_words, count_words, cut_words, descriptor_words, device_words, given_words, head_words, hub_bytes, hub_words, index_words, is_count, item_rule, item_words, key_words, length_rule, missing_words, packet_rule, passing_words, portless_words, ports_rule, ports_words, remark_words, repeated_words, rule_words, said_total, small_words, text_words};
 
 use crate::remark::Remark;
 use crate::text::TextRemark;
@@ -258,23 +258,48 @@ fn push_text(
     }
 }
 
-/// Adds what is wrong with the lengths of a hub descriptor.
-fn push_ports(alloc: Global, out: &mut String, bytes: &[u8]) -> Result<(), AllocError>
-    ensures { OnOk result (string_bytes out.new ≡ string_bytes out.old ++ ports_words bytes.now) }
+/// The least length of a hub descriptor.
+fn length_rule(long: bool) -> &'static str
+    ensures { result.now ≡ length_rule long }
+{
+    if long {
+        ", with more than 7 ports it is at least 11"
+    } else {
+        ", it is at least 9"
+    }
+}
+
+/// The ports that a hub may have.
+fn ports_rule(wide: bool) -> &'static str
+    ensures { result.now ≡ ports_rule wide }
+{
+    if wide {
+        ", it is 1 to 15"
+    } else {
+        ", it is 1 to 7"
+    }
+}
+
+/// Whether a hub may have this number of ports.
+fn is_count(wide: bool, ports: usize) -> bool
+    ensures { result ≡ is_count wide ports }
+{
+    1 <= ports && ports <= if wide { 15 } else { 7 }
+}
+
+/// Adds what is wrong with a hub descriptor's length, or with its number of ports.
+fn push_ports(alloc: Global, out: &mut String, bytes: &[u8], wide: bool) -> Result<(), AllocError>
+    ensures { OnOk result (string_bytes out.new
+        ≡ string_bytes out.old ++ ports_words wide bytes.now) }
 {
     let length = usize::from(byte_at(bytes, 0));
     let ports = usize::from(byte_at(bytes, 2));
-    if length < 9 {
-        push_rule(
-            alloc,
-            out,
-            0,
-            "bDescLength is ",
-            length,
-            ", it is at least 9",
-        )
+    let short = length < 9;
+    if short || is_count(wide, ports) {
+        let rule = length_rule(!short);
+        push_rule(alloc, out, 0, "bDescLength is ", length, rule)
     } else {
-        push_rule(alloc, out, 2, "bNbrPorts is ", ports, ", it is 1 to 7")
+        push_rule(alloc, out, 2, "bNbrPorts is ", ports, ports_rule(wide))
     }
 }
 
@@ -284,10 +309,11 @@ fn push_hub(
     alloc: Global,
     out: &mut String,
     bytes: &[u8],
+    wide: bool,
     fault: DescriptorFault,
 ) -> Result<(), AllocError>
     ensures { OnOk result (string_bytes out.new
-        ≡ string_bytes out.old ++ hub_words bytes.now fault) }
+        ≡ string_bytes out.old ++ hub_words wide bytes.now fault) }
 {
     let kind = usize::from(byte_at(bytes, 1));
     match fault {
@@ -307,7 +333,7 @@ fn push_hub(
         DescriptorFault::Length
         | DescriptorFault::MaxPacket
         | DescriptorFault::Total
-        | DescriptorFault::NoConfiguration => push_ports(alloc, out, bytes),
+        | DescriptorFault::NoConfiguration => push_ports(alloc, out, bytes, wide),
     }
 }
 
@@ -458,17 +484,18 @@ fn push_given(
     alloc: Global,
     out: &mut String,
     bytes: &[u8],
+    wide: bool,
     fault: DescriptorFault,
 ) -> Result<(), AllocError>
     ensures { OnOk result (string_bytes out.new
-        ≡ string_bytes out.old ++ given_words bytes.now fault) }
+        ≡ string_bytes out.old ++ given_words wide bytes.now fault) }
 {
     push_key(out, "hub_descriptor")?;
-    push_hub(alloc, out, bytes, fault)
+    push_hub(alloc, out, bytes, wide, fault)
 }
 
 /// Adds a remark on the device: the key with the bytes, the byte, the field with its value, and the
-/// rule. For example `configs[0], byte 2: wTotalLength is 34, the text has 25 bytes`.
+/// rule. It is that of a host which takes hubs of 8 to 15 ports, or not. For example `configs[0], byte 2: wTotalLength is 34, the text has 25 bytes`.
 ///
 /// # Errors
 ///
@@ -478,10 +505,11 @@ pub fn push_remark(
     alloc: Global,
     out: &mut String,
     spec: &DeviceSpec,
+    wide: bool,
     remark: Remark,
 ) -> Result<(), AllocError>
     ensures { OnOk result (string_bytes out.new
-        ≡ string_bytes out.old ++ remark_words spec.now remark) }
+        ≡ string_bytes out.old ++ remark_words wide spec.now remark) }
 {
     match remark {
         Remark::Device(fault) => push_descriptor(alloc, out, spec, fault),
@@ -489,6 +517,6 @@ pub fn push_remark(
         Remark::Repeated(index) => push_repeated(alloc, out, spec.configs(), index),
         Remark::Missing(index) => push_missing(alloc, out, spec.descriptor(), index),
         Remark::NoPorts => push_portless(alloc, out, spec.descriptor()),
-        Remark::Hub(fault) => push_given(alloc, out, hub_bytes(spec), fault),
+        Remark::Hub(fault) => push_given(alloc, out, hub_bytes(spec), wide, fault),
     }
 }

@@ -89,7 +89,13 @@ pub(crate) fn course_of(alloc: Global, plan: &Plan) -> Result<Course, AllocError
         told: Vec::new(alloc),
     });
     let ends = Ends(&link);
-    let (ended, _reader, _writer) = live(alloc, Watched::new(ends), Watched::new(ends), LIMIT);
+    let (ended, _reader, _writer) = live(
+        alloc,
+        Watched::new(ends),
+        Watched::new(ends),
+        LIMIT,
+        plan.wide_hubs(),
+    );
     let Link { told, .. } = link.into_inner();
     Ok(Course { ended, told })
 }

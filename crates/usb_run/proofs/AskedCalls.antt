@@ -1,5 +1,5 @@
 -- What a run makes of an event, by its item, and by the call that the host makes for it.
-use Rattle.std.proofs.Common.{◌≡◌, ◌∙◌, refl, ap, ℕ, List, length, Option, None, Some, Result}
+use Rattle.std.proofs.Common.{◌≡◌, ◌∙◌, refl, ap, ℕ, Bool, List, length, Option, None, Some, Result}
 use Rattle.std.specs.Global.{Vec}
 use Rattle.arrayvec.specs.ArrayVec.{ArrayVec}
 use Rattle.usb_world.specs.declared.event.Ask.{Ask}
@@ -22,7 +22,8 @@ use Rattle.usb_run.specs.Transfers.{Transfers}
 -- no item, a listing, what a transfer or a look came to, or news
 pub data AskAnswered (due : Option Ask) (item : Option Item) (old new : HostState) : Type 0 where
   silent : item ≡ None → new ≡ old → AskAnswered due item old new
-  listed : due ≡ Some Show → item ≡ Some (listing_of new) → new ≡ old → AskAnswered due item old new
+  listed : (said : Bool) → due ≡ Some (Show said) → item ≡ Some (listing_of said new) → new ≡ old
+      → AskAnswered due item old new
   sent : (path bytes : List ℕ) (told : Result (Unit {0}) TransferFault)
       → due ≡ Some (Send path bytes) → item ≡ Some (Sent path (sent_count (length bytes) told))
       → Transfers (SendTells path FirstBulk bytes) old told new → AskAnswered due item old new
@@ -69,7 +70,7 @@ pub data AskAnswered (due : Option Ask) (item : Option Item) (old new : HostStat
 pub answered : (due : Option Ask) (item : Option Item) (old new : HostState)
     → IsItemOf due item old new → AskAnswered due item old new
 answered None item old new is = silent is.0 is.1
-answered (Some Show) item old new is = listed refl is.0 is.1
+answered (Some (Show said)) item old new is = listed said refl is.0 is.1
 answered (Some (Send path bytes)) item old new is = sent path bytes is.0 refl is.1 is.2
 answered (Some (Receive path packets)) item old new is = received path packets is.0 refl is.1 is.2
 answered (Some (Clear path)) item old new is = cleared path is.0 refl is.1 is.2
@@ -157,7 +158,7 @@ pub data Calls (due : Option Ask) (old new : HostState) : Type 0 where
 pub item_calls : {due : Option Ask} {item : Option Item} {old new : HostState}
     → AskAnswered due item old new → Calls due old new
 item_calls (silent none same) = no_call same
-item_calls (listed asks is same) = no_call same
+item_calls (listed said asks is same) = no_call same
 item_calls (sent path bytes told asks is came) = sends path bytes came.answer asks came.call
 item_calls (received path packets told asks is came) =
     receives path packets came.answer asks came.call
@@ -183,7 +184,7 @@ item_calls {old = old} {new = new} (news told asks is all) =
 pub stop_calls : (due : Option Ask) (fault : RunFault) (old new : HostState)
     → StopsAt due fault old new → Calls due old new
 stop_calls None fault old new stops = absurd stops
-stop_calls (Some Show) fault old new stops = no_call stops.1
+stop_calls (Some (Show said)) fault old new stops = no_call stops.1
 stop_calls (Some (Send path bytes)) fault old new stops =
     sends path bytes stops.answer refl stops.call
 stop_calls (Some (Receive path packets)) fault old new stops =

@@ -13,7 +13,7 @@ use Rattle.usb_text.specs.{listing_lines}
 
 -- the lines of an item; the number is that of a listing
 abbrev pub item_lines : ℕ → Item → List (List ℕ)
-item_lines number (Listing entries taken) = listing_lines number entries
+item_lines number (Listing entries taken said) = listing_lines number entries said
 item_lines number (Sent path sent) = sent_line path sent ∷ []
 item_lines number (Received path received) = received_line path received ∷ []
 item_lines number (Cleared path cleared) = cleared_line path cleared ∷ []
@@ -31,7 +31,7 @@ item_lines number (InterfaceSet path interface setting set) =
 
 -- listings alone are numbered
 abbrev pub number_of : Item → ℕ → ℕ
-number_of (Listing entries taken) number = number + 1
+number_of (Listing entries taken said) number = number + 1
 number_of (Sent path sent) number = number
 number_of (Received path received) number = number
 number_of (Cleared path cleared) number = number

@@ -13,7 +13,8 @@ pub use TransferLines.{polled_end, received_end, sent_end, setting_text}
 unfoldable pub use TransferLines.{cleared_line, cleared_of_line, interface_line, look_line}
 unfoldable pub use TransferLines.{news_lines, polled_line, read_line, received_from_line}
 unfoldable pub use TransferLines.{received_line, sent_line, sent_to_line, written_line}
-pub use Run.{IsBegun, IsCaused, RunsOn, Spent, items_left, listing_of, round_fault, run_fault}
+pub use Run.{IsBegun, IsCaused, RunsOn, Spent, entry_said, items_left, listing_of, round_fault}
+pub use Run.{run_fault, said_if}
 pub use ItemLines.{item_lines, number_of}
 pub use NewsCalls.{AllNews, SomeNews, SomeNewsAre, no_news, one_news}
 pub use Transfers.{Does, Gives, IsItemOf, StopsAt, TransferStops, sent_count, transfer_ended}

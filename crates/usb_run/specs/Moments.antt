@@ -86,7 +86,7 @@ pub record LookShows (path : List ℕ) (old : HostState) (told : Result Look Tra
 -- its first bulk one; an interface took the setting that was asked for; a look shows what is listed
 -- at its port; and the news are all there were
 abbrev pub TellsRight : Option Ask → Item → HostState → HostState → Type 0
-TellsRight (Some Show) item old new = Settled new
+TellsRight (Some (Show said)) item old new = Settled new
 TellsRight (Some (Send path bytes)) (Sent to told) old new =
     Delivered path FirstBulk (is_ok told) bytes (table_in old) old.world (table_in new) new.world
 TellsRight (Some (Receive path packets)) (Received from told) old new =
@@ -123,7 +123,8 @@ TellsRight due item old new = ⊥
 
 -- a listing is what the events that had come have left plugged
 abbrev pub IsListingOf : PlanData → Item → Type 0
-IsListingOf plan (Listing tree taken) = Lists plan.roots (tree_after plan taken) tree
+IsListingOf plan (Listing tree taken said) =
+    Lists plan.wide plan.roots (tree_after plan taken) tree
 IsListingOf plan (Sent path sent) = ⊤
 IsListingOf plan (Received path received) = ⊤
 IsListingOf plan (Cleared path cleared) = ⊤

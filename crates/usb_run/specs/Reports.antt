@@ -16,7 +16,7 @@ use Rattle.usb_run.specs.Transcript.{RunsTo, itself, never}
 -- a host of a plan's bus, whose root ports were given power in silence: it knows of no device, and
 -- that is so
 pub record Opens (plan : PlanData) (before : Option (List ℕ)) (h : HostState) : Type 0 where
-  pub is : h ≡ host_opening (opening plan) before
+  pub is : h ≡ host_opening plan.wide (opening plan) before
   pub traced : Traced (opening plan) before h.world h.trace
   pub sound : HostInvariant h
   pub rules : IsPlan plan

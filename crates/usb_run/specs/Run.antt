@@ -1,8 +1,11 @@
 -- What runs leave of a bus's world.
-use Rattle.std.specs.Prelude.{◌≡◌, ℕ, ◌+◌, Some, Bool, false, Result, OnOk, IfErr, if◌then◌else◌}
+use Rattle.std.specs.Prelude.{◌≡◌, ℕ, ◌+◌, List, [], map, Some, Bool, false, Result, OnOk, IfErr}
+use Rattle.std.specs.Prelude.{unwrap_or, if◌then◌else◌}
 use Rattle.usb_world.specs.{PlanData, World, AttemptsWithin, to_come, BusFault}
 use Rattle.usb_world.specs.declared.types.BusFault.TheVariants as bus
-use Rattle.usb_host.specs.{HostFault, HostState}
+use Rattle.usb_enum.specs.{Finding}
+use Rattle.usb_table.specs.{Table, said_at}
+use Rattle.usb_host.specs.{HostFault, HostState, table_in}
 use Rattle.usb_host.specs.declared.fault.HostFault.TheVariants as host
 use Rattle.usb_run.specs.declared.runs.Item.{Item}
 use Rattle.usb_run.specs.declared.runs.Item.TheVariants.{Listing}
@@ -49,6 +52,15 @@ Spent old new = (n : ℕ) × AttemptsWithin n old.world new.world
 abbrev pub items_left : Bool → World → ℕ
 items_left over w = to_come w + (if over then 0 else 1)
 
--- what the host has found, and how many events had come
-abbrev pub listing_of : HostState → Item
-listing_of h = Listing h.entries h.world.taken
+-- what the device of an entry said of itself, which is kept of a refused one alone
+abbrev pub entry_said : Table → List ℕ × Finding → List ℕ
+entry_said table entry = unwrap_or (said_at entry.0 table) []
+
+-- what the devices of entries said, if that is to be told
+abbrev pub said_if : Bool → Table → List (List ℕ × Finding) → List (List ℕ)
+said_if told table entries = if told then map (entry_said table) entries else []
+
+-- what the host has found, how many events had come, and if that is to be told, what refused
+-- devices said
+abbrev pub listing_of : Bool → HostState → Item
+listing_of told h = Listing h.entries h.world.taken (said_if told (table_in h) h.entries)

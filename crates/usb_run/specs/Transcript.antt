@@ -43,7 +43,7 @@ pub data Makes (old : HostState) : Item → Bool → HostState → Type 0 where
   asked : {item : Item} {mid new : HostState} (due : Option Ask) → Reaches old (Ok (Some due)) mid
       → IsItemOf due (Some item) mid new → TellsRight due item mid new → Makes old item false new
   last : {new : HostState} → Reaches old (Ok None) new → Settled new
-      → Makes old (listing_of new) true new
+      → Makes old (listing_of false new) true new
 
 -- where a run stopped on the way to its next item, and with which fault: in a round, at an event,
 -- in what an event asked, or where memory was refused for the last listing

@@ -58,7 +58,7 @@ pub record TransferStops {A : Type 0} (Tells : HostState → Result A HostFault 
 -- and all news
 abbrev pub IsItemOf : Option Ask → Option Item → HostState → HostState → Type 0
 IsItemOf None item old new = (item ≡ None) × (new ≡ old)
-IsItemOf (Some Show) item old new = (item ≡ Some (listing_of new)) × (new ≡ old)
+IsItemOf (Some (Show said)) item old new = (item ≡ Some (listing_of said new)) × (new ≡ old)
 IsItemOf (Some (Send path bytes)) item old new =
     (told : Result (Unit {0}) TransferFault)
     × (item ≡ Some (Sent path (sent_count (length bytes) told)))
@@ -103,7 +103,7 @@ IsItemOf (Some AskNews) item old new =
 -- run
 abbrev pub StopsAt : Option Ask → RunFault → HostState → HostState → Type 0
 StopsAt None fault old new = ⊥
-StopsAt (Some Show) fault old new = (fault ≡ Memory) × (new ≡ old)
+StopsAt (Some (Show said)) fault old new = (fault ≡ Memory) × (new ≡ old)
 StopsAt (Some (Send path bytes)) fault old new =
     TransferStops (SendTells path FirstBulk bytes) old fault new
 StopsAt (Some (Receive path packets)) fault old new =

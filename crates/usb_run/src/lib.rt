@@ -33,3 +33,4 @@ pub use usb_host::{Host, HostFault, Look, News, TransferFault, Tree};
 pub use usb_port::PortPath;
 pub use usb_request::EndpointAddress;
 pub use usb_sim::{Plan, SimBus, Trace, Tracer, Untraced};
+pub use usb_text::Said;

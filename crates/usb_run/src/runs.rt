@@ -1,5 +1,5 @@
 //! Runs of a plan.
-ghost use Rattle.std.specs.Prelude.{◌≡◌, ◌≢◌, ◌+◌, ◌≤◌, ◌<◌, [], ◌∷◌, ◌++◌, false, true, None, Ok, Err, OnOk, OnErr, IfOk, IfErr, IsSome};
+ghost use Rattle.std.specs.Prelude.{◌≡◌, ◌≢◌, ◌+◌, ◌≤◌, ◌<◌, [], ◌∷◌, ◌++◌, map, false, true, None, Ok, Err, OnOk, OnErr, IfOk, IfErr, IsSome};
 ghost use Rattle.std.proofs.Props.{props};
 ghost use Rattle.usb_device.specs.TreeCodes.{ports_code};
 ghost use Rattle.usb_world.specs.Wire.{AtMostTwoRunning};
@@ -8,14 +8,16 @@ ghost use Rattle.usb_sim.specs.Sim.{world_of, trace_of};
 ghost use Rattle.std.specs.Io.KnownBytes.{Appends};
 ghost use Rattle.usb_bus.specs.Watch.{inner_of, has_failed, tells_failure, AppendsFront};
 ghost use Rattle.usb_world.specs.Steps.{PutLine, opening};
+ghost use Rattle.usb_host.specs.HostCalls.{NewTells};
 ghost use Rattle.usb_host.specs.Plugs.{plug_events};
+ghost use Rattle.usb_host.specs.Transfers.{table_in};
 ghost use Rattle.usb_host.specs.Progress.{OnlyBusSteps};
 ghost use Rattle.usb_host.specs.Ownership.{HostMapHolds};
 ghost use Rattle.usb_plan.specs.Attempts.{bound_of};
 ghost use Rattle.usb_run.specs.declared.runs.RunFault.TheVariants.{Memory as NoMemory};
 ghost use Rattle.usb_run.specs.Moments.{ListsPlugged};
 ghost use Rattle.usb_run.specs.RunSegments.{Knowing, Knows, LeavesSettled, OneRound, Settling};
-ghost use Rattle.usb_run.specs.Run.{IsBegun, IsCaused, RunsOn, Spent, round_fault, run_fault, items_left, listing_of};
+ghost use Rattle.usb_run.specs.Run.{IsBegun, IsCaused, RunsOn, Spent, entry_said, round_fault, run_fault, items_left, listing_of, said_if};
 ghost use Rattle.usb_run.specs.Reports.{EndsWell, Finishes, Opens};
 ghost use Rattle.usb_run.specs.Transcript.{Next, NextAsked, NextEvent, PutsLine};
 ghost use Rattle.usb_run.specs.Transfers.{Does, Gives};
@@ -27,16 +29,19 @@ use std::alloc::{AllocError, AllocFailed, Global};
 use std::io::Write;
 use thiserror::Error;
 use usb_bus::{BusFault, Watched};
+use usb_enum::Finding;
 use usb_host::{Host, HostFault, Look, News, Round, TransferFault, Tree};
 use usb_port::PortPath;
 use usb_request::EndpointAddress;
 use usb_sim::{Ask, Plan, SimBus, Trace, Tracer, Untraced, untraced_fault};
+use usb_text::Said;
 
 /// What a run made.
 #[derive(Debug, Drop)]
 pub enum Item {
-    /// What the host had found, and how many events had been taken.
-    Listing(Tree, u64),
+    /// What the host had found, how many events had been taken, and what the refused devices had said of themselves,
+    /// if that was asked for.
+    Listing(Tree, u64, Said),
     /// How many bytes were sent to the device at a path.
     Sent(PortPath, Result<u64, TransferFault>),
     /// The bytes that were received from the device at a path.
@@ -305,7 +310,7 @@ impl<T: Trace> Runner<T> {
         let _events = plan.events();
         Runner {
             alloc,
-            host: Host::new(alloc, bus),
+            host: host_of(alloc, plan.wide_hubs(), bus),
             over: false,
         }
     }
@@ -335,7 +340,7 @@ impl<T: Trace> Runner<T> {
             self.over = false;
             return Ok(Some(item));
         }
-        Ok(Some(listing(&self.host)?))
+        Ok(Some(listing(self.alloc, &self.host, false)?))
     }
 
     /// Runs on to the end, and returns what was made.
@@ -404,6 +409,17 @@ impl<T: Trace> Runner<T> {
     }
 }
 
+/// The host of a plan's bus, which takes wide hubs or does not.
+fn host_of<T: Trace>(alloc: Global, wide: bool, bus: SimBus<T>) -> Host<SimBus<T>>
+    ensures { NewTells wide (world_of bus) (trace_of bus) result }
+{
+    if wide {
+        Host::with_wide_hubs(alloc, bus)
+    } else {
+        Host::new(alloc, bus)
+    }
+}
+
 /// Lets events come up to one of which an item is made; None if none is left.
 fn item_of_events<T: Trace>(
     alloc: Global,
@@ -466,7 +482,7 @@ fn asked_item<T: Trace>(
     ensures owning { HostMapHolds host.old → HostMapHolds host.new }
 {
     match ask {
-        Ask::Show => Ok(Some(listing(host)?)),
+        Ask::Show { said } => Ok(Some(listing(alloc, host, said)?)),
         Ask::Send(path, bytes) => Ok(Some(send(host, path, bytes.as_slice())?)),
         Ask::Receive(path, packets) => Ok(Some(receive(host, path, packets)?)),
         Ask::Clear(path) => Ok(Some(clear(host, path)?)),
@@ -526,14 +542,44 @@ fn clear<T: Trace>(host: &mut Host<SimBus<T>>, path: PortPath) -> Result<Item, R
     Ok(Item::Cleared(path, cleared))
 }
 
-/// What the host has found, and how many events had come.
-fn listing<T: Trace>(host: &Host<SimBus<T>>) -> Result<Item, RunFault>
-    ensures item { IfOk result (λ item. item ≡ listing_of host.now) }
+/// What the host has found, how many events had come, and if that is to be told, what refused devices said.
+fn listing<T: Trace>(alloc: Global, host: &Host<SimBus<T>>, told: bool) -> Result<Item, RunFault>
+    ensures item { IfOk result (λ item. item ≡ listing_of told host.now) }
     ensures fault { IfErr result (λ fault. fault ≡ RunFault.Memory) }
 {
     let events = host.bus().events_taken();
-    match host.tree() {
-        Ok(tree) => Ok(Item::Listing(tree, events)),
-        Err(_) => Err(RunFault::Memory),
+    let Ok(tree) = host.tree() else {
+        return Err(RunFault::Memory);
+    };
+    let said = said_if(alloc, host, told, tree.entries())?;
+    Ok(Item::Listing(tree, events, said))
+}
+
+/// What the device of an entry said of itself: nothing is kept of an accepted one.
+fn entry_said<'a, T: Trace>(host: &'a Host<SimBus<T>>, entry: &(PortPath, Finding)) -> &'a [u8]
+    ensures { result.now ≡ entry_said (table_in host.now) entry.now }
+{
+    match host.said(&entry.0) {
+        Some(said) => said,
+        None => &[],
     }
+}
+
+/// What the devices of entries said of themselves, if that is to be told.
+fn said_if<T: Trace>(
+    alloc: Global,
+    host: &Host<SimBus<T>>,
+    told: bool,
+    entries: &[(PortPath, Finding)],
+) -> Result<Said, AllocError>
+    ensures { IfOk result (λ said. said ≡ said_if told (table_in host.now) entries.now) }
+{
+    let mut said = Said::none(alloc);
+    if !told {
+        return Ok(said);
+    }
+    'entries: for entry in entries {
+        said.push(alloc, entry_said(host, entry))?;
+    }
+    Ok(said)
 }

@@ -1,6 +1,6 @@
 -- Runs that are none: what the clauses of a run refuse.
 use Rattle.std.proofs.Common.{◌≡◌, ◌≢◌, ◌∙◌, refl, ap, subst, arith, inl, inr, ℕ, ◌≤◌, List, []}
-use Rattle.std.proofs.Common.{◌∷◌, Option, None, Some, Result, Ok, Err, IsUtf8}
+use Rattle.std.proofs.Common.{◌∷◌, Option, None, Some, Result, Ok, Err, IsUtf8, false}
 use Rattle.usb_device.specs.{function, fresh, changed_at, new_ports, row_of}
 use Rattle.usb_world.specs.{PlanData, World, change_of, changes, root_row, after, event, opening}
 use Rattle.usb_world.specs.{after_event}
@@ -36,6 +36,7 @@ abbrev two_plugs : PlanData
 two_plugs = record {
   limit = 10000;
   roots = 2;
+  wide = false;
   devices = function (0x66 ∷ []) [] [] ∷ [];
   events = record { after = 4; action = act.Change (change.Plug (1 ∷ []) 0) } ∷ record {
     after = 4;
@@ -46,7 +47,7 @@ two_plugs = record {
 
 -- the host of its bus
 abbrev refused_host : HostState
-refused_host = host_opening (opening two_plugs) None
+refused_host = host_opening false (opening two_plugs) None
 
 abbrev refused_world : World
 refused_world = after event (after event refused_host.world)

@@ -44,7 +44,7 @@ next_number number next item items is few counted = counted (omega (arith, few))
     ∙ ap (λ n. number_of item n) is
 
 counts_one : (item : Item) (n : ℕ) → number_of item n ≤ n + 1
-counts_one (Listing entries taken) n = omega arith
+counts_one (Listing entries taken said) n = omega arith
 counts_one (Sent path sent) n = omega arith
 counts_one (Received path received) n = omega arith
 counts_one (Cleared path cleared) n = omega arith
@@ -191,8 +191,7 @@ run_written plan before over h k result now opens at_work goes caused single tex
       limit = run_limit Run of_run at_write false h so.items result k so.ends
           ∙ limit_opened plan h opens;
       single = single;
-      lists = run_lists_right plan opens.rules opens.paths Run of_run at_write false h so.items k
-          result opens.traced so.ends;
+      lists = run_lists_right plan Run of_run at_write false h so.items k result opens so.ends;
       text = text;
     })
 
@@ -278,8 +277,7 @@ tree_written plan before thrown first opens items k result now ends caused singl
       limit = run_limit Tree of_run never false first items result k ends
           ∙ limit_opened plan first opens;
       single = single;
-      lists = run_lists_right plan opens.rules opens.paths Tree of_run never false first items k
-          result opens.traced ends;
+      lists = run_lists_right plan Tree of_run never false first items k result opens ends;
       text = text;
     })
 

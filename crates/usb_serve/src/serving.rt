@@ -275,7 +275,7 @@ pub fn number_of(item: &Item, number: u64) -> u64
     ensures { number < 18446744073709551615 → result ≡ number_of item.now number }
 {
     match item {
-        Item::Listing(_, _) => number.saturating_add(1),
+        Item::Listing(_, _, _) => number.saturating_add(1),
         Item::Sent(_, _) | Item::Received(_, _) | Item::Cleared(_, _) => number,
         Item::Read(_, _) | Item::Written(_, _) | Item::Looked(_, _) | Item::News(_) => number,
         Item::SentTo(_, _, _) | Item::ReceivedFrom(_, _, _) => number,
@@ -293,7 +293,7 @@ pub fn item_lines(alloc: Global, number: u64, item: &Item) -> Result<Lines, Allo
     ensures { IfOk result (λ lines. lines ≡ item_lines number item.now) }
 {
     match item {
-        Item::Listing(tree, _) => listing_lines(alloc, number, tree.entries()),
+        Item::Listing(tree, _, said) => listing_lines(alloc, number, tree.entries(), said),
         Item::Sent(path, sent) => one_line(alloc, sent_line(alloc, path, sent)?),
         Item::Received(path, received) => one_line(alloc, received_line(alloc, path, received)?),
         Item::Cleared(path, cleared) => one_line(alloc, cleared_line(alloc, path, cleared)?),

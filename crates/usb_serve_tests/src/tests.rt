@@ -8,5 +8,6 @@ mod readers;
 mod rows;
 mod serving;
 mod transfers;
+mod wide;
 mod words;
 mod writers;

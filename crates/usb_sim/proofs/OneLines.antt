@@ -2,13 +2,13 @@
 use Rattle.std.proofs.Common.{◌≡◌, ◌≢◌, ◌∙◌, refl, sym, ap₂, subst, arith, ℕ, zero, suc, ◌+◌, ◌/◌}
 use Rattle.std.proofs.Common.{◌%◌, Bool, true, false, List, [], ◌∷◌, ◌++◌, append-nil, flat_map}
 use Rattle.std.proofs.Common.{get_or, length, ◌<◌, ◌==◌, ◌&&◌, not, slice_index, codes, encode_utf8}
-use Rattle.std.proofs.Common.{if◌then◌else◌}
+use Rattle.std.proofs.Common.{if◌then◌else◌, nat_lt}
 use Rattle.std.specs.Str.{chars}
 use Rattle.std.proofs.lemmas.Bool.Decides.{nat_tests}
 use Rattle.std.proofs.lemmas.List.Folds.{list_all-append}
 use Rattle.std.proofs.lemmas.Str.{inside_one}
 use Rattle.hex.specs.Hex.{encode_with, upper_digits}
-use Rattle.usb_port.specs.{path_text}
+use Rattle.usb_port.specs.{number_text, path_text}
 use Rattle.usb_bus.specs.{escaped, is_unbroken, is_escaped, shown_char, shown_name, plug_line}
 
 abbrev HasNoNewline : List ℕ → Type 0
@@ -79,12 +79,21 @@ all_unbroken [] = refl
 all_unbroken (c ∷ cs) = no_newline-append (shown_char c) (flat_map shown_char cs) (char_unbroken c)
     (all_unbroken cs)
 
+number_unbroken : (n : ℕ) → HasNoNewline (number_text n)
+unfolding number_text
+number_unbroken n = split (nat_lt n 10)
+  where
+    split : (b : Bool) → HasNoNewline (if b then (48 + n) ∷ [] else 49 ∷ (38 + n) ∷ [])
+    split true = no_newline-cons (48 + n) [] (λ e. omega (arith, e)) refl
+    split false = no_newline-cons 49 ((38 + n) ∷ []) (λ e. omega (arith, e))
+        (no_newline-cons (38 + n) [] (λ e. omega (arith, e)) refl)
+
 path_unbroken : (numbers : List ℕ) → HasNoNewline (path_text numbers)
 unfolding path_text
 path_unbroken [] = refl
-path_unbroken (n ∷ []) = no_newline-cons (48 + n) [] (λ e. omega (arith, e)) refl
-path_unbroken (n ∷ m ∷ ns) = no_newline-cons (48 + n) (46 ∷ path_text (m ∷ ns))
-    (λ e. omega (arith, e)) (path_unbroken (m ∷ ns))
+path_unbroken (n ∷ []) = number_unbroken n
+path_unbroken (n ∷ m ∷ ns) = no_newline-append (number_text n) (46 ∷ path_text (m ∷ ns))
+    (number_unbroken n) (path_unbroken (m ∷ ns))
 
 pub plug_unbroken : (path name : List ℕ) → HasNoNewline (plug_line path (shown_name name))
 plug_unbroken path name =

@@ -4,23 +4,23 @@ use Rattle.std.proofs.Common.{◌++◌, Some, None, Result, Ok, Err, IfOk, IfErr
 use Rattle.std.proofs.Common.{arith, length-append, slice_set}
 use Rattle.std.proofs.KnownBytes.{Consumes-nil, Consumes-trans}
 use Rattle.usb_lines.specs.{FailsToFlush, Flushes, OutPipe, Pipe, ReadLine, ReadLong, Reads}
-use Rattle.usb_wire.specs.{Answer, Changed, Answered, Asked, kind_asked, line_fault, Question}
+use Rattle.usb_wire.specs.{Answer, Changed, Answered, Asked, Hubs, kind_asked, line_fault, Question}
 use Rattle.usb_wire.specs.{LineTooLong, WireFault}
 use Rattle.usb_stream.specs.{AnswerLinesRead, AskedWell, AsksNoMore, BadLine, CauseOfHearing}
 use Rattle.usb_stream.specs.{CauseOfLine, FailsOnce, HeardTooMany, HeardUpTo, IsUnheard, Kept}
 use Rattle.usb_stream.specs.{LimitReached, LiveFault}
 use Rattle.usb_stream.specs.{PushesRead, SaidLine, Says, StatusesRead, Write, asking, attempts_in}
-use Rattle.usb_stream.specs.{counted_on}
+use Rattle.usb_stream.specs.{counted_on, hubs_of}
 use Rattle.usb_stream.specs.{streams}
 use Rattle.usb_stream.specs.declared.fault.LiveFault.TheVariants as fault
 use Rattle.usb_wire.specs.declared.question.Asked.TheVariants as asked
 
 -- a status is a line: the end is none
-said_changed : (a : Asked) (roots : ℕ) (unread left : Pipe) (number : ℕ) (status : List ℕ)
-    → Says a roots unread left (Changed number status)
-    → SaidLine a roots unread left (Changed number status)
-said_changed a roots unread left number status (inl line) = line
-said_changed a roots unread left number status (inr end) = let is = end.is in cc
+said_changed : (a : Asked) (hubs : Hubs) (unread left : Pipe) (number : ℕ) (status : List ℕ)
+    → Says a hubs unread left (Changed number status)
+    → SaidLine a hubs unread left (Changed number status)
+said_changed a hubs unread left number status (inl line) = line
+said_changed a hubs unread left number status (inr end) = let is = end.is in cc
 
 -- ---- what is read
 
@@ -52,17 +52,17 @@ told_so_none a r k = record {
 
 told_more : (a : Asked) (pushed : ℕ) (fn l : Kept) (r0 r1 r2 : Pipe) (number : ℕ)
     (status : List ℕ) → ToldSo a pushed r0 r1 fn l
-    → Says a fn.roots r1 r2 (Changed number status)
+    → Says a (hubs_of fn) r1 r2 (Changed number status)
     → ToldSo a (pushed + 1) r0 r2 fn (record l {
       statuses = slice_set l.statuses (number - 1) status;
       lines = counted_on l.lines 1;
     })
 told_more a pushed fn l r0 r1 r2 number status so says =
-    let line = said_changed a fn.roots r1 r2 number status says in
+    let line = said_changed a (hubs_of fn) r1 r2 number status says in
     record {
       told = record {
         text = so.told.text ++ (line.line ++ 10 ∷ []);
-        told = StatusesRead.next line.line number status so.told.told line.unbroken line.may
+        told = StatusesRead.next line.line number status so.told.told line.unbroken line.may.0
             line.says;
         read = reads_then r0 r1 r2 so.told.text (line.line ++ 10 ∷ []) so.told.read line.read;
       };
@@ -73,11 +73,11 @@ pub hear_more : (a : Asked) (pushed : ℕ) (fn l n : Kept) (r0 r1 r2 : Pipe) (nu
     (status : List ℕ) (st : List (List ℕ))
     → ToldSo a pushed r0 r1 fn l → l ≡ record fn { statuses = l.statuses; lines = l.lines }
     → n ≡ record l { lines = counted_on l.lines 1 }
-    → Says a l.roots r1 r2 (Changed number status) → st ≡ slice_set n.statuses (number - 1) status
+    → Says a (hubs_of l) r1 r2 (Changed number status) → st ≡ slice_set n.statuses (number - 1) status
     → ToldSo a (pushed + 1) r0 r2 fn (record n { statuses = st })
 hear_more a pushed fn l n r0 r1 r2 number status st so same kept says is =
-    let asked_of : Says a fn.roots r1 r2 (Changed number status) =
-    subst (λ k. Says a k r1 r2 (Changed number status)) (ap (λ (k : Kept). k.roots) same) says in
+    let asked_of : Says a (hubs_of fn) r1 r2 (Changed number status) =
+    subst (λ k. Says a k r1 r2 (Changed number status)) (ap hubs_of same) says in
     let set : st ≡ slice_set l.statuses (number - 1) status =
     is ∙ ap (λ (k : Kept). slice_set k.statuses (number - 1) status) kept in
     let new : record n { statuses = st }
@@ -99,23 +99,23 @@ hear_same fn l n st same kept =
     ∙ ap (λ (k : Kept). record k { lines = counted_on l.lines 1 }) same)
 
 -- a root port that there is
-pub number_within : (a : Asked) (roots number : ℕ) (status : List ℕ) (unread left : Pipe)
-    → Says a roots unread left (Changed number status) → (1 ≤ number) × (number ≤ roots)
-number_within a roots number status unread left says = let line =
-    said_changed a roots unread left number status says in (line.may.1, line.may.2)
+pub number_within : (a : Asked) (hubs : Hubs) (number : ℕ) (status : List ℕ) (unread left : Pipe)
+    → Says a hubs unread left (Changed number status) → (1 ≤ number) × (number ≤ hubs.roots)
+number_within a hubs number status unread left says = let line =
+    said_changed a hubs unread left number status says in (line.may.0.1, line.may.0.2)
 
 -- ---- what is wrong with a line
 
-pub bad_line : (a : Asked) (roots : ℕ) (before behind : Pipe) (f : WireFault) (line : List ℕ)
+pub bad_line : (a : Asked) (hubs : Hubs) (before behind : Pipe) (f : WireFault) (line : List ℕ)
     → ReadLine before.bytes behind.bytes line → behind.failed ≡ before.failed
-    → line_fault a roots line ≡ Some f → BadLine a roots before behind f
-bad_line a roots before behind f line one same bad =
+    → line_fault a hubs line ≡ Some f → BadLine a hubs before behind f
+bad_line a hubs before behind f line one same bad =
     BadLine.whole line one.unbroken bad (record { read = one.read; unmarked = same })
 
-pub long_line : (a : Asked) (roots : ℕ) (before behind : Pipe) (line : List ℕ)
+pub long_line : (a : Asked) (hubs : Hubs) (before behind : Pipe) (line : List ℕ)
     → ReadLong before.bytes behind.bytes line → behind.failed ≡ before.failed
-    → BadLine a roots before behind LineTooLong
-long_line a roots before behind line long same =
+    → BadLine a hubs before behind LineTooLong
+long_line a hubs before behind line long same =
     let full = long.full in
     BadLine.long (line ++ long.more ∷ []) long.unbroken
     (omega (arith, full, length-append line (long.more ∷ [])))
@@ -142,7 +142,7 @@ pub heard_so : (a : Asked) (pushed : ℕ) (fn l n : Kept) (r0 r1 r2 : Pipe) (got
     → pushed ≤ 64 → ToldSo a pushed r0 r1 fn l
     → l ≡ record fn { statuses = l.statuses; lines = l.lines }
     → n ≡ record l { lines = counted_on l.lines 1 }
-    → Says a l.roots r1 r2 (Answered got) → AnswerLinesRead a r0 r2 fn got n
+    → Says a (hubs_of l) r1 r2 (Answered got) → AnswerLinesRead a r0 r2 fn got n
 heard_so a pushed fn l n r0 r1 r2 got few so same kept says =
     let (told, lines) = told_then a pushed fn l n r0 r1 so kept in
     record {
@@ -150,7 +150,7 @@ heard_so a pushed fn l n r0 r1 r2 got few so same kept says =
       few = few;
       mid = r1;
       told = told;
-      answered = subst (λ k. Says a k r1 r2 (Answered got)) (ap (λ (k : Kept). k.roots) same) says;
+      answered = subst (λ k. Says a k r1 r2 (Answered got)) (ap hubs_of same) says;
       lines = lines;
     }
 
@@ -158,7 +158,7 @@ heard_up_to : (a : Asked) (pushed : ℕ) (fn l n : Kept) (r0 r1 r2 : Pipe) (f : 
     → pushed ≤ 64 → ToldSo a pushed r0 r1 fn l
     → l ≡ record fn { statuses = l.statuses; lines = l.lines }
     → n ≡ record l { lines = counted_on l.lines 1 }
-    → CauseOfLine a l.roots r1 r2 f → HeardUpTo a r0 r2 fn n f
+    → CauseOfLine a (hubs_of l) r1 r2 f → HeardUpTo a r0 r2 fn n f
 heard_up_to a pushed fn l n r0 r1 r2 f few so same kept cause =
     let (told, lines) = told_then a pushed fn l n r0 r1 so kept in
     record {
@@ -166,7 +166,7 @@ heard_up_to a pushed fn l n r0 r1 r2 f few so same kept cause =
       few = few;
       mid = r1;
       told = told;
-      cause = subst (λ k. CauseOfLine a k r1 r2 f) (ap (λ (k : Kept). k.roots) same) cause;
+      cause = subst (λ k. CauseOfLine a k r1 r2 f) (ap hubs_of same) cause;
       lines = lines;
     }
 
@@ -174,7 +174,7 @@ pub not_heard_so : (a : Asked) (pushed : ℕ) (fn l n : Kept) (r0 r1 r2 : Pipe) 
     → pushed ≤ 64 → ToldSo a pushed r0 r1 fn l
     → l ≡ record fn { statuses = l.statuses; lines = l.lines }
     → n ≡ record l { lines = counted_on l.lines 1 }
-    → CauseOfLine a l.roots r1 r2 f → CauseOfHearing a r0 r2 fn n f
+    → CauseOfLine a (hubs_of l) r1 r2 f → CauseOfHearing a r0 r2 fn n f
 not_heard_so a pushed fn l n r0 r1 r2 fault.Read few so same kept cause =
     heard_up_to a pushed fn l n r0 r1 r2 fault.Read few so same kept cause
 not_heard_so a pushed fn l n r0 r1 r2 (fault.Line f) few so same kept cause =
@@ -240,6 +240,7 @@ asks_no_more_at_limit q r w k none = record {
   spent = omega arith;
   attempts = none_more (kind_asked q) k.attempts;
   roots = refl;
+  wide = refl;
 }
 
 pub not_written : (q : Question) (r : Pipe) (w0 w1 : OutPipe) (k : Kept)
@@ -251,6 +252,7 @@ not_written q r w0 w1 k torn some = record {
   spent = omega (arith, some);
   attempts = refl;
   roots = refl;
+  wide = refl;
 }
 
 asked_well : (q : Question) (r0 r1 : Pipe) (w0 w1 : OutPipe) (k n : Kept) (got : Answer)
@@ -273,6 +275,7 @@ asked_well q r0 r1 w0 w1 k n got gone some sound h same =
       one = omega (arith, some, fewer);
       attempts = ap (λ (x : Kept). x.attempts) same;
       roots = ap (λ (x : Kept). x.roots) same;
+      wide = ap (λ (x : Kept). x.wide) same;
       sound = ap (λ (x : Kept). x.fault) same ∙ sound;
     }
 
@@ -297,6 +300,7 @@ not_heard q r0 r1 w0 w1 k n fault.Read gone some h same = record {
   spent = one_less k n some (ap (λ (x : Kept). x.left) same);
   attempts = ap (λ (x : Kept). x.attempts) same;
   roots = ap (λ (x : Kept). x.roots) same;
+  wide = ap (λ (x : Kept). x.wide) same;
 }
 not_heard q r0 r1 w0 w1 k n (fault.Line f) gone some h same = record {
   kept = refl;
@@ -304,6 +308,7 @@ not_heard q r0 r1 w0 w1 k n (fault.Line f) gone some h same = record {
   spent = one_less k n some (ap (λ (x : Kept). x.left) same);
   attempts = ap (λ (x : Kept). x.attempts) same;
   roots = ap (λ (x : Kept). x.roots) same;
+  wide = ap (λ (x : Kept). x.wide) same;
 }
 not_heard q r0 r1 w0 w1 k n fault.TooManyPushes gone some h same = record {
   kept = refl;
@@ -311,6 +316,7 @@ not_heard q r0 r1 w0 w1 k n fault.TooManyPushes gone some h same = record {
   spent = one_less k n some (ap (λ (x : Kept). x.left) same);
   attempts = ap (λ (x : Kept). x.attempts) same;
   roots = ap (λ (x : Kept). x.roots) same;
+  wide = ap (λ (x : Kept). x.wide) same;
 }
 not_heard q r0 r1 w0 w1 k n fault.Gone gone some h same = record {
   kept = refl;
@@ -318,6 +324,7 @@ not_heard q r0 r1 w0 w1 k n fault.Gone gone some h same = record {
   spent = one_less k n some (ap (λ (x : Kept). x.left) same);
   attempts = ap (λ (x : Kept). x.attempts) same;
   roots = ap (λ (x : Kept). x.roots) same;
+  wide = ap (λ (x : Kept). x.wide) same;
 }
 not_heard q r0 r1 w0 w1 k n Write gone some h same = absurd h
 not_heard q r0 r1 w0 w1 k n LimitReached gone some h same = absurd h

@@ -7,7 +7,7 @@ pub use Stream.{IsAtLimit, IsUnheard, IsUnwritten, Kept, PushesRead, Restarts, S
 pub use Stream.{Says, SaysHello, StatusesRead, StreamPipes, WritesLines, asking, attempts_in, bus_fault}
 pub use Stream.{counted_on, data_for, endpoint_of, greeted, greeted_by, kept_of, kept_status}
 pub use Stream.{no_world, outcome_for, question_for, questions, restart_of, roots_if, streams}
-pub use Stream.{unasked, unread_of, written_of}
+pub use Stream.{hubs_of, unasked, unread_of, written_of}
 pub use declared.bus.StreamBus.{StreamBus}
 pub use declared.fault.LiveFault.{LiveFault}
 pub use declared.fault.LiveFault.TheVariants.{LimitReached, Write}

@@ -8,7 +8,7 @@ use Rattle.usb_request.specs.{setup_of}
 use Rattle.usb_port.specs.{PortCall}
 use Rattle.usb_lines.specs.{FailsToFlush, Flushes, IsUnbroken, OutPipe, Pipe, ReadPart, Reads}
 use Rattle.usb_lines.specs.{out_pipe_of, pipe_of}
-use Rattle.usb_wire.specs.{IsSaidLine, MaySay, kind_asked, line_fault, question_line, Answer}
+use Rattle.usb_wire.specs.{Hubs, IsSaidLine, MaySay, MaySayTo, kind_asked, line_fault, question_line, Answer}
 use Rattle.usb_wire.specs.{Said, LineTooLong, WireFault, Changed, Answered, Asked, DataPacket}
 use Rattle.usb_wire.specs.{Endpoint, Question}
 use Rattle.usb_wire.specs.declared.answer.Answer.TheVariants as answer
@@ -53,11 +53,12 @@ outcome_for most _ = Nothing
 
 -- ---- what is kept
 
--- how many root ports there are, their statuses as they were told last, how many more questions may
--- be asked, for how many attempts one went out, how many lines were read, and why nothing is asked
--- any more
+-- how many root ports there are, whether hubs may have 8 to 15 ports, the statuses of the root ports
+-- as they were told last, how many more questions may be asked, for how many attempts one went out,
+-- how many lines were read, and why nothing is asked any more
 pub record Kept : Type 0 where
   pub roots : ℕ
+  pub wide : Bool
   pub statuses : List (List ℕ)
   pub left : ℕ
   pub attempts : ℕ
@@ -67,12 +68,17 @@ pub record Kept : Type 0 where
 abbrev pub kept_of : {R W : Type 0} → StreamBus R W → Kept
 kept_of b = record {
   roots = b.roots;
+  wide = b.wide;
   statuses = b.statuses;
   left = b.left;
   attempts = b.attempts;
   lines = b.lines;
   fault = b.fault;
 }
+
+-- the ports that are known
+abbrev pub hubs_of : Kept → Hubs
+hubs_of k = record { roots = k.roots; wide = k.wide }
 
 -- the reader and the writer of a bus
 abbrev pub unread_of : {R W : Type 0} → (R → Option (List ℕ)) → StreamBus R W → Pipe
@@ -116,10 +122,10 @@ pub record PushesRead (a : Asked) (pushed : ℕ) (unread left : Pipe) (old new :
   pub read : Reads unread text left
 
 -- a line was read that says this
-pub record SaidLine (a : Asked) (roots : ℕ) (unread left : Pipe) (said : Said) : Type 0 where
+pub record SaidLine (a : Asked) (hubs : Hubs) (unread left : Pipe) (said : Said) : Type 0 where
   pub line : List ℕ
   pub unbroken : IsUnbroken line
-  pub may : MaySay a roots said
+  pub may : MaySayTo a hubs said
   pub says : IsSaidLine line said
   pub read : Reads unread (line ++ 10 ∷ []) left
 
@@ -130,8 +136,8 @@ pub record SaidEnd (a : Asked) (unread left : Pipe) (said : Said) : Type 0 where
   pub read : Reads unread [] left
   pub ended : IsAtEnd left.bytes
 
-abbrev pub Says : Asked → ℕ → Pipe → Pipe → Said → Type 0
-Says a roots unread left said = SaidLine a roots unread left said ⊎ SaidEnd a unread left said
+abbrev pub Says : Asked → Hubs → Pipe → Pipe → Said → Type 0
+Says a hubs unread left said = SaidLine a hubs unread left said ⊎ SaidEnd a unread left said
 
 -- at most 64 statuses, and then the answer: each is a line, and is counted
 pub record AnswerLinesRead (a : Asked) (unread left : Pipe) (old : Kept) (got : Answer)
@@ -140,18 +146,18 @@ pub record AnswerLinesRead (a : Asked) (unread left : Pipe) (old : Kept) (got : 
   pub few : pushed ≤ 64
   pub mid : Pipe
   pub told : PushesRead a pushed unread mid old new
-  pub answered : Says a old.roots mid left (Answered got)
+  pub answered : Says a (hubs_of old) mid left (Answered got)
   pub lines : new.lines ≡ counted_on old.lines (pushed + 1)
 
 -- ---- why an answer was not heard
 
 -- a line that says nothing: it has this fault, or more than 1,024 bytes, of which the first 1,025
 -- were read
-pub data BadLine (a : Asked) (roots : ℕ) (unread left : Pipe) : WireFault → Type 0 where
-  whole : {f : WireFault} (line : List ℕ) → IsUnbroken line → line_fault a roots line ≡ Some f
-      → Reads unread (line ++ 10 ∷ []) left → BadLine a roots unread left f
+pub data BadLine (a : Asked) (hubs : Hubs) (unread left : Pipe) : WireFault → Type 0 where
+  whole : {f : WireFault} (line : List ℕ) → IsUnbroken line → line_fault a hubs line ≡ Some f
+      → Reads unread (line ++ 10 ∷ []) left → BadLine a hubs unread left f
   long : (bytes : List ℕ) → IsUnbroken bytes → length bytes ≡ 1025 → Reads unread bytes left
-      → BadLine a roots unread left LineTooLong
+      → BadLine a hubs unread left LineTooLong
 
 -- the reader failed in a line
 pub record FailsToRead (unread left : Pipe) : Type 0 where
@@ -167,13 +173,13 @@ pub record EndsEarly (a : Asked) (unread left : Pipe) : Type 0 where
   pub ended : IsAtEnd left.bytes
 
 -- what is wrong with the next line
-abbrev pub CauseOfLine : Asked → ℕ → Pipe → Pipe → LiveFault → Type 0
-CauseOfLine a roots unread left fault.Read = FailsToRead unread left
-CauseOfLine a roots unread left (fault.Line f) = BadLine a roots unread left f
-CauseOfLine a roots unread left fault.Gone = EndsEarly a unread left
-CauseOfLine a roots unread left fault.TooManyPushes = ⊥
-CauseOfLine a roots unread left Write = ⊥
-CauseOfLine a roots unread left LimitReached = ⊥
+abbrev pub CauseOfLine : Asked → Hubs → Pipe → Pipe → LiveFault → Type 0
+CauseOfLine a hubs unread left fault.Read = FailsToRead unread left
+CauseOfLine a hubs unread left (fault.Line f) = BadLine a hubs unread left f
+CauseOfLine a hubs unread left fault.Gone = EndsEarly a unread left
+CauseOfLine a hubs unread left fault.TooManyPushes = ⊥
+CauseOfLine a hubs unread left Write = ⊥
+CauseOfLine a hubs unread left LimitReached = ⊥
 
 -- at most 64 statuses came, and then a line, or none, with this fault
 pub record HeardUpTo (a : Asked) (unread left : Pipe) (old new : Kept) (f : LiveFault) : Type 0
@@ -182,7 +188,7 @@ pub record HeardUpTo (a : Asked) (unread left : Pipe) (old new : Kept) (f : Live
     pub few : pushed ≤ 64
     pub mid : Pipe
     pub told : PushesRead a pushed unread mid old new
-    pub cause : CauseOfLine a old.roots mid left f
+    pub cause : CauseOfLine a (hubs_of old) mid left f
     pub lines : new.lines ≡ counted_on old.lines (pushed + 1)
 
 -- 65 statuses came before an answer
@@ -221,6 +227,7 @@ pub record AskedWell (q : Question) (s : StreamPipes) (old : Kept) (got : Answer
   pub one : new.left + 1 ≡ old.left
   pub attempts : new.attempts ≡ old.attempts + attempts_in (kind_asked q) 1
   pub roots : new.roots ≡ old.roots
+  pub wide : new.wide ≡ old.wide
   pub sound : new.fault ≡ None
 
 -- how many questions went out, or a front of one, that ended with a fault
@@ -271,6 +278,7 @@ pub record AsksNoMore (q : Question) (s : StreamPipes) (old : Kept) (f : LiveFau
   pub spent : new.left + questions f ≡ old.left
   pub attempts : new.attempts ≡ old.attempts + attempts_in (kind_asked q) (questions f)
   pub roots : new.roots ≡ old.roots
+  pub wide : new.wide ≡ old.wide
 
 abbrev pub AsksOnce : Question → StreamPipes → Kept → Result Answer LiveFault → Kept → Type 0
 AsksOnce q s old (Ok got) new = AskedWell q s old got new
@@ -349,9 +357,10 @@ abbrev pub kept_status : Kept → ℕ → List ℕ
 kept_status k port = slice_index_or k.statuses (port - 1) []
 
 -- before the hello all statuses are 0
-abbrev pub unasked : ℕ → Kept
-unasked limit = record {
+abbrev pub unasked : Bool → ℕ → Kept
+unasked wide limit = record {
   roots = 1;
+  wide = wide;
   statuses = replicate 7 (replicate 4 0);
   left = limit;
   attempts = 0;
@@ -375,10 +384,10 @@ greeted (Ok got) k = greeted_by got k
 greeted (Err f) k = k
 
 -- the hello was asked
-pub record SaysHello (limit : ℕ) (s : StreamPipes) (new : Kept) : Type 0 where
+pub record SaysHello (wide : Bool) (limit : ℕ) (s : StreamPipes) (new : Kept) : Type 0 where
   pub result : Result Answer LiveFault
   pub mid : Kept
-  pub asked : AsksOnce Hello s (unasked limit) result mid
+  pub asked : AsksOnce Hello s (unasked wide limit) result mid
   pub kept : new ≡ greeted result mid
 
 -- the world of a bus of which no world is said

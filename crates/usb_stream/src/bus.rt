@@ -15,7 +15,9 @@ use std::io::{Read, Write};
 use usb_bus::{Attempt, Bus, BusFault, Outcome, Watched};
 use usb_lines::{Line, LineFault, put_lines, read_line};
 use usb_port::PortCall;
-use usb_wire::{Answer, Asked, Endpoint, Question, Said, WireFault, question_line, read_said};
+use usb_wire::{
+    Answer, Asked, Endpoint, Hubs, Question, Said, WireFault, question_line, read_said,
+};
 
 /// The most root ports.
 const ROOTS: u8 = 7;
@@ -29,6 +31,8 @@ pub struct StreamBus<R, W> {
     writer: Watched<W>,
     /// How many root ports there are.
     roots: u8,
+    /// Whether hubs may have 8 to 15 ports.
+    wide: bool,
     /// wPortStatus and wPortChange of each root port as last reported, port 1 first (11.24.2.7).
     statuses: [[u8; 4]; 7],
     /// How many more questions may be asked.
@@ -169,15 +173,33 @@ impl<R: Read, W: Write> Bus for StreamBus<R, W> {
 }
 
 impl<R: Read, W: Write> StreamBus<R, W> {
-    ghost use Rattle.usb_stream.specs.Stream.{AsksOnce, Calls, CauseOfHearing, CauseOfLine, FailsOnce, AnswerLinesRead, SaysHello, Says, WritesLines, attempts_in, bus_fault, counted_on, greeted, kept_of, streams, unread_of, written_of};
+    ghost use Rattle.usb_stream.specs.Stream.{AsksOnce, Calls, CauseOfHearing, CauseOfLine, FailsOnce, AnswerLinesRead, SaysHello, Says, WritesLines, attempts_in, bus_fault, counted_on, greeted, hubs_of, kept_of, streams, unread_of, written_of};
     ghost use Rattle.usb_stream.specs.declared.fault.LiveFault.{LiveFault as AFault};
+    ghost use Rattle.std.specs.Prelude.{false, true};
 
     /// Says the hello to the controller side, which answers with the number of root ports. At most
     /// `limit` questions are asked in all. At the hello all statuses are 0.
     ///
     /// The bus is made whatever is answered: it may have a fault from the first.
     pub fn open(reader: Watched<R>, writer: Watched<W>, limit: u64) -> Self
-        ensures { SaysHello limit (streams (pipe_of R.remaining reader)
+        ensures { SaysHello false limit (streams (pipe_of R.remaining reader)
+            (unread_of R.remaining result) (out_pipe_of W.contents writer)
+            (written_of W.contents result)) (kept_of result) }
+    {
+        StreamBus::begin(reader, writer, limit, false)
+    }
+
+    /// The same for a host that takes wide hubs: paths may have ports 8 to 15 behind the first.
+    pub fn with_wide_hubs(reader: Watched<R>, writer: Watched<W>, limit: u64) -> Self
+        ensures { SaysHello true limit (streams (pipe_of R.remaining reader)
+            (unread_of R.remaining result) (out_pipe_of W.contents writer)
+            (written_of W.contents result)) (kept_of result) }
+    {
+        StreamBus::begin(reader, writer, limit, true)
+    }
+
+    fn begin(reader: Watched<R>, writer: Watched<W>, limit: u64, wide: bool) -> Self
+        ensures { SaysHello wide limit (streams (pipe_of R.remaining reader)
             (unread_of R.remaining result) (out_pipe_of W.contents writer)
             (written_of W.contents result)) (kept_of result) }
     {
@@ -185,6 +207,7 @@ impl<R: Read, W: Write> StreamBus<R, W> {
             reader,
             writer,
             roots: 1,
+            wide,
             statuses: [[0; 4]; 7],
             left: limit,
             attempts: 0,
@@ -378,17 +401,21 @@ impl<R: Read, W: Write> StreamBus<R, W> {
 
     /// What the next line says. The end of the input is the end, in place of what is requested.
     fn next_said(&mut self, asked: Asked) -> Result<Said, LiveFault>
-        ensures ok { IfOk result (Says asked self.old.roots (unread_of R.remaining self.old)
+        ensures ok { IfOk result (Says asked (hubs_of (kept_of self.old)) (unread_of R.remaining self.old)
             (unread_of R.remaining self.new)) }
-        ensures err { IfErr result (CauseOfLine asked self.old.roots
+        ensures err { IfErr result (CauseOfLine asked (hubs_of (kept_of self.old))
             (unread_of R.remaining self.old) (unread_of R.remaining self.new)) }
         ensures same { kept_of self.new
             ≡ record (kept_of self.old) { lines = counted_on self.old.lines 1 } }
         ensures writer { self.new.writer ≡ self.old.writer }
     {
         self.lines = self.lines.saturating_add(1);
+        let hubs = Hubs {
+            roots: self.roots,
+            wide: self.wide,
+        };
         match read_line(&mut self.reader) {
-            Ok(Line::Whole(line)) => match read_said(asked, self.roots, line.as_slice()) {
+            Ok(Line::Whole(line)) => match read_said(asked, hubs, line.as_slice()) {
                 Ok(said) => Ok(said),
                 Err(fault) => Err(LiveFault::Line(fault)),
             },

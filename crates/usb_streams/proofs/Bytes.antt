@@ -35,7 +35,7 @@ polled_bytes false report packets are = ap concat are
 -- packets that an item tells have the bytes that it tells
 packet_bytes : (end : Endpoint) (item : Item) (packets : List (List ℕ))
     → ArePackets end item packets → concat packets ≡ bytes_from end item
-packet_bytes end (Listing tree taken) packets are = ap concat are
+packet_bytes end (Listing tree taken said) packets are = ap concat are
 packet_bytes end (Sent to told) packets are = ap concat are
 packet_bytes end (Received from told) packets are =
     joined_bytes (is_of end from FirstBulk) (bytes_in told) packets are

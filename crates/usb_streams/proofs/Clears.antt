@@ -70,7 +70,7 @@ in_number : (device : Accepted) (below : Bool) (pipes : Pipes) → ArePipesTo de
 in_number device below (Hub p) are e pipe there = absurd (cc there)
 in_number device below (Function function) are e pipe there =
     numbered device below true e function pipe are there
-in_number device below Absent are e pipe there = absurd (cc there)
+in_number device below (Absent said) are e pipe there = absurd (cc there)
 
 -- The first bulk endpoints
 
@@ -324,8 +324,8 @@ module _ (device : Accepted) (below : Bool) (path : List ℕ) (t : ToldItem) (as
       (function_clear pipes x.0 are here
       (subst (λ l. HaltsCleared done known (Function pipes) l s v) x.1 cleared)
       (clear_miss pipes) old new result x.2)
-  firsts_clear Absent left old new result x are here cleared =
-      none_clear Absent left x.1 are cleared.into
+  firsts_clear (Absent said) left old new result x are here cleared =
+      none_clear (Absent said) left x.1 are cleared.into
 
   pub cleared_move : (pipes left : Pipes) (old new : World)
       (result : Result (Unit {0}) TableFault) → PipesCleared pipes old result left new
@@ -355,7 +355,7 @@ module _ (device : Accepted) (below : Bool) (path : List ℕ) (t : ToldItem) (a 
       let picks = picks_at device below pipes are true a (λ q. q.is_in) p (λ is. is)
       (λ rest same. ap (λ (q : PipeState). q.is_in) same) found in
       sym (picks.of path e) ∙ alone.named a asked)
-  way_stays Absent left are cleared e alone = cleared.into e
+  way_stays (Absent said) left are cleared e alone = cleared.into e
 
   abbrev Cleared : Pipes → Pipes → Type 0
   Cleared left pipes = ArePipesTo device below pipes → HaltClearedOf a done known pipes left s v

@@ -189,27 +189,27 @@ pub pipe_of_function : (is_in : Bool) (e : ℕ) (pipes left : Pipes)
     → function_of left ≡ function_of pipes → pipe_of is_in e left ≡ pipe_of is_in e pipes
 pipe_of_function is_in e (Hub p) (Hub q) same = refl
 pipe_of_function is_in e (Hub p) (Function q) same = absurd (cc same)
-pipe_of_function is_in e (Hub p) Absent same = refl
+pipe_of_function is_in e (Hub p) (Absent said) same = refl
 pipe_of_function is_in e (Function p) (Hub q) same = absurd (cc same)
 pipe_of_function is_in e (Function p) (Function q) same =
     let it : q ≡ p = cc same in ap (λ f. pipe_of is_in e (Function f)) it
-pipe_of_function is_in e (Function p) Absent same = absurd (cc same)
-pipe_of_function is_in e Absent (Hub q) same = refl
-pipe_of_function is_in e Absent (Function q) same = absurd (cc same)
-pipe_of_function is_in e Absent Absent same = refl
+pipe_of_function is_in e (Function p) (Absent said) same = absurd (cc same)
+pipe_of_function is_in e (Absent said) (Hub q) same = refl
+pipe_of_function is_in e (Absent said) (Function q) same = absurd (cc same)
+pipe_of_function is_in e (Absent said) (Absent other) same = refl
 
 first_of_function : (is_in : Bool) (pipes left : Pipes)
     → function_of left ≡ function_of pipes → first_of is_in left ≡ first_of is_in pipes
 first_of_function is_in (Hub p) (Hub q) same = refl
 first_of_function is_in (Hub p) (Function q) same = absurd (cc same)
-first_of_function is_in (Hub p) Absent same = refl
+first_of_function is_in (Hub p) (Absent said) same = refl
 first_of_function is_in (Function p) (Hub q) same = absurd (cc same)
 first_of_function is_in (Function p) (Function q) same =
     let it : q ≡ p = cc same in ap (λ f. first_of is_in (Function f)) it
-first_of_function is_in (Function p) Absent same = absurd (cc same)
-first_of_function is_in Absent (Hub q) same = refl
-first_of_function is_in Absent (Function q) same = absurd (cc same)
-first_of_function is_in Absent Absent same = refl
+first_of_function is_in (Function p) (Absent said) same = absurd (cc same)
+first_of_function is_in (Absent said) (Hub q) same = refl
+first_of_function is_in (Absent said) (Function q) same = absurd (cc same)
+first_of_function is_in (Absent said) (Absent other) same = refl
 
 pub spares_stays : (pipes left : Pipes) (x : Location) (s v : State) → SameFunction pipes left
     → SparesBulk x s v → DeviceStays pipes left s v

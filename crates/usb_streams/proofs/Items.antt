@@ -33,8 +33,8 @@ use Rattle.usb_table.proofs.Interface.{read_spares, spares-same, StillEnds, writ
 use Rattle.usb_host.specs.{HostState, claims, host_told, table_in, ClearOfTells, ClearTells}
 use Rattle.usb_host.specs.{ReadTells, ReceiveTells, RenewedAt, ReportTells, SendTells, StayedAt}
 use Rattle.usb_host.specs.{InterfaceTells, WriteTells}
-use Rattle.usb_run.specs.{InterfaceIfAsked, Item, Knows, IsItemOf, sent_count, table_told}
-use Rattle.usb_run.specs.{transfer_ended}
+use Rattle.usb_run.specs.{InterfaceIfAsked, Item, Knows, IsItemOf, listing_of, sent_count}
+use Rattle.usb_run.specs.{table_told, transfer_ended}
 use Rattle.usb_run.specs.declared.runs.Item.TheVariants as item
 use Rattle.usb_run.specs.Transfers.{Transfers}
 use Rattle.usb_run.proofs.Interface.{AskAnswered, silent, listed, sent, received, cleared, read}
@@ -125,15 +125,15 @@ module _ (path : List ℕ) (device : Accepted) (old new : HostState)
   Told due item = record { due = due; asked = old; item = item }
 
   -- a listing
-  shown : (item : Item) → IsQuiet path (Told (Some Show) item) → new ≡ old
-      → MovesAt path device (Some Show) item old new
-  shown item quiet same = record {
+  shown : (said : Bool) (item : Item) → IsQuiet path (Told (Some (Show said)) item) → new ≡ old
+      → MovesAt path device (Some (Show said)) item old new
+  shown said item quiet same = record {
     listed = ap (λ (h : HostState). accepted_device_at path h.entries) (sym same) ∙ at;
     moves = λ x v is on stands. record {
       before = v;
       on = ap (λ (h : HostState). reach_on h.world.roots x) (sym same) ∙ on;
       stands = ap (λ (h : HostState). state_on h.world.roots x) (sym same) ∙ stands;
-      so = quiet_moves path (Told (Some Show) item) Before After v v quiet
+      so = quiet_moves path (Told (Some (Show said)) item) Before After v v quiet
           (still_stays Before After v v (ap (λ (h : HostState). pipes_at path (table_in h)) same)
           (ends_same v v refl));
     };
@@ -814,10 +814,10 @@ module _ (path : List ℕ) (device : Accepted) (old new : HostState)
           moves_as : AskAnswered due (Some made) old new → MovesAt path device due made old new
               ⊎ LookFinds path device due old new
           moves_as (silent none same) = absurd (cc none)
-          moves_as (listed asks e same) =
-              let listing : Item = item.Listing new.entries new.world.taken in
-              inl (told_as (Some Show) listing asks e (shown listing
-              (quiet_item (Some Show) listing (λ end. refl) (λ end. refl) (λ bytes asked. cc asked)
+          moves_as (listed said asks e same) =
+              let listing : Item = listing_of said new in
+              inl (told_as (Some (Show said)) listing asks e (shown said listing
+              (quiet_item (Some (Show said)) listing (λ end. refl) (λ end. refl) (λ bytes asked. cc asked)
               (λ more asked. cc asked)) same))
           moves_as (sent to bytes told asks e came) =
               inl (told_as (Some (Send to bytes)) _ asks e (sent_item to bytes told came))

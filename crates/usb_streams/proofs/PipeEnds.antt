@@ -310,8 +310,8 @@ through_cases pick miss So old result left new G untried went (Function function
         (kept ∙ ap (λ o. Function (with_rest o function)) did.1) (ap is_ok did.0)
     by_pipe (Some pipe) picked None kept did = absurd did
     by_pipe (Some pipe) picked (Some rest) kept did = went function pipe rest picked kept did
-through_cases pick miss So old result left new G untried went Absent x =
-    untried Absent refl x.1 (ap is_ok x.0)
+through_cases pick miss So old result left new G untried went (Absent said) x =
+    untried (Absent said) refl x.1 (ap is_ok x.0)
 
 -- a transfer through the first bulk endpoint fails where there is none
 pub first_fails : {A : Type 0} (d : Bool) (miss : FunctionPipes → TransferFault)

@@ -92,7 +92,7 @@ pipes_first None below i a answer pipes d = refl
 pipes_first (Some device) below i a answer (Hub pipe) d = refl
 pipes_first (Some device) below i a answer (Function pipes) d =
     function_first device below i a answer pipes d
-pipes_first (Some device) below i a answer Absent d = refl
+pipes_first (Some device) below i a answer (Absent said) d = refl
 
 -- The item
 

@@ -60,7 +60,7 @@ new_in device below e pipe is = by_hub (is_some device.hub) refl
   where
     by_hub : (hub : Bool) → is_some device.hub ≡ hub → IsNew e pipe
     by_hub true hub =
-        let status = status_endpoint_of (configuration_of device) in
+        let status = status_endpoint_of true (configuration_of device) in
         let there : pipe_of true e (new_status device below status) ≡ Some pipe =
         sym (ap (λ b. pipe_of true e (if b then new_status device below status
         else Function (new_function device below))) hub) ∙ is in
@@ -68,7 +68,7 @@ new_in device below e pipe is = by_hub (is_some device.hub) refl
     by_hub false hub =
         let there : pipe_of true e (Function (new_function device below)) ≡ Some pipe =
         sym (ap (λ b. pipe_of true e (if b
-        then new_status device below (status_endpoint_of (configuration_of device))
+        then new_status device below (status_endpoint_of true (configuration_of device))
         else Function (new_function device below))) hub) ∙ is in
         new_end (target_of device below) true e (usable_end device true e) pipe
         (new_numbered (λ n. new_pipe (target_of device below) true n (usable_end device true n)) e

@@ -33,7 +33,7 @@ level_in : (device : Accepted) (pipes : Pipes) (s : State) → PipesInSync devic
     → FitsIn (pipe_of true e pipes) s
 level_in device (Hub pipe) s level e = tt
 level_in device (Function pipes) s level e = level.ins e
-level_in device Absent s level e = tt
+level_in device (Absent said) s level e = tt
 
 level_at : (path : List ℕ) (device : Accepted) (h : HostState) → Knows h → h.world.fault ≡ None
     → accepted_device_at path h.entries ≡ Some device

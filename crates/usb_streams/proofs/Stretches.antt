@@ -79,7 +79,7 @@ with_item {k = k} {text = text} s (run_last reaches settled) puts =
       told = s.told;
       stretch = further (further (with_settling (with_ran s.stretch reaches.ran) arrives.settles)
           (last arrives.comes)) (wrote text puts);
-      made = (listing_of k, ap (λ l. listing_of k ∷ l) s.made);
+      made = (listing_of false k, ap (λ l. listing_of false k ∷ l) s.made);
     }
 
 run_stretch : {mode : Mode} {was : Bool} {old : HostState} {items : List Item} {over : Bool}

@@ -33,7 +33,7 @@ pub record Endpoint : Type 0 where
 abbrev pub first_of : Bool → Pipes → Option ℕ
 first_of is_in (Hub pipe) = None
 first_of is_in (Function pipes) = first_number is_in pipes
-first_of is_in Absent = None
+first_of is_in (Absent said) = None
 
 -- this is the number
 abbrev pub is_this : ℕ → Option ℕ → Bool
@@ -73,7 +73,7 @@ bytes_for end _ = []
 
 -- the bytes that an item tells as received from an IN endpoint
 abbrev pub bytes_from : Endpoint → Item → List ℕ
-bytes_from end (Listing tree taken) = []
+bytes_from end (Listing tree taken said) = []
 bytes_from end (Sent to told) = []
 bytes_from end (Received from told) = if is_of end from FirstBulk then bytes_in told else []
 bytes_from end (Cleared at told) = []
@@ -108,7 +108,7 @@ ArePackets end _ packets = packets ≡ []
 
 -- an item tells of no fault
 abbrev pub is_done : Item → Bool
-is_done (Listing tree taken) = true
+is_done (Listing tree taken said) = true
 is_done (Sent to told) = is_ok told
 is_done (Received from told) = is_ok told
 is_done (Cleared at told) = is_ok told

@@ -5,6 +5,8 @@ pub use Rattle.usb_table.proofs.entries.NewEntries.{has_its}
 pub use Rattle.usb_table.proofs.entries.EnteredFindings.{level_beside, level_entered}
 pub use Rattle.usb_table.proofs.entries.EnteredFindings.{pipes_at-entered}
 pub use Rattle.usb_table.proofs.entries.EnteredFindings.{pipes_at-entered_elsewhere}
+pub use Rattle.usb_table.proofs.entries.EnteredFindings.{said_at-entered}
+pub use Rattle.usb_table.proofs.entries.EnteredFindings.{said_at-entered_elsewhere}
 pub use Rattle.usb_table.proofs.levels.FittingPipes.{root, same_in_data, still_source}
 pub use Rattle.usb_table.proofs.levels.NewPipes.{new_at}
 pub use Rattle.usb_table.proofs.levels.StandingPipes.{IsPipeOf, IsRest, addressed, at_elsewhere}

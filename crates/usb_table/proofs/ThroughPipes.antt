@@ -1,7 +1,8 @@
 -- A call tries nothing, or goes through a pipe to the device that was found.
-use Rattle.std.proofs.Common.{◌≡◌, refl, sym, ap, subst, Bool, Option, None}
+use Rattle.std.proofs.Common.{◌≡◌, refl, sym, ap, subst, ℕ, Bool, Option, None}
 use Rattle.std.proofs.Common.{Some, Result, Err}
 use Rattle.std.specs.Option.{option_map}
+use Rattle.arrayvec.specs.ArrayVec.{ArrayVec}
 use Rattle.usb_world.specs.{World}
 use Rattle.usb_pipe.specs.{PipeState, pipe_made}
 use Rattle.usb_enum.specs.{Accepted, Finding}
@@ -20,22 +21,24 @@ placed_to : (device : Accepted) (below_hub : Bool) (pipes : Pipes)
     → ArePipesTo device below_hub pipes → ArePlaced pipes
 placed_to device below_hub (Hub pipe) are = tt
 placed_to device below_hub (Function pipes) are = in_place device below_hub pipes are
-placed_to device below_hub Absent are = absurd are
+placed_to device below_hub (Absent said) are = absurd are
 
 pub placed_of : (finding : Finding) (below_hub : Bool) (pipes : Pipes)
     → ArePipesOf finding below_hub pipes → ArePlaced pipes
 placed_of (Device device) below_hub pipes are = placed_to device below_hub pipes are
-placed_of (Refused cause) below_hub pipes none = rw none tt
+placed_of (Refused cause) below_hub pipes none = rw none.1 tt
 
 -- A call goes through no pipes where no device was found
 
 pub if_found : (P R : Pipes → Pipes → Type 0) (found : Option Accepted) (below_hub : Bool)
-    → ((left : Pipes) → found ≡ None → P Absent left → R Absent left)
+    → ((said : ArrayVec ℕ) (left : Pipes) → found ≡ None → P (Absent said) left
+    → R (Absent said) left)
     → ((device : Accepted) (pipes left : Pipes) → found ≡ Some device
     → ArePipesTo device below_hub pipes → P pipes left → R pipes left)
     → (pipes left : Pipes) → ArePipesIf found below_hub pipes → P pipes left → R pipes left
 if_found P R None below_hub absent there pipes left none x =
-    subst (λ p. R p left) (sym none) (absent left refl (subst (λ p. P p left) none x))
+    subst (λ p. R p left) (sym none.1)
+    (absent none.0 left refl (subst (λ p. P p left) none.1 x))
 if_found P R (Some device) below_hub absent there pipes left are x =
     there device pipes left refl are x
 
@@ -92,13 +95,13 @@ module _ {A : Type 0} (pick : FunctionPipes → Option PipeState)
   picked_there device (Function pipes) left e are x =
       subst (R (Function pipes)) (sym x.1)
       (one_picked device pipes e are (pick pipes) x.0 refl x.2)
-  picked_there device Absent left e are x = absurd are
+  picked_there device (Absent said) left e are x = absurd are
 
   pub through_pipes : (pipes left : Pipes) → ArePipesIf found below_hub pipes
       → PipesThrough pick miss So pipes old result left new → R pipes left
   through_pipes =
       if_found (λ p l. PipesThrough pick miss So p old result l new) R found below_hub
-      (λ left e. none_picked Absent left NoDevice refl) picked_there
+      (λ said left e. none_picked (Absent said) left NoDevice refl) picked_there
 
 -- What a call leaves of the pipes to a function: another pipe in the place of one
 
@@ -110,7 +113,7 @@ pub through_left : {A : Type 0} (pick : FunctionPipes → Option PipeState)
     × (function_of left ≡ option_map (with_rest rest) (function_of pipes))
 through_left pick miss So (Hub pipe) left old result new x = (None, ap function_of x.1)
 through_left pick miss So (Function pipes) left old result new x = (x.0, ap function_of x.1)
-through_left pick miss So Absent left old result new x = (None, ap function_of x.1)
+through_left pick miss So (Absent said) left old result new x = (None, ap function_of x.1)
 
 -- The two cases of a clear of both
 
@@ -139,10 +142,10 @@ module _ (old : World) (result : Result (Unit {0}) TableFault) (new : World)
   both_there device (Function pipes) left e are x =
       subst (R (Function pipes)) (sym x.1) (both_if device e
       (clear_miss pipes) pipes x.0 are x.2)
-  both_there device Absent left e are x = absurd are
+  both_there device (Absent said) left e are x = absurd are
 
   pub through_both : (pipes left : Pipes) → ArePipesIf found below_hub pipes
       → PipesCleared pipes old result left new → R pipes left
   through_both =
       if_found (λ p l. PipesCleared p old result l new) R found below_hub
-      (λ left e. both_idle Absent left NoDevice) both_there
+      (λ said left e. both_idle (Absent said) left NoDevice) both_there

@@ -128,7 +128,7 @@ pipes_set None below_hub interface setting answer pipes = pipes
 pipes_set (Some device) below_hub interface setting answer (Hub pipe) = Hub pipe
 pipes_set (Some device) below_hub interface setting answer (Function pipes) =
     Function (function_set device below_hub interface setting answer pipes)
-pipes_set (Some device) below_hub interface setting answer Absent = Absent
+pipes_set (Some device) below_hub interface setting answer (Absent said) = Absent said
 
 -- over any bus: where it is not sent, this is told, and nothing changes; else the answer is the
 -- request's own, and says what is left of the pipes

@@ -11,11 +11,10 @@ use Rattle.usb_enum.specs.declared.finding.Finding.TheVariants.{Refused}
 use Rattle.usb_table.specs.declared.entry.Entry.{Entry}
 use Rattle.usb_table.specs.declared.indexes.Indexes.{Indexes}
 use Rattle.usb_table.specs.declared.pipes.Pipes.{Pipes}
-use Rattle.usb_table.specs.declared.pipes.Pipes.TheVariants.{Absent}
 use Rattle.usb_table.specs.TableEntries.{Entries}
 use Rattle.usb_table.specs.Findings.{IsSoundFinding, address_found}
 use Rattle.usb_table.specs.KnownPorts.{is_below_hub}
-use Rattle.usb_table.specs.TablePipes.{ArePipesOf}
+use Rattle.usb_table.specs.TablePipes.{ArePipesOf, no_pipes}
 use Rattle.usb_table.specs.Tables.{Table}
 
 -- what stands under each key
@@ -63,7 +62,7 @@ abbrev pub table_of : TableSlots → PathKeys → Table
 table_of standings paths = record {
   entries = entries_of (findings standings) paths;
   pipes =
-      values_by_path Absent (pipings standings) paths;
+      values_by_path no_pipes (pipings standings) paths;
 }
 
 abbrev pub address_in : Option Finding → Option ℕ

@@ -1,16 +1,16 @@
 -- That the pipes to a device are as far as the endpoints at their other ends.
 use Rattle.std.specs.Prelude.{◌≡◌, ◌≤◌, ⊤, ℕ, ◌*◌, List, length, true, false, Option, Some, None}
-use Rattle.std.specs.Prelude.{is_some, Result, IsOk, IfErr}
+use Rattle.std.specs.Prelude.{is_some, IfSome, Result, IsOk, IfOk, IfErr}
 use Rattle.std.specs.Global.{Vec}
 use Rattle.std.specs.BTreeMap.{is_at}
 use Rattle.arrayvec.specs.ArrayVec.{ArrayVec}
 use Rattle.usb_port.specs.{path_cmp, PortState}
 use Rattle.usb_device.specs.{tells_changes, change_bits, PollAt, NeverTold, State, Ports, full}
 use Rattle.usb_device.specs.{row_of, place, reach, Location, path_to, reach_on, state_on}
-use Rattle.usb_device.specs.{state_there, text_of}
+use Rattle.usb_device.specs.{change_bytes, hub_ports, state_there, text_of, told_bits}
 use Rattle.usb_world.specs.{EachWas, at_attempt, World}
 use Rattle.usb_bus.specs.{StepRun}
-use Rattle.usb_transaction.specs.{NoThreeDamaged, Listens, transaction_bound}
+use Rattle.usb_transaction.specs.{IsStatusEndpoint, NoThreeDamaged, Listens, transaction_bound}
 use Rattle.usb_pipe.specs.{PipeState, write_bound, Interrupt, OutPipeInSync, InPipeInSync}
 use Rattle.usb_pipe.specs.{PollTells}
 use Rattle.usb_pipe.specs.{PipeFault}
@@ -33,10 +33,10 @@ use Rattle.usb_table.specs.Transfers.{PipesSent, PollTook}
 
 -- The pipes to one device
 
--- a hub's status pipe, of which no poll failed: the endpoint tells of changes, awaits the pipe's
--- toggle, and is not halted
+-- a hub's status pipe, of which no poll failed: it is to the hub's status endpoint, which awaits
+-- the pipe's toggle, and is not halted
 pub record StatusPipeInSync (pipe : Interrupt) (s : State) : Type 0 where
-  pub tells : tells_changes s.spec s.registers ≡ true
+  pub to : IsStatusEndpoint pipe.target pipe.ep s
   pub level : PollAt NeverTold pipe.toggle s
   pub runs : s.changes.halted ≡ false
 
@@ -63,7 +63,7 @@ pub record FunctionInSync (device : Accepted) (pipes : FunctionPipes) (s : State
 abbrev pub PipesInSync : Accepted → Pipes → State → Type 0
 PipesInSync device (Hub pipe) s = StatusPipeInSync pipe s
 PipesInSync device (Function pipes) s = FunctionInSync device pipes s
-PipesInSync device Absent s = ⊤
+PipesInSync device (Absent said) s = ⊤
 
 -- those to what was found
 abbrev pub PipesInSyncIf : Option Accepted → Pipes → State → Type 0
@@ -113,15 +113,18 @@ pub record BitsOf (path : List ℕ) (old new : World) (bits : ℕ) : Type 0 wher
   pub state : State
   pub ports : Ports
   pub stood : place (at_attempt mid).roots path ≡ Some (full port state ports)
-  pub told : bits ≡ change_bits (row_of ports)
+  pub told : bits ≡ change_bits (hub_ports state.spec.hub) (row_of ports)
   pub since : TouchesNoPort mid new
   pub came : (at_attempt mid).taken ≤ new.taken  -- the events that were due then have come
 
--- the hub is reached in the end, and its ports told what came
+-- the hub is reached in the end, and its ports told what came, in as many bytes as they take
+-- (11.12.4)
 pub record HubTold (path : List ℕ) (old : World) (result : Result (Option (ArrayVec ℕ)) PipeFault)
     (new : World) : Type 0 where
   pub reached : reach new.roots path ≡ true
   pub tells : PollTells (BitsOf path old new) result
+  pub bytes : (s : State) → state_there new.roots path ≡ Some s → IfOk result (λ got. IfSome got
+      (λ packet. packet.items ≡ change_bytes (hub_ports s.spec.hub) (told_bits packet.items)))
 
 -- a device at the path is reached, and hears what is sent to it
 pub record IsListening (path : List ℕ) (device : Accepted) (w : World) : Type 0 where

@@ -57,12 +57,14 @@ pub use PipeRows.{lost_row, lost_to, lost_way, mark_if, miss_of, moves_bulk, onl
 pub use PipeRows.{pipe_at, pipe_if, pipe_in, pipe_out, pipe_to, pipes_made, polls_miss}
 pub use PipeRows.{polls_through, receives_miss, receives_through, row_at, row_made, sends_miss}
 pub use PipeRows.{sends_through, takes_bytes, through, unclear, way_to, with_pipe, with_rest}
-pub use TablePipes.{AreFunctionPipes, ArePipesIf, ArePipesOf, ArePipesTo, IsEndPipe, IsPipe}
+pub use TablePipes.{AreAbsent, AreFunctionPipes, ArePipesIf, ArePipesOf, ArePipesTo, IsEndPipe}
+pub use TablePipes.{IsPipe}
 pub use TablePipes.{IsPlace, IsStatusPipe, end_under, new_function, new_pipe, new_pipes}
-pub use TablePipes.{new_pipes_to, new_row, new_status, none_lost, number_of}
+pub use TablePipes.{new_pipes_to, new_row, new_status, no_pipes, none_lost, number_of}
 pub use TablePipes.{row_of_ends}
 pub use TablePipes.{usable_end}
 pub use Tables.{ArePipesAt, GoesThrough, Table, TakesOut, empty, entered, pipes_at, removed}
+pub use Tables.{said_at, said_in, said_of}
 pub use Transfers.{ClearedAfter, ClearedBy, ClearedFirst, ClearedIf, ClearedInOrder, ClearedInTurn}
 pub use Transfers.{ClearedOfThrough, ClearedThrough, KeepsSettings, MovedOrRefused, NotPolled}
 pub use Transfers.{NotTried, OnlySets, OnlyTransfers, PipeDid, PipesCleared, PipesClearedOf}

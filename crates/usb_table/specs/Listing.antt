@@ -1,7 +1,7 @@
 -- What a right listing of what is plugged is (4.1.1, 7.2.1).
 use Rattle.std.specs.Prelude.{◌≡◌, ◌≢◌, ◌≤◌, ℕ, ◌+◌, List, [], length, take, Option, None, Some}
 use Rattle.std.specs.Prelude.{IsSome, IfSome, IsSomeAnd, unwrap_or, option_map, option_and_then}
-use Rattle.std.specs.Prelude.{true, false}
+use Rattle.std.specs.Prelude.{Bool, true, false}
 use Rattle.std.specs.Map.{lookup}
 use Rattle.std.specs.BTreeMap.{is_at}
 use Rattle.usb_port.specs.{path_cmp, parent_of, port_on_hub}
@@ -84,13 +84,14 @@ ListsEach entries = (address : ℕ) → IsAddress address → (path : List ℕ)
 -- The listing is what is plugged. At each port of the root and of each listed hub the device that
 -- is plugged there is listed with its own
 -- descriptors and the first configuration within its port's power, or refused with its cause.
--- Nothing else is listed. No two devices have one address.
-pub record Lists (roots : ℕ) (tree : SpecTree) (entries : Entries) : Type 0 where
+-- Nothing else is listed. No two devices have one address. Hubs of 8 to 15 ports, and status
+-- endpoints of any number, are accepted where hubs may be wide.
+pub record Lists (wide : Bool) (roots : ℕ) (tree : SpecTree) (entries : Entries) : Type 0 where
   pub rises : Rises entries
   pub there : (path : List ℕ) (spec : Spec) → IsListedPort roots entries path
       → tree path ≡ Some spec
-      → IsSomeAnd (finding_at path entries) (IsRight (ListsEach entries) spec (tier_of path)
-      (supply_at tree path))
+      → IsSomeAnd (finding_at path entries) (IsRight (ListsEach entries) spec wide
+      (tier_of path) (supply_at tree path))
   pub nothing_else : (path : List ℕ) (finding : Finding) → finding_at path entries ≡ Some finding
       → IsListedPort roots entries path × IsSome (tree path)
   pub addresses : (path : List ℕ) (address : ℕ) → entry_address path entries ≡ Some address
@@ -100,8 +101,8 @@ pub record Lists (roots : ℕ) (tree : SpecTree) (entries : Entries) : Type 0 wh
 
 -- the listing is what is plugged in a world; each accepted device is reached and set as is listed,
 -- and the port of each refused one is disabled
-pub record Matches (w : World) (entries : Entries) : Type 0 where
-  pub lists : Lists (roots_of w) (tree_in w) entries
+pub record Matches (wide : Bool) (w : World) (entries : Entries) : Type 0 where
+  pub lists : Lists wide (roots_of w) (tree_in w) entries
   pub reached : (path : List ℕ) (device : Accepted) → accepted_device_at path entries ≡ Some device
       → reach w.roots path ≡ true
   pub set : (path : List ℕ) (device : Accepted) → accepted_device_at path entries ≡ Some device

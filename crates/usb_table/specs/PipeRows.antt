@@ -198,7 +198,7 @@ with_rest (Some pipe) pipes = with_pipe pipe pipes
 abbrev pub function_of : Pipes → Option FunctionPipes
 function_of (Hub pipe) = None
 function_of (Function pipes) = Some pipes
-function_of Absent = None
+function_of (Absent said) = None
 
 -- each of them stands in its place
 abbrev pub ArePlaced : Pipes → Type 0
@@ -208,7 +208,7 @@ ArePlaced pipes = IfSome (function_of pipes) AreInPlace
 abbrev pub through : (FunctionPipes → Option PipeState) → Pipes → Option PipeState
 through pick (Hub pipe) = None
 through pick (Function pipes) = pick pipes
-through pick Absent = None
+through pick (Absent said) = None
 
 -- the pipes to its first bulk endpoints
 abbrev pub pipe_out : Pipes → Option PipeState
@@ -226,7 +226,7 @@ abbrev pub asked_through : (FunctionPipes → Option PipeState) → (FunctionPip
     → Pipes → Result PipeState TransferFault
 asked_through pick miss (Hub pipe) = Err NoEndpoint
 asked_through pick miss (Function pipes) = pipe_asked (miss pipes) (pick pipes)
-asked_through pick miss Absent = Err NoDevice
+asked_through pick miss (Absent said) = Err NoDevice
 
 -- nor does a broken one do more than tell so
 abbrev pub unless_broken : Result PipeState TransferFault → Result PipeState TransferFault
@@ -244,4 +244,4 @@ function_made pipes = record pipes { outs = row_made pipes.outs; ins = row_made 
 abbrev pub pipes_made : Pipes → Pipes
 pipes_made (Hub pipe) = Hub (interrupt_made pipe)
 pipes_made (Function pipes) = Function (function_made pipes)
-pipes_made Absent = Absent
+pipes_made (Absent said) = Absent said

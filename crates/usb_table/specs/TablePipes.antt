@@ -1,7 +1,8 @@
 -- The pipes to a device.
 use Rattle.std.specs.Prelude.{◌≡◌, ⊤, ℕ, ◌≤◌, Bool, true, false, List, map, Option, Some, None}
-use Rattle.std.specs.Prelude.{is_some, if◌then◌else◌, length, replicate}
+use Rattle.std.specs.Prelude.{[], is_some, if◌then◌else◌, length, replicate}
 use Rattle.std.specs.Option.{option_map}
+use Rattle.arrayvec.specs.ArrayVec.{ArrayVec}
 use Rattle.usb_descriptor.specs.{EndpointKind, UsableEndpoint, default_settings}
 use Rattle.usb_descriptor.specs.{status_endpoint_of, usable_under}
 use Rattle.usb_device.specs.{end_numbers}
@@ -20,7 +21,8 @@ use Rattle.usb_table.specs.PipeRows.{first_number, lost_at, pipe_at}
 -- a pipe to the status endpoint of a hub, which stands below another one or on the root
 pub record IsStatusPipe (device : Accepted) (below_hub : Bool) (pipe : Interrupt) : Type 0 where
   pub target : pipe.target ≡ packet_target (target_of device below_hub) pipe.target.max
-  pub endpoint : status_endpoint_of (configuration_of device) ≡ Some (pipe.ep, pipe.target.max)
+  pub endpoint : status_endpoint_of true (configuration_of device)
+      ≡ Some (pipe.ep, pipe.target.max)
   pub other : 1 ≤ pipe.ep  -- not endpoint 0
 
 -- a pipe to an endpoint of a function
@@ -73,22 +75,30 @@ abbrev pub ArePipesTo : Accepted → Bool → Pipes → Type 0
 ArePipesTo device below_hub (Hub pipe) = (is_some device.hub ≡ true)
     × IsStatusPipe device below_hub pipe
 ArePipesTo device below_hub (Function pipes) = AreFunctionPipes device below_hub pipes
-ArePipesTo device below_hub Absent = ⊥
+ArePipesTo device below_hub (Absent said) = ⊥
+
+-- there are none; at most it is kept what a refused device said
+abbrev pub AreAbsent : Pipes → Type 0
+AreAbsent pipes = (said : ArrayVec ℕ) × (pipes ≡ Absent said)
 
 -- the pipes to an accepted device, and none where there is none
 abbrev pub ArePipesIf : Option Accepted → Bool → Pipes → Type 0
-ArePipesIf None below_hub pipes = pipes ≡ Absent
+ArePipesIf None below_hub pipes = AreAbsent pipes
 ArePipesIf (Some device) below_hub pipes = ArePipesTo device below_hub pipes
 
 -- the pipes to what was found
 abbrev pub ArePipesOf : Finding → Bool → Pipes → Type 0
 ArePipesOf finding = ArePipesIf (accepted_device_of (Some finding))
 
+-- none, where nothing was said
+abbrev pub no_pipes : Pipes
+no_pipes = Absent (record { items = [] })
+
 -- Pipes that were just made: none has moved a packet
 
 -- to a hub's status endpoint; each hub that is accepted has one
 abbrev pub new_status : Accepted → Bool → Option (ℕ × ℕ) → Pipes
-new_status device below_hub None = Absent
+new_status device below_hub None = no_pipes
 new_status device below_hub (Some endpoint) =
     Hub (record {
       target = packet_target (target_of device below_hub) endpoint.1;
@@ -134,9 +144,10 @@ new_function device below_hub = record {
 abbrev pub new_pipes_to : Accepted → Bool → Pipes
 new_pipes_to device below_hub =
     if is_some device.hub
-    then new_status device below_hub (status_endpoint_of (configuration_of device))
+    then new_status device below_hub (status_endpoint_of true (configuration_of device))
     else Function (new_function device below_hub)
 
-abbrev pub new_pipes : Finding → Bool → Pipes
-new_pipes (Device device) below_hub = new_pipes_to device below_hub
-new_pipes (Refused cause) below_hub = Absent
+-- to what was found; of a refused device it is kept what it said
+abbrev pub new_pipes : Finding → Bool → ArrayVec ℕ → Pipes
+new_pipes (Device device) below_hub said = new_pipes_to device below_hub
+new_pipes (Refused cause) below_hub said = Absent said

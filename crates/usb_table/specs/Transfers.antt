@@ -184,7 +184,7 @@ abbrev pub PipesPolled : Pipes → World → Result (Option (ArrayVec ℕ)) Pipe
 PipesPolled (Hub pipe) old result left new = (rest : Interrupt) × (left ≡ Hub rest)
     × PolledThrough pipe old result rest new
 PipesPolled (Function pipes) old result left new = NotPolled (Function pipes) old result left new
-PipesPolled Absent old result left new = NotPolled Absent old result left new
+PipesPolled (Absent said) old result left new = NotPolled (Absent said) old result left new
 
 -- a call goes through a pipe to a function, and leaves another one in its place
 abbrev pub PipesThrough : {A : Type 0} → (FunctionPipes → Option PipeState)
@@ -195,7 +195,8 @@ PipesThrough pick miss So (Hub pipe) old result left new =
 PipesThrough pick miss So (Function pipes) old result left new =
     (rest : Option PipeState) × (left ≡ Function (with_rest rest pipes))
     × ThroughIf So (miss pipes) (pick pipes) old result rest new
-PipesThrough pick miss So Absent old result left new = NotTried NoDevice Absent old result left new
+PipesThrough pick miss So (Absent said) old result left new =
+    NotTried NoDevice (Absent said) old result left new
 
 -- bytes are sent to an OUT endpoint
 abbrev pub PipesSent : EndpointChoice → Pipes → List ℕ → World → Result (Unit {0}) TableFault
@@ -234,7 +235,8 @@ abbrev pub PipesCleared : Pipes → World → Result (Unit {0}) TableFault → P
 PipesCleared (Hub pipe) old result left new = NotTried NoEndpoint (Hub pipe) old result left new
 PipesCleared (Function pipes) old result left new = (rest : FunctionPipes) × (left ≡ Function rest)
     × ClearedInTurn pipes old result rest new
-PipesCleared Absent old result left new = NotTried NoDevice Absent old result left new
+PipesCleared (Absent said) old result left new =
+    NotTried NoDevice (Absent said) old result left new
 
 -- a device has the description and the registers that it had
 abbrev pub SameSettings : Location → State → State → Type 0

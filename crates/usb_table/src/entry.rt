@@ -1,9 +1,11 @@
 //! What is at a port, with the host's pipes to it.
-ghost use Rattle.std.specs.Prelude.{◌≡◌};
+ghost use Rattle.std.specs.Prelude.{◌≡◌, Some, option_copied};
 ghost use Rattle.usb_table.specs.Findings.{IsSoundFinding};
 ghost use Rattle.usb_table.specs.TablePipes.{ArePipesOf, new_pipes};
+ghost use Rattle.usb_table.specs.Tables.{said_of};
 
 use crate::pipes::{Pipes, pipes_to};
+use arrayvec::ArrayVec;
 use usb_enum::Finding;
 
 /// What was found at a port, with the host's pipes to it.
@@ -14,15 +16,16 @@ pub(crate) struct Entry {
 }
 
 impl Entry {
-    /// What was just found, with new pipes.
-    pub fn new(finding: Finding, below_hub: bool) -> Entry
+    /// What was just found, with new pipes. What it said of itself is kept if it was refused.
+    pub fn new(finding: Finding, below_hub: bool, said: ArrayVec<u8, 18>) -> Entry
         requires { IsSoundFinding finding }
-        ensures value { result ≡ record { finding = finding; pipes = new_pipes finding below_hub } }
+        ensures value { result
+            ≡ record { finding = finding; pipes = new_pipes finding below_hub said } }
         ensures fits { ArePipesOf finding below_hub result.pipes }
     {
         let pipes = match &finding {
             Finding::Device(device) => pipes_to(device, below_hub),
-            Finding::Refused(_) => Pipes::Absent,
+            Finding::Refused(_) => Pipes::Absent(said),
         };
         Entry { finding, pipes }
     }
@@ -32,6 +35,16 @@ impl Entry {
         ensures { result.now ≡ self.now.finding }
     {
         &self.finding
+    }
+
+    /// What a refused device said of itself; `None` of an accepted one.
+    pub fn said(&self) -> Option<&[u8]>
+        ensures { option_copied result ≡ said_of (Some self.now.finding) self.now.pipes }
+    {
+        match &self.finding {
+            Finding::Device(_) => None,
+            Finding::Refused(_) => Some(self.pipes.said()),
+        }
     }
 
     /// What was found at the port, without the pipes.

@@ -187,7 +187,7 @@ impl Pipes {
                 pipes.set_interface(bus, device, below_hub, interface, setting)
             }
             Pipes::Hub(_) => Err(NO_INTERFACE),
-            Pipes::Absent => Err(NO_DEVICE),
+            Pipes::Absent(_) => Err(NO_DEVICE),
         }
     }
 }

@@ -14,6 +14,8 @@
 //! - Where an interface was set, its endpoints have begun again and have new pipes, and all others
 //!   go on. Where that failed but was not refused, its pipes are lost (`set_interface`;
 //!   *InterfaceSet*, `specs/InterfaceSettings.antt`).
+//! - What a refused device said of itself is kept as it was entered (`DeviceTable::said`). No call
+//!   through pipes changes it (*GoesThrough*, `specs/Tables.antt`).
 //!
 //! A pipe is *level* if it is as far as the endpoint at its other end (8.6). `docs/PROVED.md` has
 //! the rest.

@@ -1,7 +1,7 @@
 //! What is plugged has one right listing.
 //!
 //! Each call does nothing; what it ensures is for proofs to cite.
-ghost use Rattle.std.specs.Prelude.{ℕ};
+ghost use Rattle.std.specs.Prelude.{Bool, ℕ};
 ghost use Rattle.usb_world.specs.Plans.{PlanData, IsPlan};
 ghost use Rattle.usb_world.specs.PlanCourses.{AtPorts};
 ghost use Rattle.usb_world.specs.Steps.{AnyStep, Course, opening};
@@ -12,8 +12,9 @@ ghost use Rattle.usb_table.specs.Listing.{SpecTree, tree_after, Lists, ListsLike
 /// Two right listings of what is plugged list the same findings at the same paths, but for the
 /// addresses, if no device waits for one.
 pub fn one_listing()
-    ensures { (roots : ℕ) (tree : SpecTree) (a b : Entries)
-        → Lists roots tree a → Lists roots tree b → NoneWaits a → NoneWaits b → ListsLike a b }
+    ensures { (wide : Bool) (roots : ℕ) (tree : SpecTree) (a b : Entries)
+        → Lists wide roots tree a → Lists wide roots tree b
+        → NoneWaits a → NoneWaits b → ListsLike a b }
 {}
 
 /// A listing of what is plugged in a world of a plan's course is one of what the events that came
@@ -21,6 +22,6 @@ pub fn one_listing()
 pub fn listed_is_what_the_events_left()
     ensures { (plan : PlanData) → IsPlan plan → AtPorts plan.events
         → (w : World) → Course AnyStep (opening plan) w
-        → (entries : Entries) → Matches w entries
-        → Lists plan.roots (tree_after plan w.taken) entries }
+        → (wide : Bool) (entries : Entries) → Matches wide w entries
+        → Lists wide plan.roots (tree_after plan w.taken) entries }
 {}

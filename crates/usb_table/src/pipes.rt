@@ -8,6 +8,7 @@ ghost use Rattle.usb_table.specs.Findings.{IsSoundDevice};
 ghost use Rattle.usb_table.specs.PipeRows.{ArePlaced, asked_through, clears_miss, pipe_to, pipes_made, polls_miss, polls_through, receives_miss, receives_through, sends_miss, sends_through, through, unless_broken};
 ghost use Rattle.usb_table.specs.TablePipes.{ArePipesTo, IsStatusPipe};
 ghost use Rattle.usb_table.specs.TablePipes.{new_pipes_to, new_status};
+ghost use Rattle.usb_table.specs.Tables.{said_in};
 ghost use Rattle.usb_table.specs.Transfers.{MovedOrRefused, PipesCleared, PipesClearedOf, PipesPolled};
 ghost use Rattle.usb_table.specs.Transfers.{PipesReceived, PipesReported, PipesSent, TransferTold};
 ghost use Rattle.usb_table.specs.declared.pipes.Pipes.TheVariants.{Hub};
@@ -30,8 +31,9 @@ pub(crate) enum Pipes {
     Hub(InterruptPipe),
     /// To the endpoints of a function (5.7, 5.8).
     Function(FunctionPipes),
-    /// None, since the device was refused.
-    Absent,
+    /// None, since the device was refused. It said this of itself: the bytes of its device
+    /// descriptor that were read last, none where its hub is lost.
+    Absent(ArrayVec<u8, 18>),
 }
 
 /// Nothing that pipes lead to is at the port.
@@ -52,14 +54,15 @@ pub(crate) fn pipes_to(device: &Accepted, below_hub: bool) -> Pipes
 }
 
 /// The pipe to a hub's status endpoint.
+#[tactic(auto, using(crate::proofs::levels::Endpoints::sound_status))]
 fn status_pipe(device: &Accepted, below_hub: bool) -> InterruptPipe
     requires sound { IsSoundDevice device.now }
     requires hub { is_some device.now.hub ≡ true }
     ensures value { Hub result ≡ new_status device.now below_hub
-        (status_endpoint_of (configuration_of device.now)) }
+        (status_endpoint_of true (configuration_of device.now)) }
     ensures fits { IsStatusPipe device.now below_hub result }
 {
-    match device.configuration().status_endpoint() {
+    match device.configuration().status_endpoint(true) {
         Some((ep, max)) => InterruptPipe::new(target_to(device, below_hub), ep, max),
         // a hub that is accepted has one
         None => unreachable!(),
@@ -67,6 +70,16 @@ fn status_pipe(device: &Accepted, below_hub: bool) -> InterruptPipe
 }
 
 impl Pipes {
+    /// What is kept of what a refused device said; nothing of any other.
+    pub fn said(&self) -> &[u8]
+        ensures { result.now ≡ said_in self.now }
+    {
+        match self {
+            Pipes::Absent(said) => said.as_slice(),
+            Pipes::Hub(_) | Pipes::Function(_) => &[],
+        }
+    }
+
     /// Asks a hub's status endpoint once; `None` of anything else.
     ///
     /// # Errors
@@ -84,7 +97,7 @@ impl Pipes {
     {
         match self {
             Pipes::Hub(pipe) => pipe.poll(bus),
-            Pipes::Function(_) | Pipes::Absent => Ok(None),
+            Pipes::Function(_) | Pipes::Absent(_) => Ok(None),
         }
     }
 
@@ -119,7 +132,7 @@ impl Pipes {
         match self {
             Pipes::Function(pipes) => pipes.send(bus, choice, bytes),
             Pipes::Hub(_) => Err(NO_ENDPOINT),
-            Pipes::Absent => Err(NO_DEVICE),
+            Pipes::Absent(_) => Err(NO_DEVICE),
         }
     }
 
@@ -155,7 +168,7 @@ impl Pipes {
         match self {
             Pipes::Function(pipes) => pipes.receive(alloc, bus, choice, packets),
             Pipes::Hub(_) => Err(NO_ENDPOINT),
-            Pipes::Absent => Err(NO_DEVICE),
+            Pipes::Absent(_) => Err(NO_DEVICE),
         }
     }
 
@@ -191,7 +204,7 @@ impl Pipes {
         match self {
             Pipes::Function(pipes) => pipes.poll(bus, endpoint),
             Pipes::Hub(_) => Err(NO_ENDPOINT),
-            Pipes::Absent => Err(NO_DEVICE),
+            Pipes::Absent(_) => Err(NO_DEVICE),
         }
     }
 
@@ -216,7 +229,7 @@ impl Pipes {
         match self {
             Pipes::Function(pipes) => pipes.clear_halt(bus),
             Pipes::Hub(_) => Err(NO_ENDPOINT),
-            Pipes::Absent => Err(NO_DEVICE),
+            Pipes::Absent(_) => Err(NO_DEVICE),
         }
     }
 
@@ -247,7 +260,7 @@ impl Pipes {
         match self {
             Pipes::Function(pipes) => pipes.clear(bus, endpoint),
             Pipes::Hub(_) => Err(NO_ENDPOINT),
-            Pipes::Absent => Err(NO_DEVICE),
+            Pipes::Absent(_) => Err(NO_DEVICE),
         }
     }
 }

@@ -15,7 +15,7 @@ ghost use Rattle.usb_table.specs.InterfaceSettings.{interface_target, pipes_set}
 ghost use Rattle.usb_table.specs.Findings.{accepted_device_at};
 ghost use Rattle.usb_table.specs.KnownPorts.{is_below_hub};
 ghost use Rattle.usb_table.specs.Tables.{ArePipesAt, GoesThrough, TakesOut};
-ghost use Rattle.usb_table.specs.Tables.{empty, entered, pipes_at};
+ghost use Rattle.usb_table.specs.Tables.{empty, entered, pipes_at, said_at};
 ghost use Rattle.usb_table.specs.PipeRows.{asked_through, clears_miss, pipe_to, polls_miss};
 ghost use Rattle.usb_table.specs.PipeRows.{polls_through, receives_miss, receives_through};
 ghost use Rattle.usb_table.specs.PipeRows.{sends_miss, sends_through, through, unless_broken};
@@ -81,20 +81,27 @@ impl DeviceTable {
         }
     }
 
-    /// Enters what was just found at a path, if nothing is at it or below it.
+    /// Enters what was just found at a path, if nothing is at it or below it. If the device was
+    /// refused, it is kept what it said of itself: the bytes of its device descriptor that were
+    /// read last, 0 to 18.
     ///
     /// # Errors
     ///
     /// Memory was refused, and nothing changes.
-    pub fn insert(&mut self, path: PortPath, finding: Finding) -> Result<(), AllocError>
+    pub fn insert(
+        &mut self,
+        path: PortPath,
+        finding: Finding,
+        said: ArrayVec<u8, 18>,
+    ) -> Result<(), AllocError>
         requires away { has_at path self.old.entries ≡ false }
         requires sound { IsSoundFinding finding }
         requires address { HasNewAddress finding self.old.entries }
-        ensures ok { OnOk result (self.new ≡ entered path finding self.old) }
+        ensures ok { OnOk result (self.new ≡ entered path finding said self.old) }
         ensures err { OnErr result (self.new ≡ self.old) }
     {
         let address = address_number(&finding);
-        let entry = Entry::new(finding, is_below_hub(&path));
+        let entry = Entry::new(finding, is_below_hub(&path), said);
         self.entries.reserve(1)?;
         let key = self.entries.vacant_key();
         self.indexes.insert(path, address, key)?;
@@ -110,6 +117,17 @@ impl DeviceTable {
     {
         match self.indexes.by_path.get(path) {
             Some(key) => Some(self.entries[*key].finding()),
+            None => None,
+        }
+    }
+
+    /// What the device at a path said of itself before it was refused (9.6.1): the bytes of its
+    /// device descriptor that were read last, 0 to 18. `None` where no refused device is.
+    pub fn said(&self, path: &PortPath) -> Option<&[u8]>
+        ensures { option_copied result ≡ said_at path.now self.now }
+    {
+        match self.indexes.by_path.get(path) {
+            Some(key) => self.entries[*key].said(),
             None => None,
         }
     }

@@ -1,2 +1,3 @@
 mod ConfigLines
 mod Digits
+mod ToldLines

@@ -115,12 +115,28 @@ finding_lines path (Refused cause) = refused_line path cause ∷ []
 abbrev pub entry_lines : List ℕ × Finding → List (List ℕ)
 entry_lines entry = finding_lines entry.0 entry.1
 
+-- PATH said HEX
+unfoldable pub said_line : List ℕ → List ℕ → List ℕ
+said_line path said = path_text path ++ codes " said " ++ hex_text said
+
+-- left out where nothing was said
+abbrev pub said_lines : List ℕ → List ℕ → List (List ℕ)
+said_lines path [] = []
+said_lines path (byte ∷ said) = said_line path (byte ∷ said) ∷ []
+
+-- the lines of each entry, and behind them what its device said, as far as that is told
+unfoldable pub told_lines : List (List ℕ × Finding) → List (List ℕ) → List (List ℕ)
+told_lines [] said = []
+told_lines (entry ∷ entries) [] = entry_lines entry ++ told_lines entries []
+told_lines (entry ∷ entries) (first ∷ said) = (entry_lines entry ++ said_lines entry.0 first) ++
+    told_lines entries said
+
 unfoldable pub listing_line : ℕ → List ℕ
 listing_line number = codes "listing " ++ decimal number
 
--- listing N, the lines of each entry, end
-unfoldable pub listing_lines : ℕ → List (List ℕ × Finding) → List (List ℕ)
-listing_lines number entries = listing_line number ∷ [] ++ flat_map entry_lines entries ++
+-- listing N, the lines of each entry and of what was said, end
+unfoldable pub listing_lines : ℕ → List (List ℕ × Finding) → List (List ℕ) → List (List ℕ)
+listing_lines number entries said = listing_line number ∷ [] ++ told_lines entries said ++
     codes "end" ∷ []
 
 unfoldable pub bound_line : ℕ → List ℕ

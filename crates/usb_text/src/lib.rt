@@ -10,11 +10,13 @@
 mod line;
 mod lines;
 mod listing;
+mod said;
 mod text;
 
 pub use line::{LineFault, packet_line};
 pub use lines::Lines;
 pub use listing::{bound_line, listing_lines, push_cause};
+pub use said::Said;
 pub use text::{push_decimal, push_escaped, push_hex, push_path, push_units};
 pub use usb_enum::{Cause, Finding};
 pub use usb_packet::PacketFault;

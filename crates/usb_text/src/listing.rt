@@ -1,8 +1,9 @@
 //! The lines of a listing.
 ghost use Rattle.std.specs.Prelude.{◌≡◌, ◌++◌, ◌∷◌, [], OnOk, IfOk, flat_map, map, option_map};
-ghost use Rattle.usb_text.specs.ListingLines.{address_line, config_line, config_lines, hub_line, hub_lines, string_line, string_lines, refused_line, listing_line, bound_line, cause_text, device_lines, finding_lines, entry_lines, listing_lines, star, request_word, cause_word, cause_index};
+ghost use Rattle.usb_text.specs.ListingLines.{address_line, config_line, config_lines, hub_line, hub_lines, string_line, string_lines, refused_line, listing_line, bound_line, cause_text, device_lines, finding_lines, entry_lines, said_line, said_lines, told_lines, listing_lines, star, request_word, cause_word, cause_index};
 
 use crate::lines::Lines;
+use crate::said::Said;
 use crate::text::{push_decimal, push_hex, push_path, push_units, speed_word};
 use std::alloc::{AllocError, Global};
 use usb_enum::{Accepted, Cause, ConfigText, Finding, HubFacts, Request, StringUnits};
@@ -261,20 +262,50 @@ fn push_finding(
     }
 }
 
+/// `PATH said HEX`.
+#[tactic(auto, unfolding(crate::specs::ListingLines::said_line))]
+fn said_line(alloc: Global, path: &PortPath, said: &[u8]) -> Result<Vec<u8>, AllocError>
+    ensures { IfOk result (λ line. line.items ≡ said_line path.now said.now) }
+{
+    let mut line = Vec::with_capacity(alloc, ROOM)?;
+    push_path(&mut line, path)?;
+    line.extend_from_slice(b" said ")?;
+    push_hex(&mut line, said)?;
+    Ok(line)
+}
+
+/// Adds nothing if nothing was said.
+fn push_said(
+    alloc: Global,
+    lines: &mut Lines,
+    path: &PortPath,
+    said: &[u8],
+) -> Result<(), AllocError>
+    ensures { OnOk result (lines.new ≡ lines.old ++ said_lines path.now said.now) }
+{
+    if said.is_empty() {
+        return Ok(());
+    }
+    lines.push(said_line(alloc, path, said)?)
+}
+
 fn push_entries(
     alloc: Global,
     lines: &mut Lines,
     entries: &[(PortPath, Finding)],
+    said: &Said,
 ) -> Result<(), AllocError>
-    ensures { OnOk result (lines.new ≡ lines.old ++ flat_map entry_lines entries.now) }
+    ensures { OnOk result (lines.new ≡ lines.old ++ told_lines entries.now said.now) }
 {
-    'entries: for entry in entries {
+    'entries: for (index, entry) in entries.iter().enumerate() {
         push_finding(alloc, lines, &entry.0, &entry.1)?;
+        push_said(alloc, lines, &entry.0, said.of(index))?;
     }
     Ok(())
 }
 
-/// The lines of a listing, the first one number 1: of each entry, a path and what was found there.
+/// The lines of a listing, the first one number 1: of each entry, a path and what was found there, and then what
+/// its device said.
 ///
 /// # Errors
 ///
@@ -284,12 +315,13 @@ pub fn listing_lines(
     alloc: Global,
     number: u64,
     entries: &[(PortPath, Finding)],
+    said: &Said,
 ) -> Result<Lines, AllocError>
-    ensures { IfOk result (λ lines. lines ≡ listing_lines number entries.now) }
+    ensures { IfOk result (λ lines. lines ≡ listing_lines number entries.now said.now) }
 {
     let mut lines = Lines::new(alloc);
     lines.push(listing_line(alloc, number)?)?;
-    push_entries(alloc, &mut lines, entries)?;
+    push_entries(alloc, &mut lines, entries, said)?;
     let mut end = Vec::new(alloc);
     end.extend_from_slice(b"end")?;
     lines.push(end)?;

@@ -12,7 +12,7 @@ use Rattle.usb_world.specs.{Relation}
 use Rattle.usb_world.specs.{Attempt, Outcome, is_harmless, IsMade, AttemptAnswerer, IsSetup, got}
 use Rattle.usb_world.specs.{hears_attempt, token_way, payload_way, answer_way, World, at_attempt}
 use Rattle.usb_world.specs.{damage_in, outcome_in, with_attempt, attempt, after, Course, here, Was}
-use Rattle.usb_world.specs.{DidIn, DidOut, EachWas}
+use Rattle.usb_world.specs.{DidIn, DidOut}
 use Rattle.usb_world.specs.declared.types.Outcome.TheVariants as outcome
 use Rattle.usb_tree.specs.{address_of, IsSettled, deep_at}
 use Rattle.usb_world.proofs.Interface.{course_then, due_back, each_in, each_out, given_by}
@@ -23,7 +23,7 @@ use Rattle.usb_tree.proofs.Interface.{decided, equal_same, same_equal}
 use Rattle.usb_transaction.specs.{Target, TransFault, Stalled, Busy, NoAnswer, HeardOutcome}
 use Rattle.usb_transaction.specs.{Lost, Moved, Answerer, HadOne, IsAnswer, heard_as, polled_as}
 use Rattle.usb_transaction.specs.{heard_when_sent, set_up_as, is_at, ControlIn, ReadStatus}
-use Rattle.usb_transaction.specs.{SourceIn, SinkOut, ChangesIn, AskedLast, SetupAccepted, Answered}
+use Rattle.usb_transaction.specs.{SourceIn, SinkOut, AskedLast, SetupAccepted, Answered}
 use Rattle.usb_transaction.specs.{Took, IsUnheard, AttemptLog, start, next, waits_with, waits_in}
 use Rattle.usb_transaction.specs.{IsNoEnd, KeepsTrying, TransactionDone, Transacted, Waiting}
 use Rattle.usb_transaction.specs.{Polled, packed, setup_attempt, in_attempt, out_attempt, SetupEnds}
@@ -587,35 +587,28 @@ module _ (t : Target) (bytes : List ℕ) (old new : World) (eight : length bytes
 
 -- Polls
 
-module _ (t : Target) (ep : ℕ) (toggle : Toggle) (old new : World) (least : 1 ≤ t.max)
-    (settled : IsSettled old.roots) where
-  pub what_poll : (result : Result (Option (List ℕ)) TransFault)
-      → Polled toggle (in_attempt t ep) old result new → ep ≡ 1 → new.shared ≡ false
-      → EachWas (ChangesIn t toggle old result new) old new
-  what_poll result x one = poll_leaves t toggle result old new least settled
-      (subst (λ k. Polled toggle (in_attempt t k) old result new) one x)
+module _ (t : Target) (ep : ℕ) (toggle : Toggle) (old new : World) (settled : IsSettled old.roots)
+  where
+    who_poll : (result : Result (Option (List ℕ)) TransFault)
+        → Polled toggle (in_attempt t ep) old result new
+        → OnOk result (new.shared ≡ false → Answerer t old new)
+    who_poll (Ok None) x = wait_answered t ep toggle old new settled x
+    who_poll (Ok (Some bytes)) x = poll_answered t ep toggle bytes old new settled x
+    who_poll (Err fault) x = tt
 
-  who_poll : (result : Result (Option (List ℕ)) TransFault)
-      → Polled toggle (in_attempt t ep) old result new
-      → OnOk result (new.shared ≡ false → Answerer t old new)
-  who_poll (Ok None) x = wait_answered t ep toggle old new settled x
-  who_poll (Ok (Some bytes)) x = poll_answered t ep toggle bytes old new settled x
-  who_poll (Err fault) x = tt
-
-  pub polls_in : {now : Toggle} → now ≡ toggle → (result : Result (Option (List ℕ)) TransFault)
-      → Polled now (in_attempt t ep) old result new
-      → IfOk result (λ got. IfSome got (λ bytes. length bytes ≤ t.max))
-      → PollsIn t ep toggle old result new
-  polls_in same result heard short =
-      let x : Polled toggle (in_attempt t ep) old result new = rw same at heard in
-      record {
-        heard = x;
-        ends = poll_ends toggle (in_attempt t ep) old new result x;
-        short = short;
-        what = what_poll result x;
-        why = λ one u. poll_why t toggle result old new least settled u.few
-            (subst (λ k. Polled toggle (in_attempt t k) old result new) one x) u.whole u.single;
-        source = source_polled t ep toggle result old new settled x;
-        source_why = λ u. source_poll_why t ep toggle result old new settled u.few x u.single;
-        who = who_poll result x;
-      }
+    pub polls_in : {now : Toggle} → now ≡ toggle → (result : Result (Option (List ℕ)) TransFault)
+        → Polled now (in_attempt t ep) old result new
+        → IfOk result (λ got. IfSome got (λ bytes. length bytes ≤ t.max))
+        → PollsIn t ep toggle old result new
+    polls_in same result heard short =
+        let x : Polled toggle (in_attempt t ep) old result new = rw same at heard in
+        record {
+          heard = x;
+          ends = poll_ends toggle (in_attempt t ep) old new result x;
+          short = short;
+          what = poll_leaves t ep toggle result old new settled x;
+          why = λ u. poll_why t ep toggle result old new settled u.few x u.whole u.single;
+          source = source_polled t ep toggle result old new settled x;
+          source_why = λ u. source_poll_why t ep toggle result old new settled u.few x u.single;
+          who = who_poll result x;
+        }

@@ -6,7 +6,7 @@ pub use Rattle.usb_transaction.proofs.BulkTransactions.{sink_leaves, sink_over, 
 pub use Rattle.usb_transaction.proofs.BulkTransactions.{source_at_kept, source_kept, source_leaves}
 pub use Rattle.usb_transaction.proofs.BulkTransactions.{source_over, source_why}
 pub use Rattle.usb_transaction.proofs.Calls.{had_one, poll_answered, poll_had, read_answered}
-pub use Rattle.usb_transaction.proofs.Calls.{read_had, set_up_had, wait_answered, what_poll}
+pub use Rattle.usb_transaction.proofs.Calls.{read_had, set_up_had, wait_answered}
 pub use Rattle.usb_transaction.proofs.Calls.{write_answered, write_had}
 pub use Rattle.usb_transaction.proofs.ControlTransactions.{control_in_leaves, control_in_why}
 pub use Rattle.usb_transaction.proofs.ControlTransactions.{control_leaves, read_status_why}
@@ -15,7 +15,7 @@ pub use Rattle.usb_transaction.proofs.ControlWrites.{write_leaves, write_status_
 pub use Rattle.usb_transaction.proofs.DeviceRuns.{at_end, at_from, each_device, had_address}
 pub use Rattle.usb_transaction.proofs.DeviceRuns.{listens_at, listens_on, others_stay_then, over_in}
 pub use Rattle.usb_transaction.proofs.DeviceRuns.{was_then}
-pub use Rattle.usb_transaction.proofs.Polls.{poll_why}
+pub use Rattle.usb_transaction.proofs.Polls.{poll_leaves, poll_why}
 pub use Rattle.usb_transaction.proofs.SetupTransactions.{set_up_why, setup_leaves, spared_all}
 pub use Rattle.usb_transaction.proofs.SetupTransactions.{spared_joined, spared_wider, spec_stays}
 pub use Rattle.usb_transaction.proofs.SourcePolls.{source_poll_why, source_polled}

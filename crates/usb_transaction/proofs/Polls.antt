@@ -1,18 +1,21 @@
 -- A poll of a hub's status endpoint (11.12.3): what it leaves of each device, and why it fails.
-use Rattle.std.proofs.Common.{◌≡◌, ◌≢◌, ◌≤◌, ◌⊎◌, inl, inr, ℕ, ◌==◌, nat_le, ◌&&◌}
+use Rattle.std.proofs.Common.{◌≡◌, ◌≢◌, ◌≤◌, ◌⊎◌, inl, inr, ℕ, ◌/◌, ◌%◌, ◌==◌, nat_le}
+use Rattle.std.proofs.Common.{nat_lt, ◌&&◌}
 use Rattle.std.proofs.Common.{if◌then◌else◌, Bool, true, false, List, [], ◌∷◌, length, Option, None}
 use Rattle.std.proofs.Common.{Some, Result, Ok, Err, refl, sym, subst, ap, ◌∙◌, arith}
+use Rattle.std.proofs.lemmas.Bool.Decides.{nat_tests}
 use Rattle.arrayvec.specs.ArrayVec.{ArrayVec}
 use Rattle.usb_packet.specs.{Toggle, other, is_same}
 use Rattle.usb_port.specs.{PortState}
-use Rattle.usb_device.specs.{Answer, tells_changes, change_bits, State, Reply, forgotten}
+use Rattle.usb_device.specs.{Answer, tells_changes, change_bits, change_bytes, hub_ports, told_bits}
+use Rattle.usb_device.specs.{status_length, status_number, State, Reply, forgotten}
 use Rattle.usb_device.specs.{acknowledged, payload, Way, is_whole, heard, gave, held_law, in_law}
 use Rattle.usb_device.specs.{Ports, full, row_of, place_on, Location, PollAt, level, told, ahead}
 use Rattle.usb_device.specs.{NeverTold, PollOn, OnlyChanges}
 use Rattle.usb_device.specs.declared.answer.Answer.TheVariants as answer
 use Rattle.usb_device.specs.declared.transfer.InEndpoint.TheVariants as by
 use Rattle.usb_device.specs.Attempt.{whole}
-use Rattle.usb_device.proofs.Interface.{at_least_one, is_same-refl, law_is, other-other, poll_on}
+use Rattle.usb_device.proofs.Interface.{is_same-refl, law_is, other-other, poll_on, told-back}
 use Rattle.usb_world.specs.{Attempt, Outcome, EachWas, DidIn, got, attempt, after, outcome_in}
 use Rattle.usb_world.specs.{damage_in, at_attempt, with_attempt, World, Made}
 use Rattle.usb_world.specs.declared.types.Outcome.TheVariants.{Payload, Stall}
@@ -21,7 +24,8 @@ use Rattle.usb_world.proofs.Interface.{got_nak, got_payload, got_stall, made_ste
 use Rattle.usb_tree.proofs.Interface.{decided, false_true}
 use Rattle.usb_transaction.specs.{TransFault, Stalled, Busy, NoAnswer, Bus, HeardOutcome, Moved}
 use Rattle.usb_transaction.specs.{Repeat, Lost, Target, NoThreeDamaged, Listens, PollFailure}
-use Rattle.usb_transaction.specs.{polled, polled_as, IsNotOfBus, is_at, ToldIn, ToldSince, ToldBy}
+use Rattle.usb_transaction.specs.{polled, polled_as, IsNotOfBus, IsStatusEndpoint, is_at, ToldIn}
+use Rattle.usb_transaction.specs.{ToldSince, ToldBy}
 use Rattle.usb_transaction.specs.{ToldSome, none_came, one_came, PollEnds, ChangesIn, AttemptLog}
 use Rattle.usb_transaction.specs.{IsNoEnd, Polled, packed}
 use Rattle.usb_transaction.specs.{in_attempt}
@@ -31,7 +35,17 @@ use Rattle.usb_transaction.proofs.DeviceRuns.{Turns, few_repeats, heeded, in_oth
 use Rattle.usb_transaction.proofs.DeviceRuns.{of_bus, over_polled, stays_away}
 use Rattle.usb_transaction.proofs.LastOutcomes.{polled_last}
 
--- The replies to IN 1 of a configured hub, by whether all packets came whole
+-- the bytes of some bits are no more than a packet of the hub has (11.12.4)
+few_bytes : (ports bits max : ℕ) → status_length ports ≤ max
+    → nat_le (length (change_bytes ports bits)) max ≡ true
+few_bytes ports bits max m = by_ports (nat_lt 7 ports) refl
+  where
+    by_ports : (b : Bool) → nat_lt 7 ports ≡ b
+        → nat_le (length (if b then bits % 256 ∷ bits / 256 ∷ [] else bits % 256 ∷ [])) max ≡ true
+    by_ports true e = grind (arith, nat_tests, m)
+    by_ports false e = grind (arith, nat_tests, m)
+
+-- The replies to IN of a configured hub's status endpoint, by whether all packets came whole
 
 abbrev poll_byte_state : State → Option ℕ → Bool → State
 poll_byte_state s held came = if came then forgotten
@@ -42,42 +56,53 @@ module _ (s : State) (P : Bool → Reply → Type 0) (silent : (held : Option �
     → P clear (Some answer.Stall, s))
     (waits : (clear : Bool) → P clear (Some answer.Nak, s))
     (gives : (clear : Bool) (held : Option ℕ) (bits : ℕ)
-    → P clear (Some (payload s.changes.toggle (bits ∷ [])), poll_byte_state s held clear))
+    → P clear (
+      Some (payload s.changes.toggle (change_bytes (hub_ports s.spec.hub) bits)),
+      poll_byte_state s held clear,
+    ))
   where
+    abbrev Room : ℕ → Type 0
+    Room max = status_length (hub_ports s.spec.hub) ≤ max
+
+    abbrev bytes_of : ℕ → List ℕ
+    bytes_of bits = change_bytes (hub_ports s.spec.hub) bits
+
     by_heard : (t2 t3 : Way) (x : Option Answer) → P (is_whole t3) (x, s)
         → P (is_whole t2 && is_whole t3) (heard t2 x, s)
     by_heard whole t3 x h = h
     by_heard t2 t3 x h = silent s.held
 
-    by_byte : (max : ℕ) → nat_le 1 max ≡ true → (t2 t3 : Way) (held : Option ℕ) (bits : ℕ)
+    by_byte : (max : ℕ) → Room max → (t2 t3 : Way) (held : Option ℕ) (bits : ℕ)
         → P (is_whole t2 && is_whole t3) (gave (record s { held = held }) by.Changes max
-        s.changes.toggle (bits ∷ []) t2 t3)
-    by_byte max m whole t3 held bits = rw m (gives (is_whole t3) held bits)
+        s.changes.toggle (bytes_of bits) t2 t3)
+    by_byte max m whole t3 held bits =
+        rw (few_bytes (hub_ports s.spec.hub) bits max m) (gives (is_whole t3) held bits)
     by_byte max m t2 t3 held bits = silent held
 
-    by_held : (row : List PortState) (max : ℕ) → nat_le 1 max ≡ true
-        → (t2 t3 : Way) (held : Option ℕ)
+    by_held : (row : List PortState) (max : ℕ) → Room max → (t2 t3 : Way) (held : Option ℕ)
         → P (is_whole t2 && is_whole t3) (held_law s row held max t2 t3)
     by_held row max m t2 t3 (Some bits) = by_byte max m t2 t3 s.held bits
-    by_held row max m t2 t3 None = new (change_bits row == 0)
+    by_held row max m t2 t3 None = new bits (bits == 0)
       where
-        new : (none : Bool) → P (is_whole t2 && is_whole t3)
-            (if none then (heard t2 (Some answer.Nak), s) else gave
-            (record s { held = Some (change_bits row) }) by.Changes max s.changes.toggle
-            (change_bits row ∷ []) t2 t3)
-        new true = by_heard t2 t3 (Some answer.Nak) (waits (is_whole t3))
-        new false = by_byte max m t2 t3 (Some (change_bits row)) (change_bits row)
+        bits : ℕ
+        bits = change_bits (hub_ports s.spec.hub) row
 
-    by_reply : tells_changes s.spec s.registers ≡ true → (row : List PortState) (max : ℕ) → 1 ≤ max
+        new : (bits : ℕ) (none : Bool) → P (is_whole t2 && is_whole t3)
+            (if none then (heard t2 (Some answer.Nak), s) else gave
+            (record s { held = Some bits }) by.Changes max s.changes.toggle (bytes_of bits) t2 t3)
+        new bits true = by_heard t2 t3 (Some answer.Nak) (waits (is_whole t3))
+        new bits false = by_byte max m t2 t3 (Some bits) bits
+
+    by_reply : tells_changes s.spec s.registers ≡ true → (row : List PortState) (max : ℕ) → Room max
         → (t1 t2 t3 : Way) → P (is_whole t1 && is_whole t2 && is_whole t3)
-        (in_law s row 1 max t1 t2 t3)
+        (in_law s row (status_number s.spec s.registers) max t1 t2 t3)
     by_reply h row max m whole t2 t3 = rw (law_is s h row max t2 t3) (halt s.changes.halted refl)
       where
         halt : (halted : Bool) → s.changes.halted ≡ halted
             → P (is_whole t2 && is_whole t3) (if halted then (heard t2 (Some answer.Stall), s)
             else held_law s row s.held max t2 t3)
         halt true q = by_heard t2 t3 (Some answer.Stall) (stalls (is_whole t3) q)
-        halt false q = by_held row max (at_least_one max m) t2 t3 s.held
+        halt false q = by_held row max m t2 t3 s.held
     by_reply h row max m t1 t2 t3 = silent s.held
 
 -- what one attempt leaves of the endpoint
@@ -118,11 +143,12 @@ step_byte t s false held b =
     }
 
 poll_step : (t : Toggle) (s : State) → tells_changes s.spec s.registers ≡ true
-    → (row : List PortState) (max : ℕ) → 1 ≤ max → (t1 t2 t3 : Way) (o : Outcome) (v : State)
-    → o ≡ got max (in_law s row 1 max t1 t2 t3).0 → v ≡ (in_law s row 1 max t1 t2 t3).1
+    → (row : List PortState) (ep max : ℕ) → ep ≡ status_number s.spec s.registers
+    → status_length (hub_ports s.spec.hub) ≤ max → (t1 t2 t3 : Way) (o : Outcome) (v : State)
+    → o ≡ got max (in_law s row ep max t1 t2 t3).0 → v ≡ (in_law s row ep max t1 t2 t3).1
     → PollStep t s (is_whole t1 && is_whole t2 && is_whole t3) o v
-poll_step t s h row max m t1 t2 t3 o v e f =
-    rw (e, f) (by_reply s (λ clear r. PollStep t s clear (got max r.0) r.1)
+poll_step t s h row ep max number m t1 t2 t3 o v e f =
+    rw (e, f, number) (by_reply s (λ clear r. PollStep t s clear (got max r.0) r.1)
     (λ held. record {
       frame = refl;
       quiet = refl;
@@ -147,8 +173,9 @@ poll_step t s h row max m t1 t2 t3 o v e f =
       even = λ q n. elim n [ ];
       behind = λ q n. elim n [ ];
     })
-    (λ clear held bits. rw (at_least_one max m)
-    (step_byte t s clear held (record { items = bits ∷ [] }))) h row max m t1 t2 t3)
+    (λ clear held bits. rw (few_bytes (hub_ports s.spec.hub) bits max m)
+    (step_byte t s clear held (record { items = change_bytes (hub_ports s.spec.hub) bits }))) h row
+    max m t1 t2 t3)
 
 -- What the host hears of an answer
 
@@ -161,56 +188,61 @@ poll_at-wider Told So f t s (ahead bits h q) = ahead bits h q
 never_told : (Told : ℕ → Type 0) (t : Toggle) (s : State) → PollAt NeverTold t s → PollAt Told t s
 never_told Told t s = poll_at-wider NeverTold Told (λ bits so. elim so [ ]) t s
 
-module _ (Told : ℕ → Type 0) (bits : ℕ) (t : Toggle) (max : ℕ) (m : 1 ≤ max) (v : State) where
+module _ (ports : ℕ) (Told : ℕ → Type 0) (bits : ℕ) (t : Toggle) (max : ℕ)
+    (m : status_length ports ≤ max) (v : State) (counted : hub_ports v.spec.hub ≡ ports) where
+  fits_came : (given : ℕ) (bytes : List ℕ) → bytes ≡ change_bytes (hub_ports v.spec.hub) given
+      → nat_le (length bytes) max ≡ true
+  fits_came given bytes is = rw (is, counted) (few_bytes ports given max m)
+
   -- no byte came, or one that ends the poll
-  came : (o : Option Answer) → PollOn (ToldSome Told) bits t o v → PollAt (ToldSome Told) t v
+  came : (o : Option Answer) → PollOn (ToldSome ports Told) bits t o v → PollAt (ToldSome ports Told) t v
       ⊎ (PollAt NeverTold (other t) v × (IsNoEnd (polled_as t (got max o)) → ⊥))
   came None on = inl on
   came (Some answer.Ack) on = elim on [ ]
-  came (Some answer.Nak) on = inl (never_told (ToldSome Told) t v on.1)
+  came (Some answer.Nak) on = inl (never_told (ToldSome ports Told) t v on.1)
   came (Some answer.Stall) on = inl on.0
   came (Some (answer.Data given b)) on =
       elim (decided (is_same t given)) [
         | inl h ↦
             inr (
               (on.0 h).between,
-              λ n. rw (ap {B = ℕ} length (on.0 h).came, at_least_one max m, h) at n,
+              λ n. rw (fits_came (on.0 h).bits b.items (on.0 h).came, h) at n,
             )
         | inr h ↦ inl (on.1 h)
       ]
 
-  goes_on : (o : Option Answer) → PollOn (ToldSome Told) bits t o v
-      → IsNoEnd (polled_as t (got max o)) → PollAt (ToldSome Told) t v
+  goes_on : (o : Option Answer) → PollOn (ToldSome ports Told) bits t o v
+      → IsNoEnd (polled_as t (got max o)) → PollAt (ToldSome ports Told) t v
   goes_on o on n = elim (came o on) [ inl x ↦ x | inr y ↦ absurd (y.1 n) ]
 
   -- bits are what the ports told, where NAK was answered
   ends : (result : Result (Option (List ℕ)) TransFault) (o : Option Answer)
       (outcomes : List Outcome) → (o ≡ Some answer.Nak → Told bits)
-      → PollOn (ToldSome Told) bits t o v → IsPollEnd t result (got max o) outcomes
-      → PollEnds Told t result v
+      → PollOn (ToldSome ports Told) bits t o v → IsPollEnd t result (got max o) outcomes
+      → PollEnds ports Told t result v
   ends (Ok None) o outcomes so on e =
       let nak : o ≡ Some answer.Nak = got_nak max o e in
-      let x : (bits ≡ 0) × PollAt NeverTold t v = subst (λ y. PollOn (ToldSome Told) bits t y v) nak
+      let x : (bits ≡ 0) × PollAt NeverTold t v = subst (λ y. PollOn (ToldSome ports Told) bits t y v) nak
       on in
       (subst Told x.0 (so nak), x.1)
   ends (Ok (Some bytes)) o outcomes so on e =
-      (subst (λ y. PollOn (ToldSome Told) bits t y v)
+      (subst (λ y. PollOn (ToldSome ports Told) bits t y v)
       (got_payload max o t (packed bytes) (polled_last t (got max o) bytes e)) on).0
       (is_same-refl t)
   ends (Err Stalled) o outcomes so on e =
-      subst (λ y. PollOn (ToldSome Told) bits t y v) (got_stall max o e) on
+      subst (λ y. PollOn (ToldSome ports Told) bits t y v) (got_stall max o e) on
   ends (Err (Bus fault)) o outcomes so on e =
       elim (came o on) [ inl x ↦ none_came x | inr y ↦ one_came y.0 ]
   ends (Err fault) o outcomes so on e = goes_on o on e.0
 
   -- what an outcome says of the endpoint, where the poll goes on and where it ends
   abbrev Says : Outcome → Type 0
-  Says o = (IsNoEnd (polled_as t o) → PollAt (ToldSome Told) t v)
+  Says o = (IsNoEnd (polled_as t o) → PollAt (ToldSome ports Told) t v)
       × ((result : Result (Option (List ℕ)) TransFault) (outcomes : List Outcome)
-      → IsPollEnd t result o outcomes → PollEnds Told t result v)
+      → IsPollEnd t result o outcomes → PollEnds ports Told t result v)
 
   says : (o : Outcome) (x : Option Answer) → o ≡ got max x → (x ≡ Some answer.Nak → Told bits)
-      → PollOn (ToldSome Told) bits t x v → Says o
+      → PollOn (ToldSome ports Told) bits t x v → Says o
   says o x e so on = rw e (
     λ n. goes_on x on n,
     λ result outcomes is. ends result x outcomes so on is,
@@ -226,10 +258,13 @@ due_came a w made = let same : (after (attempt a) w).taken ≡ (at_attempt w).ta
 
 -- A hub that tells of changes, at the target
 
-module _ (t : Target) (toggle : Toggle) (old : World) (m : 1 ≤ t.max) (j : Location) (s : State)
-    (at : is_at s t ≡ true) (h : tells_changes s.spec s.registers ≡ true) where
+module _ (t : Target) (ep : ℕ) (toggle : Toggle) (old : World) (j : Location) (s : State)
+    (at : is_at s t ≡ true) (h : IsStatusEndpoint t ep s) where
   abbrev a : Attempt
-  a = in_attempt t 1
+  a = in_attempt t ep
+
+  abbrev ports : ℕ
+  ports = hub_ports s.spec.hub
 
   abbrev hear : Outcome → HeardOutcome
   hear o = polled_as toggle o
@@ -240,10 +275,19 @@ module _ (t : Target) (toggle : Toggle) (old : World) (m : 1 ≤ t.max) (j : Loc
     still_at = ap (λ y. is_at y t) x ∙ at
 
     tells : tells_changes u.spec u.registers ≡ true
-    tells = ap (λ y. tells_changes y.spec y.registers) x ∙ h
+    tells = ap (λ y. tells_changes y.spec y.registers) x ∙ h.tells
 
-    asked : (row : List PortState) × AttemptDelivered t a (in_law u row 1 t.max) w j u v
-    asked = asked_in t 1 w j u v d still_at
+    counted : hub_ports u.spec.hub ≡ ports
+    counted = ap (λ (y : State). hub_ports y.spec.hub) x
+
+    number : ep ≡ status_number u.spec u.registers
+    number = h.number ∙ sym (ap (λ (y : State). status_number y.spec y.registers) x)
+
+    room : status_length (hub_ports u.spec.hub) ≤ t.max
+    room = subst (λ n. status_length n ≤ t.max) (sym counted) h.fits
+
+    asked : (row : List PortState) × AttemptDelivered t a (in_law u row ep t.max) w j u v
+    asked = asked_in t ep w j u v d still_at
 
     abbrev clear : Bool
     clear = is_whole asked.1.first && is_whole asked.1.second && is_whole asked.1.third
@@ -254,8 +298,8 @@ module _ (t : Target) (toggle : Toggle) (old : World) (m : 1 ≤ t.max) (j : Loc
         (λ x y z. is_whole x && is_whole y && is_whole z)
 
     step : PollStep toggle u clear (outcome_in a w) v
-    step = poll_step toggle u tells asked.0 t.max m asked.1.first asked.1.second asked.1.third
-        (outcome_in a w) v asked.1.gave asked.1.is
+    step = poll_step toggle u tells asked.0 ep t.max number room asked.1.first asked.1.second
+        asked.1.third (outcome_in a w) v asked.1.gave asked.1.is
 
     frame : OnlyChanges s v
     frame = step.frame ∙ ap {A = State} (λ y. record y {
@@ -264,30 +308,42 @@ module _ (t : Target) (toggle : Toggle) (old : World) (m : 1 ≤ t.max) (j : Loc
       held = v.held;
     }) x
 
+    counted_then : hub_ports v.spec.hub ≡ ports
+    counted_then = ap (λ (y : State). hub_ports y.spec.hub) frame
+
+    abbrev TheSaid : (ℕ → Type 0) → Type 0
+    TheSaid Told = Says ports Told 0 toggle t.max h.fits v counted_then (outcome_in a w)
+
     -- of anything that is so of the bits that its ports tell now
     gave_it : (Told : ℕ → Type 0) → ((b : PortState) (below : Ports)
         → place_on (at_attempt w).roots j ≡ Some (full b u below)
-        → Told (change_bits (row_of below))) → DidIn a w j u v → PollAt (ToldSome Told) toggle u
-        → Says Told 0 toggle t.max m v (outcome_in a w)
+        → Told (change_bits (hub_ports u.spec.hub) (row_of below))) → DidIn a w j u v
+        → PollAt (ToldSome ports Told) toggle u → TheSaid Told
     gave_it Told tells_now (DidIn.other e same) before = false_true (sym e ∙ still_at)
     gave_it Told tells_now (DidIn.silent e q o is) before =
-        says Told 0 toggle t.max m v (outcome_in a w) None o (λ n. absurd (cc n))
-        (subst (PollAt (ToldSome Told) toggle) (sym is) before)
+        says ports Told 0 toggle t.max h.fits v counted_then (outcome_in a w) None o
+        (λ n. absurd (cc n)) (subst (PollAt (ToldSome ports Told) toggle) (sym is) before)
     gave_it Told tells_now (DidIn.asked e q b below stood y o is) before =
-        let bits : ℕ = change_bits (row_of below) in
+        let bits : ℕ = change_bits (hub_ports u.spec.hub) (row_of below) in
         let so : Told bits = tells_now b below stood in
-        says Told bits toggle t.max m v (outcome_in a w)
-        (in_law u (row_of below) 1 t.max y.first y.second y.third).0 o (λ n. so)
-        (subst (PollOn (ToldSome Told) bits toggle (in_law u (row_of below) 1 t.max y.first y.second
-        y.third).0) (sym is)
-        (poll_on (ToldSome Told) toggle u tells (row_of below) (λ some. (some, so)) before t.max m
-        y.first y.second y.third))
+        let again : told_bits (change_bytes ports bits) ≡ bits =
+        subst (λ n. told_bits (change_bytes n bits) ≡ bits) counted
+        (told-back (hub_ports u.spec.hub) (row_of below)) in
+        says ports Told bits toggle t.max h.fits v counted_then (outcome_in a w)
+        (in_law u (row_of below) ep t.max y.first y.second y.third).0 o (λ n. so)
+        (subst (PollOn (ToldSome ports Told) bits toggle
+        (in_law u (row_of below) ep t.max y.first y.second y.third).0) (sym is)
+        (subst (λ n. PollOn (ToldSome ports Told) bits toggle
+        (in_law u (row_of below) n t.max y.first y.second y.third).0
+        (in_law u (row_of below) n t.max y.first y.second y.third).1) (sym number)
+        (poll_on (ToldSome ports Told) toggle u tells (row_of below) (λ some. (some, again, so))
+        before t.max room y.first y.second y.third)))
 
     module _ (outcomes : List Outcome) (trail : AttemptLog a old outcomes w) where
       -- what its ports tell now, by any world that more of the same attempts lead to
       told_here : (b : PortState) (below : Ports) → place_on (at_attempt w).roots j
           ≡ Some (full b u below) → (now : World) (later : List Outcome) → AttemptLog a w later now
-          → ToldIn a old now j (change_bits (row_of below))
+          → ToldIn a old now j (change_bits (hub_ports u.spec.hub) (row_of below))
       told_here b below stood now later since =
           record {
             outcomes = outcomes;
@@ -306,18 +362,18 @@ module _ (t : Target) (toggle : Toggle) (old : World) (m : 1 ≤ t.max) (j : Loc
       abbrev Ever : ℕ → Type 0
       Ever bits = (now : World) × ToldIn a old now j bits
 
-      by_then : PollAt (ToldSome (ToldSince a old w j)) toggle u → PollAt (ToldSome Ever) toggle u
-      by_then = poll_at-wider (ToldSome (ToldSince a old w j)) (ToldSome Ever)
-          (λ bits x. (x.0, (w, x.1.told))) toggle u
+      by_then : PollAt (ToldSome ports (ToldSince a old w j)) toggle u → PollAt (ToldSome ports Ever) toggle u
+      by_then = poll_at-wider (ToldSome ports (ToldSince a old w j)) (ToldSome ports Ever)
+          (λ bits x. (x.0, x.1, (w, x.2.told))) toggle u
 
-      gave_then : DidIn a w j u v → PollAt (ToldSome (ToldSince a old w j)) toggle u
-          → Says Ever 0 toggle t.max m v (outcome_in a w)
+      gave_then : DidIn a w j u v → PollAt (ToldSome ports (ToldSince a old w j)) toggle u
+          → TheSaid Ever
       gave_then d before = gave_it Ever
           (λ b below stood. (w, told_here b below stood w [] AttemptLog.start)) d (by_then before)
 
       gave_since : Made w (after (attempt a) w) → DidIn a w j u v
-          → PollAt (ToldSome (ToldSince a old w j)) toggle u
-          → Says (ToldSince a old (after (attempt a) w) j) 0 toggle t.max m v (outcome_in a w)
+          → PollAt (ToldSome ports (ToldSince a old w j)) toggle u
+          → TheSaid (ToldSince a old (after (attempt a) w) j)
       unfolding told_here
       gave_since made d before =
           gave_it (ToldSince a old (after (attempt a) w) j)
@@ -326,9 +382,9 @@ module _ (t : Target) (toggle : Toggle) (old : World) (m : 1 ≤ t.max) (j : Loc
                 (outcome_in a w ∷ []) (AttemptLog.next w AttemptLog.start made);
             came = due_came a w made;
           }) d
-          (poll_at-wider (ToldSome (ToldSince a old w j))
-          (ToldSome (ToldSince a old (after (attempt a) w) j))
-          (λ bits x. (x.0, told_on bits x.1)) toggle u before)
+          (poll_at-wider (ToldSome ports (ToldSince a old w j))
+          (ToldSome ports (ToldSince a old (after (attempt a) w) j))
+          (λ bits x. (x.0, x.1, told_on bits x.2)) toggle u before)
         where
           told_on : (bits : ℕ) → ToldSince a old w j bits
               → ToldSince a old (after (attempt a) w) j bits
@@ -349,40 +405,40 @@ module _ (t : Target) (toggle : Toggle) (old : World) (m : 1 ≤ t.max) (j : Loc
           }
 
       ended : (result : Result (Option (List ℕ)) TransFault) (new : World) → DidIn a w j u v
-          → PollAt (ToldSome (ToldSince a old w j)) toggle u
+          → PollAt (ToldSome ports (ToldSince a old w j)) toggle u
           → IsPollEnd toggle result (outcome_in a w) outcomes
           → ((IsOfBus result → ⊥) → AttemptLeft a w new)
-          → PollEnds (ToldBy a old result new j) toggle result v
+          → PollEnds ports (ToldBy a old result new j) toggle result v
       ended (Ok got) new d before end made =
           let m : AttemptLeft a w new = made (λ g. g tt) in
-          subst (λ n. PollEnds (ToldSince a old n j) toggle (Ok got) v) (sym m.1)
+          subst (λ n. PollEnds ports (ToldSince a old n j) toggle (Ok got) v) (sym m.1)
           ((gave_since m.0 d before).1 (Ok got) outcomes end)
       ended (Err fault) new d before end made = (gave_then d before).1 (Err fault) outcomes end
 
   left : (result : Result (Option (List ℕ)) TransFault) (new : World) (v : State)
       → RunThrough (DidIn a) a hear (IsPollEnd toggle result) (IsOfBus result) old new j s v
       → OnlyChanges s v × (PollAt NeverTold toggle s
-      → PollEnds (ToldBy a old result new j) toggle result v)
+      → PollEnds ports (ToldBy a old result new j) toggle result v)
   left result new v run =
       at_end hear (λ outcomes w u. OnlyChanges s u
-      × (PollAt NeverTold toggle s → PollAt (ToldSome (ToldSince a old w j)) toggle u))
-      (refl, never_told (ToldSome (ToldSince a old old j)) toggle s)
+      × (PollAt NeverTold toggle s → PollAt (ToldSome ports (ToldSince a old w j)) toggle u))
+      (refl, never_told (ToldSome ports (ToldSince a old old j)) toggle s)
       (λ outcomes w u x r made i d n. (
         frame w u x i.0 d,
         λ k. (gave_since w u x i.0 d outcomes r made d (i.1 k)).0 n,
       ))
       (λ x. OnlyChanges s x × (PollAt NeverTold toggle s
-      → PollEnds (ToldBy a old result new j) toggle result x)) v
+      → PollEnds ports (ToldBy a old result new j) toggle result x)) v
       (λ outcomes w u r i d end made. (
         frame w u v i.0 d,
         λ k. ended w u v i.0 d outcomes r result new d (i.1 k) end made,
       ))
       (λ gave outcomes w i. (
         i.0,
-        λ k. of_bus (λ x. PollEnds (ToldBy a old x new j) toggle x v)
-            (λ fault. none_came (poll_at-wider (ToldSome (ToldSince a old w j))
-            (ToldSome (λ bits. (now : World) × ToldIn a old now j bits))
-            (λ bits x. (x.0, (w, x.1.told))) toggle v (i.1 k))) result gave,
+        λ k. of_bus (λ x. PollEnds ports (ToldBy a old x new j) toggle x v)
+            (λ fault. none_came (poll_at-wider (ToldSome ports (ToldSince a old w j))
+            (ToldSome ports (λ bits. (now : World) × ToldIn a old now j bits))
+            (λ bits x. (x.0, x.1, (w, x.2.told))) toggle v (i.1 k))) result gave,
       )) run
 
   -- a hub that listens, and whose endpoint is not halted
@@ -426,34 +482,34 @@ module _ (t : Target) (toggle : Toggle) (old : World) (m : 1 ≤ t.max) (j : Loc
 
 -- Each device
 
-pub poll_leaves : (t : Target) (toggle : Toggle) (result : Result (Option (List ℕ)) TransFault)
-    (old new : World) → 1 ≤ t.max → IsSettled old.roots
-    → Polled toggle (in_attempt t 1) old result new → new.shared ≡ false
-    → EachWas (ChangesIn t toggle old result new) old new
-poll_leaves t toggle result old new m settled x single =
-    each_device _ (ChangesIn t toggle old result new) old new
+pub poll_leaves : (t : Target) (ep : ℕ) (toggle : Toggle)
+    (result : Result (Option (List ℕ)) TransFault) (old new : World) → IsSettled old.roots
+    → Polled toggle (in_attempt t ep) old result new → new.shared ≡ false
+    → EachWas (ChangesIn t ep toggle old result new) old new
+poll_leaves t ep toggle result old new settled x single =
+    each_device _ (ChangesIn t ep toggle old result new) old new
     (λ j s v run.
-    let away : (is_at s t ≡ false → v ≡ s) = stays_away t (λ w u x. in_others t 1 w j u x) run in
+    let away : (is_at s t ≡ false → v ≡ s) = stays_away t (λ w u x. in_others t ep w j u x) run in
     record {
       others = away;
       frame = λ h. elim (decided (is_at s t)) [
-        | inl at ↦ (left t toggle old m j s at h result new v run).0
+        | inl at ↦ (left t ep toggle old j s at h result new v run).0
         | inr y ↦ subst (OnlyChanges s) (sym (away y)) refl
       ];
-      poll = λ at h. (left t toggle old m j s at h result new v run).1;
+      poll = λ at h. (left t ep toggle old j s at h result new v run).1;
     })
-    (over_polled t 1 old new settled single toggle result x)
+    (over_polled t ep old new settled single toggle result x)
 
-pub poll_why : (t : Target) (toggle : Toggle) (result : Result (Option (List ℕ)) TransFault)
-    (old new : World) → 1 ≤ t.max → IsSettled old.roots → NoThreeDamaged old
-    → Polled toggle (in_attempt t 1) old result new → IsNotOfBus result → new.shared ≡ false
-    → EachWas (PollFailure t toggle result) old new
-poll_why t toggle result old new m settled three x sound single =
-    each_device _ (PollFailure t toggle result) old new
+pub poll_why : (t : Target) (ep : ℕ) (toggle : Toggle)
+    (result : Result (Option (List ℕ)) TransFault) (old new : World) → IsSettled old.roots
+    → NoThreeDamaged old → Polled toggle (in_attempt t ep) old result new → IsNotOfBus result
+    → new.shared ≡ false → EachWas (PollFailure t ep toggle result) old new
+poll_why t ep toggle result old new settled three x sound single =
+    each_device _ (PollFailure t ep toggle result) old new
     (λ j s v run. record {
       answered = λ l h start quiet fault e.
-          answers t toggle old m j s l.at h three l quiet fault (subst IsNotOfBus e sound) new v
-          (subst (λ r. RunThrough (DidIn (in_attempt t 1)) (in_attempt t 1) (polled_as toggle)
+          answers t ep toggle old j s l.at h three l quiet fault (subst IsNotOfBus e sound) new v
+          (subst (λ r. RunThrough (DidIn (in_attempt t ep)) (in_attempt t ep) (polled_as toggle)
           (IsPollEnd toggle r) (IsOfBus r) old new j s v) e run);
     })
-    (over_polled t 1 old new settled single toggle result x)
+    (over_polled t ep old new settled single toggle result x)

@@ -131,16 +131,15 @@ pub record SendsOut (t : Target) (ep : ℕ) (toggle : Toggle) (bytes : List ℕ)
   pub who : OnOk result (new.shared ≡ false → Answerer t old new)
   pub means : MeansOfOut t ep toggle bytes old result new
 
--- a poll of a hub's status endpoint, which is its endpoint 1 (11.12.3), or of one that gives packets
--- (5.7)
+-- a poll of a hub's status endpoint (11.12.3), or of one that gives packets (5.7)
 
 pub record PollsIn (t : Target) (ep : ℕ) (toggle : Toggle) (old : World)
     (result : Result (Option (List ℕ)) TransFault) (new : World) : Type 0 where
   pub heard : Polled toggle (in_attempt t ep) old result new
   pub ends : Ends old result new
   pub short : IfOk result (λ got. IfSome got (λ bytes. length bytes ≤ t.max))
-  pub what : ep ≡ 1 → new.shared ≡ false → EachWas (ChangesIn t toggle old result new) old new
-  pub why : ep ≡ 1 → IsUnhindered old result new → EachWas (PollFailure t toggle result) old new
+  pub what : new.shared ≡ false → EachWas (ChangesIn t ep toggle old result new) old new
+  pub why : IsUnhindered old result new → EachWas (PollFailure t ep toggle result) old new
   pub source : new.shared ≡ false → EachWas (SourcePolled t ep toggle result) old new
   pub source_why : IsUnhindered old result new → EachWas (SourcePollFailure t ep toggle result) old
       new

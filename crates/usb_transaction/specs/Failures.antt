@@ -1,5 +1,5 @@
 -- Why a transaction fails, where no three attempts running are damaged.
-use Rattle.usb_device.specs.{Location, tells_changes, State, ending, refused, max_packet, packet_at}
+use Rattle.usb_device.specs.{Location, State, ending, refused, max_packet, packet_at}
 use Rattle.usb_device.specs.{toggle_at, ReadingAt, IsSource, SourceAt, IsSink, PollAt, NeverTold}
 use Rattle.usb_device.specs.{Write, writing, in_end, out_end, next_packet, GivesWithin, IsPrompt}
 use Rattle.std.specs.Prelude.{◌≡◌, ◌≢◌, ℕ, ◌≤◌, List, length, true, false, Option, Some}
@@ -10,7 +10,7 @@ use Rattle.usb_tree.specs.{deep_at}
 use Rattle.usb_transaction.specs.declared.target.Target.{Target}
 use Rattle.usb_transaction.specs.declared.fault.TransFault.{TransFault}
 use Rattle.usb_transaction.specs.declared.fault.TransFault.TheVariants.{Busy, NoAnswer}
-use Rattle.usb_transaction.specs.Leaves.{is_at, IsInRead}
+use Rattle.usb_transaction.specs.Leaves.{is_at, IsInRead, IsStatusEndpoint}
 use Rattle.usb_transaction.specs.Transactions.{in_attempt}
 
 -- no three attempts running are damaged
@@ -96,10 +96,10 @@ pub record SinkOutFailure (t : Target) (ep : ℕ) (toggle : Toggle) (bytes : Lis
   pub waited : Listens t x s → (most : ℕ) → IsSink ep most s → IsPrompt (out_end s ep).pace
       → result ≢ Err Busy
 
--- a hub's status endpoint that is not halted gives a byte, or says that there is none
-pub record PollFailure (t : Target) (toggle : Toggle) (result : Result (Option (List ℕ)) TransFault)
-    (x : Location) (s v : State) : Type 0 where
-  pub answered : Listens t x s → tells_changes s.spec s.registers ≡ true → PollAt NeverTold toggle s
+-- a hub's status endpoint that is not halted gives its bytes, or says that there are none
+pub record PollFailure (t : Target) (ep : ℕ) (toggle : Toggle)
+    (result : Result (Option (List ℕ)) TransFault) (x : Location) (s v : State) : Type 0 where
+  pub answered : Listens t x s → IsStatusEndpoint t ep s → PollAt NeverTold toggle s
       → s.changes.halted ≡ false → (fault : TransFault) → result ≡ Err fault → ⊥
 
 -- an endpoint besides endpoint 0 that is polled: it answers, where its packets are as short as the

@@ -4,7 +4,8 @@ use Rattle.std.specs.Prelude.{Option, None, Some, Result, Ok, Err, ⊤, not}
 use Rattle.usb_packet.specs.{Toggle, One, other}
 use Rattle.usb_port.specs.{PortState}
 use Rattle.usb_request.specs.{setup_of}
-use Rattle.usb_device.specs.{Spec, next_place, tells_changes, change_bits, asked_by_setup, State}
+use Rattle.usb_device.specs.{Spec, next_place, tells_changes, status_number, status_length}
+use Rattle.usb_device.specs.{hub_ports, change_bits, change_bytes, told_bits, asked_by_setup, State}
 use Rattle.usb_device.specs.{accepted, ending, reading, refused as stage_refused, toggle_at, Ports}
 use Rattle.usb_device.specs.{full, acted, row_of, Location, place_on, ReadingAt, ReadOn, StatusOn}
 use Rattle.usb_device.specs.{StatusGiven, IsRead, IsSource, SourceAt, SourceOn, IsSink, SinkAt}
@@ -219,7 +220,7 @@ pub record ToldIn (a : Attempt) (old new : World) (x : Location) (bits : ℕ) : 
   pub s : State
   pub below : Ports
   pub stood : place_on (at_attempt mid).roots x ≡ Some (full b s below)
-  pub told : bits ≡ change_bits (row_of below)
+  pub told : bits ≡ change_bits (hub_ports s.spec.hub) (row_of below)
   pub later : List Outcome
   pub since : AttemptLog a mid later new
 
@@ -234,32 +235,41 @@ abbrev pub ToldBy : Attempt → World → Result (Option (List ℕ)) TransFault 
 ToldBy a old (Ok got) new x bits = ToldSince a old new x bits
 ToldBy a old (Err fault) new x bits = (now : World) × ToldIn a old now x bits
 
--- so it is of bits of which one at least is set
-abbrev pub ToldSome : (ℕ → Type 0) → ℕ → Type 0
-ToldSome Told bits = (bits ≢ 0) × Told bits
+-- so it is of bits of which one at least is set, and which the bytes of so many ports tell again
+abbrev pub ToldSome : ℕ → (ℕ → Type 0) → ℕ → Type 0
+ToldSome ports Told bits = (bits ≢ 0) × (told_bits (change_bytes ports bits) ≡ bits) × Told bits
 
 -- where the bus gave up, a byte came to it and was acknowledged, and the host did not get it; or
 -- none came
-pub data PollCut (Told : ℕ → Type 0) (toggle : Toggle) (v : State) : Type 0 where
-  none_came : PollAt (ToldSome Told) toggle v → PollCut Told toggle v
-  one_came : PollAt NeverTold (other toggle) v → PollCut Told toggle v
+pub data PollCut (ports : ℕ) (Told : ℕ → Type 0) (toggle : Toggle) (v : State) : Type 0 where
+  none_came : PollAt (ToldSome ports Told) toggle v → PollCut ports Told toggle v
+  one_came : PollAt NeverTold (other toggle) v → PollCut ports Told toggle v
 
-abbrev pub PollEnds : (ℕ → Type 0) → Toggle → Result (Option (List ℕ)) TransFault → State → Type 0
-PollEnds Told toggle (Ok None) v = Told 0 × PollAt NeverTold toggle v
-PollEnds Told toggle (Ok (Some bytes)) v = ToldByte (ToldSome Told) toggle bytes v
-PollEnds Told toggle (Err Stalled) v = PollAt (ToldSome Told) toggle v × (v.changes.halted ≡ true)
-PollEnds Told toggle (Err Busy) v = PollAt (ToldSome Told) toggle v
-PollEnds Told toggle (Err NoAnswer) v = PollAt (ToldSome Told) toggle v
-PollEnds Told toggle (Err (Bus fault)) v = PollCut Told toggle v
+abbrev pub PollEnds : ℕ → (ℕ → Type 0) → Toggle → Result (Option (List ℕ)) TransFault → State
+    → Type 0
+PollEnds ports Told toggle (Ok None) v = Told 0 × PollAt NeverTold toggle v
+PollEnds ports Told toggle (Ok (Some bytes)) v = ToldByte (ToldSome ports Told) toggle bytes v
+PollEnds ports Told toggle (Err Stalled) v = PollAt (ToldSome ports Told) toggle v
+    × (v.changes.halted ≡ true)
+PollEnds ports Told toggle (Err Busy) v = PollAt (ToldSome ports Told) toggle v
+PollEnds ports Told toggle (Err NoAnswer) v = PollAt (ToldSome ports Told) toggle v
+PollEnds ports Told toggle (Err (Bus fault)) v = PollCut ports Told toggle v
+
+-- the endpoint is the status endpoint of a hub that has a configuration, and its packets are no
+-- longer than the target's maximum (11.12.1, 11.12.4)
+pub record IsStatusEndpoint (t : Target) (ep : ℕ) (s : State) : Type 0 where
+  pub number : ep ≡ status_number s.spec s.registers
+  pub tells : tells_changes s.spec s.registers ≡ true
+  pub fits : status_length (hub_ports s.spec.hub) ≤ t.max
 
 -- a poll of a hub's status endpoint (11.12.3)
-pub record ChangesIn (t : Target) (toggle : Toggle) (old : World)
+pub record ChangesIn (t : Target) (ep : ℕ) (toggle : Toggle) (old : World)
     (result : Result (Option (List ℕ)) TransFault) (new : World) (x : Location) (s v : State) :
     Type 0 where
   pub others : is_at s t ≡ false → v ≡ s
-  pub frame : tells_changes s.spec s.registers ≡ true → OnlyChanges s v
-  pub poll : is_at s t ≡ true → tells_changes s.spec s.registers ≡ true → PollAt NeverTold toggle s
-      → PollEnds (ToldBy (in_attempt t 1) old result new x) toggle result v
+  pub frame : IsStatusEndpoint t ep s → OnlyChanges s v
+  pub poll : is_at s t ≡ true → IsStatusEndpoint t ep s → PollAt NeverTold toggle s
+      → PollEnds (hub_ports s.spec.hub) (ToldBy (in_attempt t ep) old result new x) toggle result v
 
 -- A device accepted setup data in the attempt that left this world: it alone held the address, it
 -- is what the request makes, with the ports it had there, of what it

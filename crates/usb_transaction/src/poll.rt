@@ -19,8 +19,8 @@ use usb_packet::Toggle;
 ///
 /// If no address was ever held twice, the packet is the next one that the device at the target's
 /// address has for the endpoint: each comes once. At None an endpoint that gives no NAK before
-/// its packets has none left. A hub's byte is what its ports reported at one of the attempts, if
-/// no earlier poll failed. At None they reported nothing.
+/// its packets has none left. What a hub's status endpoint gives is what its ports reported at one of the attempts, if
+/// no earlier poll failed; a hub of 8 to 15 ports gives two bytes (11.12.4). At None they reported nothing.
 ///
 /// An endpoint may give any number of NAKs. A poll that it hears ends in `Busy` or `NoAnswer` only
 /// where three attempts in a row are damaged, or a packet is longer than the target's maximum.

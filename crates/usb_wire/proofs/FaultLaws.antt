@@ -19,7 +19,7 @@ use Rattle.usb_wire.specs.{ClearOf, Poll, ReceiveFrom, SendTo, clear_of_answer, 
 use Rattle.usb_wire.specs.{endpoint_named, address_named, poll_answer, receive_from_answer}
 use Rattle.usb_wire.specs.{send_to_answer, send_to_limit, Interface, interface_answer, setting_field}
 use Rattle.usb_wire.specs.{NoAnswer, BadHex, BadLength, BadNumber, BadPath, Asked, send_limit}
-use Rattle.usb_wire.specs.{Field, Form, argument_fault, bytes_field, fault_by, line_fault}
+use Rattle.usb_wire.specs.{Field, Form, argument_fault, bytes_field, fault_by, form_fault}
 use Rattle.usb_wire.specs.{fields_in, forms, packets_field, path_field, root_field, roots_field}
 use Rattle.usb_wire.specs.{status_field, words_fault, hex_length, hex_value, is_dash, is_hex}
 use Rattle.usb_wire.specs.{number_within, alone, said_of, bytes_of_word, clear_answer, count_in}
@@ -628,7 +628,7 @@ line_rows _ _ line f other h = refl
 
 -- the fault that is told of a line is its own
 pub faults-line : (asked : Asked) (count : ℕ) (line : List ℕ)
-    → fault_in (line_says asked count line) ≡ line_fault asked count line
+    → fault_in (line_says asked count line) ≡ form_fault asked count line
 unfolding line_says text_of_line
 faults-line asked count line =
     line_rows (nat_lt 1024 (length line)) (all_printable line) line

@@ -3,7 +3,8 @@ use Rattle.std.proofs.Common.{◌≡◌, ℕ, zero, suc, ◌+◌, ◌*◌, ◌/�
 use Rattle.std.proofs.Common.{false, not, ◌&&◌, ◌||◌, ◌==◌, nat_le, nat_lt, cond, if◌then◌else◌}
 use Rattle.std.proofs.Common.{List, [], ◌∷◌, length, get_or, take, Option, Some, None, ok_or}
 use Rattle.std.proofs.Common.{Result, Ok, Err, All, ◌⊎◌, refl, sym, subst, ap, ◌∙◌, arith, inl, inr}
-use Rattle.std.proofs.Common.{decimal, codes, lit<}
+use Rattle.std.proofs.Common.{decimal, codes, lit<, ◌++◌}
+use Rattle.std.proofs.lemmas.List.{append-nil}
 use Rattle.std.specs.Char.{is_ascii_digit}
 use Rattle.std.specs.List.{AllPass, list_all}
 use Rattle.std.specs.Option.{option_and_then}
@@ -13,7 +14,7 @@ use Rattle.std.specs.Str.{all_ascii_digits, bytes_eq}
 use Rattle.std.specs.Str.Parse.{digits_value, ParsesUnsigned}
 use Rattle.std.proofs.Math.Bool.{and-false, or-true}
 use Rattle.std.proofs.lemmas.Bool.{and_parts, eqb-true, le-leb, le-ltb, leb-true, lt-leb, lt-ltb}
-use Rattle.std.proofs.lemmas.Bool.{ltb-false, ltb-true, or_cases}
+use Rattle.std.proofs.lemmas.Bool.{ltb-false, ltb-true, or_cases, cases_lt}
 use Rattle.std.proofs.lemmas.Bool.Decides.{nat_tests}
 use Rattle.std.proofs.lemmas.Fmt.{decimal-digits_value, decimal_digit, decimal_nonempty}
 use Rattle.std.proofs.lemmas.Fmt.{digits_decimal, digits_value-decimal, first_decimal}
@@ -27,7 +28,8 @@ use Rattle.hex.specs.Hex.{decode_of, decode_sized, encode_upper, encode_with, is
 use Rattle.hex.proofs.HexLemmas.{decode_of-digits, decode_of-encode_upper, decode_of-ok}
 use Rattle.hex.proofs.HexLemmas.{decode_sized-twice}
 use Rattle.usb_packet.specs.{hex_text}
-use Rattle.usb_port.specs.{IsPortNumber, path_text}
+use Rattle.usb_port.specs.{IsPortNumber, number_text, path_text}
+use Rattle.usb_port.proofs.Interface.{number_text-below, number_text-from}
 use Rattle.usb_request.specs.{is_endpoint_address}
 use Rattle.usb_wire.specs.{address_spelled, address_named, address_text, hex_length, hex_value}
 use Rattle.usb_wire.specs.{is_dash, is_decimal, is_hex, number_within}
@@ -328,21 +330,33 @@ all_visible-hex word h =
           (list_all is_hex_digit word) hex).1
     ]
 
-number_visible : (n : ℕ) → IsPortNumber n → is_visible (48 + n) ≡ true
-number_visible n h = rw (
-  le-leb 33 (48 + n) (omega (arith, h.0)),
-  le-leb (48 + n) 126 (omega (arith, h.1)),
-) refl
+digit_is_visible : (d : ℕ) → 33 ≤ d → d ≤ 126 → is_visible d ≡ true
+digit_is_visible d low high = rw (le-leb 33 d low, le-leb d 126 high) refl
+
+-- what is visible before visible text
+visible_number : (n : ℕ) (text : List ℕ) → IsPortNumber n → all_visible text ≡ true
+    → all_visible (number_text n ++ text) ≡ true
+visible_number n text h rest = elim (cases_lt n 10) [
+  | inl below ↦ rw (
+    number_text-below n below,
+    digit_is_visible (48 + n) (omega arith) (omega arith),
+    rest,
+  ) refl
+  | inr from ↦ rw (
+    number_text-from n from,
+    digit_is_visible (38 + n) (omega arith) (omega (arith, h.1)),
+    rest,
+  ) refl
+]
 
 pub all_visible-path_text : (p : List ℕ) → All IsPortNumber p → all_visible (path_text p) ≡ true
 unfolding path_text
 all_visible-path_text [] h = refl
-all_visible-path_text (n ∷ []) h = rw (number_visible n (All-head IsPortNumber n [] h)) refl
+all_visible-path_text (n ∷ []) h = subst (λ t. all_visible t ≡ true) (append-nil (number_text n))
+    (visible_number n [] (All-head IsPortNumber n [] h) refl)
 all_visible-path_text (n ∷ m ∷ p) h =
-    rw (
-      number_visible n (All-head IsPortNumber n (m ∷ p) h),
-      all_visible-path_text (m ∷ p) (All-tail IsPortNumber n (m ∷ p) h),
-    ) refl
+    visible_number n (46 ∷ path_text (m ∷ p)) (All-head IsPortNumber n (m ∷ p) h)
+    (rw (all_visible-path_text (m ∷ p) (All-tail IsPortNumber n (m ∷ p) h)) refl)
 
 -- ---- readings
 
@@ -434,23 +448,44 @@ decoded-counted word n h some =
           }
     ]
 
+-- two digits for each byte
+digit_pairs : (word bytes : List ℕ) → hex_value word ≡ Some bytes → is_dash word ≡ false
+    → length word ≡ 2 * length bytes
+digit_pairs word bytes e other =
+    let spelled = spelled-value word bytes e in
+    let hex = other_hex (is_dash word) (is_hex word) other spelled.hex in
+    let even = (pairs-hex word hex).even in
+    let unfolded : hex_length word ≡ length word / 2 = rw other refl in
+    let half : length word / 2 ≡ length bytes = sym unfolded ∙ spelled.count in
+    omega (arith, even, half)
+
+-- and a dash for none
+one_dash : (word : List ℕ) → is_dash word ≡ true → length word ≡ 1
+one_dash word dash = let text : word ≡ codes "-" = (bytes_eq-Decides word (codes "-")).0 dash in
+    ap length text
+
+pub hex_value-within : (word bytes : List ℕ) (most : ℕ) → hex_value word ≡ Some bytes → 1 ≤ most
+    → 2 * length bytes ≤ most → length word ≤ most
+hex_value-within word bytes most e one few = elim (true_or_false (is_dash word)) [
+  | inl dash ↦ omega (arith, one_dash word dash)
+  | inr other ↦ omega (arith, digit_pairs word bytes e other)
+]
+
+pub hex_value-fills : (word bytes : List ℕ) → hex_value word ≡ Some bytes
+    → 2 * length bytes ≤ length word
+hex_value-fills word bytes e = elim (true_or_false (is_dash word)) [
+  | inl dash ↦
+      let none = (spelled-value word bytes e).count in
+      let zero : hex_length word ≡ 0 = rw dash refl in
+      omega (arith, none, zero)
+  | inr other ↦ omega (arith, digit_pairs word bytes e other)
+]
+
 -- the digits of bytes are at most one more than twice as many
 pub hex_value-length : (word bytes : List ℕ) → hex_value word ≡ Some bytes
     → length word ≤ 2 * length bytes + 1
 hex_value-length word bytes e =
-    elim (true_or_false (is_dash word)) [
-      | inl dash ↦
-          let text : word ≡ codes "-" = (bytes_eq-Decides word (codes "-")).0 dash in
-          let one : length word ≡ 1 = ap length text in
-          omega (arith, one)
-      | inr other ↦
-          let spelled = spelled-value word bytes e in
-          let hex = other_hex (is_dash word) (is_hex word) other spelled.hex in
-          let even = (pairs-hex word hex).even in
-          let unfolded : hex_length word ≡ length word / 2 = rw other refl in
-          let half : length word / 2 ≡ length bytes = sym unfolded ∙ spelled.count in
-          omega (arith, even, half)
-    ]
+    hex_value-within word bytes (2 * length bytes + 1) e (omega arith) (omega arith)
 
 -- the four bytes of a status, decoded
 pub status-decoded : (word given status : List ℕ) (r : Result (List ℕ) FromHexError)

@@ -5,5 +5,6 @@ mod SetupLemmas
 mod FaultLaws
 mod SaidLaws
 mod ReadLaws
+mod PortLaws
 mod QuestionLaws
 mod EndpointLemmas

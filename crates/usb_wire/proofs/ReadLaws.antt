@@ -1,5 +1,5 @@
 -- What may be said and stands in a line is read.
-use Rattle.std.proofs.Common.{◌≡◌, ℕ, suc, ◌+◌, ◌*◌, ◌<◌, ◌≤◌, ◌==◌, Bool, true, false, List, []}
+use Rattle.std.proofs.Common.{◌≡◌, ℕ, suc, ◌+◌, ◌-◌, ◌*◌, ◌<◌, ◌≤◌, ◌==◌, Bool, true, false, List, []}
 use Rattle.std.proofs.Common.{◌∷◌, ◌++◌, length, get_or}
 use Rattle.std.proofs.Common.{Some, ok_or, Ok, refl, sym, subst, ap, ◌∙◌, arith, append_assoc}
 use Rattle.std.proofs.Common.{codes, decimal, length-append, lit<, lit≤}
@@ -9,7 +9,7 @@ use Rattle.std.proofs.lemmas.Fmt.{length-decimal-le}
 use Rattle.hex.specs.Hex.{IsBytes}
 use Rattle.usb_packet.specs.{Toggle, Zero, One, data_name, hex_text}
 use Rattle.usb_port.specs.{IsPath, path_text}
-use Rattle.usb_port.proofs.Paths.{length-path_text, reads_back}
+use Rattle.usb_port.proofs.Interface.{length-path_text, reads_back}
 use Rattle.usb_request.specs.{DIRECTION_IN, IsToDevice, IsToHost, Setup, bytes_of}
 use Rattle.usb_request.specs.{is_endpoint_address}
 use Rattle.usb_wire.specs.{ClearOf, Poll, ReceiveFrom, SendTo, clear_of_answer, endpoint_named}
@@ -20,7 +20,7 @@ use Rattle.usb_wire.specs.{Receive, Clear, Said, Changed, Answered, BadNumber, B
 use Rattle.usb_wire.specs.{ControlIn, ControlOut, Look, News, answer_setup, control_answer}
 use Rattle.usb_wire.specs.{is_other_request, look_answer, request_of_word, said_setup, with_three}
 use Rattle.usb_wire.specs.{bare_control, write_answer, write_limit, write_of_words, write_text}
-use Rattle.usb_wire.specs.{MayAnswer, IsSaidLine, MayPush, MaySay, answer_bytes, answer_in_digits}
+use Rattle.usb_wire.specs.{MayAnswer, HasRoom, IsSaidLine, MayPush, MaySay, answer_bytes, answer_in_digits}
 use Rattle.usb_wire.specs.{said_bytes, said_line, said_in_digits, send_limit, hex_value, alone}
 use Rattle.usb_wire.specs.{bytes_of_word, clear_answer, data_answer, line_says, number_of_word}
 use Rattle.usb_wire.specs.{path_in, status_change, receive_answer, roots_answer, send_answer}
@@ -30,7 +30,7 @@ use Rattle.usb_wire.specs.declared.question.Asked.TheVariants.{Hello, Attempt, P
 use Rattle.usb_wire.proofs.FieldLemmas.{Counted, all_visible-decimal, all_visible-hex}
 use Rattle.usb_wire.proofs.FieldLemmas.{all_visible-path_text, bytes_of_word-value}
 use Rattle.usb_wire.proofs.FieldLemmas.{address_named-text, small_address}
-use Rattle.usb_wire.proofs.FieldLemmas.{hex_value-hex_text, hex_value-length, spelled-value}
+use Rattle.usb_wire.proofs.FieldLemmas.{hex_value-hex_text, hex_value-length, hex_value-within, spelled-value}
 use Rattle.usb_wire.proofs.FieldLemmas.{status_of_word-value, within-decimal}
 use Rattle.usb_wire.proofs.SetupLemmas.{IsBytes-bytes_of, length-bytes_of}
 use Rattle.usb_wire.proofs.SetupLemmas.{setup_in_bytes-bytes_of}
@@ -58,7 +58,7 @@ decimal-is_word most n wide few =
     let short = length-decimal-le 4 n (lit< tt) (omega arith) (omega arith) in
     record { visible = all_visible-decimal n (omega arith); short = omega (arith, short, wide) }
 
-path_text-is_word : (most : ℕ) (p : List ℕ) → 13 ≤ most → IsPath p
+path_text-is_word : (most : ℕ) (p : List ℕ) → 20 ≤ most → IsPath p
     → IsVisibleWord most (path_text p)
 path_text-is_word most p wide h =
     let short = length-path_text p in
@@ -157,11 +157,12 @@ record IsRest (most : ℕ) (rest : List ℕ) (ws : List (List ℕ)) : Type 0 whe
   printable : all_printable rest ≡ true
   short : length rest ≤ most
 
-read_rest : (asked : Asked) (count m n : ℕ) (front first word rest : List ℕ) (ws : List (List ℕ))
-    (s : Said) → m + n ≤ 1010 → IsFront m front first → IsVisibleWord 13 word → IsRest n rest ws
+-- a line that ends in those
+read_end : (asked : Asked) (count m k n : ℕ) (front first word rest : List ℕ) (ws : List (List ℕ))
+    (s : Said) → m + k + n ≤ 1023 → IsFront m front first → IsVisibleWord k word → IsRest n rest ws
     → words_say asked count (first ∷ word ∷ ws) ≡ Ok s
     → ReadsLine asked count (front ++ word ++ codes " " ++ rest) s
-read_rest asked count m n front first word rest ws s room f w r e =
+read_end asked count m k n front first word rest ws s room f w r e =
     let whole : front ++ word ++ codes " " ++ rest ≡ front ++ (word ++ 32 ∷ rest) =
     append_assoc (front ++ word) (codes " ") rest ∙ append_assoc front word (32 ∷ rest) in
     let cut : words (front ++ (word ++ 32 ∷ rest)) ≡ first ∷ word ∷ ws =
@@ -178,6 +179,13 @@ read_rest asked count m n front first word rest ws s room f w r e =
       printable = all_printable-append front (word ++ 32 ∷ rest) f.printable plain;
       says = ap (words_say asked count) cut ∙ e;
     })
+
+read_rest : (asked : Asked) (count m n : ℕ) (front first word rest : List ℕ) (ws : List (List ℕ))
+    (s : Said) → m + n ≤ 1003 → IsFront m front first → IsVisibleWord 20 word → IsRest n rest ws
+    → words_say asked count (first ∷ word ∷ ws) ≡ Ok s
+    → ReadsLine asked count (front ++ word ++ codes " " ++ rest) s
+read_rest asked count m n front first word rest ws s room f w r e =
+    read_end asked count m 20 n front first word rest ws s (omega (arith, room)) f w r e
 
 last_rest : (most : ℕ) (last : List ℕ) → IsVisibleWord most last → IsRest most last (last ∷ [])
 last_rest most last l = record {
@@ -203,12 +211,24 @@ two_rest m n word last w l =
     })
 
 read_three : (asked : Asked) (count : ℕ) (front first word last : List ℕ) (s : Said)
-    → IsFront 8 front first → IsVisibleWord 13 word → IsVisibleWord 1001 last
+    → IsFront 8 front first → IsVisibleWord 20 word → IsVisibleWord 995 last
     → words_say asked count (first ∷ word ∷ last ∷ []) ≡ Ok s
     → ReadsLine asked count (front ++ word ++ codes " " ++ last) s
 read_three asked count front first word last s f w l e =
-    read_rest asked count 8 1001 front first word last (last ∷ []) s (omega arith) f w
-    (last_rest 1001 last l) e
+    read_rest asked count 8 995 front first word last (last ∷ []) s (omega arith) f w
+    (last_rest 995 last l) e
+
+-- the digits of the bytes have room behind the path
+room_of_digits : (p digits bytes : List ℕ) → IsPath p → hex_value digits ≡ Some bytes
+    → HasRoom p bytes → IsVisibleWord (1018 - length (path_text p)) digits
+room_of_digits p digits bytes h e room =
+    let short = length-path_text p in
+    let spelled = spelled-value digits bytes e in
+    record {
+      visible = all_visible-hex digits spelled.hex;
+      short = hex_value-within digits bytes (1018 - length (path_text p)) e
+          (omega (arith, short, h.1)) (omega (arith, room));
+    }
 
 -- the first word of a data packet
 abbrev printed_data : Toggle → List ℕ
@@ -235,8 +255,8 @@ read_changed : (asked : Asked) (count number : ℕ) (status digits : List ℕ) �
     (Changed number status)
 read_changed asked count number status digits may low high small e four =
     read_three asked count (codes "port ") (codes "port") (decimal number) digits
-    (Changed number status) port_front (decimal-is_word 13 number (omega arith) (omega arith))
-    (bytes_word 500 digits status e (omega (arith, four)))
+    (Changed number status) port_front (decimal-is_word 20 number (omega arith) (omega arith))
+    (bytes_word 497 digits status e (omega (arith, four)))
     (push_said asked count number status digits may low high small e four)
 
 data_said : (count : ℕ) (toggle : Toggle) (xs digits : List ℕ) → hex_value digits ≡ Some xs
@@ -266,7 +286,7 @@ unfolding words_say three_say with_two control_answer
 read_bare count setup p s a h t kind is =
     let word = setup_word setup s t in
     read_three Wait count (codes "control ") (codes "control") (path_text p) setup (Answered a)
-    control_front (path_text-is_word 13 p (omega arith) h)
+    control_front (path_text-is_word 20 p (omega arith) h)
     (record { visible = word.visible; short = omega (arith, word.short) })
     (rw (read_request_word false setup s t kind, read_path p h, is) refl)
 
@@ -282,7 +302,7 @@ read_write count setup digits p s [] h t e writes size few =
 read_write count setup digits p s (x ∷ xs) h t e writes size few =
     read_rest Wait count 8 979 (codes "control ") (codes "control") (path_text p) _
     (setup ∷ digits ∷ []) (Answered (ControlOut p (record { setup = s; bytes = x ∷ xs })))
-    (omega arith) control_front (path_text-is_word 13 p (omega arith) h)
+    (omega arith) control_front (path_text-is_word 20 p (omega arith) h)
     (two_rest 17 961 setup digits (setup_word setup s t) (bytes_word write_limit digits (x ∷ xs) e few))
     (rw (
       read_request_word true setup s t (writes_some s (length xs) writes size),
@@ -309,7 +329,7 @@ read_named : (count : ℕ) (front first word p : List ℕ) (a : ℕ) (s : Said) 
 read_named count front first word p a s f h named w e =
     subst (λ line. ReadsLine Wait count line s) (named_line front word p (address_text a))
     (read_rest Wait count 8 985 front first (path_text p) _ (address_text a ∷ word ∷ []) s
-    (omega arith) f (path_text-is_word 13 p (omega arith) h)
+    (omega arith) f (path_text-is_word 20 p (omega arith) h)
     (two_rest 3 981 (address_text a) word (address_text-is_word 3 a (omega arith) named) w) e)
 
 read_answer : (asked : Asked) (count : ℕ) (setup digits : List ℕ) (a : Answer) → MayAnswer asked a
@@ -369,14 +389,18 @@ read_answer Wait count setup digits End h t e = record {
   says = refl;
 }
 read_answer Wait count setup digits (Send p sent) h t e =
-    read_three Wait count (codes "send ") (codes "send") (path_text p) digits
-    (Answered (Send p sent)) (record { short = lit≤ tt; printable = refl; cut = λ rest. refl })
-    (path_text-is_word 13 p (omega arith) h.0) (bytes_word 500 digits sent.items e h.1.0)
+    let way = path_text-is_word 20 p (omega arith) h.0 in
+    let most : ℕ = 1018 - length (path_text p) in
+    read_end Wait count 5 (length (path_text p)) most (codes "send ") (codes "send") (path_text p)
+    digits (digits ∷ []) (Answered (Send p sent)) (omega (arith, way.short))
+    (record { short = lit≤ tt; printable = refl; cut = λ rest. refl })
+    (record { visible = way.visible; short = omega arith })
+    (last_rest most digits (room_of_digits p digits sent.items h.0 e h.2))
     (rw (read_bytes send_limit digits sent.items e h.1.0, read_path p h.0) refl)
 read_answer Wait count setup digits (Receive p n) h t e =
     read_three Wait count (codes "receive ") (codes "receive") (path_text p) (decimal n)
     (Answered (Receive p n)) (record { short = lit≤ tt; printable = refl; cut = λ rest. refl })
-    (path_text-is_word 13 p (omega arith) h.0) (decimal-is_word 1001 n (omega arith) h.1)
+    (path_text-is_word 20 p (omega arith) h.0) (decimal-is_word 995 n (omega arith) h.1)
     (rw (read_number 0 1000 n (omega arith) h.1 h.1, read_path p h.0) refl)
 read_answer Wait count setup digits (Clear p) h t e =
     read_two Wait count (codes "clear ") (codes "clear") (path_text p) (Answered (Clear p))
@@ -405,14 +429,14 @@ read_answer Wait count setup digits (Poll p a) h t e =
     read_rest Wait count 10 3 (codes "interrupt ") (codes "interrupt") (path_text p)
     (address_text a) (address_text a ∷ []) (Answered (Poll p a)) (omega arith)
     (record { short = lit≤ tt; printable = refl; cut = λ rest. refl })
-    (path_text-is_word 13 p (omega arith) h.0)
+    (path_text-is_word 20 p (omega arith) h.0)
     (last_rest 3 (address_text a) (address_text-is_word 3 a (omega arith) h.1))
     (rw (read_endpoint a h.1, read_path p h.0) refl)
 read_answer Wait count setup digits (ClearOf p a) h t e =
     read_three Wait count (codes "clear ") (codes "clear") (path_text p) (address_text a)
     (Answered (ClearOf p a)) (record { short = lit≤ tt; printable = refl; cut = λ rest. refl })
-    (path_text-is_word 13 p (omega arith) h.0)
-    (address_text-is_word 1001 a (omega arith) h.1)
+    (path_text-is_word 20 p (omega arith) h.0)
+    (address_text-is_word 995 a (omega arith) h.1)
     (rw (read_endpoint a h.1, read_path p h.0) refl)
 read_answer Wait count setup digits (Interface p n k) h t e =
     subst (λ line. ReadsLine Wait count line (Answered (Interface p n k)))
@@ -420,7 +444,7 @@ read_answer Wait count setup digits (Interface p n k) h t e =
     (read_rest Wait count 10 28 (codes "interface ") (codes "interface") (path_text p) _
     (decimal n ∷ decimal k ∷ []) (Answered (Interface p n k)) (omega arith)
     (record { short = lit≤ tt; printable = refl; cut = λ rest. refl })
-    (path_text-is_word 13 p (omega arith) h.0)
+    (path_text-is_word 20 p (omega arith) h.0)
     (two_rest 13 14 (decimal n) (decimal k)
     (decimal-is_word 13 n (omega arith) (omega (arith, h.1)))
     (decimal-is_word 14 k (omega arith) (omega (arith, h.2))))

@@ -2,7 +2,7 @@
 use Rattle.std.proofs.Common.{◌≡◌, ℕ, ◌^◌, ◌<◌, ◌≤◌, Bool, true, false, ◌&&◌, ◌==◌, nat_lt}
 use Rattle.std.proofs.Common.{if◌then◌else◌, List, [], ◌∷◌, ◌++◌, length, Option, Some, None, ok_or}
 use Rattle.std.proofs.Common.{Result, Ok, Err, IfOk, refl, sym, subst, ap, ◌∙◌, arith, append_assoc}
-use Rattle.std.proofs.Common.{codes, decimal, not}
+use Rattle.std.proofs.Common.{codes, decimal, not, length-append, ◌+◌}
 use Rattle.std.specs.List.{join_with_byte}
 use Rattle.std.specs.Result.{result_unwrap_or}
 use Rattle.std.specs.Str.{bytes_eq}
@@ -11,7 +11,7 @@ use Rattle.std.proofs.lemmas.Bool.Decides.{nat_tests}
 use Rattle.std.proofs.lemmas.Slice.Eq.{bytes_eq-Decides}
 use Rattle.usb_packet.specs.{Toggle, Zero, One}
 use Rattle.usb_port.specs.{IsPath, path_of, path_text}
-use Rattle.usb_port.proofs.Paths.{some_if}
+use Rattle.usb_port.proofs.Interface.{some_if}
 use Rattle.usb_request.specs.{DIRECTION_IN, Setup, bytes_of}
 use Rattle.usb_wire.specs.{ClearOf, Poll, ReceiveFrom, SendTo, clear_of_answer, endpoint_named}
 use Rattle.usb_wire.specs.{address_named, address_text, poll_answer, receive_from_answer}
@@ -24,7 +24,7 @@ use Rattle.usb_wire.specs.{said_in_digits, said_setup, setup_in_bytes, with_thre
 use Rattle.usb_wire.specs.{IsWrite, Write, is_write, write_limit, write_of_words, write_text}
 use Rattle.usb_wire.specs.{Receive, Clear, Said, Changed, Answered, WireFault, LineTooLong}
 use Rattle.usb_wire.specs.{BadCharacter, NoAnswer, BadHex, BadLength, BadNumber, BadPath, Asked}
-use Rattle.usb_wire.specs.{More as MoreWords, AreAtMost, MayAnswer, IsSaidLine, MayPush, MaySay}
+use Rattle.usb_wire.specs.{More as MoreWords, AreAtMost, MayAnswer, HasRoom, IsSaidLine, MayPush, MaySay}
 use Rattle.usb_wire.specs.{answer_bytes, answer_in_digits, send_limit, hex_value, number_within}
 use Rattle.usb_wire.specs.{alone, said_of, bytes_of_word, clear_answer, count_in, data_answer}
 use Rattle.usb_wire.specs.{line_says, may_push, number_of_word, path_in, status_change}
@@ -35,7 +35,7 @@ use Rattle.usb_wire.specs.declared.question.Asked.TheVariants.{Hello, Attempt, P
 use Rattle.usb_wire.specs.declared.words.Words.{Words}
 use Rattle.usb_wire.specs.Reading.{◌>>=◌}
 use Rattle.usb_wire.proofs.FieldLemmas.{IsEndpointWord, IsNumberWord, Spelled, counted-count_in}
-use Rattle.usb_wire.proofs.FieldLemmas.{address_named-word, numbered-within, spelled-value}
+use Rattle.usb_wire.proofs.FieldLemmas.{address_named-word, hex_value-fills, numbered-within, spelled-value}
 use Rattle.usb_wire.proofs.SetupLemmas.{setup_in_bytes-some}
 use Rattle.usb_wire.proofs.WordLemmas.{joined-words}
 
@@ -252,6 +252,10 @@ alone_says Wait word a e =
 abbrev WordsSay : Asked → ℕ → List (List ℕ) → Said → Type 0
 WordsSay asked count ws s = MaySay asked count s × IsSaidLine (join_with_byte 32 ws) s
 
+-- and the line is short enough
+abbrev FitsLine : List (List ℕ) → Type 0
+FitsLine ws = length (join_with_byte 32 ws) ≤ 1024
+
 -- the first word is a given one
 says_same_word : (asked : Asked) (count : ℕ) (word text : List ℕ) (arguments : List (List ℕ))
     (s : Said) → bytes_eq word text ≡ true → WordsSay asked count (text ∷ arguments) s
@@ -339,10 +343,21 @@ three_text : (front first second : List ℕ) → front ++ first ++ codes " " ++ 
 three_text front first second = append_assoc (front ++ first) (codes " ") second
     ∙ append_assoc front first (32 ∷ second)
 
+-- a line that is short enough has room for the bytes in it
+room_behind : (first second p xs : List ℕ) → IsPathWord first p → hex_value second ≡ Some xs
+    → FitsLine (codes "send" ∷ first ∷ second ∷ []) → HasRoom p xs
+room_behind first second p xs way value short =
+    let size : length (first ++ 32 ∷ second) ≡ length first + length (32 ∷ second) =
+    length-append first (32 ∷ second) in
+    let same : length (path_text p) ≡ length first = ap length way.text in
+    let fills = hex_value-fills second xs value in
+    omega (arith, size, same, fills, short)
+
 send_says : (count : ℕ) (first second : List ℕ) (a : Answer) → send_answer first second ≡ Ok a
+    → FitsLine (codes "send" ∷ first ∷ second ∷ [])
     → WordsSay Wait count (codes "send" ∷ first ∷ second ∷ []) (Answered a)
 unfolding send_answer
-send_says count first second a e =
+send_says count first second a e short =
     bind-ok (bytes_of_word send_limit second) _ a e (λ xs read e.
     bind-ok (path_in first) _ a e (λ p found is.
     let sent = bytes_of_word-data send_limit second xs read in
@@ -353,7 +368,7 @@ send_says count first second a e =
     ∙ three_text (codes "send ") first second in
     subst (λ a. WordsSay Wait count (codes "send" ∷ first ∷ second ∷ []) (Answered a))
     (same_Ok (Send p (record { items = xs })) a is) (
-      (way.is, sent.few),
+      (way.is, sent.few, room_behind first second p xs way sent.value short),
       of_bytes second (Answered (Send p (record { items = xs }))) refl sent.value (sym text),
     )))
 
@@ -647,14 +662,15 @@ one_says Wait count word argument a e =
     (look_says count argument a e)) (λ e. none_ok NoAnswer a e))
 
 two_says : (asked : Asked) (count : ℕ) (word first second : List ℕ) (a : Answer)
-    → with_two asked word first second ≡ Ok a
+    → with_two asked word first second ≡ Ok a → FitsLine (word ∷ first ∷ second ∷ [])
     → WordsSay asked count (word ∷ first ∷ second ∷ []) (Answered a)
 unfolding with_two
-two_says Wait count word first second a e =
+two_says Wait count word first second a e short =
     let arguments : List (List ℕ) = first ∷ second ∷ [] in
     if_ok (bytes_eq word (codes "send")) (send_answer first second) _ a e
     (λ same e. says_same_word Wait count word (codes "send") arguments _ same
-    (send_says count first second a e)) (λ e.
+    (send_says count first second a e
+    (subst (λ w. FitsLine (w ∷ arguments)) (word_is word (codes "send") same) short))) (λ e.
     if_ok (bytes_eq word (codes "receive")) (receive_answer first second) _ a e
     (λ same e. says_same_word Wait count word (codes "receive") arguments _ same
     (receive_says count first second a e)) (λ e.
@@ -668,7 +684,7 @@ two_says Wait count word first second a e =
     (λ same e. says_same_word Wait count word (codes "clear") arguments _ same
     (clear_of_says count first second a e)) (λ e.
     none_ok NoAnswer a e)))))
-two_says _ count word first second a e = none_ok NoAnswer a e
+two_says _ count word first second a e short = none_ok NoAnswer a e
 
 four_say : (asked : Asked) (count : ℕ) (word first second third : List ℕ) (a : Answer)
     → with_three asked word first second third ≡ Ok a
@@ -696,35 +712,35 @@ may_push-true Hello h = absurd (cc)
 may_push-true _ h = tt
 
 three_says : (asked : Asked) (count : ℕ) (word first second : List ℕ) (s : Said) → count < 256
-    → three_say asked count word first second ≡ Ok s
+    → three_say asked count word first second ≡ Ok s → FitsLine (word ∷ first ∷ second ∷ [])
     → WordsSay asked count (word ∷ first ∷ second ∷ []) s
 unfolding three_say
-three_says asked count word first second s small e =
+three_says asked count word first second s small e short =
     if_ok (may_push asked && bytes_eq word (codes "port")) (status_change count first second) _ s e
     (λ same e. let parts = and_parts (may_push asked) (bytes_eq word (codes "port")) same in
     says_same_word asked count word (codes "port") (first ∷ second ∷ []) s parts.1
     (pushed_says asked count first second s (may_push-true asked parts.0) small e))
     (λ e. said_of-ok (with_two asked word first second) s e
     (λ a e is. said_is asked count (word ∷ first ∷ second ∷ []) (Answered a) s is
-    (two_says asked count word first second a e)))
+    (two_says asked count word first second a e short)))
 
 words_says : (asked : Asked) (count : ℕ) (ws : List (List ℕ)) (s : Said) → count < 256
-    → words_say asked count ws ≡ Ok s → WordsSay asked count ws s
+    → words_say asked count ws ≡ Ok s → FitsLine ws → WordsSay asked count ws s
 unfolding words_say
-words_says asked count (word ∷ []) s small e =
+words_says asked count (word ∷ []) s small e short =
     said_of-ok (alone asked word) s e (λ a e is. said_is asked count (word ∷ []) (Answered a) s is
     (plain_line asked count word a (alone_says asked word a e)))
-words_says asked count (word ∷ argument ∷ []) s small e =
+words_says asked count (word ∷ argument ∷ []) s small e short =
     said_of-ok (with_one asked word argument) s e
     (λ a e is. said_is asked count (word ∷ argument ∷ []) (Answered a) s is
     (one_says asked count word argument a e))
-words_says asked count (word ∷ first ∷ second ∷ []) s small e =
-    three_says asked count word first second s small e
-words_says asked count (word ∷ first ∷ second ∷ third ∷ []) s small e =
+words_says asked count (word ∷ first ∷ second ∷ []) s small e short =
+    three_says asked count word first second s small e short
+words_says asked count (word ∷ first ∷ second ∷ third ∷ []) s small e short =
     said_of-ok (with_three asked word first second third) s e
     (λ a e is. said_is asked count (word ∷ first ∷ second ∷ third ∷ []) (Answered a) s is
     (four_say asked count word first second third a e))
-words_says asked count _ s small e = none_ok NoAnswer s e
+words_says asked count _ s small e short = none_ok NoAnswer s e
 
 many_words : (asked : Asked) (count : ℕ) (ws : List (List ℕ)) → 5 ≤ length ws
     → words_say asked count ws ≡ Err NoAnswer
@@ -741,9 +757,9 @@ words_say-shape asked count ws _ h = ap (words_say asked count) h
 
 text_is : (l p : Bool) (line : List ℕ) (f : List ℕ → Result Said WireFault) (s : Said)
     → ((if l then Err LineTooLong else if p then Ok line else Err BadCharacter) >>= f) ≡ Ok s
-    → f line ≡ Ok s
+    → (l ≡ false) × (f line ≡ Ok s)
 text_is true p line f s e = none_ok LineTooLong s e
-text_is false true line f s e = e
+text_is false true line f s e = (refl, e)
 text_is false false line f s e = none_ok BadCharacter s e
 
 -- what is read of a line may be said, and stands there
@@ -752,9 +768,11 @@ pub said-line : (asked : Asked) (count : ℕ) (line : List ℕ) (s : Said) → c
 unfolding line_says text_of_line
 said-line asked count line s small e =
     let read = text_is (nat_lt 1024 (length line)) (all_printable line) line _ s e in
-    let said = words_says asked count (words line) s small read in
-    subst (λ t. MaySay asked count s × IsSaidLine t s) (sym (joined-words line (words line) refl))
-    said
+    let whole = joined-words line (words line) refl in
+    let short = ltb-false 1024 (length line) read.0 in
+    let said = words_says asked count (words line) s small read.1
+    (subst (λ t. length t ≤ 1024) whole short) in
+    subst (λ t. MaySay asked count s × IsSaidLine t s) (sym whole) said
 
 pub said-result : (asked : Asked) (count : ℕ) (line : List ℕ) (r : Result Said WireFault)
     → count < 256 → r ≡ line_says asked count line

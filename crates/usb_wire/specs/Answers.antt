@@ -1,5 +1,5 @@
 -- What the far end says, and the line of it.
-use Rattle.std.specs.Prelude.{◌≡◌, ℕ, ◌^◌, ◌<◌, ◌≤◌, List, [], ◌∷◌, ◌++◌, length, codes, decimal}
+use Rattle.std.specs.Prelude.{◌≡◌, ℕ, ◌+◌, ◌*◌, ◌^◌, ◌<◌, ◌≤◌, List, [], ◌∷◌, ◌++◌, length, codes, decimal}
 use Rattle.std.specs.Prelude.{Some, true}
 use Rattle.usb_packet.specs.{IsBytes, data_name, hex_text}
 use Rattle.usb_port.specs.{IsPath, path_text}
@@ -106,9 +106,16 @@ AreAtMost most bytes = (length bytes ≤ most) × IsBytes bytes
 abbrev pub IsData : List ℕ → Type 0
 IsData bytes = AreAtMost 64 bytes
 
--- the most bytes to the first bulk endpoint: so many find room in each line that wants it
+-- the most bytes to the first bulk endpoint
 abbrev pub send_limit : ℕ
 send_limit = 500
+
+-- the room for the path and for two digits a byte, beside a word and two spaces in 1,024 bytes
+abbrev pub send_room : ℕ
+send_room = 1018
+
+abbrev pub HasRoom : List ℕ → List ℕ → Type 0
+HasRoom path bytes = length (path_text path) + 2 * length bytes ≤ send_room
 
 -- the most bytes to an endpoint that is named
 abbrev pub send_to_limit : ℕ
@@ -136,7 +143,8 @@ MayAnswer Port Done = Unit {0}
 MayAnswer Wait Done = Unit {0}
 MayAnswer Wait Show = Unit {0}
 MayAnswer Wait End = Unit {0}
-MayAnswer Wait (Send path bytes) = IsPath path × AreAtMost send_limit bytes.items
+MayAnswer Wait (Send path bytes) =
+    IsPath path × AreAtMost send_limit bytes.items × HasRoom path bytes.items
 MayAnswer Wait (Receive path packets) = IsPath path × (packets ≤ 1000)
 MayAnswer Wait (Clear path) = IsPath path
 MayAnswer Wait (SendTo path endpoint bytes) = IsPath path × (is_endpoint_address endpoint ≡ true)

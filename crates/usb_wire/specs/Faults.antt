@@ -159,9 +159,9 @@ words_fault asked count [] = Some NoAnswer
 words_fault asked count (word ∷ arguments) = fault_by count (fields_in (forms asked) word arguments)
     arguments
 
--- the first fault of a line behind a question, where there are so many root ports
-abbrev pub line_fault : Asked → ℕ → List ℕ → Option WireFault
-line_fault asked count line =
+-- the first fault of a line that is of no form behind a question, where there are so many root ports
+abbrev pub form_fault : Asked → ℕ → List ℕ → Option WireFault
+form_fault asked count line =
     if nat_lt 1024 (length line) then Some LineTooLong
     else if not (all_printable line) then Some BadCharacter
     else words_fault asked count (words line)

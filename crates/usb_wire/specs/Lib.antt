@@ -6,6 +6,7 @@ pub mod Fields
 pub mod Faults
 pub mod Reading
 pub mod QuestionReading
+pub mod Ports
 -- the words of this crate, wherever one stands
 pub use Questions.{IsEndpoint, IsQuestion, IsQuestionLine, between_text, call_text}
 pub use Questions.{data_with, direction_text, kind_asked, question_bytes, question_in_digits}
@@ -13,14 +14,17 @@ pub use Questions.{question_line, speed_text, token_text}
 pub use Writes.{IsWrite, Write}
 pub use Answers.{AreAtMost, IsData, IsSaidLine, IsSetupData, MayAnswer, MayPush, MaySay}
 pub use Answers.{answer_bytes, answer_in_digits, answer_setup, said_bytes, said_in_digits}
-pub use Answers.{said_line, said_setup, send_limit, send_to_limit, write_limit, write_text}
+pub use Answers.{HasRoom, said_line, said_setup, send_limit, send_room}
+pub use Answers.{send_to_limit, write_limit, write_text}
 pub use Words.{AreWords, all_printable, is_printable, words}
 pub use Fields.{address_spelled, address_named, address_text, has_bytes, hex_length, hex_value}
 pub use Fields.{is_dash, is_decimal, is_hex, is_other_request, number_within}
 pub use Faults.{Field, Form, argument_fault, bytes_field, endpoint_field, fault_by, fields_in}
 pub use Faults.{form, form_fits}
 pub use Faults.{forms, is_bad_hex, is_bad_length, is_bad_number, is_bad_path, is_some_bad}
-pub use Faults.{has_other_count, is_no_request, is_other_count, is_other_setup, line_fault}
+pub use Faults.{has_other_count, is_no_request, is_other_count, is_other_setup, form_fault}
+pub use Ports.{MaySayTo, answer_path, is_narrow, line_fault, names_ports, port_fault, said_path}
+pub use Ports.{said_to}
 pub use Faults.{packets_field, path_field, push}
 pub use Faults.{request_field, root_field, roots_field, setting_field, status_field, words_fault}
 pub use Reading.{bare_control, both, counted_write, fault_in, is_write, may_push, request_with}
@@ -50,6 +54,7 @@ pub use declared.answer.Said.TheVariants.{Answered, Changed}
 pub use declared.fault.WireFault.{WireFault}
 pub use declared.fault.WireFault.TheVariants.{BadCharacter, BadHex, BadLength, BadNumber, BadPath}
 pub use declared.fault.WireFault.TheVariants.{LineTooLong, NoAnswer}
+pub use declared.reading.Hubs.{Hubs}
 pub use declared.question.Asked.{Asked}
 pub use declared.question.DataPacket.{DataPacket}
 pub use declared.question.Endpoint.{Endpoint}

@@ -14,8 +14,13 @@ use usb_packet::{hex_digits, push_decimal};
 use usb_port::PortPath;
 use usb_request::{EndpointAddress, ReadRequest, Setup};
 
-/// The most bytes to send to the first bulk endpoint: each line that requests it has room for them.
+/// The most bytes to send to the first bulk endpoint. A line that requests it has room for them
+/// behind a path of up to 18 bytes, and for 499 behind a longer one.
 pub const SEND_LIMIT: usize = 500;
+
+/// The room that such a line has for the path and for two digits of each byte, beside a word and two
+/// spaces in 1,024 bytes.
+pub const SEND_ROOM: usize = 1018;
 
 /// The most bytes to send to an endpoint that is named: each line that requests it has room for
 /// them.
@@ -46,7 +51,7 @@ pub enum Answer {
     Send {
         /// The port.
         path: PortPath,
-        /// 0 to 500 bytes.
+        /// 0 to 500 bytes, as many as the line has room for.
         bytes: ArrayVec<u8, SEND_LIMIT>,
     },
     /// What is requested: to receive from the bulk endpoint of the device at a port (5.8).
@@ -135,8 +140,9 @@ pub enum Said {
     Answered(Answer),
 }
 
-/// The line of what is said, without the newline.
-pub fn said_line(said: &Said) -> ArrayString<1024>
+/// The line of what is said, without the newline. It has at most 1,024 bytes; only where more are to
+/// be sent than a line has room for, it has up to 1,026.
+pub fn said_line(said: &Said) -> ArrayString<1026>
     ensures { result.bytes ≡ said_line said.now }
 {
     let mut line = ArrayString::new();
@@ -152,7 +158,7 @@ pub fn said_line(said: &Said) -> ArrayString<1024>
     line
 }
 
-fn push_answer(line: &mut ArrayString<1024>, answer: &Answer)
+fn push_answer(line: &mut ArrayString<1026>, answer: &Answer)
     requires { line.old.bytes ≡ [] }
     ensures { line.new.bytes ≡ said_line (Said.Answered answer.now) }
 {
@@ -201,7 +207,7 @@ fn push_answer(line: &mut ArrayString<1024>, answer: &Answer)
 }
 
 /// What is to be sent to the first bulk endpoint.
-fn push_send(line: &mut ArrayString<1024>, path: &PortPath, bytes: &[u8])
+fn push_send(line: &mut ArrayString<1026>, path: &PortPath, bytes: &[u8])
     requires empty { line.old.bytes ≡ [] }
     requires few { length bytes.now ≤ 500 }
     ensures { line.new.bytes
@@ -213,7 +219,7 @@ fn push_send(line: &mut ArrayString<1024>, path: &PortPath, bytes: &[u8])
 }
 
 /// The most packets to receive from the first bulk endpoint.
-fn push_receive(line: &mut ArrayString<1024>, path: &PortPath, packets: u16)
+fn push_receive(line: &mut ArrayString<1026>, path: &PortPath, packets: u16)
     requires { line.old.bytes ≡ [] }
     ensures { line.new.bytes
         ≡ codes "receive " ++ path_text path.now ++ codes " " ++ decimal packets }
@@ -225,7 +231,7 @@ fn push_receive(line: &mut ArrayString<1024>, path: &PortPath, packets: u16)
 
 /// What is to be sent to an endpoint that is named.
 fn push_send_to(
-    line: &mut ArrayString<1024>,
+    line: &mut ArrayString<1026>,
     path: &PortPath,
     endpoint: EndpointAddress,
     bytes: &[u8],
@@ -242,7 +248,7 @@ fn push_send_to(
 
 /// The most packets to receive from an endpoint that is named.
 fn push_receive_from(
-    line: &mut ArrayString<1024>,
+    line: &mut ArrayString<1026>,
     path: &PortPath,
     endpoint: EndpointAddress,
     packets: u16,
@@ -257,7 +263,7 @@ fn push_receive_from(
 }
 
 /// An alternate setting of an interface.
-fn push_interface(line: &mut ArrayString<1024>, path: &PortPath, interface: u8, setting: u8)
+fn push_interface(line: &mut ArrayString<1026>, path: &PortPath, interface: u8, setting: u8)
     requires { line.old.bytes ≡ [] }
     ensures { line.new.bytes ≡ codes "interface " ++ path_text path.now ++ codes " " ++
         decimal interface ++ codes " " ++ decimal setting }
@@ -270,7 +276,7 @@ fn push_interface(line: &mut ArrayString<1024>, path: &PortPath, interface: u8, 
 }
 
 /// A request that reads from endpoint 0.
-fn push_read(line: &mut ArrayString<1024>, path: &PortPath, setup: Setup)
+fn push_read(line: &mut ArrayString<1026>, path: &PortPath, setup: Setup)
     requires { line.old.bytes ≡ [] }
     ensures { line.new.bytes
         ≡ codes "control " ++ path_text path.now ++ codes " " ++ hex_text (bytes_of setup) }
@@ -281,7 +287,7 @@ fn push_read(line: &mut ArrayString<1024>, path: &PortPath, setup: Setup)
 }
 
 /// A request that writes to endpoint 0.
-fn push_control(line: &mut ArrayString<1024>, path: &PortPath, request: &ControlWrite)
+fn push_control(line: &mut ArrayString<1026>, path: &PortPath, request: &ControlWrite)
     requires { line.old.bytes ≡ [] }
     ensures { line.new.bytes ≡ codes "control " ++ path_text path.now ++ codes " " ++ write_text
         (hex_text (bytes_of request.now.setup)) (hex_text request.now.bytes) request.now.bytes }
@@ -292,7 +298,7 @@ fn push_control(line: &mut ArrayString<1024>, path: &PortPath, request: &Control
 }
 
 /// Setup data, and the bytes that go with it, if there are any.
-fn push_write(line: &mut ArrayString<1024>, setup: Setup, bytes: &[u8])
+fn push_write(line: &mut ArrayString<1026>, setup: Setup, bytes: &[u8])
     requires { length line.old.bytes + 2 * length bytes.now < 1000 }
     ensures { line.new.bytes ≡ line.old.bytes
         ++ write_text (hex_text (bytes_of setup)) (hex_text bytes.now) bytes.now }
@@ -305,7 +311,7 @@ fn push_write(line: &mut ArrayString<1024>, setup: Setup, bytes: &[u8])
 }
 
 /// The bytes of setup data.
-fn push_setup(line: &mut ArrayString<1024>, setup: Setup)
+fn push_setup(line: &mut ArrayString<1026>, setup: Setup)
     requires { length line.old.bytes < 1000 }
     ensures text { line.new.bytes ≡ line.old.bytes ++ hex_text (bytes_of setup) }
     ensures few { length line.new.bytes ≡ length line.old.bytes + 16 }
@@ -314,7 +320,7 @@ fn push_setup(line: &mut ArrayString<1024>, setup: Setup)
 }
 
 /// A number in decimal digits.
-fn push_number(line: &mut ArrayString<1024>, number: u64)
+fn push_number(line: &mut ArrayString<1026>, number: u64)
     requires { length line.old.bytes ≤ 1000 }
     ensures text { line.new.bytes ≡ line.old.bytes ++ decimal number }
     ensures few { length line.new.bytes ≤ length line.old.bytes + 20 }
@@ -325,11 +331,11 @@ fn push_number(line: &mut ArrayString<1024>, number: u64)
 }
 
 /// A word and a path.
-fn push_path(line: &mut ArrayString<1024>, word: &str, path: &PortPath)
+fn push_path(line: &mut ArrayString<1026>, word: &str, path: &PortPath)
     requires empty { line.old.bytes ≡ [] }
     requires short { length word.now ≤ 10 }
     ensures text { line.new.bytes ≡ word.now ++ path_text path.now }
-    ensures few { length line.new.bytes ≤ length word.now + 13 }
+    ensures few { length line.new.bytes ≤ length word.now + 20 }
 {
     line.push_str(word);
     line.push_str(path.text().as_str());
@@ -337,7 +343,7 @@ fn push_path(line: &mut ArrayString<1024>, word: &str, path: &PortPath)
 
 /// A word, a path and the address of an endpoint.
 fn push_endpoint(
-    line: &mut ArrayString<1024>,
+    line: &mut ArrayString<1026>,
     word: &str,
     path: &PortPath,
     endpoint: EndpointAddress,
@@ -346,7 +352,7 @@ fn push_endpoint(
     requires short { length word.now ≤ 10 }
     ensures text { line.new.bytes
         ≡ word.now ++ path_text path.now ++ codes " " ++ address_text endpoint }
-    ensures few { length line.new.bytes ≤ length word.now + 16 }
+    ensures few { length line.new.bytes ≤ length word.now + 23 }
 {
     push_path(line, word, path);
     line.push(' ');
@@ -354,8 +360,9 @@ fn push_endpoint(
 }
 
 /// Bytes in upper-case hexadecimal digits, a dash if there are none.
-fn push_bytes(line: &mut ArrayString<1024>, bytes: &[u8])
-    requires { length line.old.bytes + 2 * length bytes.now < 1024 }
+fn push_bytes(line: &mut ArrayString<1026>, bytes: &[u8])
+    requires room { length line.old.bytes + 2 * length bytes.now ≤ 1026 }
+    requires dash { length line.old.bytes < 1026 }
     ensures { line.new.bytes ≡ line.old.bytes ++ hex_text bytes.now }
 {
     if bytes.is_empty() {
@@ -366,8 +373,8 @@ fn push_bytes(line: &mut ArrayString<1024>, bytes: &[u8])
 }
 
 /// Bytes in upper-case hexadecimal digits.
-fn push_digits(line: &mut ArrayString<1024>, bytes: &[u8])
-    requires { length line.old.bytes + 2 * length bytes.now < 1024 }
+fn push_digits(line: &mut ArrayString<1026>, bytes: &[u8])
+    requires { length line.old.bytes + 2 * length bytes.now ≤ 1026 }
     ensures { line.new.bytes ≡ line.old.bytes ++ encode_upper bytes.now }
 {
     'bytes: for byte in bytes {
@@ -376,8 +383,8 @@ fn push_digits(line: &mut ArrayString<1024>, bytes: &[u8])
 }
 
 /// The two hexadecimal digits of a byte.
-fn push_byte(line: &mut ArrayString<1024>, byte: u8)
-    requires { length line.old.bytes ≤ 1022 }
+fn push_byte(line: &mut ArrayString<1026>, byte: u8)
+    requires { length line.old.bytes ≤ 1024 }
     ensures { line.new.bytes ≡ line.old.bytes ++ encode_upper (byte ∷ []) }
 {
     let [high, low] = hex_digits(byte);
@@ -385,8 +392,8 @@ fn push_byte(line: &mut ArrayString<1024>, byte: u8)
     push_ascii(line, low);
 }
 
-fn push_ascii(line: &mut ArrayString<1024>, byte: u8)
-    requires room { length line.old.bytes < 1024 }
+fn push_ascii(line: &mut ArrayString<1026>, byte: u8)
+    requires room { length line.old.bytes < 1026 }
     requires ascii { byte < 128 }
     ensures { line.new.bytes ≡ line.old.bytes ++ byte ∷ [] }
 {

@@ -26,7 +26,7 @@ pub enum WireFault {
     /// endpoint's address are no two upper-case digits of one (9.6.6).
     #[error("bad number")]
     BadNumber,
-    /// In the place of a path is none: 1 to 7 numbers of ports, each 1 to 7, with dots between
+    /// In the place of a path is none: 1 to 7 numbers of ports, each 1 to 15, with dots between
     /// them.
     #[error("bad path")]
     BadPath,

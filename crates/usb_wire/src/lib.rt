@@ -23,11 +23,11 @@ mod reading;
 mod words;
 mod write;
 
-pub use answer::{Answer, SEND_LIMIT, SEND_TO_LIMIT, Said, said_line};
+pub use answer::{Answer, SEND_LIMIT, SEND_ROOM, SEND_TO_LIMIT, Said, said_line};
 pub use asking::read_question;
 pub use fault::WireFault;
 pub use laws::lines_are_read_back;
 pub use question::{Asked, DataPacket, Endpoint, Question, question_line};
-pub use reading::read_said;
+pub use reading::{Hubs, read_said};
 pub use usb_packet::Speed;
 pub use write::{ControlWrite, WRITE_LIMIT};

@@ -1,8 +1,9 @@
 //! What a line of the controller side says.
 ghost use Rattle.std.specs.Prelude.{◌≡◌, IfOk, false};
+ghost use Rattle.std.specs.List.{list_all};
 ghost use Rattle.usb_wire.specs.Answers.{IsSaidLine, MaySay};
-ghost use Rattle.usb_wire.specs.Faults.{line_fault};
 ghost use Rattle.usb_wire.specs.Fields.{is_other_request};
+ghost use Rattle.usb_wire.specs.Ports.{MaySayTo, answer_path, is_narrow, line_fault, names_ports, said_path, said_to};
 ghost use Rattle.usb_wire.specs.Reading.{alone, bare_control, clear_answer, clear_of_answer, control_answer, data_answer, fault_in, interface_answer, line_says, look_answer, may_push, poll_answer, status_change, receive_answer, receive_from_answer, result_map, roots_answer, send_answer, send_to_answer, shape_says, text_of_line, three_say, with_one, with_three, with_two, write_answer};
 ghost use Rattle.usb_wire.specs.Words.{all_printable, is_printable};
 ghost use Rattle.usb_wire.specs.declared.answer.Said.{Said as ASaid};
@@ -23,9 +24,18 @@ use usb_request::{ReadRequest, Setup};
 /// The most bytes of a line, without its newline.
 const LINE_LIMIT: usize = 1024;
 
+/// The ports that a host knows.
+#[derive(Clone, Copy, Debug, PartialEq, Eq)]
+pub struct Hubs {
+    /// How many root ports there are, 1 to 7. The answer to the hello says it, so that before it any
+    /// number will do.
+    pub roots: u8,
+    /// Whether hubs may have 8 to 15 ports. Without it they have at most 7.
+    pub wide: bool,
+}
+
 /// What a line of the controller side says after a question, without its newline: the answer, or
-/// the status of a root port before it. `roots` is the number of root ports, 1 to 7; the answer to
-/// the hello says it, so that before it any number will do.
+/// the status of a root port before it.
 ///
 /// # Errors
 ///
@@ -41,17 +51,92 @@ const LINE_LIMIT: usize = 1024;
 ///   480 to write; not 4 of a status, 8 of setup data, or wLength to write.
 /// - `BadNumber`: in the place of a number is none, or one out of its range. Or in the place of an
 ///   endpoint's address are no two upper-case digits of one (9.6.6).
-/// - `BadPath`: in the place of a path is none.
-pub fn read_said(asked: Asked, roots: u8, line: &[u8]) -> Result<Said, WireFault>
+/// - `BadPath`: in the place of a path is none, or one with a port that no hub may have. The root has
+///   at most 7 ports, also where hubs may be wide.
+pub fn read_said(asked: Asked, hubs: Hubs, line: &[u8]) -> Result<Said, WireFault>
     // What is read may be said, and stands there.
-    ensures said { IfOk result (λ said. MaySay asked roots said × IsSaidLine line.now said) }
+    ensures said { IfOk result (λ said. MaySayTo asked hubs said × IsSaidLine line.now said) }
     // What may be said and stands there is read.
-    ensures only { (said : ASaid) → MaySay asked roots said → IsSaidLine line.now said
+    ensures only { (said : ASaid) → MaySayTo asked hubs said → IsSaidLine line.now said
         → result ≡ Ok said }
     // A line that says nothing has its fault.
-    ensures fault { fault_in result ≡ line_fault asked roots line.now }
+    ensures fault { fault_in result ≡ line_fault asked hubs line.now }
+{
+    said_to(hubs.wide, said_in_form(asked, hubs.roots, line))
+}
+
+/// What a line says, whatever ports it names.
+fn said_in_form(asked: Asked, roots: u8, line: &[u8]) -> Result<Said, WireFault>
+    ensures is { result ≡ line_says asked roots line.now }
+    ensures said { IfOk result (λ said. MaySay asked roots said × IsSaidLine line.now said) }
+    ensures only { (said : ASaid) → MaySay asked roots said → IsSaidLine line.now said
+        → result ≡ Ok said }
 {
     line_says(asked, roots, line)
+}
+
+/// What is said, if it names ports that a host may have.
+fn said_to(wide: bool, said: Result<Said, WireFault>) -> Result<Said, WireFault>
+    ensures { result ≡ said_to wide said }
+{
+    let said = said?;
+    if names_ports(wide, said_path(&said)) {
+        Ok(said)
+    } else {
+        Err(WireFault::BadPath)
+    }
+}
+
+/// The numbers of the path in what is said, none if it has none.
+fn said_path(said: &Said) -> &[u8]
+    ensures { result.now ≡ said_path said.now }
+{
+    match said {
+        Said::Changed { .. } => &[],
+        Said::Answered(answer) => answer_path(answer),
+    }
+}
+
+fn answer_path(answer: &Answer) -> &[u8]
+    ensures { result.now ≡ answer_path answer.now }
+{
+    match answer {
+        Answer::Send { path, .. }
+        | Answer::Receive { path, .. }
+        | Answer::Clear(path)
+        | Answer::SendTo { path, .. }
+        | Answer::ReceiveFrom { path, .. }
+        | Answer::Poll { path, .. }
+        | Answer::ClearOf { path, .. }
+        | Answer::Interface { path, .. }
+        | Answer::ControlIn { path, .. }
+        | Answer::ControlOut { path, .. }
+        | Answer::Look(path) => path.numbers(),
+        _ => &[],
+    }
+}
+
+/// Whether a host may have all the ports of a path.
+fn names_ports(wide: bool, path: &[u8]) -> bool
+    ensures { result ≡ names_ports wide path.now }
+{
+    let Some((root, more)) = path.split_first() else {
+        return true;
+    };
+    is_narrow(*root) && (wide || are_narrow(more))
+}
+
+fn are_narrow(numbers: &[u8]) -> bool
+    ensures { result ≡ list_all is_narrow numbers.now }
+{
+    numbers.iter().all(|number| is_narrow(*number))
+}
+
+/// Whether a hub of 1 to 7 ports has a port of this number.
+fn is_narrow(number: u8) -> bool
+    ensures { result ≡ is_narrow number }
+{
+    number <= 7
 }
 
 #[tactic(auto, unfolding(crate::specs::Reading::line_says))]

@@ -7,6 +7,7 @@ use Rattle.clap.specs.declared.builder.action.ArgAction.TheVariants.{Set, SetTru
 use Rattle.clap.specs.declared.builder.value_parser.ValueParser.TheVariants as parser
 use Rattle.usb_words.specs.declared.words.DeviceWords.{DeviceWords}
 use Rattle.usb_words.specs.declared.words.ExplainWords.{ExplainWords}
+use Rattle.usb_words.specs.declared.words.LiveWords.{LiveWords}
 use Rattle.usb_words.specs.declared.words.Words.{Words}
 use Rattle.usb_words.specs.declared.words.Words.TheVariants.{Stdin, Packet, Check, Tree, Draw, Run}
 use Rattle.usb_words.specs.declared.words.Words.TheVariants.{Explain, Page, Pcap, Device, Far, Live}
@@ -72,8 +73,16 @@ limit_rule =
           codes "9223372036854775807" ∷ [];
     }
 
+-- whether it takes hubs of 8 to 15 ports, and status endpoints of any number
+abbrev pub wide_rule : Rule
+wide_rule = record (new_rule (codes "wide-hubs")) {
+  long = Some (codes "wide-hubs");
+  action =
+      Some SetTrue;
+}
+
 abbrev pub live_app : App
-live_app = with_rule (new_app (codes "live")) limit_rule
+live_app = with_rule (with_rule (new_app (codes "live")) limit_rule) wide_rule
 
 -- the program takes its words without its name, and has a version
 abbrev pub plain_app : App
@@ -142,14 +151,21 @@ pub record ReadsDevice (words : List Text) (asked : DeviceWords) : Type 0 where
   pub subcommand : subcommand_of program_app words ≡ Some (codes "device", rows)
   pub device : IsDevice rows asked
 
--- clap reads `live` from the words, with this limit
-pub record ReadsLive (words : List Text) (limit : ℕ) : Type 0 where
-  pub rows : List Row
-  pub subcommand : subcommand_of program_app words ≡ Some (codes "live", rows)
+-- what clap reads from the words of `live`: a numeral, and the flag as it is told
+pub record IsLive (rows : List Row) (asked : LiveWords) : Type 0 where
   pub numeral : List ℕ
   pub given : one_of (codes "limit") rows ≡ Some numeral
   pub is_numeral : IsNumeral 10 (without_leading_plus numeral)
-  pub value : limit ≡ digits_value 10 (without_leading_plus numeral)
+  pub value : asked.limit ≡ digits_value 10 (without_leading_plus numeral)
+  pub wide : one_of (codes "wide-hubs") rows ≡ Some (codes "true") → asked.wide_hubs ≡ true
+  pub left_out : one_of (codes "wide-hubs") rows ≡ Some (codes "false") → asked.wide_hubs ≡ false
+  pub absent : one_of (codes "wide-hubs") rows ≡ None → asked.wide_hubs ≡ false
+
+-- clap reads `live` from the words, with these
+pub record ReadsLive (words : List Text) (asked : LiveWords) : Type 0 where
+  pub rows : List Row
+  pub subcommand : subcommand_of program_app words ≡ Some (codes "live", rows)
+  pub live : IsLive rows asked
 
 -- what the words say, by the subcommand that clap reads from them and its text
 abbrev pub ReadsWords : List Text → Words → Type 0
@@ -164,4 +180,4 @@ ReadsWords words (Page text) = HasSubcommand words (codes "page") text.now
 ReadsWords words (Pcap text) = HasSubcommand words (codes "pcap") text.now
 ReadsWords words (Device asked) = ReadsDevice words asked
 ReadsWords words (Far text) = HasSubcommand words (codes "far") text.now
-ReadsWords words (Live limit) = ReadsLive words limit
+ReadsWords words (Live asked) = ReadsLive words asked

@@ -3,7 +3,7 @@ ghost use Rattle.std.specs.Prelude.{◌≡◌, IfOk, IfSome, List, map, true, fa
 ghost use Rattle.clap.specs.Simple.{app_of, subcommand_of, subcommand_rows_of, with_subcommand};
 ghost use Rattle.clap.specs.Matches.{found_of};
 ghost use Rattle.clap.specs.Walk.{Text, rows_of, rule_of};
-ghost use Rattle.usb_words.specs.CommandLine.{IsDevice, IsExplain, ReadsWords, device_app, draw_app, explain_app, first_app, limit_rule, live_app, name_rule, only_rule, plain_app, ports_rule, program_app, run_app, text_app, text_rule, with_text};
+ghost use Rattle.usb_words.specs.CommandLine.{IsDevice, IsExplain, IsLive, ReadsWords, device_app, draw_app, explain_app, first_app, limit_rule, live_app, name_rule, only_rule, plain_app, ports_rule, program_app, run_app, text_app, text_rule, wide_rule, with_text};
 
 use crate::selection::{Selection, selection_of};
 use clap::builder::ValueParser;
@@ -39,8 +39,8 @@ pub enum Words<'a> {
     Device(DeviceWords<'a>),
     /// The far end of a bus, played from a plan, by the plan's file.
     Far(&'a str),
-    /// A host before a far end, and the most questions that it asks.
-    Live(u64),
+    /// A host before a far end.
+    Live(LiveWords),
 }
 
 /// What of a run is printed with its requests in words.
@@ -63,6 +63,15 @@ pub struct DeviceWords<'a> {
     pub ports: u8,
 }
 
+/// What host is before a far end.
+#[derive(Clone, Copy, Debug)]
+pub struct LiveWords {
+    /// The most questions that it asks.
+    pub limit: u64,
+    /// Whether it takes hubs of 8 to 15 ports, and status endpoints of any number (11.23).
+    pub wide_hubs: bool,
+}
+
 /// Why the words ask for nothing.
 #[derive(Debug, Drop, thiserror::Error)]
 pub enum WordFault {
@@ -76,7 +85,7 @@ pub enum WordFault {
 
 /// Reads the words after the program's name: `packet HEX`, `check FILE`, `tree FILE`, `draw [--ascii] FILE`,
 /// `run FILE`, `explain [--only WHAT] FILE`, `page FILE`, `pcap FILE`, `device NAME FILE [--ports N]`, `far FILE`,
-/// `live [--limit N]` or none.
+/// `live [--limit N] [--wide-hubs]` or none.
 ///
 /// # Errors
 ///
@@ -113,7 +122,7 @@ fn words_of<'a>(matches: &ArgMatches<'a>) -> Option<Words<'a>>
         Some(("pcap", found)) => Some(Words::Pcap(found.get_str("text")?)),
         Some(("device", found)) => Some(Words::Device(device_words(found)?)),
         Some(("far", found)) => Some(Words::Far(found.get_str("text")?)),
-        Some(("live", found)) => Some(Words::Live(found.get_one::<u64>("limit")?)),
+        Some(("live", found)) => Some(Words::Live(live_words(found)?)),
         Some(_) => None,
     }
 }
@@ -129,6 +138,15 @@ fn device_words<'a>(found: &ArgMatches<'a>) -> Option<DeviceWords<'a>>
         return None;
     }
     Some(DeviceWords { name, file, ports })
+}
+
+/// What `live` asks for.
+fn live_words(found: &ArgMatches<'_>) -> Option<LiveWords>
+    ensures { IfSome result (λ asked. IsLive (rows_of (found_of found.now)) asked) }
+{
+    let limit = found.get_one::<u64>("limit")?;
+    let wide_hubs = found.get_flag("wide-hubs");
+    Some(LiveWords { limit, wide_hubs })
 }
 
 /// What `explain` asks for.
@@ -416,7 +434,8 @@ fn live_command<'a>(alloc: Global) -> Result<Command<'a>, AllocError>
     let plain = Command::new(alloc, "live").about(
         "Asks a far end on standard input and output, line by line, and tells it what the host found",
     );
-    plain.arg(limit(alloc))
+    let limited = plain.arg(limit(alloc))?;
+    limited.arg(wide_hubs(alloc))
 }
 
 /// The most questions that `live` asks.
@@ -431,6 +450,17 @@ fn limit<'a>(alloc: Global) -> Arg<'a>
         .value_parser(ValueParser::unsigned(0, 9223372036854775807))
         .default_value("9223372036854775807")
         .help("How many questions it asks at most")
+}
+
+/// Whether the host that `live` is takes wide hubs.
+fn wide_hubs<'a>(alloc: Global) -> Arg<'a>
+    ensures local { result.global ≡ false }
+    ensures rule { rule_of result ≡ wide_rule }
+{
+    Arg::new(alloc, "wide-hubs")
+        .long("wide-hubs")
+        .action(ArgAction::SetTrue)
+        .help("Takes hubs of up to 15 ports, and status endpoints of any number")
 }
 
 /// The file of a command that reads a plan.

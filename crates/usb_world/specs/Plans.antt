@@ -23,7 +23,7 @@ is_taken tree path = is_some (index_at tree path)
 
 -- what may be asked: of a device, below a root port, and of an endpoint of the right way (9.6.6)
 abbrev pub ask_fits : ℕ → Asked → Bool
-ask_fits roots Show = true
+ask_fits roots (Show said) = true
 ask_fits roots (Send path bytes) = is_rooted roots path
 ask_fits roots (Receive path packets) = is_rooted roots path && nat_le packets 1000
 ask_fits roots (Clear path) = is_rooted roots path
@@ -74,13 +74,20 @@ damages_fit last (d ∷ damages) = damage_fits last d && damages_fit d.attempt d
 pub record PlanData : Type 0 where
   pub limit : ℕ
   pub roots : ℕ
+  pub wide : Bool  -- the host takes hubs of 8 to 15 ports, and status endpoints of any number
   pub devices : List Spec
   pub events : List Event
   pub damages : List Damage
 
-abbrev pub plan_data : ℕ → ℕ → List Spec → List Event → List Damage → PlanData
-plan_data limit roots devices events damages =
-    record { limit = limit; roots = roots; devices = devices; events = events; damages = damages }
+abbrev pub plan_data : ℕ → ℕ → Bool → List Spec → List Event → List Damage → PlanData
+plan_data limit roots wide devices events damages = record {
+  limit = limit;
+  roots = roots;
+  wide = wide;
+  devices = devices;
+  events = events;
+  damages = damages;
+}
 
 -- the rules of a plan
 pub record IsPlan (p : PlanData) : Type 0 where

@@ -6,7 +6,8 @@ use Rattle.std.specs.Ordering.{is_eq}
 use Rattle.std.specs.Map.{lookup}
 use Rattle.std.specs.BTreeMap.{insert_entry}
 use Rattle.usb_port.specs.{path_cmp, parent_of, port_on_hub}
-use Rattle.usb_device.specs.{Spec, Hub}
+use Rattle.usb_device.specs.{Spec}
+pub use Rattle.usb_device.specs.{hub_ports}
 use Rattle.usb_world.specs.declared.event.Event.{Event}
 use Rattle.usb_world.specs.declared.event.Action.{Action}
 use Rattle.usb_world.specs.declared.event.Action.TheVariants.{Change, Ask}
@@ -33,10 +34,6 @@ plugged_after (Ask ask) tree = tree
 unfoldable pub plugged_by : PluggedMap → List Event → PluggedMap
 plugged_by tree [] = tree
 plugged_by tree (e ∷ events) = plugged_by (plugged_after e.action tree) events
-
-abbrev pub hub_ports : Option Hub → ℕ
-hub_ports None = 0
-hub_ports (Some hub) = hub.ports
 
 -- how many ports a device has
 unfoldable pub spec_port_count : Option Spec → ℕ

@@ -46,7 +46,7 @@ IsSanePort-prop b x y = λ i. record {
 IsHub-prop : (h : Hub) → IsProp (IsHub h)
 IsHub-prop h x y =
     let least : IsProp (1 ≤ h.ports) = hlevel props in
-    let most : IsProp (h.ports ≤ 7) = hlevel props in
+    let most : IsProp (h.ports ≤ 15) = hlevel props in
     λ i. record {
       least = least x.least y.least i;
       most = most x.most y.most i;

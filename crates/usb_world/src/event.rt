@@ -132,8 +132,11 @@ pub enum Change {
 /// What an event asks of whoever drives the host.
 #[derive(Debug, Drop)]
 pub enum Ask {
-    /// To list what the host found.
-    Show,
+    /// To list what the host found, with what the refused devices said of themselves or without.
+    Show {
+        /// The bytes of its device descriptor that a refused device gave are listed too.
+        said: bool,
+    },
     /// To send these bytes to the bulk endpoint of the device at a port (5.8).
     Send(PortPath, SentBytes),
     /// To receive at most this number of packets, 0 to 1,000, from the bulk endpoint of the device
@@ -319,7 +322,7 @@ fn ask_copy(alloc: Global, ask: &Ask) -> Result<Ask, AllocError>
     ensures { IfOk result (λ a. a ≡ ask.now) }
 {
     Ok(match ask {
-        Ask::Show => Ask::Show,
+        Ask::Show { said } => Ask::Show { said: *said },
         Ask::Send(path, bytes) => Ask::Send(path.duplicate(), bytes.try_clone(alloc)?),
         Ask::Receive(path, packets) => Ask::Receive(path.duplicate(), *packets),
         Ask::Clear(path) => Ask::Clear(path.duplicate()),

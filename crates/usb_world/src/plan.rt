@@ -7,15 +7,16 @@ use usb_device::{DeviceSpec, Devices};
 
 /// A plan for a bus.
 ///
-/// At most 100,000,000,000,000 attempts are made; there are 1 to 7 root ports. The devices are as the rules say, at
-/// most 127, no two of one name. Each event comes at most
-/// 1,000,000,000 attempts after the former one. A plug names one of the plan's devices and a free port: a root
+/// At most 100,000,000,000,000 attempts are made; there are 1 to 7 root ports. The host takes hubs of more
+/// than 7 ports, or it does not. The devices are as the rules say, at most 127, no two of one name. Each event
+/// comes at most 1,000,000,000 attempts after the former one. A plug names one of the plan's devices and a free port: a root
 /// port, or a port of a device that is plugged then. Something is plugged where an event unplugs. Each damage
 /// is to a later attempt than the former one.
 #[derive(Debug, Drop)]
 pub struct Plan {
     limit: u64,
     roots: u8,
+    wide: bool,
     devices: Devices,
     events: Events,
     damages: Damages,
@@ -26,9 +27,9 @@ impl Model for Plan {
 
     ghost Value = { PlanData };
 
-    ghost view = { λ p. plan_data p.limit p.roots p.devices p.events p.damages };
+    ghost view = { λ p. plan_data p.limit p.roots p.wide p.devices p.events p.damages };
 
-    ghost invariant = { λ p. IsPlan (plan_data p.limit p.roots p.devices p.events p.damages) };
+    ghost invariant = { λ p. IsPlan (plan_data p.limit p.roots p.wide p.devices p.events p.damages) };
 }
 
 impl Plan {
@@ -37,14 +38,23 @@ impl Plan {
     ghost use Rattle.usb_world.specs.PlanCourses.{AtPorts};
     ghost use Rattle.usb_world.specs.PlanLimits.{event_most, damage_most};
 
-    /// The plan of these parts.
-    pub fn new(limit: u64, roots: u8, devices: Devices, events: Events, damages: Damages) -> Self
-        requires { IsPlan (plan_data limit roots devices events damages) }
-        ensures { result ≡ plan_data limit roots devices events damages }
+    /// The plan of these parts. `wide` says whether the host takes hubs of 8 to 15 ports, and status endpoints of any
+    /// number (11.12.4, 11.23.1).
+    pub fn new(
+        limit: u64,
+        roots: u8,
+        wide: bool,
+        devices: Devices,
+        events: Events,
+        damages: Damages,
+    ) -> Self
+        requires { IsPlan (plan_data limit roots wide devices events damages) }
+        ensures { result ≡ plan_data limit roots wide devices events damages }
     {
         Plan {
             limit,
             roots,
+            wide,
             devices,
             events,
             damages,
@@ -65,6 +75,14 @@ impl Plan {
         ensures plan { IsPlan self.now }
     {
         self.roots
+    }
+
+    /// Whether the host takes hubs of 8 to 15 ports, and status endpoints of any number (11.12.4, 11.23.1).
+    pub fn wide_hubs(&self) -> bool
+        ensures value { result ≡ self.now.wide }
+        ensures plan { IsPlan self.now }
+    {
+        self.wide
     }
 
     /// The devices that events plug.

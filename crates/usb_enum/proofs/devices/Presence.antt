@@ -256,6 +256,32 @@ addressed_granted device s is read = record {
   address = read.1;
 }
 
+-- what is so of whoever answers at the address that was given
+pub spoken_finds : (So : Spec → Type 0) (C : State → Type 0) (target t : Target) (port : HubPort)
+    (address n : ℕ) {old mid given new : World} {c d : Option (List ℕ)} → target.addr ≡ 0
+    → t ≡ record target { addr = address }
+    → ((s : State) → Granted t.low t.max s.spec → So s.spec × (address_of s ≡ t.addr) → C s)
+    → Finds (AwaitsAddress target) port address old mid
+    → (given.shared ≡ false → EachWas (AddressAsked target address (Ok tt) mid given) mid given)
+    → Within port address old given → AnswersSo So t given new
+    → StepRun n given c new d → KeepsAddresses given new → Finds C port address old new
+spoken_finds So C target t port address n {old} {mid} {given} {new} none is gives unnamed asked
+    within answered went keeps =
+    let Is : State → Type 0 = λ s. Granted t.low t.max s.spec in
+    let allowed : Finds Is port address old given =
+    subst (λ t. Finds (λ s. Granted t.low t.max s.spec) port address old given) (sym is)
+    (finds_on (AddressAsked target address (Ok tt) mid given) (AwaitsAddress target)
+    (λ s. Granted target.low target.max s.spec) port address
+    (granted target address mid given none) asked within unnamed) in
+    let later : Finds Is port address old new =
+    finds_on (Learned So t) Is Is port address
+    (λ j s v x g. subst (Granted t.low t.max)
+    (sym (stays-spec s v x.frame)) g) answered.learns
+    (within-keeps_addresses port address old given new within keeps) allowed in
+    finds_both Is (λ s. So s.spec × (address_of s ≡ t.addr)) C port address old new gives
+    later (answered_finds So t port address n (inr (ap (λ t. t.addr) is)) answered went within
+    keeps)
+
 pub address_finds : (target : Target) (device : Addressed) (port : HubPort) (address n : ℕ)
     {old mid given new : World} {c d : Option (List ℕ)} → target.addr ≡ 0
     → device.target ≡ record target { addr = address }
@@ -265,21 +291,6 @@ pub address_finds : (target : Target) (device : Addressed) (port : HubPort) (add
     → AnswersSo (AtMaximum device.target (HasDescriptor device.bytes)) device.target given new
     → StepRun n given c new d → KeepsAddresses given new
     → Finds (IsAddressed device) port address old new
-address_finds target device port address n {old} {mid} {given} {new} none is unnamed asked within
-    answered went keeps =
-    let So : Spec → Type 0 = AtMaximum device.target (HasDescriptor device.bytes) in
-    let Is : State → Type 0 = λ s. Granted device.target.low device.target.max s.spec in
-    let allowed : Finds Is port address old given =
-    subst (λ t. Finds (λ s. Granted t.low t.max s.spec) port address old given) (sym is)
-    (finds_on (AddressAsked target address (Ok tt) mid given) (AwaitsAddress target)
-    (λ s. Granted target.low target.max s.spec) port address
-    (granted target address mid given none) asked within unnamed) in
-    let later : Finds Is port address old new =
-    finds_on (Learned So device.target) Is Is port address
-    (λ j s v x g. subst (Granted device.target.low device.target.max)
-    (sym (stays-spec s v x.frame)) g) answered.learns
-    (within-keeps_addresses port address old given new within keeps) allowed in
-    finds_both Is (λ s. So s.spec × (address_of s ≡ device.target.addr)) (IsAddressed device) port
-    address old new (addressed_granted device)
-    later (answered_finds So device.target port address n (inr (ap (λ t. t.addr) is)) answered went
-    within keeps)
+address_finds target device port address n none is =
+    spoken_finds (AtMaximum device.target (HasDescriptor device.bytes)) (IsAddressed device) target
+    device.target port address n none is (addressed_granted device)

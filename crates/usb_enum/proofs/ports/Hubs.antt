@@ -9,6 +9,7 @@ use Rattle.std.specs.Global.{Vec}
 use Rattle.usb_request.specs.{PORT_POWER, get_hub_descriptor, set_port_feature}
 use Rattle.usb_hub.specs.{Queried, Commanded}
 use Rattle.usb_descriptor.specs.{hub_spelled, port_count}
+use Rattle.usb_descriptor.proofs.Interface.{hub_spelled-wide}
 use Rattle.usb_resources.specs.{supply_of}
 use Rattle.usb_enum.specs.{Cause, Stop, is_hub_device, fits_tier, CountTold, IsPowered, Powered}
 use Rattle.usb_enum.specs.{CauseAllowedAtStart, CauseAllowedOfDevice, answered_or}
@@ -47,24 +48,25 @@ deep_is tier bytes stop e = elim (decided (is_hub_device bytes && tier == 7)) [
   | inr shallow ↦ (let fits = rw shallow at e in absurd cc)
 ]
 
-pub told_of_hub : (tier : ℕ) (bytes : List ℕ) (stop : Stop) (t : Target) (text : List ℕ)
+pub told_of_hub : (wide : Bool) (tier : ℕ) (bytes : List ℕ) (stop : Stop) (t : Target)
+    (text : List ℕ)
     (old new : World) → fits_tier tier bytes ≡ Ok tt → is_hub_device bytes ≡ true
-    → CauseAllowedAtStart t text stop old new → CauseAllowedOfDevice tier stop new
-told_of_hub tier bytes (Refused why) t text old new fits is (inl bad) =
+    → CauseAllowedAtStart wide t text stop old new → CauseAllowedOfDevice tier stop new
+told_of_hub wide tier bytes (Refused why) t text old new fits is (inl bad) =
     rw bad.0 (not_last tier bytes is fits)
-told_of_hub tier bytes (Refused why) t text old new fits is (inr b) =
+told_of_hub wide tier bytes (Refused why) t text old new fits is (inr b) =
     plain_fits tier why (because_plain why t old new b)
-told_of_hub tier bytes (Fault fault) t text old new fits is told = told
+told_of_hub wide tier bytes (Fault fault) t text old new fits is told = told
 
 -- the descriptor that a hub told
-pub count_told : (hub : Target) (stalled : Cause) (outcome : Result (Vec ℕ) PipeFault)
+pub count_told : (wide : Bool) (hub : Target) (stalled : Cause) (outcome : Result (Vec ℕ) PipeFault)
     (bytes : Vec ℕ) (view : List ℕ) (old new : World) → Ok bytes ≡ answered_or stalled outcome
-    → Queried hub get_hub_descriptor old outcome new → Ok view ≡ hub_spelled bytes.items
+    → Queried hub get_hub_descriptor old outcome new → Ok view ≡ hub_spelled wide bytes.items
     → view ≡ bytes.items → CountTold hub old new (port_count view)
-count_told hub stalled outcome bytes view old new answered asked good same = record {
+count_told wide hub stalled outcome bytes view old new answered asked good same = record {
   bytes = bytes;
   asked = rw (answered_ok stalled outcome bytes answered) at asked;
-  good = sym good ∙ ap Ok same;
+  good = hub_spelled-wide wide bytes.items (sym good ∙ ap Ok same);
   said = ap port_count same;
 }
 

@@ -22,13 +22,13 @@ use Rattle.usb_pipe.proofs.Interface.{is_some_byte}
 
 -- What is so of a description that is accepted
 
-pub record AcceptsChosen (spec : Spec) (supply chosen : ℕ) : Type 0 where
+pub record AcceptsChosen (spec : Spec) (wide : Bool) (supply chosen : ℕ) : Type 0 where
   pub loud : spec.silent ≡ false
   pub free : spec.busy ≡ false
   pub good : first_fault spec (configuration_count spec.descriptor) ≡ None
   pub within : choice_of supply (texts_of spec) ≡ Some chosen
   pub hub : (is_hub_device spec.descriptor &&
-      not (is_good_hub spec (slice_index_or (texts_of spec) chosen []))) ≡ false
+      not (is_good_hub wide spec (slice_index_or (texts_of spec) chosen []))) ≡ false
 
 if_not : (b : Bool) (x : Cause) (r : Result ℕ Cause) (n : ℕ) → (if b then Err x else r) ≡ Ok n
     → (b ≡ false) × (r ≡ Ok n)
@@ -38,15 +38,16 @@ if_not false x r n e = (refl, e)
 same_ok : {E : Type 0} (a b : ℕ) → (let r : Result ℕ E = Ok a in r ≡ Ok b) → a ≡ b
 same_ok a b e = cc e
 
-module _ (spec : Spec) (supply chosen : ℕ) (loud : spec.silent ≡ false) (free : spec.busy ≡ false)
+module _ (spec : Spec) (wide : Bool) (supply chosen : ℕ) (loud : spec.silent ≡ false)
+    (free : spec.busy ≡ false)
   where
     set_by : (o : Option ℕ) → first_fault spec (configuration_count spec.descriptor) ≡ None
-        → choice_of supply (texts_of spec) ≡ o → set_verdict spec (texts_of spec) o ≡ Ok chosen
-        → AcceptsChosen spec supply chosen
+        → choice_of supply (texts_of spec) ≡ o → set_verdict wide spec (texts_of spec) o ≡ Ok chosen
+        → AcceptsChosen spec wide supply chosen
     set_by None good e v = absurd (cc v)
     set_by (Some k) good e v =
         let bad : Bool = is_hub_device spec.descriptor &&
-        not (is_good_hub spec (slice_index_or (texts_of spec) k [])) in
+        not (is_good_hub wide spec (slice_index_or (texts_of spec) k [])) in
         let a = if_not spec.stalls.set_config (Stalled request.SetConfig)
         (if bad then Err BadHub else Ok k) chosen v in
         let b = if_not bad BadHub (Ok k) chosen a.1 in
@@ -60,7 +61,7 @@ module _ (spec : Spec) (supply chosen : ℕ) (loud : spec.silent ≡ false) (fre
         }
 
     read_by : (o : Option Cause) → first_fault spec (configuration_count spec.descriptor) ≡ o
-        → read_verdict spec supply o ≡ Ok chosen → AcceptsChosen spec supply chosen
+        → read_verdict wide spec supply o ≡ Ok chosen → AcceptsChosen spec wide supply chosen
     read_by (Some cause) e v = absurd (cc v)
     read_by None e v = set_by (choice_of supply (texts_of spec)) e refl v
 
@@ -72,17 +73,19 @@ last_row : (a b c d f g h : Bool) (r : Result ℕ Cause) (n : ℕ)
 last_row false false false false false false false r n e = (refl, refl, e)
 last_row _ _ _ _ _ _ _ r n e = absurd (cc e)
 
-pub accepts : (spec : Spec) (tier supply chosen : ℕ) → verdict spec tier supply ≡ Ok chosen
-    → AcceptsChosen spec supply chosen
+pub accepts : (spec : Spec) (wide : Bool) (tier supply chosen : ℕ)
+    → verdict spec wide tier supply ≡ Ok chosen → AcceptsChosen spec wide supply chosen
 unfolding verdict
-accepts spec tier supply chosen e =
+accepts spec wide tier supply chosen e =
     let row =
     last_row spec.silent spec.busy spec.stalls.device
     (not (is_ok (device_head_of spec.low (take 8 spec.descriptor)))) spec.stalls.address
     (not (is_device spec.low (take 18 spec.descriptor))) (is_hub_device spec.descriptor &&
     tier == 7)
-    (read_verdict spec supply (first_fault spec (configuration_count spec.descriptor))) chosen e in
-    read_by spec supply chosen row.0 row.1 (first_fault spec (configuration_count spec.descriptor))
+    (read_verdict wide spec supply (first_fault spec (configuration_count spec.descriptor))) chosen
+    e in
+    read_by spec wide supply chosen row.0 row.1 (first_fault spec
+    (configuration_count spec.descriptor))
     refl row.2
 
 -- The device finds it by its value
@@ -125,7 +128,8 @@ chosen_below supply texts chosen e =
     subst (λ n. chosen < n) (length-map texts _)
     (position-Some (λ need. nat_le need supply) (needs_of texts) chosen 0 e).0
 
-pub has_chosen : (spec : Spec) (supply chosen : ℕ) → AcceptsChosen spec supply chosen
+pub has_chosen : {wide : Bool} (spec : Spec) (supply chosen : ℕ)
+    → AcceptsChosen spec wide supply chosen
     → HasChosen spec chosen
 has_chosen spec supply chosen a =
     let count : ℕ = configuration_count spec.descriptor in

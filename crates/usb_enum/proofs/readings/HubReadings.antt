@@ -1,6 +1,6 @@
 -- What is learned of a hub.
 use Rattle.std.proofs.Common.{◌≡◌, ℕ, ◌==◌, not, true, false, List, take, Option, None, Some}
-use Rattle.std.proofs.Common.{option_map, is_some, Result, Ok, refl, ap, sym, subst, ◌∙◌}
+use Rattle.std.proofs.Common.{option_map, Bool, Result, Ok, refl, ap, sym, subst, ◌∙◌}
 use Rattle.std.proofs.Common.{slice_index, nat_lt, length}
 use Rattle.std.proofs.lemmas.Bool.{and_parts, and_from}
 use Rattle.std.proofs.lemmas.Option.{same_Some}
@@ -9,7 +9,8 @@ use Rattle.std.specs.Global.{Vec}
 use Rattle.usb_request.specs.{HUB_CLASS}
 use Rattle.usb_resources.specs.{supply_of}
 use Rattle.usb_descriptor.specs.{status_endpoint_of, hub_spelled, port_count}
-use Rattle.usb_device.specs.{Spec, Hub, IsHub, IsSpec, agrees, hub_fits, has_hub_class}
+use Rattle.usb_descriptor.proofs.Interface.{hub_spelled-wide}
+use Rattle.usb_device.specs.{Spec, Hub, IsHub, IsSpec, agrees, hub_fits, hub_ports, has_hub_class}
 use Rattle.usb_world.specs.{EachWas, World}
 use Rattle.usb_tree.proofs.Interface.{equal_same}
 use Rattle.usb_transaction.specs.{Target}
@@ -18,23 +19,24 @@ use Rattle.usb_pipe.specs.{PipeFault}
 use Rattle.usb_hub.specs.{DeviceStatus, KeepsDevices, hub_given, status_given, HubAsked}
 use Rattle.usb_hub.specs.{StatusAsked}
 use Rattle.usb_enum.specs.{Cause, gives_hub, facts_of, is_hub_device, DeviceFact, AtMaximum, Ruled}
-use Rattle.usb_enum.specs.{HasPorts, HasSupply, IsGoodHub, answered_or}
+use Rattle.usb_enum.specs.{HasPorts, HasSupply, IsGoodHub, holds_changes, answered_or}
 use Rattle.usb_enum.proofs.refusals.Refusals.{answered_ok}
 use Rattle.usb_enum.proofs.readings.Readings.{given_allows, answer_learned, text_learned, learns_on}
 use Rattle.usb_enum.proofs.readings.Readings.{learns_kept}
 
-pub ports_learned : (t : Target) (stalled : Cause) (outcome : Result (Vec ℕ) PipeFault)
+pub ports_learned : (wide : Bool) (t : Target) (stalled : Cause)
+    (outcome : Result (Vec ℕ) PipeFault)
     (bytes : Vec ℕ) (hub : List ℕ) (old new : World) → Ok bytes ≡ answered_or stalled outcome
-    → Ok hub ≡ hub_spelled bytes.items → hub ≡ bytes.items
+    → Ok hub ≡ hub_spelled wide bytes.items → hub ≡ bytes.items
     → (new.shared ≡ false → EachWas (HubAsked t outcome) old new)
-    → DeviceFact (AtMaximum t (HasPorts (port_count hub))) t old new
-ports_learned t stalled outcome bytes hub old new answered good same =
-    text_learned hub_given (HasPorts (port_count hub)) t 9 outcome bytes old new
+    → DeviceFact (AtMaximum t (HasPorts wide (port_count hub))) t old new
+ports_learned wide t stalled outcome bytes hub old new answered good same =
+    text_learned hub_given (HasPorts wide (port_count hub)) t 9 outcome bytes old new
     (answered_ok stalled outcome bytes answered)
     (λ spec text given first. record {
       text = text;
       given = given;
-      good = ap hub_spelled (sym first) ∙ sym good ∙ ap Ok (same ∙ first);
+      good = ap (hub_spelled wide) (sym first) ∙ sym good ∙ ap Ok (same ∙ first);
       said = ap port_count (same ∙ first);
     })
 
@@ -74,11 +76,12 @@ was_given spec text given =
     let found = descriptor_of_hub spec.hub text allowed.1 in
     record { hub = found.0; is = found.1; descriptor = found.2; allowed = allowed.0 }
 
-hub_gives : (spec : Spec) (text : List ℕ) → Given spec text → spec.stalls.status ≡ false
-    → hub_spelled (take 9 text) ≡ Ok (take 9 text) → gives_hub spec spec.hub ≡ true
-hub_gives spec text g status good = rw (g.is, g.allowed, status, g.descriptor, good) refl
+hub_gives : (wide : Bool) (spec : Spec) (text : List ℕ) → Given spec text
+    → spec.stalls.status ≡ false → hub_spelled wide (take 9 text) ≡ Ok (take 9 text)
+    → gives_hub wide spec spec.hub ≡ true
+hub_gives wide spec text g status good = rw (g.is, g.allowed, status, g.descriptor, good) refl
 
-ports_agree : (ports : ℕ) (text : List ℕ) → hub_spelled (take 9 text) ≡ Ok (take 9 text)
+ports_agree : (ports : ℕ) (text : List ℕ) → hub_spelled true (take 9 text) ≡ Ok (take 9 text)
     → agrees ports text ≡ true → port_count (take 9 text) ≡ ports
 ports_agree ports text good agree =
     equal_same (port_count (take 9 text)) ports (rw (agrees, good) at agree)
@@ -96,14 +99,16 @@ pub record HadPorts (ports : ℕ) (spec : Spec) : Type 0 where
   pub is : spec.hub ≡ Some hub
   pub count : ports ≡ hub.ports
 
-pub had_ports : (ports : ℕ) (spec : Spec) → HasPorts ports spec → IsSpec spec → HadPorts ports spec
-had_ports ports spec p ruled =
+pub had_ports : (wide : Bool) (ports : ℕ) (spec : Spec) → HasPorts wide ports spec → IsSpec spec
+    → HadPorts ports spec
+had_ports wide ports spec p ruled =
     let g = was_given spec p.text p.given in
     let hub : IsHub g.hub = subst (λ o. IfSome o IsHub) g.is ruled.hub in
     record {
       hub = g.hub;
       is = g.is;
-      count = p.said ∙ ports_agree g.hub.ports p.text p.good
+      count = p.said ∙ ports_agree g.hub.ports p.text
+          (hub_spelled-wide wide (take 9 p.text) p.good)
           (subst (λ x. agrees g.hub.ports x ≡ true) g.descriptor hub.agree);
     }
 
@@ -113,29 +118,34 @@ facts_are : (spec : Spec) (hub : Hub) (ports supply : ℕ) → spec.hub ≡ Some
     → facts_of spec ≡ Some (record { ports = ports; supply = supply })
 facts_are spec hub ports supply is class count said = rw (class, is, count, said) refl
 
-is_good_hub_read : (text : List ℕ) (ports supply : ℕ) (spec : Spec)
-    → is_some (status_endpoint_of text) ≡ true → HasPorts ports spec → HasSupply supply spec
-    → IsSpec spec → IsGoodHub text (record { ports = ports; supply = supply }) spec
-is_good_hub_read text ports supply spec endpoint p s ruled =
+is_good_hub_read : (wide : Bool) (text : List ℕ) (ports supply : ℕ) (spec : Spec)
+    → holds_changes (status_endpoint_of wide text) ports ≡ true → HasPorts wide ports spec
+    → HasSupply supply spec → IsSpec spec
+    → IsGoodHub wide text (record { ports = ports; supply = supply }) spec
+is_good_hub_read wide text ports supply spec endpoint p s ruled =
     let g = was_given spec p.text p.given in
-    let had = had_ports ports spec p ruled in
+    let had = had_ports wide ports spec p ruled in
+    let same : hub_ports spec.hub ≡ ports = ap hub_ports had.is ∙ sym had.count in
     record {
-      good = and_from (is_some (status_endpoint_of text)) (gives_hub spec spec.hub) endpoint
-          (hub_gives spec p.text g s.given p.good);
+      good = and_from (holds_changes (status_endpoint_of wide text) (hub_ports spec.hub))
+          (gives_hub wide spec spec.hub)
+          (ap (holds_changes (status_endpoint_of wide text)) same ∙ endpoint)
+          (hub_gives wide spec p.text g s.given p.good);
       told = facts_are spec had.hub ports supply had.is (hub_class spec had.hub had.is ruled.fits)
           had.count s.said;
     }
 
-pub hub_learned : (t : Target) (text : List ℕ) (ports supply m n : ℕ) (old a b new : World)
-    {q r s u : Option (List ℕ)} → is_some (status_endpoint_of text) ≡ true
-    → DeviceFact (AtMaximum t (HasPorts ports)) t old a → StepRun m a q b r
+pub hub_learned : (wide : Bool) (t : Target) (text : List ℕ) (ports supply m n : ℕ)
+    (old a b new : World) {q r s u : Option (List ℕ)}
+    → holds_changes (status_endpoint_of wide text) ports ≡ true
+    → DeviceFact (AtMaximum t (HasPorts wide ports)) t old a → StepRun m a q b r
     → DeviceFact (HasSupply supply) t a b → StepRun n b s new u → KeepsDevices b new
-    → DeviceFact (AtMaximum t (Ruled (IsGoodHub text (record { ports = ports; supply = supply }))))
-    t old new
-hub_learned t text ports supply m n old a b new endpoint counted wa supplied wb keeps =
+    → DeviceFact (AtMaximum t
+    (Ruled (IsGoodHub wide text (record { ports = ports; supply = supply })))) t old new
+hub_learned wide t text ports supply m n old a b new endpoint counted wa supplied wb keeps =
     let Facts : Spec → Type 0 = AtMaximum t
-    (Ruled (IsGoodHub text (record { ports = ports; supply = supply }))) in
+    (Ruled (IsGoodHub wide text (record { ports = ports; supply = supply }))) in
     learns_kept Facts t n old b new
-    (learns_on (AtMaximum t (HasPorts ports)) (HasSupply supply) Facts t m old a b
-    (λ spec p s max ruled. is_good_hub_read text ports supply spec endpoint (p max) s ruled)
+    (learns_on (AtMaximum t (HasPorts wide ports)) (HasSupply supply) Facts t m old a b
+    (λ spec p s max ruled. is_good_hub_read wide text ports supply spec endpoint (p max) s ruled)
     counted wa supplied) wb keeps

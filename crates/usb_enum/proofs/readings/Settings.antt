@@ -1,6 +1,7 @@
 -- How what is learned of a device joins where it is configured.
 use Rattle.usb_device.specs.{Location, Spec, OnlyStage, State, in_end, out_end}
 use Rattle.std.proofs.Common.{◌≡◌, ℕ, ◌==◌, List, Option, Result, Ok, false, refl, ap, subst, ◌∙◌}
+use Rattle.std.proofs.Common.{Bool}
 use Rattle.usb_descriptor.specs.{configuration_value, configuration_count}
 use Rattle.usb_world.specs.{EachWas, World}
 use Rattle.usb_world.proofs.Interface.{each_joined, each_wider}
@@ -78,7 +79,8 @@ set_then A B t value m before set told a went b single =
     (b single)
 
 -- its configurations were read, it was configured, and its ports and its strings were read
-pub listed_learns : (t : Target) (bytes : List ℕ) (device : Accepted) (count value l m n : ℕ)
+pub listed_learns : (wide : Bool) (t : Target) (bytes : List ℕ) (device : Accepted)
+    (count value l m n : ℕ)
     (text : List ℕ) (indexes : StringIndexes) (outcome : Result (Unit {0}) PipeFault)
     {before given set told new : World} {b c d e : Option (List ℕ)}
     → count ≡ configuration_count bytes
@@ -87,19 +89,20 @@ pub listed_learns : (t : Target) (bytes : List ℕ) (device : Accepted) (count v
     → outcome ≡ Ok tt → (set.shared ≡ false
     → EachWas (ConfigurationAsked t value outcome set) given set)
     → StepRun m set c told d → text ≡ configuration_of device
-    → DeviceFact (AtMaximum t (TellsPorts text device.hub)) t set told
+    → DeviceFact (AtMaximum t (TellsPorts wide text device.hub)) t set told
     → StepRun n told d new e → indexes ≡ string_indexes bytes
     → DeviceFact (AtMaximum t (λ spec. device.strings ≡ strings_by spec indexes)) t told new
-    → LearnsSet (AtMaximum t (HasReadings bytes device)) t
+    → LearnsSet (AtMaximum t (HasReadings wide bytes device)) t
     (configuration_value (configuration_of device)) before new
-listed_learns t bytes device count value l m n text indexes outcome {before} {given} {set} {told}
+listed_learns wide t bytes device count value l m n text indexes outcome {before} {given} {set}
+    {told}
     {new} same_count configs went_set same_value done asked went_told same_text ports went
     same_indexes strings single =
     let Texts : Spec → Type 0 = AtMaximum t (HasConfigurations count device.configs) in
-    let Ports : Spec → Type 0 = AtMaximum t (TellsPorts text device.hub) in
+    let Ports : Spec → Type 0 = AtMaximum t (TellsPorts wide text device.hub) in
     let Named : Spec → Type 0 = AtMaximum t (λ spec. device.strings ≡ strings_by spec indexes) in
     each_wider (LearnedSet (λ x. (Allowed Texts x × Ports x) × Named x) t value)
-    (LearnedSet (AtMaximum t (HasReadings bytes device)) t
+    (LearnedSet (AtMaximum t (HasReadings wide bytes device)) t
     (configuration_value (configuration_of device)))
     (λ j s v x. record {
       spec = x.spec;
@@ -110,7 +113,7 @@ listed_learns t bytes device count value l m n text indexes outcome {before} {gi
               configs = subst (λ k. HasConfigurations k device.configs s.spec) same_count
                   (so.0.0.0.0 most);
               allowed = so.0.0.0.1;
-              ports = subst (λ y. TellsPorts y device.hub s.spec) same_text (so.0.0.1 most);
+              ports = subst (λ y. TellsPorts wide y device.hub s.spec) same_text (so.0.0.1 most);
               strings = so.0.1 most ∙ ap (strings_by s.spec) same_indexes;
             }),
             so.1 ∙ same_value,

@@ -5,10 +5,10 @@ use Rattle.std.proofs.Common.{Some, Result, Ok, Err, refl, ap, sym, subst, ◌�
 use Rattle.std.proofs.lemmas.Bool.{eq-eqb}
 use Rattle.std.proofs.lemmas.List.{get_or-take}
 use Rattle.usb_descriptor.specs.{configuration_value, configuration_count}
-use Rattle.usb_device.specs.{State, Ports, Location, state_there, Spec, IsSpec}
+use Rattle.usb_device.specs.{State, Ports, Location, state_there, Spec, IsSpec, hub_ports}
 use Rattle.usb_resources.specs.{supply_of}
 use Rattle.usb_transaction.specs.{Target}
-use Rattle.usb_world.specs.{after_taking, hub_ports, Consistent, World}
+use Rattle.usb_world.specs.{after_taking, Consistent, World}
 use Rattle.usb_tree.specs.{address_of}
 use Rattle.usb_world.proofs.Interface.{sane_spec}
 use Rattle.usb_tree.proofs.Interface.{and_false, self_path}
@@ -52,8 +52,8 @@ front_indexes d =
 -- Hubs
 
 -- what is so of one that told of its ports, and of a device that did not
-record HubTold (spec : Spec) (text : List ℕ) (told : Option HubFacts) : Type 0 where
-  good : (is_hub_device spec.descriptor && not (is_good_hub spec text)) ≡ false
+record HubTold (wide : Bool) (spec : Spec) (text : List ℕ) (told : Option HubFacts) : Type 0 where
+  good : (is_hub_device spec.descriptor && not (is_good_hub wide spec text)) ≡ false
   facts : told ≡ facts_of spec
 
 no_hub : (hub good : Bool) → hub ≡ false → (hub && not good) ≡ false
@@ -62,17 +62,18 @@ no_hub hub good e = rw e refl
 good_not_refused : (hub good : Bool) → good ≡ true → (hub && not good) ≡ false
 good_not_refused hub good e = rw e (and_false hub)
 
-facts_told : (spec : Spec) (bytes text : List ℕ) (told : Option HubFacts) → IsSpec spec
+facts_told : (wide : Bool) (spec : Spec) (bytes text : List ℕ) (told : Option HubFacts)
+    → IsSpec spec
     → is_hub_device bytes ≡ is_hub_device spec.descriptor → HasFacts bytes text told
-    → TellsPorts text told spec → HubTold spec text told
-facts_told spec bytes text (Some facts) ruled same has tells =
-    let is : IsGoodHub text facts spec = tells ruled in
+    → TellsPorts wide text told spec → HubTold wide spec text told
+facts_told wide spec bytes text (Some facts) ruled same has tells =
+    let is : IsGoodHub wide text facts spec = tells ruled in
     record {
-      good = good_not_refused (is_hub_device spec.descriptor) (is_good_hub spec text) is.good;
+      good = good_not_refused (is_hub_device spec.descriptor) (is_good_hub wide spec text) is.good;
       facts = sym is.told;
     }
-facts_told spec bytes text None ruled same has tells = record {
-  good = no_hub (is_hub_device spec.descriptor) (is_good_hub spec text) (sym same ∙ has);
+facts_told wide spec bytes text None ruled same has tells = record {
+  good = no_hub (is_hub_device spec.descriptor) (is_good_hub wide spec text) (sym same ∙ has);
   facts = sym (ap (λ b. if b then Some (record {
     ports = hub_ports spec.hub;
     supply = supply_of false spec.self_powered;
@@ -81,12 +82,12 @@ facts_told spec bytes text None ruled same has tells = record {
 
 -- The finding
 
-own_finding : (tier supply : ℕ) (addressed : Addressed) (device : Accepted) (s : State)
-    {old new : World} → IsSpec s.spec → IsAddressed addressed s
-    → IsListed addressed tier old new device → IsWhole supply device
-    → HasReadings addressed.bytes device s.spec
-    → (verdict s.spec tier supply ≡ Ok device.chosen) × IsAs s.spec device
-own_finding tier supply addressed device s ruled found is whole read =
+own_finding : (wide : Bool) (tier supply : ℕ) (addressed : Addressed) (device : Accepted)
+    (s : State) {old new : World} → IsSpec s.spec → IsAddressed addressed s
+    → IsListed addressed wide tier old new device → IsWhole wide supply device
+    → HasReadings wide addressed.bytes device s.spec
+    → (verdict s.spec wide tier supply ≡ Ok device.chosen) × IsAs s.spec device
+own_finding wide tier supply addressed device s ruled found is whole read =
     let spec = s.spec in
     let hub_same = ap is_hub_device found.bytes ∙ front_hub spec.descriptor in
     let count_same = ap configuration_count found.bytes ∙ front_count spec.descriptor in
@@ -99,14 +100,14 @@ own_finding tier supply addressed device s ruled found is whole read =
       shallow = ap (λ h. h && tier == 7) (sym hub_same)
           ∙ fits_tier-hub tier addressed.bytes is.fits;
     } in
-    let hub = facts_told spec device.bytes (configuration_of device) device.hub ruled
+    let hub = facts_told wide spec device.bytes (configuration_of device) device.hub ruled
     (ap is_hub_device is.bytes ∙ hub_same) whole.hub read.ports in (
-      row_accepted spec tier supply device.chosen (record {
+      row_accepted spec wide tier supply device.chosen (record {
         device = gave;
         good = ap (first_fault spec) (sym count_same) ∙ read.configs.good;
         within = ap (choice_of supply) (sym texts_same) ∙ whole.chosen;
       }) read.allowed (ap (λ texts. is_hub_device spec.descriptor &&
-          not (is_good_hub spec (slice_index_or texts device.chosen []))) (sym texts_same)
+          not (is_good_hub wide spec (slice_index_or texts device.chosen []))) (sym texts_same)
           ∙ hub.good),
       record {
         low = is.low ∙ sym found.low;
@@ -119,18 +120,20 @@ own_finding tier supply addressed device s ruled found is whole read =
     )
 
 -- it is set as it says, where its address is the target's and its configuration the chosen one's
-accepted_own_device : (tier supply : ℕ) (addressed : Addressed) (device : Accepted) (j : Location)
-    (s v : State) {old new : World} → IsWhole supply device → IsListed addressed tier old new device
-    → LearnedSet (AtMaximum addressed.target (HasReadings addressed.bytes device)) addressed.target
-    (configuration_value (configuration_of device)) j s v → IsAddressed addressed s
-    → IsSpec s.spec → IsOwn tier supply device v
-accepted_own_device tier supply addressed device j s v whole is learned found ruled =
+accepted_own_device : (wide : Bool) (tier supply : ℕ) (addressed : Addressed) (device : Accepted)
+    (j : Location) (s v : State) {old new : World} → IsWhole wide supply device
+    → IsListed addressed wide tier old new device
+    → LearnedSet (AtMaximum addressed.target (HasReadings wide addressed.bytes device))
+    addressed.target (configuration_value (configuration_of device)) j s v → IsAddressed addressed s
+    → IsSpec s.spec → IsOwn wide tier supply device v
+accepted_own_device wide tier supply addressed device j s v whole is learned found ruled =
     let target = addressed.target in
     let learned_of = learned.so (eq-eqb (address_of s) target.addr found.address) in
-    let read : HasReadings addressed.bytes device s.spec =
+    let read : HasReadings wide addressed.bytes device s.spec =
     learned_of.0 (head_packet s.spec target.low target.max found.low found.head) in (
-      subst (λ x. (verdict x tier supply ≡ Ok device.chosen) × IsAs x device) (sym learned.spec)
-          (own_finding tier supply addressed device s ruled found is whole read),
+      subst (λ x. (verdict x wide tier supply ≡ Ok device.chosen) × IsAs x device)
+          (sym learned.spec) (own_finding wide tier supply addressed device s ruled found is whole
+          read),
       record {
         address = learned.address ∙ found.address ∙ sym is.address;
         configuration = learned_of.1;
@@ -144,18 +147,21 @@ ruled_there k (suc i ∷ p) s sane there = sane_spec k i p s sane there
 ruled_there k _ s sane there = absurd cc
 
 -- the device at the port, where it was read and configured after it took the address
-own_found : (port : HubPort) (address tier supply n : ℕ) (addressed : Addressed) (device : Accepted)
-    {old mid new : World} {a b : Option (List ℕ)} → StepRun n old a mid b
+own_found : (port : HubPort) (address : ℕ) (wide : Bool) (tier supply n : ℕ)
+    (addressed : Addressed) (device : Accepted) {old mid new : World} {a b : Option (List ℕ)}
+    → StepRun n old a mid b
     → Within port address old mid → HasTaken port address old mid addressed
-    → KeepsAddresses mid new → IsWhole supply device → IsListed addressed tier mid new device
-    → Finds (IsOwn tier supply device) port address old new
-own_found port address tier supply n addressed device {old} {mid} {new} went within taken keeps
+    → KeepsAddresses mid new → IsWhole wide supply device
+    → IsListed addressed wide tier mid new device
+    → Finds (IsOwn wide tier supply device) port address old new
+own_found port address wide tier supply n addressed device {old} {mid} {new} went within taken keeps
     whole is =
-    finds_on (LearnedSet (AtMaximum addressed.target (HasReadings addressed.bytes device))
+    finds_on (LearnedSet (AtMaximum addressed.target (HasReadings wide addressed.bytes device))
     addressed.target (configuration_value (configuration_of device)))
-    (λ s. IsAddressed addressed s × IsSpec s.spec) (IsOwn tier supply device) port address
-    (λ j s v learned found. accepted_own_device tier supply addressed device j s v whole is learned
-    found.0 found.1) is.learned (within-keeps_addresses port address old mid new within keeps)
+    (λ s. IsAddressed addressed s × IsSpec s.spec) (IsOwn wide tier supply device) port address
+    (λ j s v learned found. accepted_own_device wide tier supply addressed device j s v whole is
+    learned found.0 found.1) is.learned (within-keeps_addresses port address old mid new within
+    keeps)
     (record {
       found = λ f p spare t order s on there. (
         taken.found.found f p spare t order s on there,
@@ -173,19 +179,20 @@ target_is : (t : Target) (address : ℕ) (low pre : Bool) → address ≡ t.addr
     }
 target_is t address low pre at slow before = rw (at, slow, ← before) refl
 
-pub accepted : (port : HubPort) (address tier supply n m : ℕ) (addressed : Addressed)
-    (result : Result Accepted Stop) {old mid new : World} {a b c d : Option (List ℕ)}
+pub accepted : (port : HubPort) (address : ℕ) (wide : Bool) (tier supply n m : ℕ)
+    (addressed : Addressed) (result : Result Accepted Stop) {old mid new : World}
+    {a b c d : Option (List ℕ)}
     → StepRun n old a mid b → Within port address old mid → HasTaken port address old mid addressed
     → OnlySets address mid new → StepRun m mid c new d
-    → IfOk result (λ device. IsWhole supply device) → IfOk result (IsListed addressed tier mid new)
-    → IfOk result (IsAccepted port address tier supply old new)
-accepted port address tier supply n m addressed (Ok device) {old} {mid} {new} went within taken sets
-    later whole is = record {
+    → IfOk result (λ device. IsWhole wide supply device)
+    → IfOk result (IsListed addressed wide tier mid new)
+    → IfOk result (IsAccepted port address wide tier supply old new)
+accepted port address wide tier supply n m addressed (Ok device) {old} {mid} {new} went within taken
+    sets later whole is = record {
       served = is.served;
       takes = takes_then port address old mid new taken.takes sets.addresses;
-      own = own_found port address tier supply n addressed device went within taken sets.addresses
-          whole
-          is;
+      own = own_found port address wide tier supply n addressed device went within taken
+          sets.addresses whole is;
       reaches = reaches_set port address m later taken.takes sets taken.reaches;
       below = λ f p spare t order.
           is.below.empty (after_taking f p address) p
@@ -205,4 +212,5 @@ accepted port address tier supply n m addressed (Ok device) {old} {mid} {new} we
             };
       };
     }
-accepted port address tier supply n m addressed (Err why) went within taken sets later whole is = tt
+accepted port address wide tier supply n m addressed (Err why) went within taken sets later whole
+    is = tt

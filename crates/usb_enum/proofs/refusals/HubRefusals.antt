@@ -32,46 +32,48 @@ unless_refused-not true given none = refl
 unless_refused-not false given none = absurd cc
 
 -- it does not give its descriptor
-pub hub_ungiven : (spec : Spec) (o : Option Hub)
+pub hub_ungiven : (wide : Bool) (spec : Spec) (o : Option Hub)
     → unless_refused spec.stalls.hub (option_map (λ (hub : Hub). hub.descriptor) o) ≡ None
-    → gives_hub spec o ≡ false
-hub_ungiven spec None none = refl
-hub_ungiven spec (Some hub) none = not_all (not spec.stalls.hub) (not spec.stalls.status)
-    (is_ok (hub_spelled (take 9 hub.descriptor))) (unless_refused-not spec.stalls.hub hub.descriptor
-    none)
+    → gives_hub wide spec o ≡ false
+hub_ungiven wide spec None none = refl
+hub_ungiven wide spec (Some hub) none = not_all (not spec.stalls.hub) (not spec.stalls.status)
+    (is_ok (hub_spelled wide (take 9 hub.descriptor)))
+    (unless_refused-not spec.stalls.hub hub.descriptor none)
 
 -- its descriptor is malformed
-hub_malformed : (spec : Spec) (o : Option Hub) (text : List ℕ)
-    → option_map (λ (hub : Hub). hub.descriptor) o ≡ Some text → is_ok (hub_spelled (take 9 text))
-    ≡ false → gives_hub spec o ≡ false
-hub_malformed spec None text is bad = refl
-hub_malformed spec (Some hub) text is bad =
+hub_malformed : (wide : Bool) (spec : Spec) (o : Option Hub) (text : List ℕ)
+    → option_map (λ (hub : Hub). hub.descriptor) o ≡ Some text
+    → is_ok (hub_spelled wide (take 9 text)) ≡ false → gives_hub wide spec o ≡ false
+hub_malformed wide spec None text is bad = refl
+hub_malformed wide spec (Some hub) text is bad =
     not_third (not spec.stalls.hub) (not spec.stalls.status)
-    (is_ok (hub_spelled (take 9 hub.descriptor)))
-    (ap (λ x. is_ok (hub_spelled (take 9 x))) (same_Some hub.descriptor text is) ∙ bad)
+    (is_ok (hub_spelled wide (take 9 hub.descriptor)))
+    (ap (λ x. is_ok (hub_spelled wide (take 9 x))) (same_Some hub.descriptor text is) ∙ bad)
 
 -- it does not give its status
-pub status_ungiven : (spec : Spec) (o : Option Hub) → not spec.stalls.status ≡ false
-    → gives_hub spec o ≡ false
-status_ungiven spec None h = refl
-status_ungiven spec (Some hub) h = not_second (not spec.stalls.hub) (not spec.stalls.status)
-    (is_ok (hub_spelled (take 9 hub.descriptor))) h
+pub status_ungiven : (wide : Bool) (spec : Spec) (o : Option Hub)
+    → not spec.stalls.status ≡ false → gives_hub wide spec o ≡ false
+status_ungiven wide spec None h = refl
+status_ungiven wide spec (Some hub) h = not_second (not spec.stalls.hub) (not spec.stalls.status)
+    (is_ok (hub_spelled wide (take 9 hub.descriptor))) h
 
-pub bad_hub : (spec : Spec) → gives_hub spec spec.hub ≡ false → hub_fault spec ≡ Some BadHub
-bad_hub spec bad = ap (λ b. if b then None else Some BadHub) bad
+pub bad_hub : (wide : Bool) (spec : Spec) → gives_hub wide spec spec.hub ≡ false
+    → hub_fault wide spec ≡ Some BadHub
+bad_hub wide spec bad = ap (λ b. if b then None else Some BadHub) bad
 
-pub count_refused : (t : Target) (stalled : Cause) (outcome : Result (Vec ℕ) PipeFault)
+pub count_refused : (wide : Bool) (t : Target) (stalled : Cause)
+    (outcome : Result (Vec ℕ) PipeFault)
     (bytes : Vec ℕ) (fault : DescriptorFault) (old new : World)
-    → Ok bytes ≡ answered_or stalled outcome → hub_spelled bytes.items ≡ Err fault
+    → Ok bytes ≡ answered_or stalled outcome → hub_spelled wide bytes.items ≡ Err fault
     → (new.shared ≡ false → EachWas (HubAsked t outcome) old new)
-    → FailureReason (Refuses t hub_fault (Refused BadHub)) t old new
-count_refused t stalled outcome bytes fault old new answered bad what =
-    learned_explains (AtMaximum t (λ spec. hub_fault spec ≡ Some BadHub))
-    (Refuses t hub_fault (Refused BadHub)) t old new (λ spec x r. x r.max)
-    (text_learned hub_given (λ spec. hub_fault spec ≡ Some BadHub) t 9 outcome bytes old new
+    → FailureReason (Refuses t (hub_fault wide) (Refused BadHub)) t old new
+count_refused wide t stalled outcome bytes fault old new answered bad what =
+    learned_explains (AtMaximum t (λ spec. hub_fault wide spec ≡ Some BadHub))
+    (Refuses t (hub_fault wide) (Refused BadHub)) t old new (λ spec x r. x r.max)
+    (text_learned hub_given (λ spec. hub_fault wide spec ≡ Some BadHub) t 9 outcome bytes old new
     (answered_ok stalled outcome bytes answered)
     (λ spec text given first.
-    bad_hub spec (hub_malformed spec spec.hub text
+    bad_hub wide spec (hub_malformed wide spec spec.hub text
     (given_allows spec.stalls.hub (option_map (λ (hub : Hub). hub.descriptor) spec.hub) text
-    given).1 (ap is_ok (ap hub_spelled (sym first) ∙ bad))))
+    given).1 (ap is_ok (ap (hub_spelled wide) (sym first) ∙ bad))))
     what)

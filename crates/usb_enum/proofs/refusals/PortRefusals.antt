@@ -1,11 +1,11 @@
 -- A hub is not refused for the ports that it has.
 use Rattle.std.proofs.Common.{◌≡◌, ◌≤◌, ◌+◌, ℕ, ◌&&◌, Bool, true, false, List, if◌then◌else◌}
-use Rattle.std.proofs.Common.{Option, None, Some, Result, Err, refl, ap, subst, arith, is_some}
+use Rattle.std.proofs.Common.{Option, None, Some, Result, Err, refl, ap, sym, ◌∙◌, subst, arith}
 use Rattle.std.specs.Prelude.{unwrap_or, ⊤}
 use Rattle.usb_request.specs.{PORT_POWER, set_port_feature}
 use Rattle.usb_port.specs.{IsPortNumber}
 use Rattle.usb_descriptor.specs.{status_endpoint_of}
-use Rattle.usb_device.specs.{Spec, IsSpec, Registers}
+use Rattle.usb_device.specs.{Spec, IsSpec, Registers, hub_ports}
 use Rattle.usb_world.specs.{Was, World}
 use Rattle.usb_world.proofs.Interface.{each_wider}
 use Rattle.usb_transaction.specs.{Target}
@@ -16,7 +16,8 @@ use Rattle.usb_pipe.specs.declared.fault.PipeFault.TheVariants as pipe
 use Rattle.usb_hub.specs.{External, StaysAs, KeepsDevices, Commanded, HasPort, NoHubFailed}
 use Rattle.usb_hub.proofs.Interface.{hub_sets, stays-registers, stays-spec}
 use Rattle.usb_enum.specs.{Cause, BadHub, Stop, gives_hub, Learned, DeviceFact, Hears, HearsSet}
-use Rattle.usb_enum.specs.{FailureReason, ExplainsSet, AtMaximum, HasPorts, IsResponsive}
+use Rattle.usb_enum.specs.{Explained, holds_changes, FailureReason, ExplainsSet, AtMaximum}
+use Rattle.usb_enum.specs.{HasPorts, IsResponsive}
 use Rattle.usb_enum.specs.{IsRefusedFor, Refuses, RefusesNoPort, no_fault, hub_fault, start_fault}
 use Rattle.usb_enum.specs.{stop_of, answered_or}
 use Rattle.usb_enum.specs.declared.stop.Stop.TheVariants.{Refused, Fault}
@@ -92,50 +93,75 @@ powering_explains t before ports m n stop old mid new fewer keeps =
 -- A hub that is started
 
 -- with another fault
-module _ (text : List ℕ) where
+module _ (wide : Bool) (text : List ℕ) where
   bad_start : (good : Bool) (cause : Cause) (endpoint : Bool) → (if good then None else Some BadHub)
       ≡ Some cause → (if endpoint && good then None else Some BadHub) ≡ Some cause
   bad_start true cause endpoint is = absurd cc
   bad_start false cause true is = is
   bad_start false cause false is = is
 
-  start_refused : (t : Target) (stop : Stop) (spec : Spec) → Refuses t hub_fault stop spec
-      → Refuses t (start_fault text) stop spec
+  start_refused : (t : Target) (stop : Stop) (spec : Spec) → Refuses t (hub_fault wide) stop spec
+      → Refuses t (start_fault wide text) stop spec
   start_refused t (Refused cause) spec refused r =
-      bad_start (gives_hub spec spec.hub) cause (is_some (status_endpoint_of text)) (refused r)
+      bad_start (gives_hub wide spec spec.hub) cause
+      (holds_changes (status_endpoint_of wide text) (hub_ports spec.hub)) (refused r)
   start_refused t (Fault fault) spec refused r = tt
 
-  pub no_endpoint : (t : Target) (spec : Spec) → is_some (status_endpoint_of text) ≡ false
-      → Refuses t (start_fault text) (Refused BadHub) spec
-  no_endpoint t spec none r = ap (λ b. if b && gives_hub spec spec.hub then None else Some BadHub)
-      none
+  pub no_endpoint : (t : Target) (spec : Spec) → status_endpoint_of wide text ≡ None
+      → Refuses t (start_fault wide text) (Refused BadHub) spec
+  no_endpoint t spec none r = ap (λ e. if holds_changes e (hub_ports spec.hub) &&
+      gives_hub wide spec spec.hub then None else Some BadHub) none
+
+  small_refused : (t : Target) (ports : ℕ) (spec : Spec)
+      → holds_changes (status_endpoint_of wide text) ports ≡ false → HasPorts wide ports spec
+      → IsSpec spec → Refuses t (start_fault wide text) (Refused BadHub) spec
+  small_refused t ports spec small p ruled r =
+      let had = had_ports wide ports spec p ruled in
+      let same : hub_ports spec.hub ≡ ports = ap hub_ports had.is ∙ sym had.count in
+      ap (λ b. if b && gives_hub wide spec spec.hub then None else Some BadHub)
+      (ap (holds_changes (status_endpoint_of wide text)) same ∙ small)
+
+  -- its status endpoint is too small
+  pub small_explains : (t : Target) (ports : ℕ) (old new : World)
+      → holds_changes (status_endpoint_of wide text) ports ≡ false
+      → DeviceFact (AtMaximum t (HasPorts wide ports)) t old new
+      → ExplainsSet (Refuses t (start_fault wide text) (Refused BadHub)) t old new
+  small_explains t ports old new small counted three single =
+      each_wider (Learned (AtMaximum t (HasPorts wide ports)) t)
+      (Explained HearsSet (Refuses t (start_fault wide text) (Refused BadHub)) t)
+      (λ j s v l. record {
+        spec = stays-spec s v l.frame;
+        address = ap (λ (g : Registers). g.address) (stays-registers s v l.frame);
+        so = λ h ruled r.
+            small_refused t ports s.spec small (l.so h.hears.at r.max) ruled r;
+      }) old new (counted single)
 
   -- what it gives was asked
   pub asked_explains : (t : Target) (stop : Stop) (old new : World)
-      → FailureReason (Refuses t hub_fault stop) t old new
-      → ExplainsSet (Refuses t (start_fault text) stop) t old new
-  asked_explains t stop old new = explained_wider Hears HearsSet (Refuses t hub_fault stop)
-      (Refuses t (start_fault text) stop) t old new (λ j s h. h.hears) (start_refused t stop)
+      → FailureReason (Refuses t (hub_fault wide) stop) t old new
+      → ExplainsSet (Refuses t (start_fault wide text) stop) t old new
+  asked_explains t stop old new = explained_wider Hears HearsSet (Refuses t (hub_fault wide) stop)
+      (Refuses t (start_fault wide text) stop) t old new (λ j s h. h.hears) (start_refused t stop)
 
   pub supply_explains : (t : Target) (ports m n : ℕ) (stop : Stop) (old mid new : World)
       {q r s u : Option (List ℕ)} → StepRun m old q mid r
-      → DeviceFact (AtMaximum t (HasPorts ports)) t old mid → StepRun n mid s new u
-      → FailureReason (Refuses t hub_fault stop) t mid new
-      → ExplainsSet (Refuses t (start_fault text) stop) t old new
+      → DeviceFact (AtMaximum t (HasPorts wide ports)) t old mid → StepRun n mid s new u
+      → FailureReason (Refuses t (hub_fault wide) stop) t mid new
+      → ExplainsSet (Refuses t (start_fault wide text) stop) t old new
   supply_explains t ports m n stop old mid new went counted next explains =
-      explains_set_on (AtMaximum t (HasPorts ports)) (Refuses t (start_fault text) stop)
-      (Refuses t (start_fault text) stop) t m n old mid new (λ spec ruled p b. b) counted went
+      explains_set_on (AtMaximum t (HasPorts wide ports)) (Refuses t (start_fault wide text) stop)
+      (Refuses t (start_fault wide text) stop) t m n old mid new (λ spec ruled p b. b) counted went
       next (asked_explains t stop mid new explains)
 
   no_refusal : (spec : Spec) (stop : Stop) → IsRefusedFor no_fault stop spec
-      → IsRefusedFor (start_fault text) stop spec
+      → IsRefusedFor (start_fault wide text) stop spec
   no_refusal spec (Refused cause) is = absurd cc
   no_refusal spec (Fault fault) is = tt
 
-  has_last : (t : Target) (ports : ℕ) (spec : Spec) → IsPortNumber ports → HasPorts ports spec
+  has_last : (t : Target) (ports : ℕ) (spec : Spec) → IsPortNumber ports → HasPorts wide ports spec
       → IsSpec spec → IsResponsive t spec → HasPort spec ports
   has_last t ports spec fits p ruled r =
-      let had = had_ports ports spec p ruled in
+      let had = had_ports wide ports spec p ruled in
       record {
         hub = had.hub;
         is = had.is;
@@ -148,12 +174,12 @@ module _ (text : List ℕ) where
   -- its ports were counted, and it gave its status, before they were given power
   pub powered_explains : (t : Target) (ports l m n : ℕ) (stop : Stop) (old a b new : World)
       {q r s u v : Option (List ℕ)} → IsPortNumber ports → StepRun l old q a r
-      → DeviceFact (AtMaximum t (HasPorts ports)) t old a → StepRun m a s b u
+      → DeviceFact (AtMaximum t (HasPorts wide ports)) t old a → StepRun m a s b u
       → KeepsDevices a b → StepRun n b u new v → ExplainsSet (RefusesNoPort t ports stop) t b new
-      → ExplainsSet (Refuses t (start_fault text) stop) t old new
+      → ExplainsSet (Refuses t (start_fault wide text) stop) t old new
   powered_explains t ports l m n stop old a b new fits wa counted wb keeps wn explains =
-      explains_set_on (AtMaximum t (HasPorts ports)) (RefusesNoPort t ports stop)
-      (Refuses t (start_fault text) stop) t l (m + n) old a new
+      explains_set_on (AtMaximum t (HasPorts wide ports)) (RefusesNoPort t ports stop)
+      (Refuses t (start_fault wide text) stop) t l (m + n) old a new
       (λ spec ruled p none r. no_refusal spec stop
       (none r (has_last t ports spec fits (p r.max) ruled r))) counted wa
       (went_then m n wb wn)

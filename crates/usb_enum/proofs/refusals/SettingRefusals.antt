@@ -1,6 +1,7 @@
 -- Why a device that has its address is refused.
 use Rattle.usb_device.specs.{Location, is_value, State, Spec, IsSpec}
 use Rattle.std.proofs.Common.{◌≡◌, ◌≢◌, inl, inr, ◌<◌, ℕ, ◌==◌, ◌&&◌, not, true, false, List, []}
+use Rattle.std.proofs.Common.{Bool}
 use Rattle.std.proofs.Common.{length, slice_index_or, if◌then◌else◌, Option, None, Some, Result, Ok}
 use Rattle.std.proofs.Common.{Err, refl, ap, sym, subst, ◌∙◌}
 use Rattle.std.specs.Prelude.{unwrap_or}
@@ -33,33 +34,34 @@ use Rattle.usb_enum.proofs.devices.SharedAddresses.{went_unshared}
 
 -- What is wrong with a description, row by row
 
-module _ (tier supply : ℕ) (bytes : List ℕ) (spec : Spec) where
+module _ (wide : Bool) (tier supply : ℕ) (bytes : List ℕ) (spec : Spec) where
   refused_deep : (stop : Stop) → fits_tier tier bytes ≡ Err stop
-      → IsRefusedFor (configured_fault tier supply bytes) stop spec
+      → IsRefusedFor (configured_fault wide tier supply bytes) stop spec
   unfolding configured_fault
   refused_deep stop is = let deep = deep_is tier bytes stop is in rw (deep.0, deep.1) refl
 
   -- where it is not too deep
   module _ (shallow : (is_hub_device bytes && tier == 7) ≡ false) where
     pub fault_read : (cause : Cause) → first_fault spec (configuration_count bytes) ≡ Some cause
-        → configured_fault tier supply bytes spec ≡ Some cause
+        → configured_fault wide tier supply bytes spec ≡ Some cause
     unfolding configured_fault
     fault_read cause first = rw (shallow, first) refl
 
     pub fault_chosen : (texts : List (List ℕ))
         → HasConfigurations (configuration_count bytes) texts spec
-        → configured_fault tier supply bytes spec ≡ chosen_fault (is_hub_device bytes) texts
+        → configured_fault wide tier supply bytes spec ≡ chosen_fault wide (is_hub_device bytes)
+        texts
         (choice_of supply texts) spec
     unfolding configured_fault
     fault_chosen texts has =
         let hub = is_hub_device bytes in
         let count = configuration_count bytes in
         ap (λ b. if b then Some TooDeep else option_or (first_fault spec count)
-        (chosen_fault hub (texts_below spec count) (choice_of supply (texts_below spec count))
+        (chosen_fault wide hub (texts_below spec count) (choice_of supply (texts_below spec count))
         spec)) shallow
-        ∙ ap (λ o. option_or o (chosen_fault hub (texts_below spec count)
+        ∙ ap (λ o. option_or o (chosen_fault wide hub (texts_below spec count)
         (choice_of supply (texts_below spec count)) spec)) has.good
-        ∙ ap (λ x. chosen_fault hub x (choice_of supply x) spec) (sym has.read)
+        ∙ ap (λ x. chosen_fault wide hub x (choice_of supply x) spec) (sym has.read)
 
 -- SET_CONFIGURATION
 
@@ -157,15 +159,15 @@ explains_after A B C t value m n old mid new f a first next b three single =
 
 -- A device that is read and configured
 
-module _ (t : Target) (tier supply : ℕ) (bytes : List ℕ) where
+module _ (t : Target) (wide : Bool) (tier supply : ℕ) (bytes : List ℕ) where
   abbrev wrong : Spec → Option Cause
-  wrong = configured_fault tier supply bytes
+  wrong = configured_fault wide tier supply bytes
 
   -- it is too deep
   pub deep_refused : (stop : Stop) (w : World) → fits_tier tier bytes ≡ Err stop
       → FailureReason (Refuses t wrong stop) t w w
   deep_refused stop w is = explained_none Hears (Refuses t wrong stop) t w
-      (λ spec r. refused_deep tier supply bytes spec stop is)
+      (λ spec r. refused_deep wide tier supply bytes spec stop is)
 
   module _ (fits : fits_tier tier bytes ≡ Ok tt) where
     shallow : (is_hub_device bytes && tier == 7) ≡ false
@@ -182,7 +184,7 @@ module _ (t : Target) (tier supply : ℕ) (bytes : List ℕ) where
       where
         so : (stop : Stop) (spec : Spec) → Refuses t (λ spec. first_fault spec count) stop spec
             → Refuses t wrong stop spec
-        so (Refused cause) spec refused r = fault_read tier supply bytes spec shallow cause
+        so (Refused cause) spec refused r = fault_read wide tier supply bytes spec shallow cause
             (ap (first_fault spec) (sym same) ∙ refused r)
         so (Fault fault) spec refused r = tt
 
@@ -195,14 +197,14 @@ module _ (t : Target) (tier supply : ℕ) (bytes : List ℕ) where
           → DeviceFact Read t old new → FailureReason (Refuses t wrong (Refused NoPower)) t old new
       power_refused old new none =
           learned_explains Read (Refuses t wrong (Refused NoPower)) t old new
-          (λ spec has r. fault_chosen tier supply bytes spec shallow texts (has r.max)
-          ∙ ap (λ o. chosen_fault (is_hub_device bytes) texts o spec) none)
+          (λ spec has r. fault_chosen wide tier supply bytes spec shallow texts (has r.max)
+          ∙ ap (λ o. chosen_fault wide (is_hub_device bytes) texts o spec) none)
 
       module _ (chosen : ℕ) (within : choice_of supply texts ≡ Some chosen) where
         fault_set : (spec : Spec) → HasConfigurations (configuration_count bytes) texts spec
-            → wrong spec ≡ chosen_fault (is_hub_device bytes) texts (Some chosen) spec
-        fault_set spec has = fault_chosen tier supply bytes spec shallow texts has
-            ∙ ap (λ o. chosen_fault (is_hub_device bytes) texts o spec) within
+            → wrong spec ≡ chosen_fault wide (is_hub_device bytes) texts (Some chosen) spec
+        fault_set spec has = fault_chosen wide tier supply bytes spec shallow texts has
+            ∙ ap (λ o. chosen_fault wide (is_hub_device bytes) texts o spec) within
 
         -- it is not set to the one that was chosen
         set_refused_for : (value : ℕ) (stop : Stop) (spec : Spec) → chosen < length texts
@@ -212,7 +214,7 @@ module _ (t : Target) (tier supply : ℕ) (bytes : List ℕ) where
             let good = chosen_value spec (configuration_count bytes) chosen value texts (has r.max)
             inside is byte in
             fault_set spec (has r.max)
-            ∙ ap (λ o. option_or o (if is_hub_device bytes then start_fault
+            ∙ ap (λ o. option_or o (if is_hub_device bytes then start_fault wide
             (slice_index_or texts chosen []) spec else None)) (refused good.taken r)
         set_refused_for value (Fault fault) spec inside is byte has refused r = tt
 
@@ -235,16 +237,17 @@ module _ (t : Target) (tier supply : ℕ) (bytes : List ℕ) where
         hub_refused_for : (value : ℕ) (stop : Stop) (spec : Spec) → is_hub_device bytes ≡ true
             → chosen < length texts → value ≡ configuration_value (slice_index_or texts chosen [])
             → value < 256 → Allowed Read spec → (value ≢ 0
-            → Refuses t (start_fault (slice_index_or texts chosen [])) stop spec)
+            → Refuses t (start_fault wide (slice_index_or texts chosen [])) stop spec)
             → Refuses t wrong stop spec
         hub_refused_for value (Refused cause) spec hub inside is byte has refused r =
             let good = chosen_value spec (configuration_count bytes) chosen value texts
             (has.0 r.max) inside is byte in
             fault_set spec (has.0 r.max)
             ∙ ap (λ b. option_or (if b then Some (Stalled request.SetConfig) else None)
-            (if is_hub_device bytes then start_fault (slice_index_or texts chosen []) spec
+            (if is_hub_device bytes then start_fault wide (slice_index_or texts chosen []) spec
             else None)) has.1
-            ∙ ap (λ b. if b then start_fault (slice_index_or texts chosen []) spec else None) hub
+            ∙ ap (λ b. if b then start_fault wide (slice_index_or texts chosen []) spec else None)
+            hub
             ∙ refused good.some r
         hub_refused_for value (Fault fault) spec hub inside is byte has refused r = tt
 
@@ -253,15 +256,16 @@ module _ (t : Target) (tier supply : ℕ) (bytes : List ℕ) where
             → chosen < length texts → value ≡ configuration_value (slice_index_or texts chosen [])
             → value < 256 → LearnsSet (Allowed Read) t value old mid → StepRun m old q mid r
             → StepRun n mid s new u → text ≡ slice_index_or texts chosen []
-            → ExplainsSet (Refuses t (start_fault text) stop) t mid new
+            → ExplainsSet (Refuses t (start_fault wide text) stop) t mid new
             → FailureReason (Refuses t wrong stop) t old new
         hub_refused value m n text stop old mid new some hub inside is byte set first next same
             explains =
-            explains_hub_on (Allowed Read) (Refuses t (start_fault (slice_index_or texts chosen []))
+            explains_hub_on (Allowed Read) (Refuses t (start_fault wide
+            (slice_index_or texts chosen []))
             stop) (Refuses t wrong stop) t value m n old mid new some
             (λ spec has refused. hub_refused_for value stop spec hub inside is byte has refused) set
             first next
-            (subst (λ x. ExplainsSet (Refuses t (start_fault x) stop) t mid new) same explains)
+            (subst (λ x. ExplainsSet (Refuses t (start_fault wide x) stop) t mid new) same explains)
 
   -- never for a string
   strings_unrefused : (stop : Stop) (spec : Spec) → Refuses t no_fault stop spec

@@ -8,6 +8,7 @@ use Rattle.usb_enum.specs.{HasEmptyPorts, IsOccupied, IsPlaced, AtPath, Finds, I
 use Rattle.usb_enum.specs.{ReachesDevice, FewFrom, EndsFor, Enumerates}
 -- How an enumeration ends: who holds which address then.
 use Rattle.std.proofs.Common.{◌≡◌, ◌⊎◌, ◌≤◌, ◌+◌, inl, inr, ℕ, true, List, Option, None, Some}
+use Rattle.std.proofs.Common.{Bool}
 use Rattle.std.proofs.Common.{Result, Ok, Err, refl, ap, sym, subst, ◌∙◌, arith}
 use Rattle.usb_world.specs.{after_taking, World}
 use Rattle.usb_device.specs.{State, Spec, state_there}
@@ -169,13 +170,14 @@ module _ (port : HubPort) (addresses : Addresses) (address : ℕ) (zero_is : IsT
     named = named_calls old new calls;
   }
 
-  pub found_true : (tier supply : ℕ) (old new : World) (device : Accepted)
-      → Finds (IsOwn tier supply device) port address old new
-      → FindingIsTrue port addresses tier supply old (Ok (Device device)) new
-  found_true tier supply old new device finds = record {
+  pub found_true : (wide : Bool) (tier supply : ℕ) (old new : World) (device : Accepted)
+      → Finds (IsOwn wide tier supply device) port address old new
+      → FindingIsTrue port addresses wide tier supply old (Ok (Device device)) new
+  found_true wide tier supply old new device finds = record {
     truth = λ f p at bare claimed t order other e.
         let is = spare f p at bare claimed in
-        subst (λ x. AtPath (IsOwn tier supply x) p new) (let same : device ≡ other = cc in same)
+        subst (λ x. AtPath (IsOwn wide tier supply x) p new)
+        (let same : device ≡ other = cc in same)
         (finds.found f p is (first f p old is t) order);
   }
 
@@ -253,21 +255,22 @@ module _ (port : HubPort) (addresses : Addresses) (address : ℕ) (zero_is : IsT
       till_weaker (MapHolds f) (Enumerating f p 0) old
       (enumerating_begins f p 0 old is.free is.none) fair.begins.owned
 
-  pub device_warranted : (tier supply : ℕ) (old new : World) (device : Accepted)
-      → JustifiesRefusal port addresses tier supply old (Ok (Device device)) new
-  device_warranted tier supply old new device = record {
+  pub device_warranted : (wide : Bool) (tier supply : ℕ) (old new : World) (device : Accepted)
+      → JustifiesRefusal port addresses wide tier supply old (Ok (Device device)) new
+  device_warranted wide tier supply old new device = record {
     cause = λ f p fair cause s e. absurd cc;
     parent = λ f p fair e. absurd cc;
   }
 
-  module _ (wrong : Spec → Option Cause) (tier supply m n : ℕ) (last : Stop) (old mid new : World)
+  module _ (wrong : Spec → Option Cause) (wide : Bool) (tier supply m n : ℕ) (last : Stop)
+      (old mid new : World)
       (result : Result Finding EnumFault) {a b c d : Option (List ℕ)}
       (sooner : StepRun m old a mid b) (later : StepRun n mid c new d)
       (at : AtPort port address old mid) (stops : StopsFairly wrong port address last old mid)
       (closes : Closes port address last mid result new)
       (gives : GivesUp port last mid result new)
       (right : (spec : Spec) (cause : Cause) → wrong spec ≡ Some cause
-      → IsRight (IsFull addresses) spec tier supply (Refused cause)) where
+      → IsRight (IsFull addresses) spec wide tier supply (Refused cause)) where
     module _ (f : AddressMap) (p : List ℕ) (fair : IsFair f port p addresses old new) where
       whole : IsFairAt f port p address old new
       whole = fair_begun f p old new fair
@@ -280,7 +283,7 @@ module _ (port : HubPort) (addresses : Addresses) (address : ℕ) (zero_is : IsT
 
       caused : (why : Cause) → StopsFor wrong f p old (stop.Refused why) mid → (s : State)
           → state_there new.roots p ≡ Some s → (pending new.roots p ≡ true)
-          ⊎ IsRight (IsFull addresses) s.spec tier supply (Refused why)
+          ⊎ IsRight (IsFull addresses) s.spec wide tier supply (Refused why)
       caused why so s there = elim (pends_on (λ spec. wrong spec ≡ Some why) p
           (closes.only.at f p here.spare here.held here.working).spares here.occupied
           (so (zero_begun f p old new fair))) [
@@ -291,7 +294,7 @@ module _ (port : HubPort) (addresses : Addresses) (address : ℕ) (zero_is : IsT
     cause_of : (x : Stop) → last ≡ x → (f : AddressMap) (p : List ℕ)
         → IsFair f port p addresses old new → (cause : Cause) (s : State)
         → result ≡ Ok (Refused cause) → state_there new.roots p ≡ Some s
-        → (pending new.roots p ≡ true) ⊎ IsRight (IsFull addresses) s.spec tier supply
+        → (pending new.roots p ≡ true) ⊎ IsRight (IsFull addresses) s.spec wide tier supply
         (Refused cause)
     cause_of (stop.Fault why) is f p fair cause s e there =
         let g = subst (λ x. GivesUp port x mid result new) is gives in
@@ -299,7 +302,8 @@ module _ (port : HubPort) (addresses : Addresses) (address : ℕ) (zero_is : IsT
     cause_of (stop.Refused why) is f p fair cause s e there =
         let g = subst (λ r. GivesUp port (stop.Refused why) mid r new) e
         (subst (λ x. GivesUp port x mid result new) is gives) in
-        subst (λ y. (pending new.roots p ≡ true) ⊎ IsRight (IsFull addresses) s.spec tier supply y)
+        subst (λ y. (pending new.roots p ≡ true)
+        ⊎ IsRight (IsFull addresses) s.spec wide tier supply y)
         (sym g.0) (caused f p fair why (subst (λ x. StopsFor wrong f p old x mid) is
         (why_stopped f p fair)) s there)
 
@@ -315,9 +319,9 @@ module _ (port : HubPort) (addresses : Addresses) (address : ℕ) (zero_is : IsT
         (closes.lost why fault.ParentLost is e).why f p (here f p fair)
 
     -- all that is so in the end
-    pub stopped_ends : EndsFor port addresses tier supply old result new
+    pub stopped_ends : EndsFor port addresses wide tier supply old result new
         → FewAttempts port addresses old new → EnumWorks result old new
-        → Enumerates port addresses tier supply old result new
+        → Enumerates port addresses wide tier supply old result new
     stopped_ends ended few works = record {
       addresses = given_up old mid new result at.within closes.ends
           (calls_then port address n old mid new at later closes.only);

@@ -127,14 +127,16 @@ stop_told t setup named outcome stop m n old new is names failed ends =
     (failing IsAny pipe.NoAnswer tt) (λ why told. told)
 
 -- of a request to a hub
-pub bad_hub_told : {A : Type 0} (t : Target) (setup : Setup) (outcome : Result A PipeFault)
+pub bad_hub_told : {A : Type 0} (wide : Bool) (t : Target) (setup : Setup)
+    (outcome : Result A PipeFault)
     (stop : Stop) (m n : ℕ) (old new : World) → Err stop ≡ answered_or cause.BadHub outcome
     → ((why : PipeFault) → outcome ≡ Err why → FailsAs t setup why old new)
     → MatchResult outcome (λ _. AttemptsMade m old new) (λ why. FaultAfter n old why new)
-    → (EndsFailing t (λ x. x ≡ setup) pipe.Stalled old new → HubFails t old new)
-    → CauseAllowedOfHub t stop old new
-bad_hub_told t setup outcome stop m n old new is failed ends bad =
-    stop_by (λ s. CauseAllowedOfHub t s old new) (λ why. FailsAs t setup why old new) cause.BadHub
+    → (EndsFailing t (λ x. x ≡ setup) pipe.Stalled old new → HubFails wide t old new)
+    → CauseAllowedOfHub wide t stop old new
+bad_hub_told wide t setup outcome stop m n old new is failed ends bad =
+    stop_by (λ s. CauseAllowedOfHub wide t s old new) (λ why. FailsAs t setup why old new)
+    cause.BadHub
     outcome stop m n old new is failed ends
     (λ f. inl (refl, bad (failing (λ x. x ≡ setup) pipe.Stalled refl f)))
     (λ f. inr (failing IsAny pipe.Busy tt f)) (λ f. inr (failing IsAny pipe.NoAnswer tt f))
@@ -194,11 +196,12 @@ status_failed t why old new other f =
     inl (subst (λ r. Reads t get_status old r new) (said_err f.0 get_status.length why other f.1.1)
     f.1.0)
 
-pub status_told : (t : Target) (outcome : Result DeviceStatus PipeFault) (stop : Stop)
+pub status_told : (wide : Bool) (t : Target) (outcome : Result DeviceStatus PipeFault) (stop : Stop)
     (old new : World) → Err stop ≡ answered_or cause.BadHub outcome
-    → ReadAs device_status t get_status old outcome new → CauseAllowedOfHub t stop old new
-status_told t outcome stop old new is told =
-    stop_by (λ s. CauseAllowedOfHub t s old new) (StatusFails t old new) cause.BadHub outcome stop 3
+    → ReadAs device_status t get_status old outcome new → CauseAllowedOfHub wide t stop old new
+status_told wide t outcome stop old new is told =
+    stop_by (λ s. CauseAllowedOfHub wide t s old new) (StatusFails t old new) cause.BadHub outcome
+    stop 3
     1 old new is
     (λ why e. (told.answer, (told.asked.stages, sym told.told ∙ e))) told.ends
     (λ f. inl (refl, no_status old f.0 (leads_none old) f.1.0 f.1.1))
@@ -266,8 +269,8 @@ told_after (Fault why) t old mid new led told = told
 
 -- Of a hub, after other steps
 
-pub fails_after : {t : Target} {old mid new : World} → Leads old mid → HubFails t mid new
-    → HubFails t old new
+pub fails_after : {wide : Bool} {t : Target} {old mid new : World} → Leads old mid
+    → HubFails wide t mid new → HubFails wide t old new
 fails_after led (no_descriptor ends) = no_descriptor (failing_after led ends)
 fails_after led (bad_descriptor bytes why read bad) =
     bad_descriptor bytes why (reading_after led read) bad
@@ -275,17 +278,17 @@ fails_after led (no_status before answer first stages said) =
     no_status before answer (leads_then led first) stages said
 fails_after led (no_power port ends) = no_power port (failing_after led ends)
 
-pub hub_after : (stop : Stop) (t : Target) (old mid new : World) → Leads old mid
-    → CauseAllowedOfHub t stop mid new → CauseAllowedOfHub t stop old new
-hub_after (Refused why) t old mid new led (inl bad) = inl (bad.0, fails_after led bad.1)
-hub_after (Refused why) t old mid new led (inr b) = inr (because_after why t old mid new led b)
-hub_after (Fault why) t old mid new led told = told
+pub hub_after : (wide : Bool) (stop : Stop) (t : Target) (old mid new : World) → Leads old mid
+    → CauseAllowedOfHub wide t stop mid new → CauseAllowedOfHub wide t stop old new
+hub_after wide (Refused why) t old mid new led (inl bad) = inl (bad.0, fails_after led bad.1)
+hub_after wide (Refused why) t old mid new led (inr b) = inr (because_after why t old mid new led b)
+hub_after wide (Fault why) t old mid new led told = told
 
-pub at_start : (stop : Stop) (t : Target) (text : List ℕ) (old new : World)
-    → CauseAllowedOfHub t stop old new → CauseAllowedAtStart t text stop old new
-at_start (Refused why) t text old new (inl bad) = inl (bad.0, inr bad.1)
-at_start (Refused why) t text old new (inr b) = inr b
-at_start (Fault why) t text old new told = told
+pub at_start : (wide : Bool) (stop : Stop) (t : Target) (text : List ℕ) (old new : World)
+    → CauseAllowedOfHub wide t stop old new → CauseAllowedAtStart wide t text stop old new
+at_start wide (Refused why) t text old new (inl bad) = inl (bad.0, inr (inr bad.1))
+at_start wide (Refused why) t text old new (inr b) = inr b
+at_start wide (Fault why) t text old new told = told
 
 -- What a reason says of the cause
 

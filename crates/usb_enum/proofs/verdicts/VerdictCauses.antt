@@ -24,35 +24,36 @@ set_config_cause false true true chosen cause h = absurd cc
 set_config_cause false false good chosen cause h = absurd cc
 set_config_cause _ _ _ chosen cause h = ap (λ c. Err c) (same_Some _ cause h)
 
-set_is : (spec : Spec) (texts : List (List ℕ)) (choice : Option ℕ) (cause : Cause)
-    → chosen_fault (is_hub_device spec.descriptor) texts choice spec ≡ Some cause
-    → set_verdict spec texts choice ≡ Err cause
-set_is spec texts None cause h = ap (λ c. Err c) (same_Some NoPower cause h)
-set_is spec texts (Some chosen) cause h =
+set_is : (wide : Bool) (spec : Spec) (texts : List (List ℕ)) (choice : Option ℕ) (cause : Cause)
+    → chosen_fault wide (is_hub_device spec.descriptor) texts choice spec ≡ Some cause
+    → set_verdict wide spec texts choice ≡ Err cause
+set_is wide spec texts None cause h = ap (λ c. Err c) (same_Some NoPower cause h)
+set_is wide spec texts (Some chosen) cause h =
     set_config_cause spec.stalls.set_config (is_hub_device spec.descriptor)
-    (is_good_hub spec (slice_index_or texts chosen [])) chosen cause h
+    (is_good_hub wide spec (slice_index_or texts chosen [])) chosen cause h
 
-read_is : (spec : Spec) (supply : ℕ) (first : Option Cause) (cause : Cause)
-    → option_or first (chosen_fault (is_hub_device spec.descriptor) (texts_of spec)
+read_is : (wide : Bool) (spec : Spec) (supply : ℕ) (first : Option Cause) (cause : Cause)
+    → option_or first (chosen_fault wide (is_hub_device spec.descriptor) (texts_of spec)
     (choice_of supply (texts_of spec)) spec) ≡ Some cause
-    → read_verdict spec supply first ≡ Err cause
-read_is spec supply (Some bad) cause h = ap (λ c. Err c) (same_Some bad cause h)
-read_is spec supply None cause h = set_is spec (texts_of spec) (choice_of supply (texts_of spec))
-    cause h
+    → read_verdict wide spec supply first ≡ Err cause
+read_is wide spec supply (Some bad) cause h = ap (λ c. Err c) (same_Some bad cause h)
+read_is wide spec supply None cause h =
+    set_is wide spec (texts_of spec) (choice_of supply (texts_of spec)) cause h
 
-module _ (spec : Spec) (tier supply : ℕ) where
+module _ (spec : Spec) (wide : Bool) (tier supply : ℕ) where
   -- by its class, and the number of its configurations
   abbrev Row : Bool → ℕ → Option Cause
   Row hub count = if hub && tier == 7 then Some TooDeep else option_or (first_fault spec count)
-      (chosen_fault hub (texts_below spec count) (choice_of supply (texts_below spec count)) spec)
+      (chosen_fault wide hub (texts_below spec count) (choice_of supply (texts_below spec count))
+      spec)
 
-  row_is : (bytes : List ℕ) → configured_fault tier supply bytes spec ≡ Row (is_hub_device bytes)
-      (configuration_count bytes)
+  row_is : (bytes : List ℕ) → configured_fault wide tier supply bytes spec
+      ≡ Row (is_hub_device bytes) (configuration_count bytes)
   unfolding configured_fault
   row_is bytes = refl
 
   row_front : (bytes : List ℕ) → bytes ≡ take 18 spec.descriptor
-      → configured_fault tier supply bytes spec ≡ Row (is_hub_device spec.descriptor)
+      → configured_fault wide tier supply bytes spec ≡ Row (is_hub_device spec.descriptor)
       (configuration_count spec.descriptor)
   row_front bytes front =
       row_is bytes
@@ -64,21 +65,23 @@ module _ (spec : Spec) (tier supply : ℕ) where
   pub verdict_refused : (bytes : List ℕ) (cause : Cause) → GaveHead spec
       → spec.stalls.address ≡ false → is_device spec.low (take 18 spec.descriptor) ≡ true
       → bytes ≡ take 18 spec.descriptor
-      → configured_fault tier supply bytes spec ≡ Some cause → verdict spec tier supply ≡ Err cause
+      → configured_fault wide tier supply bytes spec ≡ Some cause
+      → verdict spec wide tier supply ≡ Err cause
   verdict_refused bytes cause head address whole front fault =
       elim (decided (is_hub_device spec.descriptor && tier == 7)) [
-        | inl deep ↦ row_too_deep spec tier supply head address whole deep
+        | inl deep ↦ row_too_deep spec wide tier supply head address whole deep
             ∙ ap (λ c. Err c) (same_Some TooDeep cause
             (sym (ap (λ b. if b then Some TooDeep else rest) deep) ∙ is))
-        | inr shallow ↦ rows_after spec tier supply
+        | inr shallow ↦ rows_after spec wide tier supply
             (record { first = head; address = address; whole = whole; shallow = shallow })
-            ∙ read_is spec supply (first_fault spec (configuration_count spec.descriptor)) cause
+            ∙ read_is wide spec supply (first_fault spec (configuration_count spec.descriptor))
+            cause
             (sym (ap (λ b. if b then Some TooDeep else rest) shallow) ∙ is)
       ]
     where
       rest : Option Cause
       rest = option_or (first_fault spec (configuration_count spec.descriptor))
-          (chosen_fault (is_hub_device spec.descriptor) (texts_of spec)
+          (chosen_fault wide (is_hub_device spec.descriptor) (texts_of spec)
           (choice_of supply (texts_of spec)) spec)
 
       is : (if is_hub_device spec.descriptor && tier == 7 then Some TooDeep else rest) ≡ Some cause

@@ -1,5 +1,5 @@
 -- The verdict on a device of each row, and a string, computed.
-use Rattle.std.proofs.Common.{◌≡◌, ℕ, List, [], ◌∷◌, true, Some, None, Ok, Err, refl}
+use Rattle.std.proofs.Common.{◌≡◌, ℕ, List, [], ◌∷◌, true, false, Some, None, Ok, Err, refl}
 use Rattle.usb_descriptor.specs.Choice as choice
 use Rattle.usb_descriptor.specs.Config as config
 use Rattle.usb_descriptor.specs.Device as device
@@ -23,10 +23,10 @@ abbrev pub config_bytes : ℕ → ℕ → List ℕ
 config_bytes value power = 9 ∷ 2 ∷ 18 ∷ 0 ∷ 1 ∷ value ∷ 0 ∷ 128 ∷ power ∷ 9 ∷ 4 ∷ 0 ∷ 0 ∷ 0 ∷ 255 ∷
     0 ∷ 0 ∷ 0 ∷ []
 
--- a configuration of a hub, with its status endpoint
-abbrev pub hub_bytes : List ℕ
-hub_bytes = 9 ∷ 2 ∷ 25 ∷ 0 ∷ 1 ∷ 1 ∷ 0 ∷ 192 ∷ 0 ∷ 9 ∷ 4 ∷ 0 ∷ 0 ∷ 1 ∷ 9 ∷ 0 ∷ 0 ∷ 0 ∷ 7 ∷ 5 ∷ 129 ∷
-    3 ∷ 1 ∷ 0 ∷ 255 ∷ []
+-- a configuration of a hub, with the address and the maximum packet of its status endpoint
+abbrev pub hub_bytes : ℕ → ℕ → List ℕ
+hub_bytes address max = 9 ∷ 2 ∷ 25 ∷ 0 ∷ 1 ∷ 1 ∷ 0 ∷ 192 ∷ 0 ∷ 9 ∷ 4 ∷ 0 ∷ 0 ∷ 1 ∷ 9 ∷ 0 ∷ 0 ∷ 0 ∷
+    7 ∷ 5 ∷ address ∷ 3 ∷ max ∷ 0 ∷ 255 ∷ []
 
 -- needs 100 mA
 abbrev pub small : Spec
@@ -40,12 +40,16 @@ two = function [] (device_bytes 0 0 2) (config_bytes 1 250 ∷ config_bytes 2 50
 abbrev large : Spec
 large = function [] (device_bytes 0 0 1) (config_bytes 1 250 ∷ [])
 
--- a hub of two ports
-abbrev pub two_ports : Spec
-two_ports = record (function [] (device_bytes 9 0 1) (hub_bytes ∷ [])) {
-  hub = Some (usual_hub 2);
+-- a hub of so many ports, with such a status endpoint
+abbrev pub hub_of : ℕ → ℕ → ℕ → Spec
+hub_of ports address max = record (function [] (device_bytes 9 0 1) (hub_bytes address max ∷ [])) {
+  hub = Some (usual_hub ports);
   self_powered = true;
 }
+
+-- a hub of two ports
+abbrev pub two_ports : Spec
+two_ports = hub_of 2 129 1
 
 -- an item of length 0, a value twice, a text that is cut, one that is missing, and no configuration
 abbrev no_item : Spec
@@ -65,38 +69,43 @@ missing = function [] (device_bytes 0 0 2) (config_bytes 1 50 ∷ [])
 abbrev unconfigured : Spec
 unconfigured = function [] (device_bytes 0 0 0) (config_bytes 1 50 ∷ [])
 
--- what a host finds in them, in a tier and at a port that gives so many mA
+-- what a host finds in them that takes wide hubs or not, in a tier and at a port of so many mA
 pub record Examples : Type 0 where
-  pub silent : verdict (record small { silent = true; busy = true }) 2 500 ≡ Err Silent
-  pub busy : verdict (record small { busy = true }) 2 500 ≡ Err Busy
-  pub stalled_device : verdict (record small { stalls = record no_stalls { device = true } }) 2 500
-      ≡ Err (Stalled request.Device)
-  pub bad_head : verdict (record small { descriptor = 18 ∷ 1 ∷ [] }) 2 500 ≡ Err BadDevice
+  pub silent : verdict (record small { silent = true; busy = true }) false 2 500 ≡ Err Silent
+  pub busy : verdict (record small { busy = true }) false 2 500 ≡ Err Busy
+  pub stalled_device : verdict (record small { stalls = record no_stalls { device = true } }) false
+      2 500 ≡ Err (Stalled request.Device)
+  pub bad_head : verdict (record small { descriptor = 18 ∷ 1 ∷ [] }) false 2 500 ≡ Err BadDevice
   pub stalled_address : verdict (record unconfigured {
     stalls = record no_stalls { address = true };
-  }) 2 500 ≡ Err (Stalled request.Address)
-  pub bad_device : verdict unconfigured 2 500 ≡ Err BadDevice
-  pub too_deep : verdict two_ports 7 500 ≡ Err TooDeep
-  pub stalled_config : verdict (record small { stalls = record no_stalls { config = true } }) 2 500
-      ≡ Err (Stalled request.Config)
-  pub no_text : verdict missing 2 500 ≡ Err (Stalled request.Config)
-  pub bad_item : verdict no_item 2 500 ≡ Err (BadConfiguration 0)
-  pub bad_length : verdict cut_device 2 500 ≡ Err (BadConfiguration 0)
-  pub bad_value : verdict twice_configured 2 500 ≡ Err (BadConfiguration 1)
-  pub no_power : verdict large 3 100 ≡ Err NoPower
-  pub stalled_set : verdict (record small { stalls = record no_stalls { set_config = true } }) 2 500
-      ≡ Err (Stalled request.SetConfig)
-  pub bad_hub : verdict (record two_ports { hub = None }) 2 500 ≡ Err BadHub
-  pub accepted : verdict small 2 500 ≡ Ok 0
-  pub first : verdict two 3 500 ≡ Ok 0
-  pub second : verdict two 3 100 ≡ Ok 1
-  pub hub : verdict two_ports 2 500 ≡ Ok 0
+  }) false 2 500 ≡ Err (Stalled request.Address)
+  pub bad_device : verdict unconfigured false 2 500 ≡ Err BadDevice
+  pub too_deep : verdict two_ports false 7 500 ≡ Err TooDeep
+  pub stalled_config : verdict (record small { stalls = record no_stalls { config = true } }) false
+      2 500 ≡ Err (Stalled request.Config)
+  pub no_text : verdict missing false 2 500 ≡ Err (Stalled request.Config)
+  pub bad_item : verdict no_item false 2 500 ≡ Err (BadConfiguration 0)
+  pub bad_length : verdict cut_device false 2 500 ≡ Err (BadConfiguration 0)
+  pub bad_value : verdict twice_configured false 2 500 ≡ Err (BadConfiguration 1)
+  pub no_power : verdict large false 3 100 ≡ Err NoPower
+  pub stalled_set : verdict (record small { stalls = record no_stalls { set_config = true } }) false
+      2 500 ≡ Err (Stalled request.SetConfig)
+  pub bad_hub : verdict (record two_ports { hub = None }) false 2 500 ≡ Err BadHub
+  pub accepted : verdict small false 2 500 ≡ Ok 0
+  pub first : verdict two false 3 500 ≡ Ok 0
+  pub second : verdict two false 3 100 ≡ Ok 1
+  pub hub : verdict two_ports false 2 500 ≡ Ok 0
+  pub narrow : verdict (hub_of 10 129 2) false 2 500 ≡ Err BadHub
+  pub wide : verdict (hub_of 10 129 2) true 2 500 ≡ Ok 0
+  pub small_endpoint : verdict (hub_of 10 129 1) true 2 500 ≡ Err BadHub
+  pub one_endpoint : verdict (hub_of 2 130 1) false 2 500 ≡ Err BadHub
+  pub any_endpoint : verdict (hub_of 2 130 1) true 2 500 ≡ Ok 0
 
 pub examples : Examples
 unfolding verdict first_fault config_fault text_read text.needs_of device.device_head_of
     device.device_spelled config.config_head_of config.config_of config.items_fault config.pieces_of
-    hub.hub_spelled choice.status_endpoint_of choice.first_counting choice.status_at item.items_in
-    item.items_of
+    hub.hub_spelled choice.status_endpoint_of choice.first_counting choice.status_at
+    choice.interrupt_in_at choice.interrupt_described item.items_in item.items_of
 examples =
     record {
       silent = refl;
@@ -118,6 +127,11 @@ examples =
       first = refl;
       second = refl;
       hub = refl;
+      narrow = refl;
+      wide = refl;
+      small_endpoint = refl;
+      one_endpoint = refl;
+      any_endpoint = refl;
     }
 
 -- string 0 names a language, and string 1 is read; without string 0 it is not

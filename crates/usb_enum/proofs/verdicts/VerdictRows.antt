@@ -41,22 +41,23 @@ pub record GaveTexts (spec : Spec) (tier supply chosen : ℕ) : Type 0 where
 
 -- Up to the device descriptor
 
-pub row_silent : (spec : Spec) (tier supply : ℕ) → spec.silent ≡ true
-    → verdict spec tier supply ≡ Err Silent
+pub row_silent : (spec : Spec) (wide : Bool) (tier supply : ℕ) → spec.silent ≡ true
+    → verdict spec wide tier supply ≡ Err Silent
 unfolding verdict
-row_silent spec tier supply a = rw a refl
+row_silent spec wide tier supply a = rw a refl
 
-pub row_too_deep : (spec : Spec) (tier supply : ℕ) → GaveHead spec → spec.stalls.address ≡ false
-    → is_device spec.low (take 18 spec.descriptor) ≡ true
-    → (is_hub_device spec.descriptor && tier == 7) ≡ true → verdict spec tier supply ≡ Err TooDeep
+pub row_too_deep : (spec : Spec) (wide : Bool) (tier supply : ℕ) → GaveHead spec
+    → spec.stalls.address ≡ false → is_device spec.low (take 18 spec.descriptor) ≡ true
+    → (is_hub_device spec.descriptor && tier == 7) ≡ true
+    → verdict spec wide tier supply ≡ Err TooDeep
 unfolding verdict
-row_too_deep spec tier supply h a b c = rw (h.loud, h.free, h.device, h.head, a, b, c) refl
+row_too_deep spec wide tier supply h a b c = rw (h.loud, h.free, h.device, h.head, a, b, c) refl
 
-pub rows_after : (spec : Spec) (tier supply : ℕ) → GaveDevice spec tier
-    → verdict spec tier supply ≡ read_verdict spec supply
+pub rows_after : (spec : Spec) (wide : Bool) (tier supply : ℕ) → GaveDevice spec tier
+    → verdict spec wide tier supply ≡ read_verdict wide spec supply
     (first_fault spec (configuration_count spec.descriptor))
 unfolding verdict
-rows_after spec tier supply h = rw (
+rows_after spec wide tier supply h = rw (
   h.first.loud,
   h.first.free,
   h.first.device,
@@ -89,10 +90,12 @@ first_fault-next spec i (suc n) cause l h k = elim (cases_order i n) [
 
 -- With a configuration
 
-pub row_accepted : (spec : Spec) (tier supply chosen : ℕ) → GaveTexts spec tier supply chosen
-    → spec.stalls.set_config ≡ false → (is_hub_device spec.descriptor && not
-    (is_good_hub spec (slice_index_or (texts_of spec) chosen []))) ≡ false
-    → verdict spec tier supply ≡ Ok chosen
-row_accepted spec tier supply chosen h a b = rows_after spec tier supply h.device
-    ∙ ap (read_verdict spec supply) h.good ∙ ap (set_verdict spec (texts_of spec)) h.within
+pub row_accepted : (spec : Spec) (wide : Bool) (tier supply chosen : ℕ)
+    → GaveTexts spec tier supply chosen → spec.stalls.set_config ≡ false
+    → (is_hub_device spec.descriptor && not
+    (is_good_hub wide spec (slice_index_or (texts_of spec) chosen []))) ≡ false
+    → verdict spec wide tier supply ≡ Ok chosen
+row_accepted spec wide tier supply chosen h a b = rows_after spec wide tier supply h.device
+    ∙ ap (read_verdict wide spec supply) h.good
+    ∙ ap (set_verdict wide spec (texts_of spec)) h.within
     ∙ rw (a, b) refl

@@ -189,6 +189,9 @@ const REPORTS: &[&str] = &[
     "news",
     "left 1.2",
     "arrived 7",
+    "arrived 7.15.8.10.9.11.14",
+    "look 1.12 found",
+    "1.10 said 1201000200000041",
     "bound 58631002",
 ];
 
@@ -237,6 +240,10 @@ const OTHERS: &[&str] = &[
     "1 refused tired",
     "1 refused bad configuration",
     "1 refused lost ",
+    "1 said",
+    "1 said 1",
+    "1 said 12 01",
+    "8 said 12",
     "send 1 done",
     "send 1 done -",
     "send 1 failed stalled device",
@@ -290,7 +297,8 @@ const OTHERS: &[&str] = &[
     "news 1",
     "left",
     "left 0",
-    "arrived 1.8",
+    "arrived 1.16",
+    "arrived 8.1",
     "bound -1",
     "SETUP 0.0",
 ];

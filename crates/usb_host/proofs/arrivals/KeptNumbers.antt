@@ -20,7 +20,12 @@ use Rattle.usb_host.proofs.entries.Agreements.{lookup-insert_entry_elsewhere, lo
 use Rattle.usb_host.proofs.entries.EntryClaims.{claims_taken, lookup-insert_entry_here}
 
 pub keeps_none : (a : Known) → KeepsKnown a a
-keeps_none a = record { rising = omega arith; each = λ p d at. inl at; reported = refl }
+keeps_none a = record {
+  rising = omega arith;
+  each = λ p d at. inl at;
+  reported = refl;
+  wide = refl;
+}
 
 pub keeps_same : {a b : Known} → b ≡ a → KeepsKnown a b
 keeps_same {a} e = subst (KeepsKnown a) (sym e) (keeps_none a)
@@ -30,6 +35,7 @@ keeps_then {a} {b} {c} x y = record {
   rising = omega (arith, x.rising, y.rising);
   each = λ p d at. by p d (y.each p d at);
   reported = y.reported ∙ x.reported;
+  wide = y.wide ∙ x.wide;
 }
   where
     by : (p : List ℕ) (d : KnownDevice)
@@ -40,19 +46,20 @@ keeps_then {a} {b} {c} x y = record {
 
 -- what a driver may know does not change at first
 pub keeps_from : {a b c : Known} → KeepsKnown b c → b.entries ≡ a.entries
-    → b.numbers ≡ a.numbers → b.reported ≡ a.reported → KeepsKnown a c
-keeps_from {a} {b} {c} x e n r = record {
+    → b.numbers ≡ a.numbers → b.reported ≡ a.reported → b.wide ≡ a.wide → KeepsKnown a c
+keeps_from {a} {b} {c} x e n r v = record {
   rising = let next = ap (λ (m : DeviceNumbers). m.next) n in omega (arith, x.rising, next);
   each = λ p d at. subst (λ (m : DeviceNumbers). (known_device (accepted_device_at p a.entries) m
       ≡ Some d) ⊎ (m.next ≤ d.number)) n (subst (λ (es : Entries). (known_device
       (accepted_device_at p es) b.numbers ≡ Some d) ⊎ (b.numbers.next ≤ d.number)) e
       (x.each p d at));
   reported = x.reported ∙ r;
+  wide = x.wide ∙ v;
 }
 
 pub keeps_by : {a b : Known} → b.entries ≡ a.entries → b.numbers ≡ a.numbers
-    → b.reported ≡ a.reported → KeepsKnown a b
-keeps_by {a} {b} e n r = keeps_from (keeps_none b) e n r
+    → b.reported ≡ a.reported → b.wide ≡ a.wide → KeepsKnown a b
+keeps_by {a} {b} e n r v = keeps_from (keeps_none b) e n r v
 
 pub keeps_rests : (a : HostState) {b : HostState} → OnlyBusSteps a b → KeepsNumbers a b
 keeps_rests a r = keeps_same (ap known_in r)
@@ -82,6 +89,7 @@ keeps_forgets {path} {a} {b} f =
       each = λ p d at. inl (left_device p path a.entries a.numbers d
           (not (is_at_or_below p path)) refl (rw (f.rest, numbers) at at));
       reported = ap (λ (h : HostState). h.reported) f.others;
+      wide = ap (λ (h : HostState). h.wide) f.others;
     }
 
 -- A finding is entered
@@ -99,12 +107,13 @@ module _ (path : List ℕ) (es : Entries) where
 
   pub keeps_refused : (cause : Cause) {a b : Known} → a.entries ≡ es
       → b.entries ≡ insert_entry path_cmp es path (Refused cause) → b.numbers ≡ a.numbers
-      → b.reported ≡ a.reported → KeepsKnown a b
-  keeps_refused cause {a} {b} before entered numbers reported = record {
+      → b.reported ≡ a.reported → b.wide ≡ a.wide → KeepsKnown a b
+  keeps_refused cause {a} {b} before entered numbers reported wide = record {
     rising = let next = ap (λ (m : DeviceNumbers). m.next) numbers in omega arith;
     each = λ p d at. inl (rw before (refused_device cause a.numbers p d (is_at (path_cmp p) path)
         refl (rw (entered, numbers) at at)));
     reported = reported;
+    wide = wide;
   }
 
   -- a device that is listed elsewhere has another address
@@ -138,22 +147,30 @@ module _ (path : List ℕ) (es : Entries) where
       (rw (lookup-insert_entry_elsewhere p path (Device device) es apart) at at))
 
   pub keeps_entered : (finding : Finding) {pool : Addresses} (after : Addresses)
-      (numbers : DeviceNumbers) {reported : List (List ℕ × ℕ)} → length numbers.of ≡ 128 → Accounts
+      (numbers : DeviceNumbers) {reported : List (List ℕ × ℕ)} {wide : Bool}
+      → length numbers.of ≡ 128 → Accounts
       es pool
       → TakesFor (Ok finding) pool after
-      → KeepsKnown (record { entries = es; numbers = numbers; reported = reported })
+      → KeepsKnown (record {
+        entries = es;
+        numbers = numbers;
+        reported = reported;
+        wide = wide;
+      })
       (record {
         entries = insert_entry path_cmp es path finding;
         numbers = with_number finding numbers;
         reported = reported;
+        wide = wide;
       })
   keeps_entered (Refused cause) after numbers long accounts takes =
-      keeps_refused cause refl refl refl refl
+      keeps_refused cause refl refl refl refl refl
   keeps_entered (Device device) {pool} after numbers long accounts takes = record {
     rising = omega arith;
     each = λ p d at. accepted_device device numbers (omega (arith, long, takes.free.0.1)) free p d
         (is_at (path_cmp p) path) refl at;
     reported = refl;
+    wide = refl;
   }
     where
       taken : (p : List ℕ) (e : Accepted) (o : Option Finding)

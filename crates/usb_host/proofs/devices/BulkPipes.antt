@@ -301,19 +301,21 @@ where_unfound first a b same pipes_same gone each named = record {
 -- What is entered
 
 -- at another path
-beside : (first path : List ℕ) (f : Finding) (a b : HostState) (device : Accepted)
-    → table_in b ≡ entered first f (table_in a) → is_at (path_cmp path) first ≡ false
+beside : (first path : List ℕ) (f : Finding) (said : ArrayVec ℕ) (a b : HostState)
+    (device : Accepted) → table_in b ≡ entered first f said (table_in a)
+    → is_at (path_cmp path) first ≡ false
     → accepted_device_at path b.entries ≡ Some device
     → (accepted_device_at path a.entries ≡ Some device → EndpointsStayed path a.world b.world)
     → StayedAt path device a b
-beside first path f a b device table apart at endpoints =
+beside first path f said a b device table apart at endpoints =
     let listed : accepted_device_at path a.entries ≡ Some device =
     sym (ap (λ (t : Table). accepted_device_at path t.entries) table ∙ ap accepted_device_of
     (lookup-insert_entry_elsewhere path first f a.entries apart)) ∙ at in
     record {
       listed = listed;
       pipes = same_function
-          (ap (pipes_at path) table ∙ pipes_at-entered_elsewhere first f (table_in a) path apart);
+          (ap (pipes_at path) table ∙ pipes_at-entered_elsewhere first f said (table_in a) path
+          apart);
       endpoints = endpoints listed;
     }
 
@@ -324,26 +326,29 @@ accepted_device_of-some (Device d) e = ap Device (cc e)
 accepted_device_of-some (Refused cause) e = absurd (cc e)
 
 -- at the path itself
-entered_there : (first : List ℕ) {path : List ℕ} (f : Finding) (a b : HostState) (device : Accepted)
-    → table_in b ≡ entered first f (table_in a) → path ≡ first → accepted_device_at path b.entries
+entered_there : (first : List ℕ) {path : List ℕ} (f : Finding) (said : ArrayVec ℕ) (a b : HostState)
+    (device : Accepted) → table_in b ≡ entered first f said (table_in a) → path ≡ first
+    → accepted_device_at path b.entries
     ≡ Some device → f ≡ Device device
-entered_there first f a b device table is at =
+entered_there first f said a b device table is at =
     let there : accepted_device_at first b.entries ≡ Some device =
     subst (λ (p : List ℕ). accepted_device_at p b.entries ≡ Some device) is at in
     accepted_device_of-some f (sym (ap (λ (t : Table). accepted_device_at first t.entries) table
     ∙ ap accepted_device_of (lookup-insert_entry_here first f a.entries)) ∙ there)
 
 -- a device that is refused has no pipes
-pub stay_refused : (first : List ℕ) (cause : Cause) (a b : HostState)
-    → table_in b ≡ entered first (Refused cause) (table_in a) → b.world ≡ a.world → AllStay a b
-stay_refused first cause a b table same =
+pub stay_refused : (first : List ℕ) (cause : Cause) (said : ArrayVec ℕ) (a b : HostState)
+    → table_in b ≡ entered first (Refused cause) said (table_in a) → b.world ≡ a.world → AllStay a b
+stay_refused first cause said a b table same =
     record { each = λ path device at. pick path device at (is_at (path_cmp path) first) refl }
   where
     pick : (path : List ℕ) (device : Accepted) → accepted_device_at path b.entries ≡ Some device
         → (tied : Bool) → is_at (path_cmp path) first ≡ tied → StayedAt path device a b
     pick path device at true tie = absurd
-        (cc (entered_there first (Refused cause) a b device table (path_tied path first tie) at))
-    pick path device at false apart = beside first path (Refused cause) a b device table apart at
+        (cc (entered_there first (Refused cause) said a b device table (path_tied path first tie)
+        at))
+    pick path device at false apart = beside first path (Refused cause) said a b device table apart
+        at
         (λ listed. stayed_none path a.world same)
 
 -- whoever is reached holds the address of its entry
@@ -361,8 +366,8 @@ unreached w path es held none = pick (reach w.roots path) refl
     pick false on = refl
 
 -- a device that is found where none was listed was not reached before
-module _ (first : List ℕ) (f : Finding) (a b : HostState)
-    (table : table_in b ≡ entered first f (table_in a)) (gone : has_at first a.entries ≡ false)
+module _ (first : List ℕ) (f : Finding) (said : ArrayVec ℕ) (a b : HostState)
+    (table : table_in b ≡ entered first f said (table_in a)) (gone : has_at first a.entries ≡ false)
     (each : EachElsewhere first StaysAs a.world b.world) where
   pub bulk_entered : ControlCourse a.world b.world → MapHolds (claims a.entries) a.world
       → ((device : Accepted) → f ≡ Device device → EndpointsBegan first b.world) → KeepsBulk a b
@@ -382,8 +387,9 @@ module _ (first : List ℕ) (f : Finding) (a b : HostState)
         control = control;
         behind = here b.world;
         since = stayed_none first b.world {v = b.world} refl;
-        pipes = same_function (ap (pipes_at first) table ∙ pipes_at-entered first f (table_in a) ∙ ap
-            (λ g. new_pipes g (is_below_hub first)) is);
+        pipes = same_function (ap (pipes_at first) table
+            ∙ pipes_at-entered first f said (table_in a)
+            ∙ ap (λ g. new_pipes g (is_below_hub first) said) is);
         endpoints = began device is;
       }
 
@@ -392,9 +398,9 @@ module _ (first : List ℕ) (f : Finding) (a b : HostState)
           ⊎ RenewedAt path device a b
       pick path device at true tie =
           let is : path ≡ first = path_tied path first tie in
-          inr (rw is (found device (entered_there first f a b device table is at)))
+          inr (rw is (found device (entered_there first f said a b device table is at)))
       pick path device at false apart =
-          inl (beside first path f a b device table apart at
+          inl (beside first path f said a b device table apart at
           (λ listed. stayed_elsewhere first path a.world b.world each
           (listed_away first path a.entries gone listed)))
 

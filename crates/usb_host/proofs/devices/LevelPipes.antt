@@ -4,6 +4,7 @@ use Rattle.std.proofs.Common.{true, false, List, [], ◌∷◌, Option, None, So
 use Rattle.std.specs.Prelude.{unwrap_or}
 use Rattle.std.specs.Map.{lookup, remove_entry}
 use Rattle.std.specs.BTreeMap.{is_at}
+use Rattle.arrayvec.specs.ArrayVec.{ArrayVec}
 use Rattle.usb_port.specs.{path_cmp}
 use Rattle.usb_device.specs.{State, reach, state_there}
 use Rattle.usb_tree.specs.{is_way}
@@ -14,7 +15,7 @@ use Rattle.usb_hub.specs.{StaysAs, EachElsewhere, KeepsDevices}
 use Rattle.usb_enum.specs.{Cause, Accepted, Finding, IsOwn}
 use Rattle.usb_enum.specs.declared.finding.Finding.TheVariants.{Device, Refused}
 use Rattle.usb_enum.proofs.Interface.{ruled_there}
-use Rattle.usb_table.specs.{Pipes, Absent, Entries, has_at, is_at_or_below, without}
+use Rattle.usb_table.specs.{Pipes, no_pipes, Entries, has_at, is_at_or_below, without}
 use Rattle.usb_table.specs.{accepted_device_of, AllInSync, PipesInSync, InSyncAt, finding_at, Table}
 use Rattle.usb_table.specs.{TakesOut, entered, pipes_at}
 use Rattle.usb_table.proofs.Interface.{level_beside, level_elsewhere, level_entered, level_stays}
@@ -68,7 +69,7 @@ pub pipes_apart : (q path : List ℕ) {finding : Finding} (old new : Table)
     → TakesOut path finding old new → is_at_or_below q path ≡ false
     → pipes_at q new ≡ pipes_at q old
 pipes_apart q path old new t away =
-    ap (λ (x : Table). pipes_at q x) t.rest ∙ ap (λ (o : Option Pipes). unwrap_or o Absent)
+    ap (λ (x : Table). pipes_at q x) t.rest ∙ ap (λ (o : Option Pipes). unwrap_or o no_pipes)
     (lookup-removed q t.first old.pipes (is_at-not_below q path t.first t.at away))
 
 -- Of what is not listed nothing is to be level
@@ -102,30 +103,32 @@ level_forgotten first b c same rest gone pipes level x = pick (decided (is_way f
 -- What is entered
 
 -- where nothing was listed at the path
-pub level_came : (path : List ℕ) (f : Finding) (t : Table) {u : Table} (w : World)
-    → u ≡ entered path f t → InSyncAt path (entered path f t) w → AllInSync t w → AllInSync u w
-level_came path f t w is here others x =
+pub level_came : (path : List ℕ) (f : Finding) (said : ArrayVec ℕ) (t : Table) {u : Table}
+    (w : World) → u ≡ entered path f said t → InSyncAt path (entered path f said t) w
+    → AllInSync t w → AllInSync u w
+level_came path f said t w is here others x =
     rw is (pick (is_at (path_cmp x) path) refl)
   where
-    pick : (b : Bool) → is_at (path_cmp x) path ≡ b → InSyncAt x (entered path f t) w
+    pick : (b : Bool) → is_at (path_cmp x) path ≡ b → InSyncAt x (entered path f said t) w
     pick true tie = rw (path_tied x path tie) here
-    pick false apart = level_beside path f t w x apart (others x)
+    pick false apart = level_beside path f said t w x apart (others x)
 
 -- a device that is refused has no pipes
-pub level_refused : (path : List ℕ) (cause : Cause) (t : Table) {u : Table} (w : World)
-    → u ≡ entered path (Refused cause) t → AllInSync t w → AllInSync u w
-level_refused path cause t w is others =
-    level_came path (Refused cause) t w is (level_entered path (Refused cause) t w 0 0
+pub level_refused : (path : List ℕ) (cause : Cause) (said : ArrayVec ℕ) (t : Table) {u : Table}
+    (w : World) → u ≡ entered path (Refused cause) said t → AllInSync t w → AllInSync u w
+level_refused path cause said t w is others =
+    level_came path (Refused cause) said t w is (level_entered path (Refused cause) said t w true 0
+    0
     (λ device s found. absurd (cc found))) others
 
 -- those to a device whose finding is its own are new, as its endpoints are
-pub level_found : (path : List ℕ) (f : Finding) (tier supply : ℕ) (t : Table) {u : Table}
-    (w : World) → u ≡ entered path f t → Consistent w.roots
+pub level_found : (path : List ℕ) (f : Finding) (said : ArrayVec ℕ) (wide : Bool) (tier supply : ℕ)
+    (t : Table) {u : Table} (w : World) → u ≡ entered path f said t → Consistent w.roots
     → ((device : Accepted) (s : State) → f ≡ Device device → reach w.roots path ≡ true
-    → state_there w.roots path ≡ Some s → IsOwn tier supply device s) → AllInSync t w
+    → state_there w.roots path ≡ Some s → IsOwn wide tier supply device s) → AllInSync t w
     → AllInSync u w
-level_found path f tier supply t w is sane own others =
-    level_came path f t w is (level_entered path f t w tier supply
+level_found path f said wide tier supply t w is sane own others =
+    level_came path f said t w is (level_entered path f said t w wide tier supply
     (λ device s found on stands. (
       ruled_there w.roots path s sane stands,
       own device s found on stands,

@@ -12,18 +12,18 @@ abbrev pub rank_after : Option (List ℕ) → ℕ
 rank_after None = 0
 rank_after (Some path) = rank_of path + 1
 
-eight : 8 ^ 7 ≡ 2097152
-eight = refl
+sixteen : 16 ^ 7 ≡ 268435456
+sixteen = refl
 
-pub rank_most : (path : List ℕ) → IsPath path → rank_after (Some path) ≤ 2097152
-rank_most path is = omega (arith, bound path is, eight)
+pub rank_most : (path : List ℕ) → IsPath path → rank_after (Some path) ≤ 268435456
+rank_most path is = omega (arith, bound path is, sixteen)
 
 pub rank_rises : (last : Option (List ℕ)) (path : List ℕ) → IfSome last IsPath → IsPath path
     → ComesAfter last path → rank_after last < rank_after (Some path)
 rank_rises None path before is after = omega arith
 rank_rises (Some last) path before is after = omega (arith, rank_of-less last path before is after)
 
-pub rank_after_most : (last : Option (List ℕ)) → IfSome last IsPath → rank_after last ≤ 2097152
+pub rank_after_most : (last : Option (List ℕ)) → IfSome last IsPath → rank_after last ≤ 268435456
 rank_after_most None is = omega arith
 rank_after_most (Some path) is = rank_most path is
 
@@ -34,5 +34,5 @@ rank_more k last path before is after =
     row_fits (rank_after last) k (rank_after (Some path)) k (rank_rises last path before is after)
     (omega arith)
 
-pub rank_within : (k r : ℕ) → r ≤ 2097152 → r * k ≤ 2097152 * k
+pub rank_within : (k r : ℕ) → r ≤ 268435456 → r * k ≤ 268435456 * k
 rank_within k r le = mul-le-mul_right k le

@@ -1,5 +1,5 @@
 -- A port was served, and where its hub is lost, that was dropped: what is known stays so.
-use Rattle.std.proofs.Common.{ℕ, List, Result, Ok, Err}
+use Rattle.std.proofs.Common.{◌≡◌, ℕ, List, Result, Ok, Err}
 use Rattle.usb_enum.specs.{EnumFault, Bus, Memory}
 use Rattle.usb_enum.proofs.Interface.{went_sound}
 use Rattle.usb_host.specs.{LetsGoOn, ServesSound, DropsLost, HostState, EndsAs, HostSteps}
@@ -16,11 +16,13 @@ lets_go_on_done _ ends = tt
 
 pub finished_sound : {path : List ℕ} (m : ℕ) {n : ℕ} (served : Result (Unit {0}) EnumFault)
     (result : Result (Unit {0}) HostFault) (a b c : HostState) → HostSteps m a b → HostSteps n b c
-    → EndsAs served result → ServesSound path a served b → DropsLost path served b result c
+    → c.wide ≡ a.wide → EndsAs served result → ServesSound path a served b
+    → DropsLost path served b result c
     → PartKeepsInvariant a result c
-finished_sound m served (Err fault) a b c first second ends x y = tt
-finished_sound m {n = n} served (Ok tt) a b c first second ends x y = record {
+finished_sound m served (Err fault) a b c first second wide ends x y = tt
+finished_sound m {n = n} served (Ok tt) a b c first second wide ends x y = record {
   sound = record {
+    wide = wide;
     sound = λ s. y.sound (x.sound s);
     caused = λ s fair k.
         y.caused (x.sound s) (fair_after first fair) (x.caused s (fair_before second fair) k);

@@ -1,8 +1,10 @@
 -- What a host knows as what is found at a port is entered.
-use Rattle.std.proofs.Common.{◌≡◌, ◌≤◌, ◌⊎◌, inl, inr, refl, sym, ap, ◌∙◌, ℕ, true, false, List}
+use Rattle.std.proofs.Common.{◌≡◌, ◌≤◌, ◌⊎◌, inl, inr, refl, sym, ap, ◌∙◌, ℕ, Bool, true, false}
+use Rattle.std.proofs.Common.{List}
 use Rattle.std.proofs.Common.{Option, None, Some, Result, Ok, Err, IsSomeAnd, option_map}
 use Rattle.std.specs.Prelude.{unwrap_or}
 use Rattle.std.specs.BTreeMap.{insert_entry}
+use Rattle.arrayvec.specs.ArrayVec.{ArrayVec}
 use Rattle.usb_port.specs.{path_cmp}
 use Rattle.usb_device.specs.{reach, state_there}
 use Rattle.usb_tree.specs.{is_way}
@@ -30,11 +32,11 @@ use Rattle.usb_host.proofs.PortLocations.{stands_at-claim}
 use Rattle.usb_host.proofs.knowledge.KnowledgeKept.{known_but_each, truthful_but_stays}
 
 -- nothing is known of what is not listed
-truthful_gone : (path : List ℕ) (w : World) (es : Entries) → has_at path es ≡ false
-    → TruthfulBut path w es → DevicesAccurate w es
-truthful_gone path w es gone told x = pick (decided (is_way path x))
+truthful_gone : {wide : Bool} (path : List ℕ) (w : World) (es : Entries) → has_at path es ≡ false
+    → TruthfulBut wide path w es → DevicesAccurate wide w es
+truthful_gone {wide = wide} path w es gone told x = pick (decided (is_way path x))
   where
-    pick : (is_way path x ≡ true) ⊎ (is_way path x ≡ false) → IsAccurateAt w es x
+    pick : (is_way path x ≡ true) ⊎ (is_way path x ≡ false) → IsAccurateAt wide w es x
     pick (inl way) = λ device s at on stands. absurd
         (cc (ap accepted_device_of (finding-none path x es gone way), at))
     pick (inr away) = told x away
@@ -59,7 +61,7 @@ hub_device (Device device) n h = pick device.hub refl h
     pick (Some facts) e h = (device, facts, refl, e, h.0, h.1)
 
 module _ (n : ℕ) (path : List ℕ) (port : KnownPort) (pool : Addresses) (a b : HostState)
-    (s : StandsAt path port a) (gone : has_at path a.entries ≡ false)
+    (s : StandsAt path port a) (width : b.wide ≡ a.wide) (gone : has_at path a.entries ≡ false)
     (accounts : Accounts a.entries pool) (went : HostSteps n a b) (o : IsOpen path a) where
   taken_by : (x : List ℕ) (address : ℕ) → claims a.entries x ≡ Some address → IsTaken pool address
   taken_by = claims_taken accounts
@@ -74,7 +76,7 @@ module _ (n : ℕ) (path : List ℕ) (port : KnownPort) (pool : Addresses) (a b 
   }
 
   pub found_only : {result : Result Finding EnumFault}
-      → Enumerates port.port pool (tier_of path) port.supply a.world result b.world
+      → Enumerates port.port pool b.wide (tier_of path) port.supply a.world result b.world
       → b.world.fault ≡ None → OnlyAt path a.world b.world
   found_only e still = e.addresses.only (claims a.entries) path begins.at begins.free begins.taken
       begins.owned still
@@ -86,14 +88,15 @@ module _ (n : ℕ) (path : List ℕ) (port : KnownPort) (pool : Addresses) (a b 
       (o.but.known (went_sound n a.world b.world went still)))
 
   only_truthful : {es : Entries} → es ≡ a.entries → b.world.fault ≡ None
-      → OnlyAt path a.world b.world → TruthfulBut path b.world es
+      → OnlyAt path a.world b.world → TruthfulBut b.wide path b.world es
   only_truthful same still only =
-      rw same (truthful_but_stays path a.world b.world a.entries
+      rw (width, same) (truthful_but_stays path a.world b.world a.entries
       (elsewhere_still path a.world b.world only.devices)
       (o.but.truthful (went_sound n a.world b.world went still)))
 
-  module _ (f : Finding) (e : Enumerates port.port pool (tier_of path) port.supply a.world (Ok f)
-      b.world) (table : table_in b ≡ entered path f (table_in a)) where
+  module _ (f : Finding) (e : Enumerates port.port pool b.wide (tier_of path) port.supply a.world
+      (Ok f)
+      b.world) (said : ArrayVec ℕ) (table : table_in b ≡ entered path f said (table_in a)) where
     is : b.entries ≡ insert_entry path_cmp a.entries path f
     is = ap (λ (t : Table). t.entries) table
 
@@ -109,17 +112,18 @@ module _ (n : ℕ) (path : List ℕ) (port : KnownPort) (pool : Addresses) (a b 
         (λ number has. let d : _ = hub_device f number has in
         here.below d.0 d.2 d.1 number d.3 d.4 d.5))
 
-    told_here : b.world.fault ≡ None → IsAccurateAt b.world (insert_entry path_cmp a.entries path f)
+    told_here : b.world.fault ≡ None → IsAccurateAt b.wide b.world (insert_entry path_cmp a.entries
+        path f)
         path
     told_here still device t at on stands =
         let found : f ≡ Device device = accepted_device_of-some f
         (sym (ap accepted_device_of (lookup-insert_entry_here path f a.entries)) ∙ at) in
-        let own : IsOwn (tier_of path) port.supply device t =
+        let own : IsOwn b.wide (tier_of path) port.supply device t =
         e.own.truth (claims a.entries) path begins.at begins.free begins.taken begins.owned
         (regular_order begins.order) device (ap Ok found) t on stands in
         record { found = rw (supply_found path f a.entries s.known) own.0; set = own.1 }
 
-    entered_truthful : b.world.fault ≡ None → DevicesAccurate b.world b.entries
+    entered_truthful : b.world.fault ≡ None → DevicesAccurate b.wide b.world b.entries
     entered_truthful still =
         rw is (truthful_found path f a.entries s.is.0 gone b.world
         (truthful_gone path b.world a.entries gone
@@ -129,7 +133,7 @@ module _ (n : ℕ) (path : List ℕ) (port : KnownPort) (pool : Addresses) (a b 
     entered_level still =
         let order : WorldInvariant b.world =
         (went_in_order n a.world b.world went o.but.order still) in
-        level_found path f (tier_of path) port.supply (table_in a) b.world table
+        level_found path f said b.wide (tier_of path) port.supply (table_in a) b.world table
         order.sane
         (λ device t found on stands. e.own.truth (claims a.entries) path begins.at begins.free
         begins.taken begins.owned (regular_order begins.order) device (ap Ok found) t on stands)
@@ -140,11 +144,11 @@ module _ (n : ℕ) (path : List ℕ) (port : KnownPort) (pool : Addresses) (a b 
     -- a device that was found has new pipes
     pub entered_bulk : b.world.fault ≡ None → KeepsBulk a b
     entered_bulk still =
-        bulk_entered path f a b table gone (found_only e still).devices
+        bulk_entered path f said a b table gone (found_only e still).devices
         (found_only e still).control
         (o.owned.so (went_sound n a.world b.world went still))
         (λ device found x t is on stands.
-        let own : IsOwn (tier_of path) port.supply device t =
+        let own : IsOwn b.wide (tier_of path) port.supply device t =
         e.own.truth (claims a.entries) path begins.at begins.free begins.taken begins.owned
         (regular_order begins.order) device (ap Ok found) t (ap (reach b.world.roots) is ∙ on)
         (ap (state_there b.world.roots) is ∙ stands) in
@@ -162,13 +166,14 @@ module _ (n : ℕ) (path : List ℕ) (port : KnownPort) (pool : Addresses) (a b 
 
   -- nothing is entered
   pub unfound_where : {result : Result Finding EnumFault}
-      → Enumerates port.port pool (tier_of path) port.supply a.world result b.world
+      → Enumerates port.port pool b.wide (tier_of path) port.supply a.world result b.world
       → b.entries ≡ a.entries → b.pipes ≡ a.pipes → StaysWhere (b.world.fault ≡ None) a b
   unfound_where e same pipes_same = where_unfound path a b same pipes_same gone
       (λ still. (found_only e still).devices) (e.addresses.named (claims a.entries) path begins.at
       begins.free begins.taken begins.owned)
 
-  pub unfound_bulk : {fault : EnumFault} → Enumerates port.port pool (tier_of path) port.supply
+  pub unfound_bulk : {fault : EnumFault} → Enumerates port.port pool b.wide (tier_of path)
+      port.supply
       a.world (Err fault) b.world → b.entries ≡ a.entries → b.pipes ≡ a.pipes → b.world.fault ≡ None
       → KeepsBulk a b
   unfound_bulk e same pipes_same still =
@@ -177,13 +182,13 @@ module _ (n : ℕ) (path : List ℕ) (port : KnownPort) (pool : Addresses) (a b 
 
   -- nothing is entered: the hub is lost
   pub unfound_sound : (fault : EnumFault)
-      → Enumerates port.port pool (tier_of path) port.supply a.world (Err fault) b.world
+      → Enumerates port.port pool b.wide (tier_of path) port.supply a.world (Err fault) b.world
       → b.entries ≡ a.entries → b.pipes ≡ a.pipes → b.addresses ≡ a.addresses
       → FaultAllowedAt port.port fault b.world → KeepsPort path a (Err fault) b
       → InvariantAfterPort path (Err fault) b
   unfound_sound ParentLost e same pipes_same pool_same told k =
       lost_sound b ParentLost s told (rw (ap (known_port path) same ∙ s.known) refl)
-      (rw (same, pool_same) s.agrees)
+      (rw (width, same, pool_same) s.agrees)
       (λ goes. record {
         owned = k.ends o.owned;
         rooted = k.rooted o.but.rooted;

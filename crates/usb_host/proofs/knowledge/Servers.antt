@@ -7,9 +7,9 @@ use Rattle.usb_port.specs.{parent_of, port_on_hub}
 use Rattle.usb_port.proofs.Interface.{rejoined}
 use Rattle.usb_resources.specs.{IsAddress, supply_of}
 use Rattle.usb_descriptor.specs.{configuration_value}
-use Rattle.usb_device.specs.{Spec, Hub, reach}
+use Rattle.usb_device.specs.{Spec, Hub, hub_ports, reach}
 use Rattle.usb_tree.specs.{address_of, is_way, pending, deep_at}
-use Rattle.usb_world.specs.{hub_ports, WorldInvariant, World}
+use Rattle.usb_world.specs.{WorldInvariant, World}
 use Rattle.usb_world.proofs.Interface.{sane_spec, way_shorter}
 use Rattle.usb_tree.proofs.Interface.{and_of, false_true}
 use Rattle.usb_hub.specs.{External}
@@ -67,16 +67,16 @@ module _ {w : World} (entries : Entries) (device : Accepted) {facts : HubFacts} 
     (told : device.hub ≡ Some facts) (least : 1 ≤ n) (most : n ≤ facts.ports)
     (address : IsAddress device.address) (between : WorldInvariant w) where
   hub_serves : (hub : List ℕ) → finding_at hub entries ≡ Some (Device device)
-      → reach w.roots hub ≡ true → IsAccurateAt w entries hub
+      → reach w.roots hub ≡ true → {takes : Bool} → IsAccurateAt takes w entries hub
       → 8 ≤ (target_of device (is_below_hub hub)).max
       → ServesAt (target_of device (is_below_hub hub)) n hub w
-  hub_serves (suc j ∷ p) at on knows wide =
+  hub_serves (suc j ∷ p) at on {takes = takes} knows wide =
       let s : _ = reached_there w.roots (suc j ∷ p) on in
       let t = knows device s.0 (ap accepted_device_of at) on s.1 in
       let port : _ = facts_port s.0.spec facts n (sym t.found.1.hub ∙ told) least most in
       let supply = known_supply (suc j ∷ p) entries in
-      let is : AcceptsChosen s.0.spec supply device.chosen =
-      accepts s.0.spec (tier_of (suc j ∷ p)) supply device.chosen t.found.0 in
+      let is : AcceptsChosen s.0.spec takes supply device.chosen =
+      accepts s.0.spec takes (tier_of (suc j ∷ p)) supply device.chosen t.found.0 in
       let value : 1 ≤ configuration_value (configuration_of device) =
       rw t.found.1.configs (chosen_some s.0.spec device.chosen
       (has_chosen s.0.spec supply device.chosen is)) in

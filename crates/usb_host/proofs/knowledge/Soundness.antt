@@ -35,7 +35,7 @@ use Rattle.usb_host.proofs.knowledge.RestedWorlds.{occupied_by}
 -- One part after another
 
 pub sound_none : (h : HostState) → KeepsInvariant h h
-sound_none h = record { sound = λ s. s; caused = λ s fair caused. caused }
+sound_none h = record { wide = refl; sound = λ s. s; caused = λ s fair caused. caused }
 
 -- a transfer that did nothing
 pub transfer_none : (h : HostState) → TransferKeeps h h
@@ -53,6 +53,7 @@ pub part_then : (m : ℕ) {n : ℕ} (a b c : HostState) → HostSteps m a b → 
     → PartStays a b → PartStays b c → PartStays a c
 part_then m {n = n} a b c first second x y = record {
   sound = record {
+    wide = y.sound.wide ∙ x.sound.wide;
     sound = λ s. y.sound.sound (x.sound.sound s);
     caused = λ s fair caused.
         y.sound.caused (x.sound.sound s) (fair_after first fair)
@@ -66,7 +67,8 @@ part_then m {n = n} a b c first second x y = record {
 
 -- A device that was found stands at its port, or a change is pending there
 
-occupied_at : (path : List ℕ) (h : HostState) → Accounted (roots_of h.world) h.entries h.addresses
+occupied_at : (path : List ℕ) (h : HostState) → Accounted h.wide (roots_of h.world) h.entries
+    h.addresses
     → PortsListed h.world h.entries → (o : Option Finding) → finding_at path h.entries ≡ o
     → IsSome o → IsOccupied h.world path
 occupied_at path h fits known None at some = absurd (cc some)
@@ -87,7 +89,8 @@ is_way-apart path other away = pick (is_at (path_cmp path) other) refl
 -- each device but for the settings of its interfaces
 
 module _ (n : ℕ) (path : List ℕ) (ends : Type 0) (a b : HostState)
-    (agrees : Agrees a.entries a.addresses) (same : b.entries ≡ a.entries) (went : HostSteps n a b)
+    (agrees : Agrees a.wide a.entries a.addresses) (same : b.entries ≡ a.entries)
+    (width : b.wide ≡ a.wide) (went : HostSteps n a b)
     (k : KeepsLevels OnlySets path ends (table_in a) a.world (table_in b) b.world) where
   before : b.world.fault ≡ None → a.world.fault ≡ None
   before still = went_sound n a.world b.world went still
@@ -102,21 +105,24 @@ module _ (n : ℕ) (path : List ℕ) (ends : Type 0) (a b : HostState)
   known_under s still = rw same (known_each a.world b.world a.entries went.spends.roots
       (λ path port. k.worlds.rests still path) (s.known (before still)))
 
-  pub truthful_under : HostInvariant a → b.world.fault ≡ None → DevicesAccurate b.world b.entries
-  truthful_under s still = rw same (truthful_stays a.world b.world a.entries
+  pub truthful_under : HostInvariant a → b.world.fault ≡ None
+      → DevicesAccurate b.wide b.world b.entries
+  truthful_under s still = rw (width, same) (truthful_stays a.world b.world a.entries
       (k.worlds.devices (owned.stays s.owned).single) (s.truthful (before still)))
 
   -- each cause stays so, wherever it ends
-  pub caused_under : HostInvariant a → IsFairTo a.world b.world → RefusalsJustified a.world a.entries
-      → RefusalsJustified b.world b.entries
+  pub caused_under : HostInvariant a → IsFairTo a.world b.world
+      → RefusalsJustified a.wide a.world a.entries
+      → RefusalsJustified b.wide b.world b.entries
   caused_under s fair causes =
-      rw same (causes_stay a.world b.world (accounted a agrees s.rooted)
+      rw (width, same) (causes_stay a.world b.world (accounted a agrees s.rooted)
       (s.known (before fair.still))
       (λ path port. course_wider (λ s u x. x.spares) (k.worlds.rests fair.still path)) causes)
 
   -- where it ends well
   pub sound_under : (b.world.fault ≡ None → ends) → KeepsInvariant a b
   sound_under well = record {
+    wide = width;
     sound = λ s. record {
       owned = owned.stays s.owned;
       rooted = owned.rooted s.rooted;
@@ -149,7 +155,7 @@ module _ (n : ℕ) (path : List ℕ) (ends : Type 0) (a b : HostState)
   }
 
   pub occupied_under : HostInvariant a → IsSome (finding_at path b.entries) → b.world.fault ≡ None
-      → Agrees b.entries b.addresses → IsOccupied b.world path
+      → Agrees b.wide b.entries b.addresses → IsOccupied b.world path
   occupied_under s listed still agrees_on =
       occupied_at path b (accounted b agrees_on (owned.rooted s.rooted)) (known_under s still)
       (finding_at path b.entries) refl listed
@@ -181,43 +187,47 @@ in_sync-sets k = record {
 }
 
 module _ (n : ℕ) (path : List ℕ) (ends : Type 0) (a b : HostState)
-    (agrees : Agrees a.entries a.addresses) (same : b.entries ≡ a.entries) (went : HostSteps n a b)
+    (agrees : Agrees a.wide a.entries a.addresses) (same : b.entries ≡ a.entries)
+    (width : b.wide ≡ a.wide) (went : HostSteps n a b)
     (k : KeepsInSync path ends (table_in a) a.world (table_in b) b.world) where
   pub known_kept : HostInvariant a → b.world.fault ≡ None → PortsListed b.world b.entries
-  known_kept = known_under n path ends a b agrees same went (in_sync-sets k)
+  known_kept = known_under n path ends a b agrees same width went (in_sync-sets k)
 
-  pub truthful_kept : HostInvariant a → b.world.fault ≡ None → DevicesAccurate b.world b.entries
-  truthful_kept = truthful_under n path ends a b agrees same went (in_sync-sets k)
+  pub truthful_kept : HostInvariant a → b.world.fault ≡ None
+      → DevicesAccurate b.wide b.world b.entries
+  truthful_kept = truthful_under n path ends a b agrees same width went (in_sync-sets k)
 
-  pub caused_kept : HostInvariant a → IsFairTo a.world b.world → RefusalsJustified a.world a.entries
-      → RefusalsJustified b.world b.entries
-  caused_kept = caused_under n path ends a b agrees same went (in_sync-sets k)
+  pub caused_kept : HostInvariant a → IsFairTo a.world b.world
+      → RefusalsJustified a.wide a.world a.entries
+      → RefusalsJustified b.wide b.world b.entries
+  caused_kept = caused_under n path ends a b agrees same width went (in_sync-sets k)
 
   pub sound_kept : (b.world.fault ≡ None → ends) → KeepsInvariant a b
-  sound_kept = sound_under n path ends a b agrees same went (in_sync-sets k)
+  sound_kept = sound_under n path ends a b agrees same width went (in_sync-sets k)
 
   pub transfer_kept : a.stopped ≡ false → (b.world.fault ≡ None → ends) → TransferKeeps a b
-  transfer_kept = transfer_under n path ends a b agrees same went (in_sync-sets k)
+  transfer_kept = transfer_under n path ends a b agrees same width went (in_sync-sets k)
 
   pub but_kept : HostInvariant a → IsSoundBut path b
-  but_kept = but_under n path ends a b agrees same went (in_sync-sets k)
+  but_kept = but_under n path ends a b agrees same width went (in_sync-sets k)
 
   pub occupied_kept : HostInvariant a → IsSome (finding_at path b.entries) → b.world.fault ≡ None
-      → Agrees b.entries b.addresses → IsOccupied b.world path
-  occupied_kept = occupied_under n path ends a b agrees same went (in_sync-sets k)
+      → Agrees b.wide b.entries b.addresses → IsOccupied b.world path
+  occupied_kept = occupied_under n path ends a b agrees same width went (in_sync-sets k)
 
 -- A hub is dropped
 
 -- where a change was pending at it, as it did not answer
 pub sound_dropped : (result : Result (Unit {0}) HostFault) {hub : List ℕ} (m : ℕ) {n : ℕ}
     (a b c : HostState) → HostRuns m a b → HostRuns n b c → (HostInvariant a → IsDroppable hub b)
-    → (HostInvariant a → IsFairTo a.world b.world → RefusalsJustified a.world a.entries
-    → RefusalsJustified b.world b.entries)
+    → (HostInvariant a → IsFairTo a.world b.world → RefusalsJustified a.wide a.world a.entries
+    → RefusalsJustified b.wide b.world b.entries)
     → (HostInvariant a → b.world.fault ≡ None → KeepsBulk a b) → KeepsPlugs a b
     → DropsSound hub b result c → (HostInvariant a → b.world.fault ≡ None → NoThreeDamaged a.world
     → pending b.world.roots hub ≡ true) → PartKeepsInvariant a result c
 sound_dropped (Ok done) m {n = n} a b c p q drops causes bulk plugs d pends = record {
   sound = record {
+    wide = q.wide ∙ p.wide;
     sound = λ s. d.sound (drops s);
     caused = λ s fair caused.
         let before : IsFairTo a.world b.world = fair_before q.went fair in
@@ -240,10 +250,15 @@ event_sound : (w : World) → (after event w).fault ≡ None → w.fault ≡ Non
 unfolding after
 event_sound w sound = sym (taken_sound w.fault w refl) ∙ sound
 
-pub sound_event : (a b : HostState) → Agrees a.entries a.addresses → b.entries ≡ a.entries
-    → b.pipes ≡ a.pipes → b.world ≡ after event a.world → KeepsAddresses a.world b.world
+pub sound_event : (a b : HostState) → Agrees a.wide a.entries a.addresses → b.entries ≡ a.entries
+    → b.wide ≡ a.wide → b.pipes ≡ a.pipes → b.world ≡ after event a.world
+    → KeepsAddresses a.world b.world
     → KeepsInvariant a b
-sound_event a b agrees same pipes is k = record { sound = sound; caused = caused }
+sound_event a b agrees same width pipes is k = record {
+  wide = width;
+  sound = sound;
+  caused = caused;
+}
   where
     roots : roots_of b.world ≡ roots_of a.world
     roots = ap (λ (w : World). roots_of w) is ∙ (step_later event a.world).roots
@@ -269,17 +284,17 @@ sound_event a b agrees same pipes is k = record { sound = sound; caused = caused
       order = rw is (ordered s.order);
       known = λ still. subst (PortsListed b.world) (sym same)
           (rw is (known_event a.world a.entries (s.known (before still))));
-      truthful = λ still. subst (DevicesAccurate b.world) (sym same)
-          (rw is (truthful_event a.world a.entries (s.truthful (before still))));
+      truthful = λ still. rw width (subst (DevicesAccurate a.wide b.world) (sym same)
+          (rw is (truthful_event a.world a.entries (s.truthful (before still)))));
       level = λ still.
           subst (λ (t : Table). AllInSync t b.world) (sym table)
           (rw is (level_event (table_in a) a.world (s.level (before still))));
     }
 
-    caused : HostInvariant a → IsFairTo a.world b.world → RefusalsJustified a.world a.entries
-        → RefusalsJustified b.world b.entries
+    caused : HostInvariant a → IsFairTo a.world b.world → RefusalsJustified a.wide a.world a.entries
+        → RefusalsJustified b.wide b.world b.entries
     caused s fair causes =
-        rw same (rw is (causes_event a.world (accounted a agrees s.rooted)
+        rw (width, same) (rw is (causes_event a.world (accounted a agrees s.rooted)
         (s.known (before fair.still)) causes))
 
 -- A whole round: only the host's own stop is new after its parts
@@ -301,6 +316,7 @@ rounds_stopped (Ok round) a b stopped x =
     record {
       keeps = record {
         sound = record {
+          wide = x.keeps.sound.wide;
           sound = λ s. sound_stopped b stopped (x.keeps.sound.sound s);
           caused = x.keeps.sound.caused;
         };

@@ -4,16 +4,16 @@ use Rattle.std.proofs.Common.{inl, inr, refl, sym, ap, subst, arith, if◌then�
 use Rattle.std.proofs.Common.{◌+◌, ◌*◌, Bool, true, false, List, [], ◌∷◌, ◌++◌, length}
 use Rattle.std.proofs.Common.{length-append, take, Option, None, Some, is_some, Result, Ok, Err}
 use Rattle.std.proofs.Common.{is_ok, slice_get, IsSome}
-use Rattle.std.proofs.lemmas.Bool.{cases_lt, eq-eqb, eqb-true, le-leb}
+use Rattle.std.proofs.lemmas.Bool.{cases_lt, eq-eqb, le-leb}
 use Rattle.std.proofs.lemmas.List.Elements.{All-append, All-cons, All-nil}
 use Rattle.std.proofs.lemmas.Option.{same_Some, slice_get_within}
-use Rattle.usb_port.specs.{parent_of, port_on_hub, IsPath, IsPortNumber, PortState, has_change}
+use Rattle.usb_port.specs.{parent_of, port_on_hub, IsPath, IsPortNumber, PortState}
 use Rattle.usb_port.specs.{has_bit}
 use Rattle.usb_port.proofs.Interface.{parent, rejoined}
-use Rattle.usb_device.specs.{change_bits, changed_bit, State, Spec, Ports, full, place, reach}
+use Rattle.usb_device.specs.{change_bits, hub_ports, State, Spec, Ports, full, place, reach}
 use Rattle.usb_device.specs.{row_of, port_there, state_there}
 use Rattle.usb_tree.specs.{is_way}
-use Rattle.usb_world.specs.{hub_ports, row_reached, Consistent, at_attempt}
+use Rattle.usb_world.specs.{row_reached, Consistent, at_attempt}
 use Rattle.usb_world.proofs.Interface.{course_taken, ports_counted, ready_taken, stands, way_parent}
 use Rattle.usb_world.proofs.Interface.{reach_on_way}
 use Rattle.usb_hub.proofs.Interface.{port_of_place, sane_there, state_of_place}
@@ -32,136 +32,12 @@ use Rattle.usb_host.proofs.payments.Backlogs.{full_of, port_of-place, steady_pla
 use Rattle.usb_host.proofs.rests.CalmPorts.{ready_none}
 use Rattle.usb_host.proofs.ParentPaths.{parent_length}
 use Rattle.usb_host.proofs.rests.Polls.{HubThere, facts_ports}
+use Rattle.usb_host.proofs.knowledge.ChangeWords.{HasChange, bit_changed, bit_some}
 use Rattle.usb_host.proofs.knowledge.SettledListings.{reached_there}
 use Rattle.usb_host.proofs.services.Services.{same_last}
 use Rattle.usb_host.proofs.UnchangedHubs.{port_of_row}
 use Rattle.usb_host.proofs.PortLocations.{root_alone}
 use Rattle.usb_host.proofs.payments.ToldPayments.{shows_on}
-
--- Bits
-
-of_bit : (bits n : ℕ) → has_bit bits n ≡ true → bits / 2 ^ n % 2 ≡ 1
-unfolding has_bit
-of_bit bits n set = eqb-true (bits / 2 ^ n % 2) 1 set
-
-to_bit : (bits n : ℕ) → bits / 2 ^ n % 2 ≡ 1 → has_bit bits n ≡ true
-unfolding has_bit
-to_bit bits n is = eq-eqb (bits / 2 ^ n % 2) 1 is
-
--- a port that has a change
-abbrev pub HasChange : List PortState → ℕ → Type 0
-HasChange row i = (p : PortState) × (slice_get row i ≡ Some p) × (has_change p ≡ true)
-
--- the weight of a port, once where it has a change
-pub record Weighed (row : List PortState) (i weight : ℕ) : Type 0 where
-  times : ℕ
-  few : times ≤ 1
-  is : changed_bit row i weight ≡ weight * times
-  so : 1 ≤ times → HasChange row i
-
-abbrev weight_of : Option PortState → ℕ → ℕ
-weight_of o weight = elim o [ None ↦ 0 | Some p ↦ if has_change p then weight else 0 ]
-
-weigh : {row : List PortState} {i weight : ℕ} → Weighed row i weight
-weigh {row = row} {i = i} {weight = weight} = pick (slice_get row i) refl
-  where
-    at : (p : PortState) → slice_get row i ≡ Some p → (b : Bool) → has_change p ≡ b
-        → Weighed row i weight
-    at p there true is = record {
-      times = 1;
-      few = omega arith;
-      is = subst (λ (o : Option PortState). weight_of o weight ≡ weight * 1) (sym there)
-          (subst (λ (b : Bool). (if b then weight else 0) ≡ weight * 1) (sym is) (omega arith));
-      so = λ some. (p, there, is);
-    }
-    at p there false is = record {
-      times = 0;
-      few = omega arith;
-      is = subst (λ (o : Option PortState). weight_of o weight ≡ weight * 0) (sym there)
-          (subst (λ (b : Bool). (if b then weight else 0) ≡ weight * 0) (sym is) (omega arith));
-      so = λ some. absurd (omega arith);
-    }
-
-    pick : (o : Option PortState) → slice_get row i ≡ o → Weighed row i weight
-    pick None there = record {
-      times = 0;
-      few = omega arith;
-      is = subst (λ (o : Option PortState). weight_of o weight ≡ weight * 0) (sym there)
-          (omega arith);
-      so = λ some. absurd (omega arith);
-    }
-    pick (Some p) there = at p there (has_change p) refl
-
--- what the first seven ports add
-pub record Weights (row : List PortState) : Type 0 where
-  a : Weighed row 0 2
-  b : Weighed row 1 4
-  c : Weighed row 2 8
-  d : Weighed row 3 16
-  e : Weighed row 4 32
-  f : Weighed row 5 64
-  g : Weighed row 6 128
-
-pub all_bits : (row : List PortState) → Weights row
-all_bits row =
-    record { a = weigh; b = weigh; c = weigh; d = weigh; e = weigh; f = weigh; g = weigh }
-
-abbrev pub OneSet : List PortState → Type 0
-OneSet row = (i : ℕ) × (i < 7) × (has_bit (change_bits row) (suc i) ≡ true)
-
-module _ (row : List PortState) (w : Weights row) where
-  whole : change_bits row ≡ 2 * w.a.times + 4 * w.b.times + 8 * w.c.times + 16 * w.d.times
-      + 32 * w.e.times + 64 * w.f.times + 128 * w.g.times
-  unfolding change_bits
-  whole = omega arith
-
-  -- the hub itself has none
-  pub none_own : change_bits row ≢ 1
-  none_own is = absurd (omega (arith, is, whole))
-
-  -- a bit that is set is that of a port with a change
-  pub bit_changed : (i : ℕ) → i < 7 → has_bit (change_bits row) (suc i) ≡ true → HasChange row i
-  bit_changed zero less set = w.a.so (omega (arith, whole, of_bit (change_bits row) 1 set))
-  bit_changed (suc zero) less set = w.b.so (omega (arith, whole, of_bit (change_bits row) 2 set))
-  bit_changed (suc (suc zero)) less set =
-      w.c.so (omega (arith, whole, of_bit (change_bits row) 3 set))
-  bit_changed (suc (suc (suc zero))) less set =
-      w.d.so (omega (arith, whole, of_bit (change_bits row) 4 set))
-  bit_changed (suc (suc (suc (suc zero)))) less set =
-      w.e.so (omega (arith, whole, of_bit (change_bits row) 5 set))
-  bit_changed (suc (suc (suc (suc (suc zero))))) less set =
-      w.f.so (omega (arith, whole, of_bit (change_bits row) 6 set))
-  bit_changed (suc (suc (suc (suc (suc (suc zero)))))) less set =
-      w.g.so (omega (arith, whole, of_bit (change_bits row) 7 set))
-  bit_changed (suc (suc (suc (suc (suc (suc (suc i))))))) less set = absurd (omega arith)
-
-  -- and one is, where not all are 0
-  set_at : (i : ℕ) → i < 7 → change_bits row / 2 ^ suc i % 2 ≡ 1 → OneSet row
-  set_at i less is = (i, less, to_bit (change_bits row) (suc i) is)
-
-  pub bit_some : change_bits row ≢ 0 → OneSet row
-  bit_some some = elim (cases_lt 0 w.a.times) [
-    | inl one ↦ set_at 0 (omega arith) (omega (arith, whole))
-    | inr no_a ↦ elim (cases_lt 0 w.b.times) [
-      | inl one ↦ set_at 1 (omega arith) (omega (arith, whole))
-      | inr no_b ↦ elim (cases_lt 0 w.c.times) [
-        | inl one ↦ set_at 2 (omega arith) (omega (arith, whole))
-        | inr no_c ↦ elim (cases_lt 0 w.d.times) [
-          | inl one ↦ set_at 3 (omega arith) (omega (arith, whole))
-          | inr no_d ↦ elim (cases_lt 0 w.e.times) [
-            | inl one ↦ set_at 4 (omega arith) (omega (arith, whole))
-            | inr no_e ↦ elim (cases_lt 0 w.f.times) [
-              | inl one ↦ set_at 5 (omega arith) (omega (arith, whole))
-              | inr no_f ↦ elim (cases_lt 0 w.g.times) [
-                | inl one ↦ set_at 6 (omega arith) (omega (arith, whole))
-                | inr no_g ↦ absurd (some (omega (arith, whole)))
-              ]
-            ]
-          ]
-        ]
-      ]
-    ]
-  ]
 
 -- A port of a hub that told
 
@@ -181,15 +57,16 @@ facts_of-hub spec facts is = pick (is_hub_device spec.descriptor) refl is
     pick true hub e = refl
     pick false hub e = let none : facts_of spec ≡ None = rw hub refl in absurd (cc (none, e))
 
-verdict-not_deep : (spec : Spec) (tier supply : ℕ) {chosen : ℕ} (facts : HubFacts)
-    → verdict spec tier supply ≡ Ok chosen → facts_of spec ≡ Some facts → tier ≡ 7 → ⊥
+verdict-not_deep : (spec : Spec) (wide : Bool) (tier supply : ℕ) {chosen : ℕ} (facts : HubFacts)
+    → verdict spec wide tier supply ≡ Ok chosen → facts_of spec ≡ Some facts → tier ≡ 7 → ⊥
 unfolding verdict
-verdict-not_deep spec tier supply facts e hub last =
+verdict-not_deep spec wide tier supply facts e hub last =
     let row : (is_hub_device spec.descriptor && tier == 7) ≡ false =
     deep_row spec.silent spec.busy spec.stalls.device
     (not (is_ok (device_head_of spec.low (take 8 spec.descriptor)))) spec.stalls.address
     (not (is_device spec.low (take 18 spec.descriptor))) (is_hub_device spec.descriptor && tier
-    == 7) (read_verdict spec supply (first_fault spec (configuration_count spec.descriptor))) e in
+    == 7) (read_verdict wide spec supply (first_fault spec (configuration_count spec.descriptor))) e
+    in
     let on : (is_hub_device spec.descriptor && tier == 7) ≡ true =
     rw (facts_of-hub spec facts hub, eq-eqb tier 7 last) refl in
     cc (row, on)
@@ -224,7 +101,7 @@ up_on k (m ∷ p) hub some way on = reach_on_way k m p hub way on
 
 -- each port of which it told
 
-module _ (hub : List ℕ) (a b : HostState) (agrees : Agrees b.entries b.addresses)
+module _ (hub : List ℕ) (a b : HostState) (agrees : Agrees b.wide b.entries b.addresses)
     (s : HostInvariant a) (t : HostInvariant b) (before : a.world.fault ≡ None)
     (still : b.world.fault ≡ None) (facts : HubFacts) (there : HubThere hub b.entries facts)
     (reached : reach b.world.roots hub ≡ true) (bits : ℕ)
@@ -235,7 +112,7 @@ module _ (hub : List ℕ) (a b : HostState) (agrees : Agrees b.entries b.address
   stood_at : state_there b.world.roots hub ≡ Some device_at
   stood_at = (reached_there b.world.roots hub reached).1
 
-  truth : IsTruthOf b.entries hub there.device device_at
+  truth : IsTruthOf b.wide b.entries hub there.device device_at
   truth = t.truthful still hub there.device device_at (ap accepted_device_of there.found) reached
       stood_at
 
@@ -263,9 +140,9 @@ module _ (hub : List ℕ) (a b : HostState) (agrees : Agrees b.entries b.address
       let on : reach b.world.roots up ≡ true =
       up_on b.world.roots up hub shorter.1 (way_parent hub up is) reached in
       let st : _ = reached_there b.world.roots up on in
-      let told : IsTruthOf b.entries up f.device st.0 =
+      let told : IsTruthOf b.wide b.entries up f.device st.0 =
       t.truthful still up f.device st.0 (ap accepted_device_of f.stands) on st.1 in
-      verdict-not_deep st.0.spec (tier_of up) (known_supply up b.entries) f.facts
+      verdict-not_deep st.0.spec b.wide (tier_of up) (known_supply up b.entries) f.facts
       told.found.0 (sym told.found.1.hub ∙ f.told) (omega (arith, shorter.0))
 
   -- no hub stands in the last tier
@@ -276,7 +153,7 @@ module _ (hub : List ℕ) (a b : HostState) (agrees : Agrees b.entries b.address
         (agrees.nested.each hub (Device there.device) there.found) (omega (arith, path.1)))
   ]
 
-  path_of_port : (i : ℕ) → i < 7 → IsPath (hub ++ (suc i ∷ []))
+  path_of_port : (i : ℕ) → i < 15 → IsPath (hub ++ (suc i ∷ []))
   path_of_port i less =
       let long : length (hub ++ (suc i ∷ [])) ≡ length hub + 1 = length-append hub (suc i ∷ [])
       in (
@@ -286,10 +163,10 @@ module _ (hub : List ℕ) (a b : HostState) (agrees : Agrees b.entries b.address
             (All-cons IsPortNumber (suc i) [] (omega arith, omega arith) (All-nil IsPortNumber)),
       )
 
-  module _ (same : (at_attempt x.mid).roots ≡ x.mid.roots) (i : ℕ) (less : i < 7)
+  module _ (same : (at_attempt x.mid).roots ≡ x.mid.roots) (i : ℕ) (less : i < 15)
       (set : has_bit bits (suc i) ≡ true) where
     changed : HasChange (row_of x.ports) i
-    changed = bit_changed (row_of x.ports) (all_bits _) i less (rw x.told at set)
+    changed = bit_changed (hub_ports x.state.spec.hub) (row_of x.ports) i less (rw x.told at set)
 
     port_then : port_there x.mid.roots (hub ++ (suc i ∷ [])) ≡ Some changed.0
     port_then =
@@ -344,20 +221,21 @@ module _ (hub : List ℕ) (a b : HostState) (agrees : Agrees b.entries b.address
         )
 
   module _ (same : (at_attempt x.mid).roots ≡ x.mid.roots) where
-    shows_each : (n : ℕ) → 1 ≤ n → n ≤ 7 → has_bit bits n ≡ true
+    shows_each : (n : ℕ) → 1 ≤ n → n ≤ 15 → has_bit bits n ≡ true
         → ShowsChange b.world (hub ++ (n ∷ []))
     shows_each zero least most set = absurd (omega arith)
     shows_each (suc i) least most set = shows_port same i (omega arith) set
 
-    known_each : (n : ℕ) → 1 ≤ n → n ≤ 7 → has_bit bits n ≡ true → IsPath (hub ++ (n ∷ []))
+    known_each : (n : ℕ) → 1 ≤ n → n ≤ 15 → has_bit bits n ≡ true → IsPath (hub ++ (n ∷ []))
         × IsSome (known_port (hub ++ (n ∷ [])) b.entries)
     known_each zero least most set = absurd (omega arith)
     known_each (suc i) least most set = known_there same i (omega arith) set
 
     shows_told : bits ≢ 0 → ShowsTold hub bits b
     shows_told some =
-        let first : (i : ℕ) × (i < 7) × (has_bit (change_bits (row_of x.ports)) (suc i) ≡ true) =
-        bit_some (row_of x.ports) (all_bits _) (λ none. some (x.told ∙ none)) in
+        let told : ℕ = change_bits (hub_ports x.state.spec.hub) (row_of x.ports) in
+        let first : (i : ℕ) × (i < 15) × (has_bit told (suc i) ≡ true) =
+        bit_some (hub_ports x.state.spec.hub) (row_of x.ports) (λ none. some (x.told ∙ none)) in
         record {
           number = suc first.0;
           least = omega arith;

@@ -1,5 +1,5 @@
 -- What is known of ports and devices stays so as an event comes.
-use Rattle.std.proofs.Common.{◌≡◌, List, [], ℕ, refl, ap, ◌∙◌, sym}
+use Rattle.std.proofs.Common.{Bool, ◌≡◌, List, [], ℕ, refl, ap, ◌∙◌, sym}
 use Rattle.usb_resources.specs.{Addresses}
 use Rattle.usb_device.specs.{State, path_to}
 use Rattle.usb_world.specs.{resets, step_keeps_pending, EachWas, leaves_step, LeavesPortAlone}
@@ -39,8 +39,8 @@ pub known_event : (w : World) (entries : Entries) → PortsListed w entries
 known_event w entries known = known_each w (after event w) entries
     (course_later (event_calm [] w)).roots (λ path port. event_calm path w) known
 
-pub truthful_event : (w : World) (entries : Entries) → DevicesAccurate w entries
-    → DevicesAccurate (after event w) entries
+pub truthful_event : {wide : Bool} (w : World) (entries : Entries) → DevicesAccurate wide w entries
+    → DevicesAccurate wide (after event w) entries
 truthful_event w entries told = truthful_stays w (after event w) entries
     (each_wider (λ x s v. v ≡ s) SameDevice
     (λ j s v e. record {
@@ -50,9 +50,10 @@ truthful_event w entries told = truthful_stays w (after event w) entries
     }) w (after event w)
     (event_same w)) told
 
-pub causes_event : (w : World) {entries : Entries} {addresses : Addresses}
-    → Accounted (roots_of w) entries addresses → PortsListed w entries → RefusalsJustified w entries
-    → RefusalsJustified (after event w) entries
+pub causes_event : {wide : Bool} (w : World) {entries : Entries} {addresses : Addresses}
+    → Accounted wide (roots_of w) entries addresses → PortsListed w entries
+    → RefusalsJustified wide w entries
+    → RefusalsJustified wide (after event w) entries
 causes_event w accounted known caused =
     causes_stay w (after event w) accounted known
     (λ path port. course_wider (λ s u x. x.spares) (event_calm path w)) caused

@@ -22,8 +22,8 @@ use Rattle.usb_host.specs.{HostInvariant, PortsListed}
 use Rattle.usb_host.proofs.entries.Roots.{rooted_opening}
 
 abbrev going : World → Option (List ℕ) → BusCounts → Table → Addresses → DeviceNumbers
-    → ReportedDevices → HostState
-going w t counts table addresses numbers reported = record {
+    → ReportedDevices → Bool → HostState
+going w t counts table addresses numbers reported wide = record {
   world = w;
   trace = t;
   counts = counts;
@@ -32,6 +32,7 @@ going w t counts table addresses numbers reported = record {
   addresses = addresses;
   numbers = numbers;
   reported = reported;
+  wide = wide;
   stopped = false;
 }
 
@@ -41,18 +42,19 @@ world_powered w = record w { roots = repowered w.roots }
 -- power is taken and given in silence
 pub powered_is_opening : (w0 w : World) (t0 t : Option (List ℕ)) (counts : BusCounts)
     (table : Table) (addresses : Addresses) (numbers : DeviceNumbers) (reported : ReportedDevices)
-    → w ≡ world_powered w0 → t ≡ t0 → counts ≡ no_counts → table ≡ empty → addresses ≡ set.empty
+    (wide : Bool) → w ≡ world_powered w0 → t ≡ t0 → counts ≡ no_counts → table ≡ empty
+    → addresses ≡ set.empty
     → numbers ≡ first_numbers → reported ≡ []
-    → going w t counts table addresses numbers reported ≡ opening_host w0 t0
-powered_is_opening w0 w t0 t counts table addresses numbers reported e silent none f h n r =
+    → going w t counts table addresses numbers reported wide ≡ opening_host wide w0 t0
+powered_is_opening w0 w t0 t counts table addresses numbers reported wide e silent none f h n r =
     let new = going (world_powered w0) in
-    ap (λ v. going v t counts table addresses numbers reported) e
-    ∙ ap (λ s. new s counts table addresses numbers reported) silent
-    ∙ ap (λ s. new t0 s table addresses numbers reported) none
-    ∙ ap (λ x. new t0 no_counts x addresses numbers reported) f
-    ∙ ap (λ s. new t0 no_counts empty s numbers reported) h
-    ∙ ap (λ m. new t0 no_counts empty set.empty m reported) n
-    ∙ ap (λ s. new t0 no_counts empty set.empty first_numbers s) r
+    ap (λ v. going v t counts table addresses numbers reported wide) e
+    ∙ ap (λ s. new s counts table addresses numbers reported wide) silent
+    ∙ ap (λ s. new t0 s table addresses numbers reported wide) none
+    ∙ ap (λ x. new t0 no_counts x addresses numbers reported wide) f
+    ∙ ap (λ s. new t0 no_counts empty s numbers reported wide) h
+    ∙ ap (λ m. new t0 no_counts empty set.empty m reported wide) n
+    ∙ ap (λ s. new t0 no_counts empty set.empty first_numbers s wide) r
 
 -- A port that lost power is disabled, so no device is reached
 
@@ -75,9 +77,9 @@ forgotten-repowered (vacant b k) = ap (vacant (powered_on (powered_off b))) (for
 forgotten-repowered (taken b s a k) = ap (taken (powered_on (powered_off b)) (forgotten s)
     (all_forgotten a)) (forgotten-repowered k)
 
-pub owning_opening : (w : World) (t : Option (List ℕ)) → IsSettled w.roots → w.shared ≡ false
-    → HostMapHolds (opening_host w t)
-owning_opening w t settled single = record {
+pub owning_opening : (wide : Bool) (w : World) (t : Option (List ℕ)) → IsSettled w.roots
+    → w.shared ≡ false → HostMapHolds (opening_host wide w t)
+owning_opening wide w t settled single = record {
   single = single;
   owned = λ going. record {
     so = λ none. record {
@@ -120,12 +122,12 @@ known_opening w sane (n ∷ m ∷ rest) port =
     let wrong = rw long at port.port in
     absurd wrong
 
-pub sound_opening : (w : World) (t : Option (List ℕ))
-    → Traced w t (opening_host w t).world (opening_host w t).trace → IsSettled w.roots
-    → IsInOrder w → w.shared ≡ false → HostInvariant (opening_host w t)
-sound_opening w t traced settled order single = record {
-  owned = (owning_opening w t settled single).owned refl;
-  rooted = rooted_opening w t;
+pub sound_opening : (wide : Bool) (w : World) (t : Option (List ℕ))
+    → Traced w t (opening_host wide w t).world (opening_host wide w t).trace → IsSettled w.roots
+    → IsInOrder w → w.shared ≡ false → HostInvariant (opening_host wide w t)
+sound_opening wide w t traced settled order single = record {
+  owned = (owning_opening wide w t settled single).owned refl;
+  rooted = rooted_opening wide w t;
   order = traced_in_order traced order;
   known = λ still. known_opening w (order still).sane;
   truthful = λ still path device s at on stands. absurd (cc at);

@@ -60,16 +60,16 @@ has_hub path old new (inr gone) h = rw gone (hub_facts-without path old (parent_
 -- A port was served
 
 bare_pays : (c : Weights) (a b : HostState) → FindsNone deciding_bound a b
-    → PaysBare a.world b.world → Pays c (c.polls + 12768) a b
+    → PaysBare a.world b.world → Pays c (c.polls + 28768) a b
 bare_pays c a b f x = elim x.paid [
-  | inl look ↦ plain_pays c 7200 (c.polls + 12768) 1 0 0 0 a b (omega (arith, f.went.spends.most))
+  | inl look ↦ plain_pays c 7200 (c.polls + 28768) 1 0 0 0 a b (omega (arith, f.went.spends.most))
       look (omega (arith, x.strays)) (omega (arith, f.hubs)) (omega (arith, f.went.spends.onward))
       (omega arith)
   | inr more ↦ elim more [
-    | inl stray ↦ plain_pays c 7200 (c.polls + 12768) 0 1 0 0 a b
+    | inl stray ↦ plain_pays c 7200 (c.polls + 28768) 0 1 0 0 a b
         (omega (arith, f.went.spends.most)) (omega (arith, x.looks)) stray (omega (arith, f.hubs))
         (omega (arith, f.went.spends.onward)) (omega arith)
-    | inr came ↦ plain_pays c 7200 (c.polls + 12768) 0 0 0 1 a b (omega (arith, f.went.spends.most))
+    | inr came ↦ plain_pays c 7200 (c.polls + 28768) 0 0 0 1 a b (omega (arith, f.went.spends.most))
         (omega (arith, x.looks)) (omega (arith, x.strays)) (omega (arith, f.hubs)) came
         (omega arith)
   ]
@@ -79,7 +79,7 @@ module _ (c : Weights) (path : List ℕ) (a b : HostState) (few : b.world.attemp
     ≤ a.world.attempts + (257200 + 100 * c.most)) (on : a.world.taken ≤ b.world.taken)
     (more : hubs b.entries ≤ hubs a.entries + 1) where
   pub port_paid : ServePaid path a b → PortPaid c path a b
-  port_paid (found x) = paid (looks_pay c (257200 + 100 * c.most) (c.polls + 12768) a b few x.looks
+  port_paid (found x) = paid (looks_pay c (257200 + 100 * c.most) (c.polls + 28768) a b few x.looks
       x.strays on (omega (arith, mul-le-mul_left (hub_weight c) more)))
   port_paid (bare x f) = paid (bare_pays c a b f x)
   port_paid (tidied x f) = paid (bare_pays c a b f (record {
@@ -114,12 +114,12 @@ module _ (c : Weights) (path : List ℕ) (a b : HostState) (few : b.world.attemp
   pub lost_paid : (d : HostState) → ServePaid path a b
       ⊎ (KeepsPlain a.world b.world × FindsNone deciding_bound a b) → AtPorts b.world.left
       → KeepsAll b.world d.world → d.world.attempts ≤ b.world.attempts + 11200
-      → hubs d.entries + 1 ≤ hubs b.entries → Pays c (c.polls + 12768) a d
+      → hubs d.entries + 1 ≤ hubs b.entries → Pays c (c.polls + 28768) a d
   lost_paid d served ports keeps dropped fewer = elim (few_found served) [
-    | inl x ↦ looks_pay c (268400 + 100 * c.most) (c.polls + 12768) a d (omega arith)
+    | inl x ↦ looks_pay c (268400 + 100 * c.most) (c.polls + 28768) a d (omega arith)
         (omega (arith, x.looks, all.looks, all.onward)) (omega (arith, x.strays, all.strays))
         (omega (arith, all.onward)) (omega (arith, mul-le-mul_left (hub_weight c) (kept x)))
-    | inr x ↦ plain_pays c 18400 (c.polls + 12768) 0 0 1 0 a d (omega (arith, x.1))
+    | inr x ↦ plain_pays c 18400 (c.polls + 28768) 0 0 1 0 a d (omega (arith, x.1))
         (omega (arith, x.0.looks, all.looks)) (omega (arith, x.0.strays, all.strays))
         (omega (arith, x.2)) (omega (arith, all.onward)) (omega arith)
   ]

@@ -7,6 +7,7 @@ use Rattle.std.proofs.lemmas.Bool.{le-ltb, lt-ltb, ltb-true}
 use Rattle.std.proofs.lemmas.List.Sums.{count_by-le-length, sum_by-cons}
 use Rattle.arrayvec.specs.ArrayVec.{ArrayVec}
 use Rattle.usb_port.specs.{rank_of}
+use Rattle.usb_device.specs.{told_bits}
 use Rattle.usb_world.specs.{Action, Plug, Event, PlanData, World}
 use Rattle.usb_world.specs.declared.event.Action.TheVariants.{Change}
 use Rattle.usb_world.proofs.Interface.{course_joined}
@@ -21,7 +22,7 @@ use Rattle.usb_table.specs.{PipesPolled}
 use Rattle.usb_host.specs.{Agrees, hubs, drop_bound, Costs, HubPaid, Pays, PaysPart, RoundPaid}
 use Rattle.usb_host.specs.{ShowsTold, StopsWithin, ToldPaid, Weights, WorksOn, debt, event_weight}
 use Rattle.usb_host.specs.{hubs_most, poll_most, told_most, HostState, PlugsAt, WasPlugged}
-use Rattle.usb_host.specs.{HostSteps, either, first_byte, DropsSound, IsDroppable, HostInvariant}
+use Rattle.usb_host.specs.{HostSteps, either, DropsSound, IsDroppable, HostInvariant}
 use Rattle.usb_host.specs.{PartStays, KeepsInvariant, table_in, HostFault, Round, Worked, Quiet}
 use Rattle.usb_host.proofs.services.HubServices.{LeavesRest, hub_tells}
 use Rattle.usb_host.proofs.RoundParts.{hub_listed}
@@ -57,9 +58,9 @@ module _ {c : Weights} {plan : PlanData} {a : HostState} (b : HostState)
         (omega (arith, no_more)) all.onward
 
     -- an event came
-    pub poll_paid : a.world.taken + 1 ≤ b.world.taken → Pays c (c.polls + 16768) a b
+    pub poll_paid : a.world.taken + 1 ≤ b.world.taken → Pays c (c.polls + 32768) a b
     poll_paid came =
-        plain_pays c 768 (c.polls + 16768) 0 0 0 1 a b (omega (arith, went.spends.most))
+        plain_pays c 768 (c.polls + 32768) 0 0 0 1 a b (omega (arith, went.spends.most))
         (omega (arith, all.looks)) (omega (arith, all.strays)) (omega (arith, no_more)) came
         (omega arith)
 
@@ -89,11 +90,11 @@ drop_paid_fails hub a d first second other e = record {
   pays = λ c plan w still. is_err-if_ok other (λ y. HubPaid hub c y a d) e;
 }
 
-module _ (hub : List ℕ) (a b : HostState) (agrees : Agrees a.entries a.addresses)
+module _ (hub : List ℕ) (a b : HostState) (agrees : Agrees a.wide a.entries a.addresses)
     (same : b.entries ≡ a.entries) (pool : b.addresses ≡ a.addresses)
-    (went : HostSteps 768 a b) where
-  agrees_on : Agrees b.entries b.addresses
-  agrees_on = rw same (rw pool agrees)
+    (width : b.wide ≡ a.wide) (went : HostSteps 768 a b) where
+  agrees_on : Agrees b.wide b.entries b.addresses
+  agrees_on = rw (width, same) (rw pool agrees)
 
   poll_stop : (c : Weights) (n : ℕ) → 768 ≤ n → StopsWithin c n a b
   poll_stop c n le = few_stop c n a b (omega (arith, went.spends.most)) went.spends.onward
@@ -115,7 +116,7 @@ module _ (hub : List ℕ) (a b : HostState) (agrees : Agrees a.entries a.address
       (answer : Result (Option (ArrayVec ℕ)) PipeFault) (ok : IsOk answer)
       (keeps : KeepsPolled hub (table_in a) a.world answer (table_in b) b.world) where
     sound : KeepsInvariant a b
-    sound = sound_kept 768 hub (IsOk answer) a b agrees same went keeps.levels (λ still. ok)
+    sound = sound_kept 768 hub (IsOk answer) a b agrees same width went keeps.levels (λ still. ok)
 
     works : {c : Weights} {plan : PlanData} → WorksOn c plan a → b.world.fault ≡ None
         → WorksOn c plan b
@@ -146,7 +147,7 @@ module _ (hub : List ℕ) (a b : HostState) (agrees : Agrees a.entries a.address
         costs_pays c a b d 768 (c.polls + 768) c.polls
         (poll_costs b same went w (keeps.levels.worlds.backlog still)) (x.shown shows) (omega arith)
     told_paid c w still x (inr came) =
-        pays_costs c a b d (c.polls + 16768) 16000 c.polls
+        pays_costs c a b d (c.polls + 32768) 32000 c.polls
         (poll_paid b same went w (keeps.levels.worlds.backlog still) came) x.costs (omega arith)
 
     pub told_pays : {done : Unit {0}} → PaysPart told_most (λ c done. ToldPaid hub bits c) b
@@ -171,8 +172,9 @@ module _ (hub : List ℕ) (a b : HostState) (agrees : Agrees a.entries a.address
         rw same (hub_listed (finding_at hub a.entries) listed) in
         record {
           listed = there;
-          but = but_kept 768 hub (IsOk answer) a b agrees same went keeps.levels s;
-          there = λ still. occupied_kept 768 hub (IsOk answer) a b agrees same went keeps.levels s
+          but = but_kept 768 hub (IsOk answer) a b agrees same width went keeps.levels s;
+          there = λ still. occupied_kept 768 hub (IsOk answer) a b agrees same width went
+              keeps.levels s
               there still agrees_on;
         }
 
@@ -196,7 +198,7 @@ module _ (hub : List ℕ) (a b : HostState) (agrees : Agrees a.entries a.address
   }
 
 -- the ports of which it told show their changes, or an event came
-module _ (hub : List ℕ) (a b : HostState) (agrees : Agrees a.entries a.addresses)
+module _ (hub : List ℕ) (a b : HostState) (agrees : Agrees a.wide a.entries a.addresses)
     (same : b.entries ≡ a.entries) (pool : b.addresses ≡ a.addresses)
     (rest : LeavesRest a b) (went : HostSteps 768 a b)
     (listed : IsSome (hub_facts_at hub a.entries)) (got : Option (ArrayVec ℕ))
@@ -204,7 +206,7 @@ module _ (hub : List ℕ) (a b : HostState) (agrees : Agrees a.entries a.address
     b.world)
     (keeps : KeepsPolled hub (table_in a) a.world (Ok got) (table_in b) b.world) where
   pub tells_shows : (packet : ArrayVec ℕ) (byte : ℕ) → got ≡ Some packet
-      → byte ≡ first_byte packet.items → HostInvariant a → HostInvariant b → b.world.fault ≡ None
+      → byte ≡ told_bits packet.items → HostInvariant a → HostInvariant b → b.world.fault ≡ None
       → ShowsTold hub byte b ⊎ (a.world.taken + 1 ≤ b.world.taken)
   tells_shows packet byte is read s t still =
       let tells : HubTold hub a.world (Ok got) b.world =
@@ -212,8 +214,9 @@ module _ (hub : List ℕ) (a b : HostState) (agrees : Agrees a.entries a.address
       let told : ByteTold (BitsOf hub a.world b.world) packet.items =
       rw is at tells.tells in
       let facts : _ = some_facts (hub_facts_at hub b.entries) (rw same listed) in
-      rw (read ∙ ap first_byte told.is) (poll_shows hub a b
-      (agrees_on hub a b agrees same pool went) s t (went_sound 768 a.world b.world went still)
+      rw (read ∙ told.is) (poll_shows hub a b
+      (agrees_on hub a b agrees same pool (ap (λ (h : HostState). h.wide) rest) went) s t
+      (went_sound 768 a.world b.world went still)
       still facts.0 (hub_there hub b.entries facts.0 facts.1) tells.reached told.bits told.so
       told.so.came told.some)
 

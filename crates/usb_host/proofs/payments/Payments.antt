@@ -59,7 +59,7 @@ pub looks_pay : (c : Weights) (n spare : ℕ) (a b : HostState)
     8 * b.world.taken
     → strays_by unmarked unmarked b.world.roots + a.world.taken ≤ strays_by unmarked unmarked
     a.world.roots + 1 + b.world.taken → a.world.taken ≤ b.world.taken
-    → n + hub_weight c * hubs b.entries + spare ≤ hub_weight c * hubs a.entries + 301136 + 100 *
+    → n + hub_weight c * hubs b.entries + spare ≤ hub_weight c * hubs a.entries + 333136 + 100 *
     c.most + 2 * c.polls → Pays c spare a b
 looks_pay c n spare a b few looks strays on fits =
     sums_look c.most c.polls n (hubs a.entries) (hubs b.entries) spare a.world.attempts
@@ -76,7 +76,7 @@ pub plain_pays : (c : Weights) (n spare i j f g : ℕ) (a b : HostState)
     a.world.roots + b.world.taken → hubs b.entries + f ≤ hubs a.entries
     → a.world.taken + g ≤ b.world.taken
     → n + spare ≤ look_weight c * i + stray_weight c * j + hub_weight c *
-    f + (344272 + 100 * c.most + 4 * c.polls) * g → Pays c spare a b
+    f + (372304 + 100 * c.most + 3 * c.polls) * g → Pays c spare a b
 plain_pays c n spare i j f g a b few looks strays fewer on fits =
     sums_plain c.most c.polls n spare i j f g a.world.attempts b.world.attempts
     (looks_by unmarked a.world.roots) (looks_by unmarked b.world.roots)

@@ -68,13 +68,13 @@ told_shows w v p t x quiet steady =
     quiet steady
 
 pub changed_paid : {c : Weights} {p : List ℕ} (a : HostState) {b : HostState}
-    → ShowsChange a.world p → PortPaid c p a b → Pays c (c.polls + 12768) a b
+    → ShowsChange a.world p → PortPaid c p a b → Pays c (c.polls + 28768) a b
 changed_paid a x (paid y) = y
 changed_paid {p = p} a x (idle status mid told quiet steady y) =
     absurd (told_shows a.world mid p told x quiet steady)
 
 pub port_costs : (c : Weights) {p : List ℕ} (a b : HostState) → PortPaid c p a b → Costs c 2000 a b
-port_costs c a b (paid x) = pays_none c a b (c.polls + 12768) 2000 x
+port_costs c a b (paid x) = pays_none c a b (c.polls + 28768) 2000 x
 port_costs c a b (idle status mid told quiet steady x) = x
 
 -- Root ports
@@ -130,7 +130,7 @@ module _ {m n : ℕ} {round : Round} (number : ℕ) (a b d : HostState) (first :
     stops = roots_stop x;
     pays = λ c plan w still.
         let here : b.world.fault ≡ None = went_sound n b.world d.world second still in
-        costs_pays c a b d 0 (c.polls + 12768) c.polls
+        costs_pays c a b d 0 (c.polls + 28768) c.polls
         (roots_cost c round a b (before.pays c plan w here))
         (changed_paid b shows
         (x.pays c plan (works_on first w (sound.sound.sound w.sound) here) still)) (omega arith);
@@ -140,7 +140,7 @@ module _ {m n : ℕ} {round : Round} (number : ℕ) (a b d : HostState) (first :
 
 -- so much is left over where the ports below a number were handled, and one of them had changed
 abbrev pub LeftOver : Weights → ℕ → HostState → HostState → Type 0
-LeftOver c number a b = b.world.attempts + debt c b + (c.polls + 16768) + event_weight c *
+LeftOver c number a b = b.world.attempts + debt c b + (c.polls + 32768) + event_weight c *
     a.world.taken ≤ a.world.attempts + debt c a + event_weight c * b.world.taken + 2000 * number
 
 -- nothing was done yet, since no bit below the number is set
@@ -192,13 +192,13 @@ number_costs c hub number Quiet a b x = rw x.0 (costs_none c 2000 a)
 
 -- the first port of which it told
 first_paid : (c : Weights) {hub : List ℕ} {bits : ℕ} (number : ℕ) (round : Round) (a b : HostState)
-    → 1 ≤ number → number ≤ 7 → has_bit bits number ≡ true → ShowsTold hub bits a
-    → NumberPaid c hub number round a b → Pays c (c.polls + 12768) a b
+    → 1 ≤ number → number ≤ 15 → has_bit bits number ≡ true → ShowsTold hub bits a
+    → NumberPaid c hub number round a b → Pays c (c.polls + 28768) a b
 first_paid c number Worked a b least most on x y = changed_paid a (x.shows number least most on) y
 first_paid c number Quiet a b least most on x y = let known : _ =
     x.known number least most on in absurd (cc (known.1, y.1 known.0))
 
-module _ (m n : ℕ) (hub : List ℕ) (bits number : ℕ) (least : 1 ≤ number) (most : number ≤ 7)
+module _ (m n : ℕ) (hub : List ℕ) (bits number : ℕ) (least : 1 ≤ number) (most : number ≤ 15)
     (a b d : HostState) (first : HostSteps m a b) (second : HostSteps n b d) (sound : PartStays a b)
     (before : ToldSoFar hub bits number a b)
   where
@@ -239,7 +239,7 @@ module _ (m n : ℕ) (hub : List ℕ) (bits number : ℕ) (least : 1 ≤ number)
         after : (c : Weights) → ShowsTold hub bits a → NumberPaid c hub number round b d
             → NoneBelow bits number a b ⊎ LeftOver c number a b → LeftOver c (number + 1) a d
         after c s one (inl y) =
-            let pays : Pays c (c.polls + 12768) a d =
+            let pays : Pays c (c.polls + 28768) a d =
             first_paid c number round a d least most on s (rw y.same at one) in
             omega (arith, pays)
         after c s one (inr y) = let costs : Costs c 2000 b d =
@@ -247,7 +247,7 @@ module _ (m n : ℕ) (hub : List ℕ) (bits number : ℕ) (least : 1 ≤ number)
 
 -- all of them were handled
 pub told_all : {hub : List ℕ} {bits : ℕ} {done : Unit {0}} (a b : HostState)
-    → ToldSoFar hub bits 8 a b → PaysPart told_most (λ c done. ToldPaid hub bits c) a (Ok done) b
+    → ToldSoFar hub bits 16 a b → PaysPart told_most (λ c done. ToldPaid hub bits c) a (Ok done) b
 told_all a b x = record {
   stops = x.stops;
   pays = λ c plan w still. record {

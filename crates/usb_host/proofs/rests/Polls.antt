@@ -1,92 +1,33 @@
 -- A hub that is known, and answers a poll that it has nothing to tell, has no port that tells of a
 -- change of connection.
-use Rattle.std.proofs.Common.{◌≡◌, ◌≤◌, ◌==◌, ◌&&◌, ◌||◌, ◌∙◌, not, if◌then◌else◌, ℕ, zero, suc}
+use Rattle.std.proofs.Common.{◌≡◌, ◌≤◌, ◌==◌, ◌&&◌, ◌||◌, ◌∙◌, if◌then◌else◌, ℕ, zero, suc}
 use Rattle.std.proofs.Common.{Bool, true, false, List, [], ◌∷◌, ◌++◌, Option, None, Some, is_some}
-use Rattle.std.proofs.Common.{Result, Ok, Err, refl, ap, sym, arith, inl, inr, IfSome}
-use Rattle.std.specs.Option.{option_or}
-use Rattle.std.proofs.lemmas.Bool.{eq-eqb, ne_eqb}
+use Rattle.std.proofs.Common.{Ok, refl, ap, sym, arith, inl, inr, IfSome}
+use Rattle.std.proofs.lemmas.Bool.{eq-eqb}
 use Rattle.usb_port.specs.{PortState, has_change}
-use Rattle.usb_descriptor.specs.{DescriptorFault, Interface, Endpoint, Other, status_endpoint_of}
-use Rattle.usb_descriptor.specs.{status_at, first_counting, first_from, picked, counts_after}
-use Rattle.usb_descriptor.specs.{in_config, packet_size, config_of, config_after, config_head_of}
-use Rattle.usb_descriptor.specs.{configuration_value, items_of}
-use Rattle.usb_descriptor.specs.declared.item.Item.{Item}
-use Rattle.usb_descriptor.proofs.Interface.{header_of}
-use Rattle.usb_device.specs.{tells_changes, State, Spec, Hub, IsSpec, IsHub, reach, Location}
+use Rattle.usb_device.specs.{hub_ports, State, Spec, Hub, IsSpec, IsHub, reach, Location}
 use Rattle.usb_device.specs.{path_to, reach_on, state_on, port_there}
 use Rattle.usb_tree.specs.{address_of, pending, IsSettled, deep_at}
-use Rattle.usb_world.specs.{hub_ports, World, roots_of}
+use Rattle.usb_world.specs.{World, roots_of}
 use Rattle.usb_world.proofs.Interface.{sane_spec}
 use Rattle.usb_tree.proofs.Interface.{and_of, neither, false_true}
-use Rattle.usb_transaction.specs.{Target, is_at as has_address, in_attempt, AttemptLog, Waiting}
-use Rattle.usb_world.specs.declared.types.Outcome.TheVariants.{Nak}
+use Rattle.usb_transaction.specs.{Target, is_at as has_address, in_attempt, Waiting}
 use Rattle.usb_resources.specs.{Addresses, supply_of}
 use Rattle.usb_pipe.specs.{Interrupt}
-use Rattle.usb_enum.specs.{Accepted, Finding, HubFacts, facts_of, is_hub_device, configuration_of}
+use Rattle.usb_enum.specs.{Accepted, Finding, HubFacts, facts_of, is_hub_device}
 use Rattle.usb_enum.specs.{IsKnownAs}
 use Rattle.usb_enum.specs.declared.finding.Finding.TheVariants.{Device}
 use Rattle.usb_table.specs.{Pipes, Hub as HubPipe, Function, Absent, Entries, accepted_device_of}
 use Rattle.usb_table.specs.{accepted_device_at, is_below_hub, IsListening, finding_at, hub_facts_in}
 use Rattle.usb_table.specs.{hub_facts_at, tier_of, IsStatusPipe, ArePipesTo, ArePipesIf}
-use Rattle.usb_table.specs.{PipesPolled, PolledThrough}
+use Rattle.usb_table.specs.{PipesInSync, PipesPolled, PolledThrough, StatusPipeInSync, pipes_at}
 use Rattle.usb_host.specs.{Agrees, HostState, Accounted, HostInvariant, IsSilent, PortsListed}
-use Rattle.usb_host.specs.{IsTruthOf, DevicesAccurate, known_supply}
+use Rattle.usb_host.specs.{IsTruthOf, DevicesAccurate, known_supply, table_in}
 use Rattle.usb_host.proofs.entries.Roots.{accounted}
 use Rattle.usb_enum.proofs.Interface.{accepts}
 use Rattle.usb_host.proofs.knowledge.Servers.{server_hears, is_below_hub-deep}
 use Rattle.usb_host.proofs.knowledge.SettledListings.{listed_port, reached_there}
-use Rattle.usb_host.proofs.UnchangedHubs.{AreClear, nak_clears}
-
--- A status endpoint
-
-if_size-one : (b : Bool) (size : ℕ) {e : ℕ × ℕ} → (if b then Some (1, size) else None) ≡ Some e
-    → e.0 ≡ 1
-if_size-one true size h = cc h
-if_size-one false size h = absurd (cc h)
-
-status_first : (endpoint : List ℕ) (e : ℕ × ℕ) → status_at endpoint ≡ Some e → e.0 ≡ 1
-unfolding status_at
-status_first endpoint e h = if_size-one _ (packet_size endpoint) h
-
-picked_first : (counts : Bool) (item : Item) (e : ℕ × ℕ) → picked status_at counts item ≡ Some e
-    → e.0 ≡ 1
-picked_first counts (Interface bytes) e h = absurd (cc h)
-picked_first true (Endpoint bytes) e h = status_first bytes e h
-picked_first false (Endpoint bytes) e h = absurd (cc h)
-picked_first counts (Other bytes) e h = absurd (cc h)
-
-or_first : (x y : Option (ℕ × ℕ)) {e : ℕ × ℕ} → (x ≡ Some e → e.0 ≡ 1) → (y ≡ Some e → e.0 ≡ 1)
-    → option_or x y ≡ Some e → e.0 ≡ 1
-or_first None y f g h = g h
-or_first (Some x) y f g h = f h
-
-first_of_all : (counts : Bool) (items : List Item) (e : ℕ × ℕ) → first_from status_at counts items
-    ≡ Some e → e.0 ≡ 1
-first_of_all counts [] e h = absurd (cc h)
-first_of_all counts (item ∷ items) e h =
-    or_first (picked status_at counts item) (first_from status_at (counts_after counts item) items)
-    (picked_first counts item e) (first_of_all (counts_after counts item) items e) h
-
--- it is endpoint 1, and the text's configuration has a value
-pub record IsStatusOf (text : List ℕ) (e : ℕ × ℕ) : Type 0 where
-  pub one : e.0 ≡ 1
-  pub valued : 1 ≤ configuration_value text
-
-pub status_of : (text : List ℕ) {e : ℕ × ℕ} → status_endpoint_of text ≡ Some e → IsStatusOf text e
-unfolding status_endpoint_of config_of first_counting
-status_of text {e = e} h = record {
-  one = one (config_of text) h;
-  valued = valued (config_head_of text) refl h;
-}
-  where
-    one : (r : Result (List ℕ) DescriptorFault) → in_config status_at r ≡ Some e → e.0 ≡ 1
-    one (Err fault) h = absurd (cc h)
-    one (Ok bytes) h = first_of_all false (items_of bytes) e h
-
-    valued : (r : Result ℕ DescriptorFault) → config_head_of text ≡ r
-        → in_config status_at (config_after r text) ≡ Some e → 1 ≤ configuration_value text
-    valued (Err fault) is h = absurd (cc h)
-    valued (Ok total) is h = (header_of text total is).valued
+use Rattle.usb_host.proofs.UnchangedHubs.{AreClear, TellsBy, nak_clears}
 
 -- What is known of a hub
 
@@ -118,17 +59,9 @@ facts_ports spec facts h = pick (is_hub_device spec.descriptor) h
     pick true h = cc h
     pick false h = absurd (cc h)
 
-few_by : (o : Option Hub) → IfSome o IsHub → hub_ports o ≤ 7
+few_by : (o : Option Hub) → IfSome o IsHub → hub_ports o ≤ 15
 few_by None h = omega arith
 few_by (Some hub) h = h.most
-
-hub_ports-some : (o : Option Hub) → 1 ≤ hub_ports o → is_some o ≡ true
-hub_ports-some None h = absurd (omega arith)
-hub_ports-some (Some hub) h = refl
-
-valued_by : (n : ℕ) → 1 ≤ n → not (n == 0) ≡ true
-valued_by zero h = absurd (omega arith)
-valued_by (suc n) h = ap not (ne_eqb (suc n) 0 (λ e. absurd (omega arith)))
 
 -- A quiet poll
 
@@ -137,7 +70,7 @@ status_pipe : (device : Accepted) {facts : HubFacts} (below : Bool) (pipes : Pip
     × (pipes ≡ HubPipe pipe) × IsStatusPipe device below pipe
 status_pipe device below (HubPipe pipe) told are = (pipe, refl, are.1)
 status_pipe device below (Function pipes) told are = false_true (sym are.function ∙ ap is_some told)
-status_pipe device below Absent told are = absurd are
+status_pipe device below (Absent said) told are = absurd are
 
 change_none : (b : PortState) → has_change b ≡ false → b.connection_changed ≡ false
 change_none b h = (neither b.connection_changed b.enable_changed
@@ -149,15 +82,16 @@ change_by None h = tt
 change_by (Some b) h = change_none b h
 
 -- the device that is reached at a path
-record ReachedAt (w : World) (entries : Entries) (j : Location) (device : Accepted) : Type 0 where
+record ReachedAt (wide : Bool) (w : World) (entries : Entries) (j : Location) (device : Accepted)
+    : Type 0 where
   state : State
   on : reach_on w.roots j ≡ true
   stands : state_on w.roots j ≡ Some state
-  tells : IsTruthOf entries (path_to j) device state
+  tells : IsTruthOf wide entries (path_to j) device state
 
-module _ (w : World) {entries : Entries} {addresses : Addresses}
-    (fits : Accounted (roots_of w) entries addresses) (known : PortsListed w entries)
-    (truthful : DevicesAccurate w entries) where
+module _ {wide : Bool} (w : World) {entries : Entries} {addresses : Addresses}
+    (fits : Accounted wide (roots_of w) entries addresses) (known : PortsListed w entries)
+    (truthful : DevicesAccurate wide w entries) where
   pub reached_at : (path : List ℕ) {device : Accepted}
       → finding_at path entries ≡ Some (Device device) → pending w.roots path ≡ false
       → reach w.roots path ≡ true
@@ -167,7 +101,7 @@ module _ (w : World) {entries : Entries} {addresses : Addresses}
       elim here [ inl pends ↦ false_true (sym none ∙ pends) | inr there ↦ there.1 ]
 
   stands_at : (j : Location) {device : Accepted} → finding_at (path_to j) entries
-      ≡ Some (Device device) → reach w.roots (path_to j) ≡ true → ReachedAt w entries j device
+      ≡ Some (Device device) → reach w.roots (path_to j) ≡ true → ReachedAt wide w entries j device
   stands_at j {device = device} found on =
       let there : _ = reached_there w.roots (path_to j) on in
       record {
@@ -177,7 +111,7 @@ module _ (w : World) {entries : Entries} {addresses : Addresses}
         tells = truthful (path_to j) device there.0 (ap accepted_device_of found) on there.1;
       }
 
-  heard_by : {j : Location} (device : Accepted) → ReachedAt w entries j device
+  heard_by : {j : Location} (device : Accepted) → ReachedAt wide w entries j device
       → IsListening (path_to j) device w
   heard_by {j = j} device r = record {
     spot = j;
@@ -187,7 +121,7 @@ module _ (w : World) {entries : Entries} {addresses : Addresses}
     stands = r.stands;
     listens = record {
       at = eq-eqb (address_of r.state) device.address r.tells.set.address;
-      loud = (accepts r.state.spec (tier_of (path_to j)) (known_supply (path_to j) entries)
+      loud = (accepts r.state.spec wide (tier_of (path_to j)) (known_supply (path_to j) entries)
           device.chosen r.tells.found.0).loud;
       hears = server_hears device.low (deep_at false j.rest)
           (device.low && is_below_hub (path_to j)) r.tells.found.1.low
@@ -204,65 +138,65 @@ module _ (w : World) {entries : Entries} {addresses : Addresses}
   heard_at (suc j ∷ p) {device = device} found on = heard_by device
       (stands_at (record { row = j; rest = p }) found on)
 
-module _ (h : HostState) (agrees : Agrees h.entries h.addresses) (s : HostInvariant h)
+module _ (h : HostState) (agrees : Agrees h.wide h.entries h.addresses) (s : HostInvariant h)
     (still : h.world.fault ≡ None) where
   module _ {facts : HubFacts} (number : ℕ) (least : 1 ≤ number) (most : number ≤ facts.ports) where
     clear_by : (pipe : Interrupt) (old : World) {j : Location} (device : Accepted) {below : Bool}
         → device.hub ≡ Some facts → IsStatusPipe device below pipe → IsSettled old.roots
         → Waiting pipe.toggle (in_attempt pipe.target pipe.ep) old h.world
-        → ReachedAt h.world h.entries j device
+        → (r : ReachedAt h.wide h.world h.entries j device) → {rest : Interrupt}
+        → rest.ep ≡ pipe.ep → StatusPipeInSync rest r.state
         → IfSome (port_there h.world.roots (path_to j ++ (number ∷ [])))
         (λ b. b.connection_changed ≡ false)
-    clear_by pipe old {j = j} device told is settled waiting r =
-        let status = status_of (configuration_of device) is.endpoint in
+    clear_by pipe old {j = j} device told is settled waiting r same level =
         let ports : facts.ports ≡ hub_ports r.state.spec.hub =
         facts_ports r.state.spec facts (sym r.tells.found.1.hub ∙ told) in
         let spec : IsSpec r.state.spec = sane_spec h.world.roots j.row j.rest r.state
         (s.order still).sane r.stands in
-        let few : hub_ports r.state.spec.hub ≤ 7 = few_by r.state.spec.hub spec.hub in
-        let configured : 1 ≤ r.state.registers.configuration =
-        rw r.tells.set.configuration status.valued in
         let at : has_address r.state pipe.target ≡ true =
         eq-eqb r.state.registers.address pipe.target.addr
         (r.tells.set.address ∙ sym (ap (λ (t : Target). t.addr) is.target)) in
-        let tells : tells_changes r.state.spec r.state.registers ≡ true =
-        rw (
-          hub_ports-some r.state.spec.hub (omega arith),
-          valued_by r.state.registers.configuration configured,
-        ) refl in
-        let trail : AttemptLog (in_attempt pipe.target 1) old (Nak ∷ waiting.outcomes) h.world =
-        rw status.one at waiting.trail in
-        let clear : AreClear h.world j = nak_clears pipe.target trail refl settled s.owned.single j
-        r.state r.on r.stands at tells in
+        let by : TellsBy pipe.ep r.state = record {
+          tells = level.to.tells;
+          number = sym same ∙ level.to.number;
+          few = few_by r.state.spec.hub spec.hub;
+        } in
+        let clear : AreClear (hub_ports r.state.spec.hub) h.world j =
+        nak_clears pipe.target pipe.ep is.other waiting.trail refl settled s.owned.single j r.state
+        r.on r.stands at by in
         change_by (port_there h.world.roots (path_to j ++ (number ∷ [])))
         (clear number least (omega arith))
 
     silent_by : (path : List ℕ) {pipe rest : Interrupt} (old : World)
         → (there : HubThere path h.entries facts)
         → IsStatusPipe there.device (is_below_hub path) pipe
+        → pipes_at path (table_in h) ≡ HubPipe rest
         → PolledThrough pipe old (Ok None) rest h.world → reach h.world.roots path ≡ true
         → IfSome (port_there h.world.roots (path ++ (number ∷ [])))
         (λ b. b.connection_changed ≡ false)
-    silent_by [] old there is through on = false_true on
-    silent_by (zero ∷ p) old there is through on = false_true on
-    silent_by (suc j ∷ p) {pipe = pipe} {rest = rest} old there is through on =
-        clear_by pipe old there.device
-        there.told is through.settled through.polls.asked
-        (stands_at h.world (accounted h agrees s.rooted) (s.known still) (s.truthful still)
-        (record { row = j; rest = p }) there.found on)
+    silent_by [] old there is left through on = false_true on
+    silent_by (zero ∷ p) old there is left through on = false_true on
+    silent_by (suc j ∷ p) {pipe = pipe} {rest = rest} old there is left through on =
+        let r = stands_at h.world (accounted h agrees s.rooted) (s.known still) (s.truthful still)
+        (record { row = j; rest = p }) there.found on in
+        let level : PipesInSync there.device (HubPipe rest) r.state =
+        rw left at ((s.level still (suc j ∷ p)).level there.device r.state
+        (ap accepted_device_of there.found) on r.stands) in
+        clear_by pipe old there.device there.told is through.settled through.polls.asked r
+        (ap (λ (pipe : Interrupt). pipe.ep) through.polls.pipe_left) level
 
   -- the poll answered that there is nothing to tell
-  pub poll_silent : (path : List ℕ) (pipes left : Pipes) (old : World)
+  pub poll_silent : (path : List ℕ) (pipes : Pipes) (old : World)
       → ArePipesIf (accepted_device_at path h.entries) (is_below_hub path) pipes
-      → PipesPolled pipes old (Ok None) left h.world → pending h.world.roots path ≡ false
-      → IsSilent path h
-  poll_silent path pipes left old are polled none facts number at least most =
+      → PipesPolled pipes old (Ok None) (pipes_at path (table_in h)) h.world
+      → pending h.world.roots path ≡ false → IsSilent path h
+  poll_silent path pipes old are polled none facts number at least most =
       let there = hub_there path h.entries facts at in
       let pipe : _ = status_pipe there.device (is_below_hub path) pipes there.told
       (rw there.found at are) in
-      let through : (rest : Interrupt) × (left ≡ HubPipe rest)
+      let through : (rest : Interrupt) × (pipes_at path (table_in h) ≡ HubPipe rest)
       × PolledThrough pipe.0 old (Ok None) rest h.world =
       rw pipe.1 at polled in
       let on = reached_at h.world (accounted h agrees s.rooted) (s.known still) (s.truthful still)
       path there.found none in
-      silent_by number least most path old there pipe.2 through.2 on
+      silent_by number least most path old there pipe.2 through.1 through.2 on

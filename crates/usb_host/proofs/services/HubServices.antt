@@ -6,7 +6,7 @@ use Rattle.std.proofs.lemmas.Bool.{eq-eqb, ne_eqb}
 use Rattle.std.proofs.lemmas.Nat.{and_mask}
 use Rattle.usb_port.specs.{has_bit}
 use Rattle.arrayvec.specs.ArrayVec.{ArrayVec}
-use Rattle.usb_device.specs.{row_of}
+use Rattle.usb_device.specs.{hub_ports, row_of, told_bits}
 use Rattle.usb_world.specs.{BusFault, World}
 use Rattle.usb_pipe.specs.{FaultAfter, ByteTold, PipeFault}
 use Rattle.usb_pipe.specs.declared.fault.PipeFault.TheVariants.{Broken}
@@ -21,10 +21,10 @@ use Rattle.usb_host.specs.{asked_none, asked_some, own_reported, ports_reported}
 use Rattle.usb_host.specs.{HostState, HasLost, AddsNoWork, HostProgress, HostRuns, HostSteps}
 use Rattle.usb_host.specs.{CutAt, HubFails, KeepsBulk, PortsFail, StaysWhere, drop_failed}
 use Rattle.usb_host.specs.{poll_failed, port_failed}
-use Rattle.usb_host.specs.{Remains, waiting, PolledOnce, PollsHub, ServedTold, first_byte}
+use Rattle.usb_host.specs.{Remains, waiting, PolledOnce, PollsHub, ServedTold}
 use Rattle.usb_host.specs.{not_heard, told_none, told_some, HostInvariant, table_in, Worked, Quiet}
 use Rattle.usb_host.proofs.rests.Polls.{hub_there}
-use Rattle.usb_host.proofs.knowledge.ToldBits.{all_bits, none_own}
+use Rattle.usb_host.proofs.knowledge.ChangeWords.{none_own}
 
 -- A bit of a byte
 
@@ -38,10 +38,15 @@ bit_not bits n not = ne_eqb (bits / 2 ^ n % 2) 1 (λ is. not (and_mask (bits / 2
 
 -- A poll changes no entry
 
--- a poll leaves the numbers, the news and whether the host goes on
+-- a poll leaves the numbers, the news, which hubs are taken, and whether the host goes on
 abbrev pub LeavesRest : HostState → HostState → Type 0
 LeavesRest a b =
-    b ≡ record b { numbers = a.numbers; reported = a.reported; stopped = a.stopped }
+    b ≡ record b {
+      numbers = a.numbers;
+      reported = a.reported;
+      wide = a.wide;
+      stopped = a.stopped;
+    }
 
 remains_by : (a b : HostState) → b.entries ≡ a.entries → b.addresses ≡ a.addresses
     → LeavesRest a b → Remains a b
@@ -113,11 +118,12 @@ module _ (hub : List ℕ) (a b : HostState) (same : b.entries ≡ a.entries)
 
     -- what is told is of ports: the hub itself has no change
     pub told_of_ports : (packet : ArrayVec ℕ) {byte : ℕ} → got ≡ Some packet
-        → byte ≡ first_byte packet.items → b.world.fault ≡ None → HostInvariant a → byte ≢ 1
+        → byte ≡ told_bits packet.items → b.world.fault ≡ None → HostInvariant a → byte ≢ 1
     told_of_ports packet is read still s one =
         let t : ByteTold (BitsOf hub a.world b.world) packet.items =
         rw is at (hub_tells s still).tells in
-        none_own (row_of t.so.ports) (all_bits _) (sym t.so.told ∙ sym (read ∙ ap first_byte t.is)
+        none_own (hub_ports t.so.state.spec.hub) (row_of t.so.ports) (sym t.so.told ∙ sym (read
+        ∙ t.is)
         ∙ one)
 
     once : {o : Option (ArrayVec ℕ)} → got ≡ o → PolledOnce hub a (Ok o) b
@@ -131,26 +137,26 @@ module _ (hub : List ℕ) (a b : HostState) (same : b.entries ≡ a.entries)
     }
 
     pub polls_told : (packet : ArrayVec ℕ) (byte : ℕ) {n : ℕ} (c : HostState) → got ≡ Some packet
-        → byte ≡ first_byte packet.items → HostRuns n b c → a.world.attempts + 1 ≤ b.world.attempts
+        → byte ≡ told_bits packet.items → HostRuns n b c → a.world.attempts + 1 ≤ b.world.attempts
         → AddsNoWork b c → ReportHandled hub byte b c
-        → (HostInvariant a → ServedTold hub byte 8 b c) → PollsHub hub Worked a c
+        → (HostInvariant a → ServedTold hub byte 16 b c) → PollsHub hub Worked a c
     polls_told packet byte {n = n} c is read goes more holds report served = record {
       did = polled_on a b c r went more holds;
       polled = λ s still.
           let t : ByteTold (BitsOf hub a.world b.world) packet.items =
           rw is at (hub_tells s (went_sound n b.world c.world goes.went still)).tells in
-          told_some packet b (once is) t (rw (read ∙ ap first_byte t.is) at (served s));
+          told_some packet b (once is) t (rw (read ∙ t.is) at (served s));
       order = asked_some packet b (once is) (rw read at report);
     }
 
     -- and the host stopped at one of the ports
     pub polls_cut : (packet : ArrayVec ℕ) (byte : ℕ) {c : HostState} → got ≡ Some packet
-        → byte ≡ first_byte packet.items → b.world.fault ≡ None
+        → byte ≡ told_bits packet.items → b.world.fault ≡ None
         → KeepsBulk a b → PortsFail hub byte b c → HostInvariant a → HubFails hub a c
     polls_cut packet byte is read still bulk fails s =
         let t : ByteTold (BitsOf hub a.world b.world) packet.items =
         rw is at (hub_tells s still).tells in
-        port_failed packet b (once is) t bulk (rw (read ∙ ap first_byte t.is) at fails)
+        port_failed packet b (once is) t bulk (rw (read ∙ t.is) at fails)
 
   -- it did not answer, and the host stopped then, or as it was to be dropped
   pub polls_failed : (fault : BusFault) → PipesPolled (pipes_at hub (table_in a)) a.world
@@ -192,7 +198,7 @@ own_reports hub bits (Ok done) old new is own = own_reported is own
 own_reports hub bits (Err fault) old new is own = tt
 
 pub ports_report : (hub : List ℕ) (bits : ℕ) (result : Result (Unit {0}) HostFault)
-    (old new : HostState) → bits ≢ 1 → OnOk result (BitsHandledSo hub bits 8 old new)
+    (old new : HostState) → bits ≢ 1 → OnOk result (BitsHandledSo hub bits 16 old new)
     → OnOk result (ReportHandled hub bits old new)
 ports_report hub bits (Ok done) old new other ports = ports_reported other ports
 ports_report hub bits (Err fault) old new other ports = tt

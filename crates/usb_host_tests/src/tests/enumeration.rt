@@ -1,8 +1,9 @@
 //! What is found at root port 1.
+use arrayvec::ArrayVec;
 use std::alloc::{AllocError, Global};
 use std::test::Fail;
 use usb_bus::Bus;
-use usb_enum::{Accepted, Cause, Finding, Request, enumerate};
+use usb_enum::{Accepted, Cause, Finding, Place, Request, enumerate};
 use usb_hub::{HubPort, port_status, set_port};
 use usb_request::feature::PORT_POWER;
 use usb_resources::AddressPool;
@@ -31,6 +32,8 @@ struct Row {
     powered: bool,
     /// What the port gives, in mA.
     supply: u16,
+    /// Whether the host takes wide hubs.
+    wide: bool,
     told: &'static str,
 }
 
@@ -42,7 +45,8 @@ configs = [\"0902120001010080FA0904000000FF000000\", \"0902120001020080320904000
 ",
         powered: true,
         supply: 100,
-        told: "1 full 120100020000004034127856000100010002, 0902120001010080FA0904000000FF000000, chosen 0902120001020080320904000000FF000000, no product; 24 attempts, enabled: true, next address 2",
+        wide: false,
+        told: "1 full 120100020000004034127856000100010002, 0902120001010080FA0904000000FF000000, chosen 0902120001020080320904000000FF000000, no product; said 120100020000004034127856000100010002; 24 attempts, enabled: true, next address 2",
     },
     Row {
         about: "two configurations of one value",
@@ -51,7 +55,8 @@ configs = [\"0902120001010080320904000000FF000000\", \"0902120001010080190904000
 ",
         powered: true,
         supply: 500,
-        told: "refused bad configuration 1; 20 attempts, enabled: false, next address 1",
+        wide: false,
+        told: "refused bad configuration 1; said 120100020000004034127856000100010002; 20 attempts, enabled: false, next address 1",
     },
     Row {
         about: "a need of 102 mA",
@@ -60,7 +65,8 @@ configs = [\"0902120001010080330904000000FF000000\"]
 ",
         powered: true,
         supply: 100,
-        told: "refused no power; 14 attempts, enabled: false, next address 1",
+        wide: false,
+        told: "refused no power; said 120100020000004034127856000100000001; 14 attempts, enabled: false, next address 1",
     },
     Row {
         about: "one configuration of two",
@@ -69,7 +75,8 @@ configs = [\"0902120001010080320904000000FF000000\"]
 ",
         powered: true,
         supply: 500,
-        told: "refused stalled config; 16 attempts, enabled: false, next address 1",
+        wide: false,
+        told: "refused stalled config; said 120100020000004034127856000100010002; 16 attempts, enabled: false, next address 1",
     },
     Row {
         about: "a device of no configuration",
@@ -78,7 +85,8 @@ configs = [\"0902120001010080320904000000FF000000\"]
 ",
         powered: true,
         supply: 500,
-        told: "refused bad device; 8 attempts, enabled: false, next address 1",
+        wide: false,
+        told: "refused bad device; said 120100020000004034127856000100000000; 8 attempts, enabled: false, next address 1",
     },
     Row {
         about: "an empty port",
@@ -87,7 +95,73 @@ configs = []
 ",
         powered: false,
         supply: 500,
-        told: "refused lost; 0 attempts, enabled: false, next address 1",
+        wide: false,
+        told: "refused lost; said nothing; 0 attempts, enabled: false, next address 1",
+    },
+    Row {
+        about: "a device descriptor that is malformed in its first eight bytes",
+        device: "descriptor = \"1201000200000041\"
+configs = []
+",
+        powered: true,
+        supply: 500,
+        wide: false,
+        told: "refused bad device; said 1201000200000041; 3 attempts, enabled: false, next address 1",
+    },
+    Row {
+        about: "a hub of ten ports, by a host that takes no wide hubs",
+        device: "descriptor = \"120100020900004001000200000100000001\"
+configs = [\"09021900010100C000090400000109000000070581030200FF\"]
+ports = 10
+",
+        powered: true,
+        supply: 500,
+        wide: false,
+        told: "refused bad hub; said 120100020900004001000200000100000001; 19 attempts, enabled: false, next address 1",
+    },
+    Row {
+        about: "the same, by a host that takes wide hubs",
+        device: "descriptor = \"120100020900004001000200000100000001\"
+configs = [\"09021900010100C000090400000109000000070581030200FF\"]
+ports = 10
+",
+        powered: true,
+        supply: 500,
+        wide: true,
+        told: "1 full 120100020900004001000200000100000001, chosen 09021900010100C000090400000109000000070581030200FF, no product; said 120100020900004001000200000100000001; 42 attempts, enabled: true, next address 2",
+    },
+    Row {
+        about: "one whose status endpoint has room for one byte of two",
+        device: "descriptor = \"120100020900004001000200000100000001\"
+configs = [\"09021900010100C000090400000109000000070581030100FF\"]
+ports = 10
+",
+        powered: true,
+        supply: 500,
+        wide: true,
+        told: "refused bad hub; said 120100020900004001000200000100000001; 19 attempts, enabled: false, next address 1",
+    },
+    Row {
+        about: "a hub of two ports whose status endpoint has the number 2, by a host that takes no wide hubs",
+        device: "descriptor = \"120100020900004001000200000100000001\"
+configs = [\"09021900010100C000090400000109000000070582030100FF\"]
+ports = 2
+",
+        powered: true,
+        supply: 500,
+        wide: false,
+        told: "refused bad hub; said 120100020900004001000200000100000001; 16 attempts, enabled: false, next address 1",
+    },
+    Row {
+        about: "the same, by a host that takes wide hubs",
+        device: "descriptor = \"120100020900004001000200000100000001\"
+configs = [\"09021900010100C000090400000109000000070582030100FF\"]
+ports = 2
+",
+        powered: true,
+        supply: 500,
+        wide: true,
+        told: "1 full 120100020900004001000200000100000001, chosen 09021900010100C000090400000109000000070582030100FF, no product; said 120100020900004001000200000100000001; 26 attempts, enabled: true, next address 2",
     },
 ];
 
@@ -141,17 +215,39 @@ fn is_enabled(alloc: Global, bus: &mut SimBus<Tracer<Vec<u8>>>) -> bool {
     }
 }
 
-/// What is found, and what the port and the free addresses are then.
-fn found(alloc: Global, bus: &mut SimBus<Tracer<Vec<u8>>>, supply: u16) -> Result<String, Fail> {
+/// The bytes that a device said of itself.
+fn said_told(alloc: Global, said: &[u8]) -> Result<String, Fail> {
+    if said.is_empty() {
+        return Ok(String::from_str(alloc, "nothing")?);
+    }
+    Ok(hex::encode_upper(alloc, said)?)
+}
+
+/// What is found, what the device said, and what the port and the free addresses are then.
+fn found(
+    alloc: Global,
+    bus: &mut SimBus<Tracer<Vec<u8>>>,
+    supply: u16,
+    wide: bool,
+) -> Result<String, Fail> {
     let mut pool = AddressPool::new();
     let roots = bus.root_ports();
     prove!(roots >= 1);
-    let finding = enumerate(alloc, bus, &mut pool, PORT, 2, supply)?;
+    let place = Place {
+        tier: 2,
+        supply,
+        wide,
+    };
+    let mut said = ArrayVec::new();
+    let finding = enumerate(alloc, bus, &mut pool, PORT, place, &mut said)?;
     let text = finding_told(alloc, &finding)?;
+    let said = said_told(alloc, said.as_slice())?;
     let attempts = bus.attempts();
     let enabled = is_enabled(alloc, bus);
     let next = pool.take().map_or(0, |address| address.number());
-    Ok(format!(in alloc; "{text}; {attempts} attempts, enabled: {enabled}, next address {next}")?)
+    Ok(format!(in alloc;
+        "{text}; said {said}; {attempts} attempts, enabled: {enabled}, next address {next}"
+    )?)
 }
 
 /// The same; the device is plugged if the port has power.
@@ -159,11 +255,11 @@ fn found_for(alloc: Global, bus: &mut SimBus<Tracer<Vec<u8>>>, row: &Row) -> Res
     if row.powered {
         power(bus)?;
     }
-    found(alloc, bus, row.supply)
+    found(alloc, bus, row.supply, row.wide)
 }
 
 fn told(alloc: Global, row: &Row) -> Result<String, Fail> {
-    let text = plan_text(alloc, 100, &[NAMED, row.device, PLUG])?;
+    let text = plan_text(alloc, 100, &["wide_hubs = true\n", NAMED, row.device, PLUG])?;
     let mut bus = bus_of(alloc, text.as_str())?;
     found_for(alloc, &mut bus, row)
 }

@@ -33,6 +33,36 @@ const HUB: &[u8] = &[
     0x00, 0x00, 0x07, 0x05, 0x81, 0x03, 0x01, 0x00, 0xff,
 ];
 
+/// The same, with the endpoint of another number.
+const HUB_AT_2: &[u8] = &[
+    0x09, 0x02, 0x19, 0x00, 0x01, 0x01, 0x00, 0xc0, 0x00, 0x09, 0x04, 0x00, 0x00, 0x01, 0x09, 0x00,
+    0x00, 0x00, 0x07, 0x05, 0x82, 0x03, 0x02, 0x00, 0xff,
+];
+
+/// The same, before endpoint 1.
+const HUB_AT_BOTH: &[u8] = &[
+    0x09, 0x02, 0x20, 0x00, 0x01, 0x01, 0x00, 0xc0, 0x00, 0x09, 0x04, 0x00, 0x00, 0x01, 0x09, 0x00,
+    0x00, 0x00, 0x07, 0x05, 0x82, 0x03, 0x02, 0x00, 0xff, 0x07, 0x05, 0x81, 0x03, 0x01, 0x00, 0xff,
+];
+
+/// A configuration of a hub whose endpoints are, in order: interrupt IN 0, interrupt OUT 3, bulk IN 4,
+/// interrupt IN 5 with 65 bytes, and the same with no bytes; in another setting interrupt IN 7.
+const NO_STATUS: &[u8] = &[
+    9, 2, 0x45, 0, 1, 1, 0, 0xc0, 0, 9, 4, 0, 0, 5, 9, 0, 0, 0, 7, 5, 0x80, 3, 2, 0, 0xff, 7, 5, 3,
+    3, 2, 0, 0xff, 7, 5, 0x84, 2, 8, 0, 0, 7, 5, 0x85, 3, 0x41, 0, 0xff, 7, 5, 0x86, 3, 0, 0, 0xff,
+    9, 4, 0, 1, 1, 9, 0, 0, 0, 7, 5, 0x87, 3, 2, 0, 0xff,
+];
+
+/// Two endpoints that may report a hub's changes, the first with reserved bits of bEndpointAddress, and
+/// with more than the size in wMaxPacketSize.
+const TWO_STATUS: &[u8] = &[
+    9, 2, 0x20, 0, 1, 1, 0, 0xc0, 0, 9, 4, 0, 0, 2, 9, 0, 0, 0, 7, 5, 0xff, 3, 0x40, 8, 0xff, 7, 5,
+    0x82, 3, 2, 0, 0xff,
+];
+
+/// The descriptor of a hub of ten ports (11.23.2.1): DeviceRemovable and PortPwrCtrlMask have two bytes.
+const TEN_PORTS: &[u8] = &[11, 0x29, 10, 9, 0, 50, 100, 2, 4, 0xff, 0xff];
+
 /// A configuration with one item, neither an interface nor an endpoint.
 const OTHER: &[u8] = &[9, 2, 12, 0, 0, 1, 0, 0, 0, 3, 0x24, 7];
 
@@ -79,13 +109,17 @@ enum Reader {
     BulkOut,
     BulkIn,
     StatusEndpoint,
+    /// The same for a host that takes endpoints of any number.
+    AnyStatusEndpoint,
     /// 1 if the interface can be given the alternate setting, else 0.
     Settable(u8, u8),
     /// 1 if some setting of the interface has the endpoint with this number, else 0.
     NamesOut(u8, u8),
     NamesIn(u8, u8),
-    /// The fields of a hub, in the order of its bytes.
+    /// The fields of a hub of up to seven ports, in the order of its bytes.
     Hub,
+    /// The same of one of up to fifteen ports, but for PortPwrCtrlMask of more than seven.
+    WideHub,
     /// The length and the type of a string, and its units.
     Units,
     /// The first language of a string, if there is one.
@@ -139,7 +173,8 @@ fn endpoint_of(reader: Reader, bytes: &[u8]) -> Result<Numbers, DescriptorFault>
     let found = match reader {
         Reader::BulkOut => config.bulk_out(),
         Reader::BulkIn => config.bulk_in(),
-        _ => config.status_endpoint(),
+        Reader::AnyStatusEndpoint => config.status_endpoint(true),
+        _ => config.status_endpoint(false),
     };
     Ok(match found {
         Some((number, max)) => list(&[u16::from(number), u16::from(max)]),
@@ -158,18 +193,21 @@ fn interface_of(reader: Reader, bytes: &[u8]) -> Result<Numbers, DescriptorFault
     Ok(list(&[u16::from(told)]))
 }
 
-fn hub_fields(bytes: &[u8]) -> Result<Numbers, DescriptorFault> {
-    let hub = read_hub(bytes)?;
-    Ok(list(&[
+fn hub_fields(bytes: &[u8], wide: bool) -> Result<Numbers, DescriptorFault> {
+    let hub = read_hub(bytes, wide)?;
+    let mut fields = list(&[
         u16::from(hub.length()),
         u16::from(hub.descriptor_type()),
         u16::from(hub.ports()),
         hub.characteristics(),
         u16::from(hub.power_on_time()),
         u16::from(hub.controller_current()),
-        u16::from(hub.removable()),
-        u16::from(hub.power_mask()),
-    ]))
+        hub.removable(),
+    ]);
+    if let Some(mask) = hub.power_mask() {
+        let _ = fields.try_push(u16::from(mask));
+    }
+    Ok(fields)
 }
 
 fn string_units(bytes: &[u8]) -> Result<Numbers, DescriptorFault> {
@@ -195,11 +233,13 @@ fn told_by(reader: Reader, bytes: &[u8]) -> Result<Numbers, DescriptorFault> {
         Reader::Device => device_fields(bytes),
         Reader::ConfigHead => config_total(bytes),
         Reader::Config => config_fields(bytes),
-        Reader::BulkOut | Reader::BulkIn | Reader::StatusEndpoint => endpoint_of(reader, bytes),
+        Reader::BulkOut | Reader::BulkIn | Reader::StatusEndpoint | Reader::AnyStatusEndpoint =>
+            endpoint_of(reader, bytes),
         Reader::Settable(..) | Reader::NamesOut(..) | Reader::NamesIn(..) => {
             interface_of(reader, bytes)
         }
-        Reader::Hub => hub_fields(bytes),
+        Reader::Hub => hub_fields(bytes, false),
+        Reader::WideHub => hub_fields(bytes, true),
         Reader::Units => string_units(bytes),
         Reader::FirstLanguage => first_language(bytes),
     }
@@ -229,6 +269,16 @@ const READINGS: &[(Reader, &[u8], Result<&[u16], DescriptorFault>)] = &[
     (Reader::BulkOut, HUB, Ok(&[])),
     (Reader::BulkIn, HUB, Ok(&[])),
     (Reader::StatusEndpoint, HUB, Ok(&[1, 1])),
+    // endpoint 1 reports the changes, and without it, if the host takes any, the first that may (11.12.1)
+    (Reader::AnyStatusEndpoint, BULK, Ok(&[])),
+    (Reader::AnyStatusEndpoint, HUB, Ok(&[1, 1])),
+    (Reader::StatusEndpoint, HUB_AT_2, Ok(&[])),
+    (Reader::AnyStatusEndpoint, HUB_AT_2, Ok(&[2, 2])),
+    (Reader::StatusEndpoint, HUB_AT_BOTH, Ok(&[1, 1])),
+    (Reader::AnyStatusEndpoint, HUB_AT_BOTH, Ok(&[1, 1])),
+    (Reader::AnyStatusEndpoint, NO_STATUS, Ok(&[])),
+    (Reader::StatusEndpoint, TWO_STATUS, Ok(&[])),
+    (Reader::AnyStatusEndpoint, TWO_STATUS, Ok(&[15, 64])),
     // endpoints of another alternate setting do not count
     (Reader::BulkOut, BULK_OTHER, Ok(&[])),
     (Reader::BulkIn, BULK_OTHER, Ok(&[])),
@@ -258,6 +308,27 @@ const READINGS: &[(Reader, &[u8], Result<&[u16], DescriptorFault>)] = &[
         Reader::Hub,
         &[9, 0x29, 2, 1, 0, 0, 0, 0, 0xff],
         Ok(&[9, 0x29, 2, 1, 0, 0, 0, 0xff]),
+    ),
+    (
+        Reader::WideHub,
+        &[9, 0x29, 2, 1, 0, 0, 0, 0, 0xff],
+        Ok(&[9, 0x29, 2, 1, 0, 0, 0, 0xff]),
+    ),
+    (
+        Reader::WideHub,
+        TEN_PORTS,
+        Ok(&[11, 0x29, 10, 9, 50, 100, 0x402]),
+    ),
+    // the first nine bytes are enough
+    (
+        Reader::WideHub,
+        &[11, 0x29, 8, 0, 0, 0, 0, 0, 1],
+        Ok(&[11, 0x29, 8, 0, 0, 0, 0x100]),
+    ),
+    (
+        Reader::WideHub,
+        &[11, 0x29, 15, 0, 0, 0, 0, 0, 0x80],
+        Ok(&[11, 0x29, 15, 0, 0, 0, 0x8000]),
     ),
     (Reader::FirstLanguage, &[4, 3, 9, 4], Ok(&[0x409])),
     (Reader::FirstLanguage, &[2, 3], Ok(&[])),
@@ -370,6 +441,35 @@ const READINGS: &[(Reader, &[u8], Result<&[u16], DescriptorFault>)] = &[
     (Reader::Hub, &[8, 0x29, 1, 0, 0, 0, 0, 0, 0], Err(Length)),
     (Reader::Hub, &[9, 0x29, 0, 0, 0, 0, 0, 0, 0], Err(Length)),
     (Reader::Hub, &[9, 0x29, 8, 0, 0, 0, 0, 0, 0], Err(Length)),
+    (Reader::Hub, TEN_PORTS, Err(Length)),
+    (Reader::WideHub, &[0; 8], Err(Short)),
+    (Reader::WideHub, &[0; 9], Err(WrongType)),
+    (
+        Reader::WideHub,
+        &[8, 0x29, 1, 0, 0, 0, 0, 0, 0],
+        Err(Length),
+    ),
+    (
+        Reader::WideHub,
+        &[11, 0x29, 0, 0, 0, 0, 0, 0, 0],
+        Err(Length),
+    ),
+    (
+        Reader::WideHub,
+        &[11, 0x29, 16, 0, 0, 0, 0, 0, 0],
+        Err(Length),
+    ),
+    // more than seven ports take eleven bytes
+    (
+        Reader::WideHub,
+        &[9, 0x29, 8, 0, 0, 0, 0, 0, 0],
+        Err(Length),
+    ),
+    (
+        Reader::WideHub,
+        &[10, 0x29, 15, 0, 0, 0, 0, 0, 0],
+        Err(Length),
+    ),
     (Reader::Units, &[3], Err(Short)),
     (Reader::Units, &[3, 2], Err(WrongType)),
     (Reader::Units, &[3, 3, 0], Err(Length)),

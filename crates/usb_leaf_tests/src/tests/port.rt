@@ -154,7 +154,7 @@ fn calls_by_their_features(rt: HostRuntime) {
 }
 
 /// The text of the path, empty if there is none.
-fn text_of(path: Option<PortPath>) -> ArrayString<13> {
+fn text_of(path: Option<PortPath>) -> ArrayString<20> {
     match path {
         Some(path) => path.text(),
         None => ArrayString::new(),
@@ -168,21 +168,41 @@ const TEXTS: &[(&str, &str)] = &[
     ("1.1", "1.1"),
     ("3.7.1", "3.7.1"),
     ("1.2.3.4.5.6.7", "1.2.3.4.5.6.7"),
+    ("1.8", "1.8"),
+    ("1.9", "1.9"),
+    ("1.10", "1.10"),
+    ("3.11.12", "3.11.12"),
+    ("1.13.2.14.1.15", "1.13.2.14.1.15"),
+    ("7.15.15.15.15.15.15", "7.15.15.15.15.15.15"),
+    ("15.15.15.15.15.15.15", "15.15.15.15.15.15.15"),
     ("", ""),
-    ("8", ""),
     ("0", ""),
-    ("9", ""),
     ("a", ""),
     (".", ""),
     (".1", ""),
     ("1.", ""),
     ("1..2", ""),
-    ("11", ""),
     ("1,2", ""),
     (" 1", ""),
-    ("1.8", ""),
     ("1.2.", ""),
+    ("1.10.", ""),
     ("1.1.1.1.1.1.1.1", ""),
+    ("1.1.1.1.1.1.1.10", ""),
+    // a hub has at most fifteen ports, and no number begins with a 0
+    ("1.0", ""),
+    ("1.16", ""),
+    ("1.19", ""),
+    ("1.20", ""),
+    ("1.99", ""),
+    ("1.00", ""),
+    ("1.01", ""),
+    ("1.08", ""),
+    ("1.010", ""),
+    ("1.100", ""),
+    ("1.150", ""),
+    ("1.1a", ""),
+    ("1.1 0", ""),
+    ("1.266", ""),
 ];
 
 #[test]
@@ -216,66 +236,66 @@ const PUSHES: &[PushRow] = &[
         parent: "",
     },
     PushRow {
-        number: 8,
+        number: 16,
         pushed: false,
         numbers: &[3],
         port: 3,
         parent: "",
     },
     PushRow {
-        number: 5,
+        number: 15,
         pushed: true,
-        numbers: &[3, 5],
-        port: 5,
+        numbers: &[3, 15],
+        port: 15,
         parent: "3",
     },
     PushRow {
         number: 1,
         pushed: true,
-        numbers: &[3, 5, 1],
+        numbers: &[3, 15, 1],
         port: 1,
-        parent: "3.5",
+        parent: "3.15",
     },
     PushRow {
         number: 2,
         pushed: true,
-        numbers: &[3, 5, 1, 2],
+        numbers: &[3, 15, 1, 2],
         port: 2,
-        parent: "3.5.1",
+        parent: "3.15.1",
     },
     PushRow {
         number: 3,
         pushed: true,
-        numbers: &[3, 5, 1, 2, 3],
+        numbers: &[3, 15, 1, 2, 3],
         port: 3,
-        parent: "3.5.1.2",
+        parent: "3.15.1.2",
     },
     PushRow {
         number: 4,
         pushed: true,
-        numbers: &[3, 5, 1, 2, 3, 4],
+        numbers: &[3, 15, 1, 2, 3, 4],
         port: 4,
-        parent: "3.5.1.2.3",
+        parent: "3.15.1.2.3",
     },
     PushRow {
         number: 5,
         pushed: true,
-        numbers: &[3, 5, 1, 2, 3, 4, 5],
+        numbers: &[3, 15, 1, 2, 3, 4, 5],
         port: 5,
-        parent: "3.5.1.2.3.4",
+        parent: "3.15.1.2.3.4",
     },
     PushRow {
         number: 1,
         pushed: false,
-        numbers: &[3, 5, 1, 2, 3, 4, 5],
+        numbers: &[3, 15, 1, 2, 3, 4, 5],
         port: 5,
-        parent: "3.5.1.2.3.4",
+        parent: "3.15.1.2.3.4",
     },
 ];
 
 #[test]
 fn a_path_grows(rt: HostRuntime) {
-    let (None, None, Some(mut path)) = (PortPath::root(0), PortPath::root(8), PortPath::root(3))
+    let (None, None, Some(mut path)) = (PortPath::root(0), PortPath::root(16), PortPath::root(3))
     else {
         assert!(rt; false);
         return;
@@ -323,6 +343,17 @@ const RELATIONS: &[(&str, Relation, &str, bool)] = &[
     ("2", Relation::Less, "2.1.1.1.1.1.1", true),
     ("2.1.1.1.1.1.1", Relation::Less, "2.3", true),
     ("2.3", Relation::Less, "7", true),
+    // numbers are compared, not their digits
+    ("1.2", Relation::Less, "1.10", true),
+    ("1.10", Relation::Less, "1.2", false),
+    ("1.9", Relation::Less, "1.10", true),
+    ("1.10", Relation::Less, "1.10.1", true),
+    ("1.10.15", Relation::Less, "1.11", true),
+    ("1.15", Relation::Less, "2", true),
+    ("1.1", Relation::Equal, "1.10", false),
+    ("1.10", Relation::Equal, "1.10", true),
+    ("1.10", Relation::Below, "1.1", false),
+    ("1.10.1", Relation::Below, "1.10", true),
 ];
 
 #[test]

@@ -5,8 +5,14 @@ use usb_packet::Toggle;
 use usb_port::PortCall;
 use usb_request::Setup;
 use usb_wire::{
-    Asked, DataPacket, Endpoint, Question, Speed, WireFault, question_line, read_question,
+    Asked, DataPacket, Endpoint, Hubs, Question, Speed, WireFault, question_line, read_question,
     read_said, said_line,
+};
+
+/// Three root ports, and hubs of up to 7.
+const HUBS: Hubs = Hubs {
+    roots: 3,
+    wide: false,
 };
 
 /// A question as plain data.
@@ -370,7 +376,7 @@ const SAID: &[SaidRow] = &[
 #[test]
 fn lines_that_are_said(rt: HostRuntime) {
     for row in SAID {
-        let said = read_said(row.asked, 3, row.line.as_bytes()).expect(&rt, row.line);
+        let said = read_said(row.asked, HUBS, row.line.as_bytes()).expect(&rt, row.line);
         assert_eq!(rt; said_line(&said).as_str(), row.written);
     }
 }
@@ -707,8 +713,45 @@ const FAULTS: &[FaultRow] = &[
 #[test]
 fn lines_that_say_nothing(rt: HostRuntime) {
     for row in FAULTS {
-        let told = read_said(row.asked, 3, row.line).err();
+        let told = read_said(row.asked, HUBS, row.line).err();
         assert_eq!(rt; told, Some(row.fault), "{:?}", row.line);
+    }
+}
+
+/// Lines with paths, and whether they are lines of a host that takes wide hubs, and of one that takes none.
+const PATHS: &[(&str, bool, bool)] = &[
+    ("look 1.7", true, true),
+    ("look 7.7.7.7.7.7.7", true, true),
+    ("look 1.8", true, false),
+    ("look 1.15", true, false),
+    ("look 1.2.10.3", true, false),
+    ("look 7.15.15.15.15.15.15", true, false),
+    ("clear 1.9 81", true, false),
+    ("receive 1.10 2", true, false),
+    ("interrupt 1.11 8F", true, false),
+    ("control 1.12 8006000100001200", true, false),
+    // a root has at most seven ports, and a hub at most fifteen
+    ("look 8", false, false),
+    ("look 10.1", false, false),
+    ("look 1.16", false, false),
+    ("look 1.010", false, false),
+    ("look 1.1.1.1.1.1.1.10", false, false),
+];
+
+/// Whether the line is written again after it was read; false where its path is none.
+fn is_read(line: &str, wide: bool) -> bool {
+    let hubs = Hubs { roots: 3, wide };
+    match read_said(Asked::Wait, hubs, line.as_bytes()) {
+        Ok(said) => said_line(&said).as_str() == line,
+        Err(fault) => fault != WireFault::BadPath,
+    }
+}
+
+#[test]
+fn paths_of_wide_hubs(rt: HostRuntime) {
+    for (line, wide, narrow) in PATHS {
+        let told = (is_read(line, true), is_read(line, false));
+        assert_eq!(rt; told, (*wide, *narrow), "{line}");
     }
 }
 
@@ -723,7 +766,7 @@ fn long_lines(rt: HostRuntime) {
     let bytes = [b'A'; 1025];
     for (length, fault) in LENGTHS {
         let line = &bytes[..bytes.len().min(*length)];
-        assert_eq!(rt; read_said(Asked::Attempt, 3, line).err(), Some(*fault));
+        assert_eq!(rt; read_said(Asked::Attempt, HUBS, line).err(), Some(*fault));
     }
 }
 
@@ -747,7 +790,7 @@ fn transfers_that_are_wanted(rt: HostRuntime) {
         for _ in 0..*count {
             let _ = line.write_str("5A");
         }
-        let said = read_said(Asked::Wait, 3, line.as_str().as_bytes());
+        let said = read_said(Asked::Wait, HUBS, line.as_str().as_bytes());
         match (said, fault) {
             (Ok(said), None) => assert_eq!(rt; said_line(&said).as_str(), line.as_str()),
             (said, fault) => assert_eq!(rt; said.err(), *fault),
@@ -779,7 +822,7 @@ fn writes_that_are_wanted(rt: HostRuntime) {
         for _ in 0..*count {
             let _ = line.write_str("5A");
         }
-        let said = read_said(Asked::Wait, 3, line.as_str().as_bytes());
+        let said = read_said(Asked::Wait, HUBS, line.as_str().as_bytes());
         match (said, fault) {
             (Ok(said), None) => assert_eq!(rt; said_line(&said).as_str(), line.as_str()),
             (said, fault) => assert_eq!(rt; said.err(), *fault),

@@ -154,7 +154,7 @@ fn both_ends(rt: HostRuntime) -> Result<(), Fail> {
         told: Vec::new(alloc),
     });
     let ends = Ends(&link);
-    let (ended, _reader, writer) = live(alloc, Watched::new(ends), Watched::new(ends), 1000);
+    let (ended, _reader, writer) = live(alloc, Watched::new(ends), Watched::new(ends), 1000, false);
     assert_eq!(rt; (ended, writer.is_pending()), (Ok(()), false));
     let Link { told, .. } = link.into_inner();
     assert_eq!(rt; str::from_utf8(told.as_slice()).ok(), Some(TOLD));

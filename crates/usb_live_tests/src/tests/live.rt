@@ -366,6 +366,13 @@ const ROWS: &[Row] = &[
         ended: Err(LiveEnd::Line(5, LiveFault::Line(WireFault::BadPath))),
         lines: 7,
     },
+    // no hub has a port 8, unless wide hubs are taken
+    Row {
+        far: "roots 1\nok\nok\nlook 1.8\n",
+        limit: 9,
+        ended: Err(LiveEnd::Line(4, LiveFault::Line(WireFault::BadPath))),
+        lines: 4,
+    },
     Row {
         far: "roots 1\nok\r\n",
         limit: 9,
@@ -381,13 +388,55 @@ struct Played {
     ended: Result<(), LiveEnd>,
 }
 
+/// What a host that takes wide hubs is asked for, how that ends, and what it says behind its first `wait`.
+const WIDE: &[(&str, Result<(), LiveEnd>, &str)] = &[
+    (
+        "look 1.15\nend\n",
+        Ok(()),
+        "look 1.15 failed no port\nwait\nlisting 1\nend\n",
+    ),
+    (
+        "send 1.10.11.12.13.14.15 -\nend\n",
+        Ok(()),
+        "send 1.10.11.12.13.14.15 failed no device\nwait\nlisting 1\nend\n",
+    ),
+    // root hubs have at most 7 ports, and others at most 15
+    (
+        "look 8\n",
+        Err(LiveEnd::Line(4, LiveFault::Line(WireFault::BadPath))),
+        "",
+    ),
+    (
+        "look 1.16\n",
+        Err(LiveEnd::Line(4, LiveFault::Line(WireFault::BadPath))),
+        "",
+    ),
+];
+
 /// The course of a host over a reader, whose writer fails after n writes.
 fn play<R: Read + Drop>(alloc: Global, reader: R, writes: u64, limit: u64) -> Played {
+    play_as(alloc, reader, writes, limit, false)
+}
+
+/// The same of a host that takes wide hubs or not.
+fn play_as<R: Read + Drop>(
+    alloc: Global,
+    reader: R,
+    writes: u64,
+    limit: u64,
+    wide_hubs: bool,
+) -> Played {
     let writer = Frail {
         taken: Vec::new(alloc),
         writes_left: writes,
     };
-    let (ended, _reader, writer) = live(alloc, Watched::new(reader), Watched::new(writer), limit);
+    let (ended, _reader, writer) = live(
+        alloc,
+        Watched::new(reader),
+        Watched::new(writer),
+        limit,
+        wide_hubs,
+    );
     Played {
         host: writer.into_inner().taken,
         ended,
@@ -447,6 +496,25 @@ fn courses(rt: HostRuntime) -> Result<(), Fail> {
         assert_eq!(rt; played.ended, Ok(()), "{}", row.far);
         let told = str::from_utf8(played.host.as_slice()).ok();
         assert_eq!(rt; told, Some(host.as_str()), "{}", row.far);
+    }
+    Ok(())
+}
+
+/// Paths that name ports of wide hubs.
+#[test]
+fn paths_of_wide_hubs(rt: HostRuntime) -> Result<(), Fail> {
+    for (asked, ended, said) in WIDE {
+        let mut far = String::from_str(rt.alloc(), "roots 1\nok\nok\n")?;
+        far.push_str(asked)?;
+        let mut host = String::from_str(
+            rt.alloc(),
+            "usbplan live 1\nport 1 clear PORT_POWER\nport 1 set PORT_POWER\nwait\n",
+        )?;
+        host.push_str(said)?;
+        let played = play_as(rt.alloc(), far.as_bytes(), u64::MAX, u64::MAX, true);
+        assert_eq!(rt; played.ended, *ended, "{asked}");
+        let told = str::from_utf8(played.host.as_slice()).ok();
+        assert_eq!(rt; told, Some(host.as_str()), "{asked}");
     }
     Ok(())
 }

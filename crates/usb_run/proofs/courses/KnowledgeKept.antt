@@ -1,6 +1,6 @@
 -- What a host knows stays so over the parts of a run, and a host that has settled lists what is
 -- plugged.
-use Rattle.std.proofs.Common.{◌≡◌, ◌∙◌, sym, ap, subst, Bool, false, ℕ, List, Option, None, Some}
+use Rattle.std.proofs.Common.{◌≡◌, ◌∙◌, refl, sym, ap, subst, Bool, false, ℕ, List, Option, None, Some}
 use Rattle.std.proofs.Common.{Result, Ok, is_some}
 use Rattle.usb_device.specs.{Ports}
 use Rattle.usb_world.specs.declared.event.Ask.{Ask}
@@ -12,9 +12,11 @@ use Rattle.usb_table.specs.{Entries, IsListedPort}
 use Rattle.usb_host.specs.{Agrees, HostFault, HostState, IsAtRest, IsFairTo, HostInvariant}
 use Rattle.usb_host.specs.{KeepsInvariant, TransferTells}
 use Rattle.usb_host.proofs.Interface.{accounted, settled_matches, sound_event, sound_none}
-use Rattle.usb_run.specs.{Item, Arrives, Comes, Knows, LeavesSettled, Ran, idle, silent, Reaches}
+use Rattle.usb_world.specs.{BusFault}
+use Rattle.usb_run.specs.{Item, Mode, Arrives, Comes, Knows, LeavesSettled, Ran, idle, silent, Reaches}
 use Rattle.usb_run.specs.{Rounds, none, more, Settled, Settles, AppendsText, Makes, asked, last}
-use Rattle.usb_run.specs.{IsItemOf}
+use Rattle.usb_run.specs.{IsItemOf, begun as run_begun, told as run_told}
+use Rattle.usb_run.specs.Transcript.{Transcript}
 use Rattle.usb_run.proofs.AskedCalls.{AskAnswered, silent as no_item, listed, sent, received}
 use Rattle.usb_run.proofs.AskedCalls.{cleared, read, written, looked, news, answered}
 use Rattle.usb_run.proofs.AskedCalls.{sent_to, received_from, polled, cleared_of, interface_set}
@@ -51,6 +53,7 @@ fair_from w v on fair = record {
 pub stays_sound_then : (a b c : HostState) → RunsOnward a.world b.world → RunsOnward b.world c.world
     → KeepsInvariant a b → KeepsInvariant b c → KeepsInvariant a c
 stays_sound_then a b c m n x y = record {
+  wide = y.wide ∙ x.wide;
   sound = λ s. y.sound (x.sound s);
   caused = λ s fair causes.
       let early = fair_before a.world b.world c.world n fair in
@@ -77,7 +80,7 @@ rounds_stays {a} (more {h} {k} round before tells goes) =
     stays_sound_then a h k (called_onward (rounds_called before))
     (called_onward (round_called tells)) (rounds_stays before) tells.keeps.sound.keeps.sound
 
-settles_stays : {a b : HostState} → Settles a b → KeepsInvariant a b
+pub settles_stays : {a b : HostState} → Settles a b → KeepsInvariant a b
 settles_stays {a} {b} settles = stays_sound_then a settles.before b
     (called_onward (rounds_called settles.rounds)) (called_onward (round_called settles.last))
     (rounds_stays settles.rounds) settles.last.keeps.sound.keeps.sound
@@ -91,14 +94,14 @@ settles_rest settles s still = settles.last.keeps.sound.rest ((rounds_stays sett
     (ap Ok settles.ends.quiet) settles.ends.none still
 
 -- a host that knows its ports and has nothing left to do has settled
-settled_at : (h : HostState) → h.stopped ≡ false → Agrees h.entries h.addresses → Knows h
+settled_at : (h : HostState) → h.stopped ≡ false → Agrees h.wide h.entries h.addresses → Knows h
     → (h.world.fault ≡ None → IsAtRest h.world h.entries) → Settled h
 settled_at h running agrees knows rest = record {
   running = running;
   knows = knows;
   rest = rest;
   matches = λ fair.
-      settled_matches h.world h.entries h.addresses (accounted h agrees knows.sound.rooted)
+      settled_matches h.wide h.world h.entries h.addresses (accounted h agrees knows.sound.rooted)
       (knows.sound.known fair.still) (knows.sound.truthful fair.still) (knows.causes fair)
       (rest fair.still);
 }
@@ -122,7 +125,8 @@ pub arrival_sound : (h k : HostState) (due : Option (Option Ask)) → Comes h (O
 arrival_sound h k due comes =
     let takes = comes.takes in
     sound_event h k comes.agrees (ap (λ (x : HostState). x.entries) comes.rests)
-    (ap (λ (x : HostState). x.pipes) comes.rests) takes.exact
+    (ap (λ (x : HostState). x.wide) comes.rests) (ap (λ (x : HostState). x.pipes) comes.rests)
+    takes.exact
     (event_keeps h.world (Ok due) k.world takes.took takes.exact takes.kept takes.cut
     (λ reached none. cc (ap is_some none, takes.limit reached)))
 
@@ -153,9 +157,11 @@ pub arrival_settled : (h k : HostState) (due : Option (Option Ask)) → Comes h 
 arrival_settled h k due comes calm settled =
     let entries : k.entries ≡ h.entries = ap (λ (x : HostState). x.entries) comes.rests in
     let addresses : k.addresses ≡ h.addresses = ap (λ (x : HostState). x.addresses) comes.rests in
+    let wide : k.wide ≡ h.wide = ap (λ (x : HostState). x.wide) comes.rests in
     settled_at k (came_running h k due comes ∙ settled.running)
-    (subst (λ x. Agrees x k.addresses) (sym entries)
-    (subst (λ x. Agrees h.entries x) (sym addresses) comes.agrees))
+    (subst (λ x. Agrees x k.entries k.addresses) (sym wide)
+    (subst (λ x. Agrees h.wide x k.addresses) (sym entries)
+    (subst (λ x. Agrees h.wide h.entries x) (sym addresses) comes.agrees)))
     (arrival_knows h k due comes settled.knows)
     (λ still. subst (IsAtRest k.world) (sym entries)
     (rest_moved h.world k.world h.entries calm
@@ -184,6 +190,21 @@ pub reaches_still : {a b : HostState} {due : Option (Option Ask)} → Reaches a 
 reaches_still {b = b} {due = due} reaches =
     came_still due reaches.arrives.mid.world b.world reaches.arrives.comes.takes.took.ends
 
+-- A host stays as wide as it is
+
+arrives_wide : {a b : HostState} {result : Result (Option (Option Ask)) BusFault}
+    → Arrives a result b → b.wide ≡ a.wide
+arrives_wide arrives = ap (λ (x : HostState). x.wide) arrives.comes.rests
+    ∙ (settles_stays arrives.settles).wide
+
+ran_wide : {a b : HostState} → Ran a b → b.wide ≡ a.wide
+ran_wide idle = refl
+ran_wide (silent due before arrives is) = arrives_wide arrives ∙ ran_wide before
+
+reaches_wide : {a b : HostState} {result : Result (Option (Option Ask)) BusFault}
+    → Reaches a result b → b.wide ≡ a.wide
+reaches_wide reaches = arrives_wide reaches.arrives ∙ ran_wide reaches.ran
+
 -- An item
 
 transfer_keeps_sound : {A : Type 0} {most : ℕ} {Did : HostState → Result A HostFault → HostState
@@ -193,6 +214,7 @@ transfer_keeps_sound tells = tells.keeps.sound
 
 reported_stays : (a b : HostState) → OnlyReported a b → KeepsInvariant a b
 reported_stays a b only = subst (KeepsInvariant a) (sym only.1) (record {
+  wide = refl;
   sound = λ s. record {
     owned = s.owned;
     rooted = s.rooted;
@@ -207,7 +229,7 @@ reported_stays a b only = subst (KeepsInvariant a) (sym only.1) (record {
 answers_stay : {due : Option Ask} {item : Option Item} {a b : HostState}
     → AskAnswered due item a b → KeepsInvariant a b
 answers_stay {a = a} (no_item nothing same) = subst (KeepsInvariant a) (sym same) (sound_none a)
-answers_stay {a = a} (listed asks is same) = subst (KeepsInvariant a) (sym same) (sound_none a)
+answers_stay {a = a} (listed said asks is same) = subst (KeepsInvariant a) (sym same) (sound_none a)
 answers_stay (sent path bytes told asks is came) = transfer_keeps_sound came.call
 answers_stay (received path packets told asks is came) = transfer_keeps_sound came.call
 answers_stay (cleared path told asks is came) = transfer_keeps_sound came.call
@@ -238,6 +260,20 @@ pub makes_knows : {a b : HostState} {item : Item} {over : Bool} → Makes a item
 makes_knows (asked {item} {mid} {new} due reaches is right) =
     item_knows due (Some item) mid new is (reaches_knows reaches)
 makes_knows (last reaches settled) = settled.knows
+
+pub makes_wide : {a b : HostState} {item : Item} {over : Bool} → Makes a item over b
+    → b.wide ≡ a.wide
+makes_wide (asked {item} {mid} {new} due reaches is right) =
+    (item_keeps_sound due (Some item) mid new is).wide ∙ reaches_wide reaches
+makes_wide (last reaches settled) = reaches_wide reaches
+
+-- a run up to its last item
+pub transcript_wide : {mode : Mode} {was : Bool} {old : HostState} {items : List Item}
+    {over : Bool} {new : HostState} → Transcript mode was old items over new
+    → new.wide ≡ old.wide
+transcript_wide run_begun = refl
+transcript_wide (run_told t makes puts) = ap (λ (x : HostState). x.wide) puts.rest
+    ∙ (makes_wide makes ∙ transcript_wide t)
 
 pub puts_knows : {h k : HostState} {text : List ℕ} → AppendsText text h k → Knows h → Knows k
 puts_knows {h} {k} puts s = subst Knows (sym puts.rest) so

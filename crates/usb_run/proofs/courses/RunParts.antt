@@ -124,7 +124,7 @@ stops_after before (in_last reaches) = in_last (reaches_later before reaches)
 -- an event that makes no item leaves the host as it is
 silent_same : {due : Option Ask} {a b : HostState} → AskAnswered due None a b → b ≡ a
 silent_same (silent nothing same) = same
-silent_same (listed asks is same) = same
+silent_same (listed said asks is same) = same
 silent_same (sent path bytes told asks is came) = cc is
 silent_same (received path packets told asks is came) = cc is
 silent_same (cleared path told asks is came) = cc is
@@ -149,7 +149,7 @@ ran_silent {a} {b} {c} due d before arrives is =
 -- an event behind settling, of a bus that stands for the host's world
 pub arrives_taken : (old mid new : HostState) (result : Result (Option (Option Ask)) BusFault)
     {w : World} {t : Option (List ℕ)} → Settles old mid → Settled mid
-    → Agrees mid.entries mid.addresses → OnlyBusSteps mid new
+    → Agrees mid.wide mid.entries mid.addresses → OnlyBusSteps mid new
     → w ≡ mid.world → t ≡ mid.trace → TakesEvent w t result new.world new.trace
     → Arrives old result new
 arrives_taken old mid new result {w} {t} settles settled agrees rests same trace takes =

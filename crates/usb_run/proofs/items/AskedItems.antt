@@ -1,5 +1,5 @@
 -- What a run makes of an event, by what the event asks.
-use Rattle.std.proofs.Common.{◌≡◌, refl, sym, subst, false, Option, Some, Result, Ok, Err, IsErrAnd}
+use Rattle.std.proofs.Common.{◌≡◌, refl, sym, subst, Bool, false, Option, Some, Result, Ok, Err, IsErrAnd}
 use Rattle.usb_world.specs.declared.event.Ask.{Ask}
 use Rattle.usb_world.specs.{Show}
 use Rattle.usb_host.specs.{HostState}
@@ -16,23 +16,24 @@ pub something_asked : (due : Option Ask) (ask : Ask) (h k : HostState)
 something_asked due ask h k result is goes = subst (λ d. ItemAsked d h result k) (sym is) goes
 
 -- a listing was asked for, and made
-pub listing_asked : (ask : Ask) (h : HostState) (item : Item) → ask ≡ Show → item ≡ listing_of h
-    → h.stopped ≡ false → ItemAsked (Some ask) h (Ok (Some item)) h
-listing_asked ask h item is made running =
+pub listing_asked : (ask : Ask) (said : Bool) (h : HostState) (item : Item) → ask ≡ Show said
+    → item ≡ listing_of said h → h.stopped ≡ false → ItemAsked (Some ask) h (Ok (Some item)) h
+listing_asked ask said h item is made running =
     subst (λ a. ItemAsked (Some a) h (Ok (Some item)) h) (sym is) (record {
-      goes = (subst (λ i. Some i ≡ Some (listing_of h)) (sym made) refl, refl);
+      goes = (subst (λ i. Some i ≡ Some (listing_of said h)) (sym made) refl, refl);
       running = running;
       caused = tt;
     })
 
 -- and where memory was refused for it
-pub listing_refused : (ask : Ask) (h : HostState) (result : Result (Option Item) RunFault)
-    (fault : RunFault) → ask ≡ Show → IsErrAnd result (λ e. e ≡ fault) → fault ≡ Memory
+pub listing_refused : (ask : Ask) (said : Bool) (h : HostState)
+    (result : Result (Option Item) RunFault) (fault : RunFault) → ask ≡ Show said
+    → IsErrAnd result (λ e. e ≡ fault) → fault ≡ Memory
     → ItemAsked (Some ask) h result h
-listing_refused ask h result fault is failed memory =
+listing_refused ask said h result fault is failed memory =
     let refused = subst (λ f. IsErrAnd result (λ e. e ≡ f)) memory failed in
     subst (λ a. ItemAsked (Some a) h result h) (sym is)
-    (error_runs_on (Does (Some Show)) result Memory refused (refl, refl) tt)
+    (error_runs_on (Does (Some (Show said))) result Memory refused (refl, refl) tt)
 
 -- a transfer was asked for, and gave its item
 pub transfer_asked : (ask asks : Ask) (h k : HostState) (item : Item) → ask ≡ asks

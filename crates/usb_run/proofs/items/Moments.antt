@@ -1,6 +1,6 @@
 -- What is right of the items of a plan's run.
 use Rattle.std.proofs.Common.{◌≡◌, ◌∙◌, refl, sym, ap, subst, length, List, [], ◌∷◌}
-use Rattle.std.proofs.Common.{Bool, Option, None, Some, Result, Ok, Err, arith, ℕ, is_ok}
+use Rattle.std.proofs.Common.{Bool, false, Option, None, Some, Result, Ok, Err, arith, ℕ, is_ok}
 use Rattle.std.specs.List.{AllByRecursion}
 use Rattle.usb_device.specs.{Spec, Ports}
 use Rattle.usb_world.specs.{Action, Show, Send, Receive, Clear, ControlIn, ControlOut, Event}
@@ -15,27 +15,28 @@ use Rattle.usb_bus.specs.{next_due}
 use Rattle.usb_world.specs.{AreOfDamages, Damage}
 use Rattle.usb_world.proofs.Interface.{no_losses_yet}
 use Rattle.usb_address.proofs.Interface.{opening_settled}
-use Rattle.usb_bus.specs.{Traced}
 use Rattle.usb_enum.specs.{FewLosses}
 use Rattle.usb_enum.proofs.Interface.{IsWorse, course_later}
-use Rattle.usb_table.specs.{Delivered, EndpointChoice, FirstBulk, At, TransferFault}
+use Rattle.usb_table.specs.{Delivered, EndpointChoice, FirstBulk, At, Matches, TransferFault}
 use Rattle.usb_table.proofs.Interface.{lists_of_plan}
 use Rattle.usb_host.specs.{HostState, IsFairTo, table_in, SendTells}
 use Rattle.usb_run.specs.{Item, RunFault, Mode, IsListingOf, ListsRight, TellsRight, Reaches}
 use Rattle.usb_run.specs.{Settled, listing_of, Makes, asked, last, RunsTo, StoppedRun, behind}
-use Rattle.usb_run.specs.{on_the_way, unwritten, in_text, begun, told, IsItemOf, sent_count}
+use Rattle.usb_run.specs.{on_the_way, unwritten, in_text, begun, told, IsItemOf, sent_count, Opens}
 use Rattle.usb_run.specs.declared.runs.Item.TheVariants as item
 use Rattle.usb_run.specs.Transcript.{Transcript}
 use Rattle.usb_run.specs.Transfers.{Transfers}
 use Rattle.usb_run.proofs.AskedCalls.{AskAnswered, silent, listed, sent, received, cleared, read}
 use Rattle.usb_run.proofs.AskedCalls.{written, looked, news, answered}
 use Rattle.usb_run.proofs.AskedCalls.{sent_to, received_from, polled, cleared_of, interface_set}
-use Rattle.usb_run.proofs.courses.KnowledgeKept.{arrival_settled, item_knows}
+use Rattle.usb_run.proofs.courses.KnowledgeKept.{arrival_settled, item_knows, makes_wide}
 use Rattle.usb_run.proofs.courses.KnowledgeKept.{reaches_knows, reaches_running, reaches_still}
+use Rattle.usb_run.proofs.courses.KnowledgeKept.{transcript_wide}
 use Rattle.usb_run.proofs.courses.RunCourses.{RunsOnward, onward_runs, onward_then, over_cuts}
 use Rattle.usb_run.proofs.courses.RunCourses.{over_makes, over_puts, over_stops, over_transcript}
 use Rattle.usb_run.proofs.courses.DamagedLosses.{damages_runs}
 use Rattle.usb_run.proofs.courses.RunCourses.{over_run, traced_runs_onward, worse_runs}
+use Rattle.usb_run.proofs.endings.Ends.{wide_opened}
 use Rattle.usb_run.proofs.items.ToldTransfers.{told_sent, told_received, told_cleared, told_read}
 use Rattle.usb_run.proofs.items.ToldTransfers.{told_look, told_written, told_reported}
 use Rattle.usb_run.proofs.items.ToldTransfers.{told_cleared_of, told_interface, count_done}
@@ -107,9 +108,9 @@ item_right due made h mid k reaches is = right (answered due (Some made) mid k i
 
     right : AskAnswered due (Some made) mid k → TellsRight due made mid k
     right (silent nothing same) = absurd (cc nothing)
-    right (listed asks e same) =
+    right (listed said asks e same) =
         let shown = reaches_asked (subst (λ d. Reaches h (Ok (Some d)) mid) asks reaches) in
-        tells (Some Show) (listing_of k) asks e (subst Settled (sym same) shown)
+        tells (Some (Show said)) (listing_of said k) asks e (subst Settled (sym same) shown)
     right (sent path bytes answer asks e came) = tells (Some (Send path bytes)) _ asks e
         (sent_right FirstBulk path bytes answer came)
     right (received path packets answer asks e came) = tells (Some (Receive path packets)) _ asks e
@@ -158,132 +159,140 @@ item_right due made h mid k reaches is = right (answered due (Some made) mid k i
 module _ (plan : PlanData) (rules : IsPlan plan) (paths : AtPorts plan.events) (end : World)
     (two : AtMostTwoRunning plan.damages) (few : FewLosses end) where
   -- a host that has settled on the way lists it
-  listing_right : (h : HostState) → RunsOnward (opening plan) h.world → h.world.fault ≡ None
-      → IsWorse h.world end → Settled h → IsListingOf plan (listing_of h)
-  listing_right h before still on settled =
+  listing_right : (said : Bool) (h : HostState) → h.wide ≡ plan.wide
+      → RunsOnward (opening plan) h.world → h.world.fault ≡ None
+      → IsWorse h.world end → Settled h → IsListingOf plan (listing_of said h)
+  listing_right said h wide before still on settled =
       let here : IsFairTo h.world h.world = record {
         still = still;
         few = subst AtMostTwoRunning (sym (course_later (before still).course).damages) two;
         kept = omega (arith, on, few);
       } in
-      lists_of_plan plan rules paths h.world (before still).course h.entries (settled.matches here)
+      lists_of_plan plan rules paths h.world (before still).course plan.wide h.entries
+      (subst (λ x. Matches x h.world h.entries) wide (settled.matches here))
 
-  due_right : {due : Option Ask} (made : Item) (mid k : HostState)
+  due_right : {due : Option Ask} (made : Item) (mid k : HostState) → k.wide ≡ plan.wide
       → RunsOnward (opening plan) k.world → mid.world.fault ≡ None → IsWorse k.world end
       → AskAnswered due (Some made) mid k → TellsRight due made mid k → IsListingOf plan made
-  due_right made mid k before still on (silent nothing same) right = absurd (cc nothing)
-  due_right made mid k before still on (listed asks e same) right =
-      let is : made ≡ listing_of k = cc e in
+  due_right made mid k wide before still on (silent nothing same) right = absurd (cc nothing)
+  due_right made mid k wide before still on (listed said asks e same) right =
+      let is : made ≡ listing_of said k = cc e in
       let settled = subst (λ d. TellsRight d made mid k) asks right in
       let works = ap (λ (h : HostState). h.world.fault) same ∙ still in
-      subst (IsListingOf plan) (sym is) (listing_right k before works on settled)
-  due_right made mid k before still on (sent path bytes answer asks e came) right =
+      subst (IsListingOf plan) (sym is) (listing_right said k wide before works on settled)
+  due_right made mid k wide before still on (sent path bytes answer asks e came) right =
       let is : made ≡ item.Sent path (sent_count (length bytes) answer) = cc e in
       subst (IsListingOf plan) (sym is) tt
-  due_right made mid k before still on (received path packets answer asks e came) right =
+  due_right made mid k wide before still on (received path packets answer asks e came) right =
       let is : made ≡ item.Received path answer = cc e in
       subst (IsListingOf plan) (sym is) tt
-  due_right made mid k before still on (cleared path answer asks e came) right =
+  due_right made mid k wide before still on (cleared path answer asks e came) right =
       let is : made ≡ item.Cleared path answer = cc e in
       subst (IsListingOf plan) (sym is) tt
-  due_right made mid k before still on (sent_to path endpoint bytes answer asks e came) right =
+  due_right made mid k wide before still on (sent_to path endpoint bytes answer asks e came) right =
       let is : made ≡ item.SentTo path endpoint (sent_count (length bytes) answer) = cc e in
       subst (IsListingOf plan) (sym is) tt
-  due_right made mid k before still on (received_from path endpoint packets answer asks e came)
+  due_right made mid k wide before still on (received_from path endpoint packets answer asks e came)
       right =
       let is : made ≡ item.ReceivedFrom path endpoint answer = cc e in
       subst (IsListingOf plan) (sym is) tt
-  due_right made mid k before still on (polled path endpoint answer asks e came) right =
+  due_right made mid k wide before still on (polled path endpoint answer asks e came) right =
       let is : made ≡ item.Polled path endpoint answer = cc e in
       subst (IsListingOf plan) (sym is) tt
-  due_right made mid k before still on (cleared_of path endpoint answer asks e came) right =
+  due_right made mid k wide before still on (cleared_of path endpoint answer asks e came) right =
       let is : made ≡ item.ClearedOf path endpoint answer = cc e in
       subst (IsListingOf plan) (sym is) tt
-  due_right made mid k before still on (interface_set path interface setting answer asks e came)
+  due_right made mid k wide before still on (interface_set path interface setting answer asks e came)
       right =
       let is : made ≡ item.InterfaceSet path interface setting answer = cc e in
       subst (IsListingOf plan) (sym is) tt
-  due_right made mid k before still on (read path request answer host asks e came) right =
+  due_right made mid k wide before still on (read path request answer host asks e came) right =
       let is : made ≡ item.Read path answer = cc e in
       subst (IsListingOf plan) (sym is) tt
-  due_right made mid k before still on (written path write answer fits asks e came) right =
+  due_right made mid k wide before still on (written path write answer fits asks e came) right =
       let is : made ≡ item.Written path (sent_count (length write.bytes) answer) = cc e in
       subst (IsListingOf plan) (sym is) tt
-  due_right made mid k before still on (looked path answer asks e came) right =
+  due_right made mid k wide before still on (looked path answer asks e came) right =
       let is : made ≡ item.Looked path answer = cc e in
       subst (IsListingOf plan) (sym is) tt
-  due_right made mid k before still on (news answer asks e all) right =
+  due_right made mid k wide before still on (news answer asks e all) right =
       let is : made ≡ item.News answer = cc e in
       subst (IsListingOf plan) (sym is) tt
 
-  made_right : {h k : HostState} {made : Item} {over : Bool} → RunsOnward (opening plan) h.world
+  made_right : {h k : HostState} {made : Item} {over : Bool} → h.wide ≡ plan.wide
+      → RunsOnward (opening plan) h.world
       → Makes h made over k → IsWorse k.world end → IsListingOf plan made
-  made_right {h} {k} {made} before (asked {mid = mid} due reaches is right) on =
-      due_right made mid k (onward_then (opening plan) h.world k.world before (over_makes
+  made_right {h} {k} {made} wide before (asked {mid = mid} due reaches is right) on =
+      due_right made mid k
+      (makes_wide (asked {item = made} {mid = mid} {new = k} due reaches is right) ∙ wide)
+      (onward_then (opening plan) h.world k.world before (over_makes
       onward_runs (asked {item = made} {mid = mid} {new = k} due reaches is right)))
       (reaches_still reaches) on (answered due (Some made) mid k is) right
-  made_right {h} {k} before (last reaches settled) on =
-      listing_right k (onward_then (opening plan) h.world k.world before
+  made_right {h} {k} wide before (last reaches settled) on =
+      listing_right false k (makes_wide (last {new = k} reaches settled) ∙ wide)
+      (onward_then (opening plan) h.world k.world before
       (over_makes onward_runs (last {new = k} reaches settled))) (reaches_still reaches) on settled
 
   items_right : {mode : Mode} {was : Bool} {old : HostState} {items : List Item} {over : Bool}
-      {new : HostState} → RunsOnward (opening plan) old.world
+      {new : HostState} → old.wide ≡ plan.wide → RunsOnward (opening plan) old.world
       → Transcript mode was old items over new → IsWorse new.world end
       → AllByRecursion (IsListingOf plan) items
-  items_right before begun on = tt
-  items_right {old = old} before (told {h = h} {k = k} {new = new} t makes puts) on =
+  items_right wide before begun on = tt
+  items_right {old = old} wide before (told {h = h} {k = k} {new = new} t makes puts) on =
       let here = onward_then (opening plan) old.world h.world before
       (over_transcript onward_runs t) in
       let later = worse_runs.joined k.world new.world end (over_puts worse_runs puts) on in (
-        made_right here makes later,
-        items_right before t
+        made_right (transcript_wide t ∙ wide) here makes later,
+        items_right wide before t
             (worse_runs.joined h.world k.world end (over_makes worse_runs makes) later),
       )
 
   stopped_right : {mode : Mode} {IsOf : RunFault → Type 0} {IsCut : Type 0} {was : Bool}
-      {old : HostState} {items : List Item} {new : HostState} → RunsOnward (opening plan) old.world
-      → StoppedRun mode IsOf IsCut was old items new
+      {old : HostState} {items : List Item} {new : HostState} → old.wide ≡ plan.wide
+      → RunsOnward (opening plan) old.world → StoppedRun mode IsOf IsCut was old items new
       → IsWorse new.world end → AllByRecursion (IsListingOf plan) items
-  stopped_right before (on_the_way {h = h} {new = new} of t stops) on =
-      items_right before t
+  stopped_right wide before (on_the_way {h = h} {new = new} of t stops) on =
+      items_right wide before t
       (worse_runs.joined h.world new.world end (over_stops worse_runs stops) on)
-  stopped_right before (unwritten {h = h} {new = new} whole t makes) on =
-      items_right before t
+  stopped_right wide before (unwritten {h = h} {new = new} whole t makes) on =
+      items_right wide before t
       (worse_runs.joined h.world new.world end (over_makes worse_runs makes) on)
-  stopped_right before (behind whole t) on = items_right before t on
-  stopped_right {old = old} before (in_text {h = h} {k = k} {new = new} cut t makes cuts) on =
+  stopped_right wide before (behind whole t) on = items_right wide before t on
+  stopped_right {old = old} wide before (in_text {h = h} {k = k} {new = new} cut t makes cuts) on =
       let here = onward_then (opening plan) old.world h.world before
       (over_transcript onward_runs t) in
       let later = worse_runs.joined k.world new.world end (over_cuts worse_runs cuts) on in (
-        made_right here makes later,
-        items_right before t
+        made_right (transcript_wide t ∙ wide) here makes later,
+        items_right wide before t
             (worse_runs.joined h.world k.world end (over_makes worse_runs makes) later),
       )
 
   run_right : {A E : Type 0} (mode : Mode) (words : RunFault → E) (CutsAt : E → Type 0) (was : Bool)
       (old : HostState) (items : List Item) (new : HostState) (result : Result A E)
-      → RunsOnward (opening plan) old.world
+      → old.wide ≡ plan.wide → RunsOnward (opening plan) old.world
       → RunsTo mode words CutsAt was old items result new → IsWorse new.world end
       → AllByRecursion (IsListingOf plan) items
-  run_right mode words CutsAt was old items new (Ok done) before t on = items_right before t on
-  run_right mode words CutsAt was old items new (Err fault) before t on = stopped_right before t on
+  run_right mode words CutsAt was old items new (Ok done) wide before t on =
+      items_right wide before t on
+  run_right mode words CutsAt was old items new (Err fault) wide before t on =
+      stopped_right wide before t on
 
 -- each listing of a run is right
-pub run_lists_right : {A E : Type 0} (plan : PlanData) → IsPlan plan → AtPorts plan.events
-    → (mode : Mode) (words : RunFault → E) (CutsAt : E → Type 0) (was : Bool) (old : HostState)
-    (items : List Item) (new : HostState) (result : Result A E)
-    {t s : Option (List ℕ)} → Traced (opening plan) t old.world s
+pub run_lists_right : {A E : Type 0} (plan : PlanData) (mode : Mode) (words : RunFault → E)
+    (CutsAt : E → Type 0) (was : Bool) (old : HostState) (items : List Item) (new : HostState)
+    (result : Result A E) {before : Option (List ℕ)} → Opens plan before old
     → RunsTo mode words CutsAt was old items result new → ListsRight plan items new.world
-run_lists_right plan rules paths mode words CutsAt was old items new result traced t =
+run_lists_right plan mode words CutsAt was old items new result opens t =
     let l = damages_runs plan.damages in
     let all = l.joined (opening plan) old.world new.world
-    (l.traced (opening plan) old.world traced)
+    (l.traced (opening plan) old.world opens.traced)
     (over_run l mode words CutsAt was old items result new t) in
     let lost = all.stays (λ none. opening_settled plan)
     (record { same = refl; lost = no_losses_yet plan.damages }) in
     record {
       losses = subst (λ (ds : List Damage). AreOfDamages new.world.attempts ds new.world.losses)
           lost.same lost.lost;
-      right = λ two few. run_right plan rules paths new.world two few mode words CutsAt was old
-          items new result (traced_runs_onward traced) t (worse_runs.same new.world);
+      right = λ two few. run_right plan opens.rules opens.paths new.world two few mode words CutsAt
+          was old items new result (wide_opened plan old opens)
+          (traced_runs_onward opens.traced) t (worse_runs.same new.world);
     }

@@ -145,8 +145,7 @@ runs_opened plan before over h k result opens at_work finishes single untraced =
       limit = run_limit Tree itself never false h so.items result k so.ends
           ∙ limit_opened plan h opens;
       single = single;
-      lists = run_lists_right plan opens.rules opens.paths Tree itself never false h so.items k
-          result opens.traced so.ends;
+      lists = run_lists_right plan Tree itself never false h so.items k result opens so.ends;
     }
 
 -- with what is told of it, where no line is made

@@ -98,7 +98,7 @@ room_of c plan _ = 0
 
 -- what one event pays beside what it adds
 abbrev pub beside : Weights → ℕ
-beside c = look_weight c + stray_weight c + 3200
+beside c = look_weight c + 3200
 
 room_paid : (c : Weights) (plan : PlanData) (a : Action)
     → room_of c plan (ask_of a)
@@ -440,7 +440,7 @@ module _ (c : Weights) (plan : PlanData) where
       → Paid c plan (c.polls + room_of c plan due) a → AskAnswered due item a b
       → Paid c plan c.polls b
   asked_calls a b {due} x (silent nothing same) = same_paid a b (room_of c plan due) same x
-  asked_calls a b {due} x (listed asks is same) = same_paid a b (room_of c plan due) same x
+  asked_calls a b {due} x (listed said asks is same) = same_paid a b (room_of c plan due) same x
   asked_calls a b x (sent path bytes told asks is came) =
       transfer_paid (transaction_bound * length bytes) a b came.answer (asked_paid a asks x)
       came.call
@@ -538,7 +538,7 @@ module _ (c : Weights) (plan : PlanData) where
 
 module _ (plan : PlanData) (few : plug_events plan.events ≤ 127) (before : Option (List ℕ)) where
   abbrev first : HostState
-  first = host_opening (opening plan) before
+  first = host_opening plan.wide (opening plan) before
 
   first_affords : HostInvariant first → IsPlan plan → AtPorts plan.events
       → Course AnyStep (opening plan) first.world → Affords (weights plan) plan first

@@ -65,7 +65,7 @@ owed_first a c k l s h p q z looks strays hubs =
 
 -- all that is owed is within the bound, if an event is to come: what each look pays besides is as
 -- much as that of an event without looks
-pub within_enough : (v l w m a e x : ℕ) → 1 ≤ v → e ≡ 2611968 + 800 * w + 26 * (768 * v) → x ≤ e
+pub within_enough : (v l w m a e x : ℕ) → 1 ≤ v → e ≡ 2992000 + 800 * w + 25 * (768 * v) → x ≤ e
     → a ≤ (e + 768 * v) * v + (1000 * m + x * v * l) + 768 * v + e
     → a + 2 ≤ 200 * (v * (1 + l)) * (30000 + 10 * w) + 50000 * (v * (1 + l)) * v + 1000 * m + 2
 within_enough v l w m a e x some is less within =

@@ -462,7 +462,7 @@ fn at_endpoint(
 /// An item of a run that is a transfer through a pipe, in the words of its line.
 fn item_text(alloc: Global, item: &Item) -> Result<String, AllocError> {
     match item {
-        Item::Listing(_, _)
+        Item::Listing(_, _, _)
         | Item::Read(_, _)
         | Item::Written(_, _)
         | Item::Looked(_, _)

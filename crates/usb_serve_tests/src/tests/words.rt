@@ -177,6 +177,7 @@ Usage: usbplan live [OPTIONS]
 
 Options:
       --limit <N>  How many questions it asks at most [default: 9223372036854775807]
+      --wide-hubs  Takes hubs of up to 15 ports, and status endpoints of any number
   -h, --help       Print help
 ";
 

@@ -1,19 +1,21 @@
 -- A table is level after what was just found is entered.
 use Rattle.std.proofs.Common.{◌≡◌, ◌∙◌, refl, sym, ap, subst, true, false, ℕ, cond, List, [], ◌∷◌}
-use Rattle.std.proofs.Common.{Some}
+use Rattle.std.proofs.Common.{Bool, Some}
 use Rattle.std.specs.Map.{lookup}
 use Rattle.std.specs.Prelude.{unwrap_or}
 use Rattle.std.specs.BTreeMap.{is_at, insert_entry}
 use Rattle.std.specs.Ordering.{match_ordering}
 use Rattle.std.specs.declared.cmp.Ordering.{Ordering}
 use Rattle.std.specs.declared.cmp.Ordering.TheVariants.{Less, Equal, Greater}
+use Rattle.arrayvec.specs.ArrayVec.{ArrayVec}
 use Rattle.usb_port.specs.{path_cmp}
 use Rattle.usb_device.specs.{State, IsSpec, reach, state_there}
 use Rattle.usb_world.specs.{World}
-use Rattle.usb_enum.specs.{Accepted, Finding, IsOwn}
+use Rattle.usb_enum.specs.{Accepted, Cause, Finding, IsOwn}
 use Rattle.usb_enum.specs.declared.finding.Finding.TheVariants.{Device, Refused}
-use Rattle.usb_table.specs.{Pipes, Absent, accepted_device_of, accepted_device_at, is_below_hub}
+use Rattle.usb_table.specs.{Pipes, no_pipes, accepted_device_of, accepted_device_at, is_below_hub}
 use Rattle.usb_table.specs.{PipesInSync, InSyncAt, new_pipes, Table, pipes_at, entered}
+use Rattle.usb_table.specs.{said_at, said_in, said_of}
 use Rattle.usb_table.proofs.levels.NewPipes.{new_level}
 use Rattle.usb_table.proofs.entries.Paths.{path_tied, path_itself}
 
@@ -61,52 +63,77 @@ module _ {X : Type 0} (path : List ℕ) (value : X) where
 -- The pipes of the table
 
 -- what was just found has new pipes
-pub pipes_at-entered : (path : List ℕ) (finding : Finding) (table : Table)
-    → pipes_at path (entered path finding table) ≡ new_pipes finding (is_below_hub path)
-pipes_at-entered path finding table =
-    ap (λ o. unwrap_or o Absent) (lookup-inserted path (new_pipes finding (is_below_hub path))
-    table.pipes)
+pub pipes_at-entered : (path : List ℕ) (finding : Finding) (said : ArrayVec ℕ) (table : Table)
+    → pipes_at path (entered path finding said table) ≡ new_pipes finding (is_below_hub path) said
+pipes_at-entered path finding said table =
+    ap (λ o. unwrap_or o no_pipes)
+    (lookup-inserted path (new_pipes finding (is_below_hub path) said) table.pipes)
 
 -- whatever stands at another path has those that it had
-pub pipes_at-entered_elsewhere : (path : List ℕ) (finding : Finding) (table : Table) (x : List ℕ)
-    → is_at (path_cmp x) path ≡ false → pipes_at x (entered path finding table) ≡ pipes_at x table
-pipes_at-entered_elsewhere path finding table x apart =
-    ap (λ o. unwrap_or o Absent) (lookup-inserted_elsewhere path
-    (new_pipes finding (is_below_hub path)) x table.pipes apart)
+pub pipes_at-entered_elsewhere : (path : List ℕ) (finding : Finding) (said : ArrayVec ℕ)
+    (table : Table) (x : List ℕ) → is_at (path_cmp x) path ≡ false
+    → pipes_at x (entered path finding said table) ≡ pipes_at x table
+pipes_at-entered_elsewhere path finding said table x apart =
+    ap (λ o. unwrap_or o no_pipes) (lookup-inserted_elsewhere path
+    (new_pipes finding (is_below_hub path) said) x table.pipes apart)
 
-module _ (path : List ℕ) (finding : Finding) (table : Table) (w : World) where
+-- What a refused device said
+
+-- what was just entered is kept
+pub said_at-entered : (path : List ℕ) (cause : Cause) (said : ArrayVec ℕ) (table : Table)
+    → said_at path (entered path (Refused cause) said table) ≡ Some said.items
+said_at-entered path cause said table =
+    ap (λ o. said_of o (pipes_at path (entered path (Refused cause) said table)))
+    (lookup-inserted path (Refused cause) table.entries)
+    ∙ ap (λ pipes. Some (said_in pipes)) (pipes_at-entered path (Refused cause) said table)
+
+-- and so is what is kept of another path
+pub said_at-entered_elsewhere : (path : List ℕ) (finding : Finding) (said : ArrayVec ℕ)
+    (table : Table) (x : List ℕ) → is_at (path_cmp x) path ≡ false
+    → said_at x (entered path finding said table) ≡ said_at x table
+said_at-entered_elsewhere path finding said table x apart =
+    ap (λ o. said_of o (pipes_at x (entered path finding said table)))
+    (lookup-inserted_elsewhere path finding x table.entries apart)
+    ∙ ap (said_of (lookup (is_at (path_cmp x)) table.entries))
+    (pipes_at-entered_elsewhere path finding said table x apart)
+
+-- The pipes of the table are level
+
+module _ (path : List ℕ) (finding : Finding) (said : ArrayVec ℕ) (table : Table) (w : World) where
   -- to a device whose finding is its own, where it is reachable
-  pub level_entered : (tier supply : ℕ) → ((device : Accepted) (s : State) → finding ≡ Device device
-      → reach w.roots path ≡ true → state_there w.roots path ≡ Some s → IsSpec s.spec
-      × IsOwn tier supply device s) → InSyncAt path (entered path finding table) w
-  level_entered tier supply own = record { level = by_finding finding refl }
+  pub level_entered : (wide : Bool) (tier supply : ℕ) → ((device : Accepted) (s : State)
+      → finding ≡ Device device → reach w.roots path ≡ true → state_there w.roots path ≡ Some s
+      → IsSpec s.spec × IsOwn wide tier supply device s)
+      → InSyncAt path (entered path finding said table) w
+  level_entered wide tier supply own = record { level = by_finding finding refl }
     where
       by_finding : (f : Finding) → finding ≡ f → (device : Accepted) (s : State)
-          → accepted_device_at path (entered path finding table).entries ≡ Some device
+          → accepted_device_at path (entered path finding said table).entries ≡ Some device
           → reach w.roots path ≡ true → state_there w.roots path ≡ Some s
-          → PipesInSync device (pipes_at path (entered path finding table)) s
+          → PipesInSync device (pipes_at path (entered path finding said table)) s
       by_finding (Device d) is device s e on there =
           let so = own d s is on there in
           let same : d ≡ device =
           cc (sym (ap accepted_device_of (lookup-inserted path finding table.entries ∙ ap Some is))
           ∙ e) in
-          subst (λ (x : Accepted). PipesInSync x (pipes_at path (entered path finding table)) s)
+          subst
+          (λ (x : Accepted). PipesInSync x (pipes_at path (entered path finding said table)) s)
           same
           (subst (λ (q : Pipes). PipesInSync d q s)
-          (sym (pipes_at-entered path finding table
-          ∙ ap (λ f. new_pipes f (is_below_hub path)) is))
-          (new_level tier supply d (is_below_hub path) s so.0 so.1))
+          (sym (pipes_at-entered path finding said table
+          ∙ ap (λ f. new_pipes f (is_below_hub path) said) is))
+          (new_level wide tier supply d (is_below_hub path) said s so.0 so.1))
       by_finding (Refused cause) is device s e on there =
           absurd (cc (sym (ap accepted_device_of (lookup-inserted path finding table.entries
           ∙ ap Some is)) ∙ e))
 
   -- to others
   pub level_beside : (x : List ℕ) → is_at (path_cmp x) path ≡ false → InSyncAt x table w
-      → InSyncAt x (entered path finding table) w
+      → InSyncAt x (entered path finding said table) w
   level_beside x apart l = record {
     level = λ device s e on there.
         subst (λ (q : Pipes). PipesInSync device q s)
-        (sym (pipes_at-entered_elsewhere path finding table x apart))
+        (sym (pipes_at-entered_elsewhere path finding said table x apart))
         (l.level device s (sym (ap accepted_device_of
         (lookup-inserted_elsewhere path finding x table.entries apart)) ∙ e) on there);
   }

@@ -10,7 +10,7 @@ use Rattle.std.proofs.lemmas.Option.{same_Some}
 use Rattle.usb_port.specs.{path_cmp}
 use Rattle.usb_enum.specs.{Silent}
 use Rattle.usb_enum.specs.declared.finding.Finding.TheVariants.{Refused}
-use Rattle.usb_table.specs.{Indexes, Absent, address_found, Entry, IsPiped, TableSlots, PathKeys}
+use Rattle.usb_table.specs.{Indexes, no_pipes, address_found, Entry, IsPiped, TableSlots, PathKeys}
 use Rattle.usb_table.specs.{AddressKeys, key_of_path, key_of_address, findings, values_by_path}
 use Rattle.usb_table.specs.{table_of, address_in, AreIndexes, ArePiped, UpdatesAddress, Enters}
 use Rattle.usb_table.specs.{removed}
@@ -155,7 +155,7 @@ module _ {less more : TableSlots} {fewer most : PathKeys} {lower upper : Address
         }
     come_table is rises =
         same_table _ _ _ _ (come_listed (Refused Silent) (λ t. t.finding) is rises)
-        (come_listed Absent (λ t. t.pipes) is rises)
+        (come_listed no_pipes (λ t. t.pipes) is rises)
 
   -- It goes
 
@@ -219,7 +219,7 @@ module _ {less more : TableSlots} {fewer most : PathKeys} {lower upper : Address
         → table_of less fewer ≡ removed path (table_of more most)
     go_table is rises =
         same_table _ _ _ _ (go_listed (Refused Silent) (λ t. t.finding) is rises)
-        (go_listed Absent (λ t. t.pipes) is rises)
+        (go_listed no_pipes (λ t. t.pipes) is rises)
 
 -- What the keys tell of it
 

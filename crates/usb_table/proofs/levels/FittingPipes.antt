@@ -4,10 +4,11 @@ use Rattle.usb_device.specs.{SourceAt, PollAt, NeverTold, OnlyStage, OnlySink, O
 use Rattle.usb_device.specs.{OnlyWrite, Spec, State, OutEnd, InEnd, endpoint_row, in_data, in_end}
 use Rattle.usb_device.specs.{IsSource, in_max, is_numbered, out_end, out_max, packet_in}
 use Rattle.usb_device.specs.{place_behind}
-use Rattle.usb_device.specs.{served_at, tells_changes, text_of}
+use Rattle.usb_device.specs.{hub_ports, served_at, status_length, status_number, tells_changes}
+use Rattle.usb_device.specs.{text_of}
 use Rattle.usb_descriptor.specs.{max_of_usable}
 use Rattle.usb_request.specs.{DIRECTION_IN}
-use Rattle.std.proofs.Common.{◌≡◌, ◌∙◌, refl, sym, ap, subst, true, false, ℕ, ◌+◌, ◌==◌}
+use Rattle.std.proofs.Common.{◌≡◌, ◌∙◌, refl, sym, ap, subst, true, false, ℕ, ◌+◌, ◌==◌, ◌≤◌}
 use Rattle.std.proofs.Common.{◌&&◌, List, [], Option, None, Some, Result, Ok, Err, IsOk, is_some}
 use Rattle.std.proofs.Common.{Bool, IfSome, eqb-true, length}
 use Rattle.std.specs.Global.{Vec}
@@ -15,9 +16,10 @@ use Rattle.arrayvec.specs.ArrayVec.{ArrayVec}
 use Rattle.usb_packet.specs.{Toggle}
 use Rattle.usb_tree.specs.{address_of}
 use Rattle.usb_world.specs.{World}
+use Rattle.usb_transaction.specs.{IsStatusEndpoint, Target}
 use Rattle.usb_pipe.specs.{PipeFault, PipeState, Interrupt, OutPipeInSync, InPipeInSync, pipe_known}
 use Rattle.usb_pipe.specs.{got_after, SendLeaves, ReceiveLeaves, PacketLeaves, ClearLeaves}
-use Rattle.usb_pipe.specs.{PollLeaves, pipe_made}
+use Rattle.usb_pipe.specs.{PollLeaves, interrupt_made, pipe_made}
 use Rattle.usb_enum.specs.{Accepted}
 use Rattle.usb_table.specs.{AreInPlace, FunctionInSync, FunctionPipes, pipe_at, with_pipe}
 use Rattle.usb_table.specs.{Pipes, Hub, Function, Absent, StatusPipeInSync, FitsOut, FitsIn}
@@ -58,6 +60,22 @@ same_all s v k = ap (λ (g : Registers). length g.settings) k.1
 pub same_tells : (s v : State) → SameSettings root s v → tells_changes v.spec v.registers
     ≡ tells_changes s.spec s.registers
 same_tells = same_seen (λ x g. tells_changes x g)
+
+-- whether an IN endpoint is a hub's status endpoint
+pub same_alone : (e : ℕ) (s v : State) → SameSettings root s v
+    → (e == status_number v.spec v.registers && tells_changes v.spec v.registers)
+    ≡ (e == status_number s.spec s.registers && tells_changes s.spec s.registers)
+same_alone e = same_seen (λ x g. e == status_number x g && tells_changes x g)
+
+-- the endpoint that tells of changes, and how many bytes it gives (11.12.4)
+pub status_same : (t : Target) (ep : ℕ) (s v : State) → SameSettings root s v
+    → IsStatusEndpoint t ep s → IsStatusEndpoint t ep v
+status_same t ep s v k to = record {
+  number = to.number ∙ sym (same_seen status_number s v k);
+  tells = same_tells s v k ∙ to.tells;
+  fits = subst (λ n. n ≤ t.max)
+      (sym (same_seen (λ x g. status_length (hub_ports x.hub)) s v k)) to.fits;
+}
 
 pub same_in_data : (e : ℕ) (s v : State) → SameSettings root s v → in_data v e ≡ in_data s e
 same_in_data e = same_seen (λ x g. data_by (endpoint_row x.endpoints (DIRECTION_IN + e)) x.source
@@ -109,7 +127,7 @@ still_source pipe got s v k place e f = record {
   endpoint = record {
     endpoint = same_in_max pipe.ep s v k ∙ f.endpoint.endpoint;
     not_zero = f.endpoint.not_zero;
-    alone = ap (λ b. pipe.ep == 1 && b) (same_tells s v k) ∙ f.endpoint.alone;
+    alone = same_alone pipe.ep s v k ∙ f.endpoint.alone;
   };
   level = λ ready. still_source_at pipe.ep pipe.max got pipe.toggle s v k place
       (ap (λ (x : EndpointState). x.toggle) e) (f.level ready);
@@ -141,7 +159,7 @@ still_poll t s v e held (PollAt.ahead bits a b) =
 pub still_status : (pipe : Interrupt) (s v : State) → SameSettings root s v → v.changes ≡ s.changes
     → v.held ≡ s.held → StatusPipeInSync pipe s → StatusPipeInSync pipe v
 still_status pipe s v k e held f = record {
-  tells = same_tells s v k ∙ f.tells;
+  to = status_same pipe.target pipe.ep s v k f.to;
   level = still_poll pipe.toggle s v e held f.level;
   runs = ap (λ (x : EndpointState). x.halted) e ∙ f.runs;
 }
@@ -165,7 +183,7 @@ still_ends device (Function pipes) s v x f = record {
   outs = λ e. still_out (pipe_at false e pipes) s v x.settings x.outs (f.outs e);
   ins = λ e. fits_in-same (pipe_at true e pipes) s v x.settings x.ins (f.ins e);
 }
-still_ends device Absent s v x f = tt
+still_ends device (Absent said) s v x f = tt
 
 -- where nothing changed but where the device's transfer stands
 pub still_level : (device : Accepted) (pipes : Pipes) (s v : State) → OnlyStage s v
@@ -283,18 +301,20 @@ known_itself ends answer left s Fits is e f = subst (λ (b : PipeState). Fits b 
 
 pub poll_moves : (device : Accepted) (pipe left : Interrupt) (old new : World)
     (result : Result (Option (ArrayVec ℕ)) PipeFault) (j : Location) (s v : State)
+    → interrupt_made left ≡ interrupt_made pipe
     → PollLeaves pipe old result left new j s v → RanAs j s v
     → PipesMove device pipe.target.addr (IsOk result) (Hub pipe) (Hub left) j s v
-poll_moves device pipe left old new (Ok got) j s v x ran = record {
+poll_moves device pipe left old new (Ok got) j s v made x ran = record {
   others = x.others;
   same = ap (λ (g : Registers). g.address) ran.1;
   itself = λ e at f. record {
-    tells = same_tells s v (ran.0, ran.1) ∙ f.tells;
-    level = x.level at f.tells f.level got refl;
+    to = subst (λ (p : Interrupt). IsStatusEndpoint p.target p.ep v) (sym made)
+        (status_same pipe.target pipe.ep s v (ran.0, ran.1) f.to);
+    level = x.level at f.to f.level got refl;
     runs = ran.2 ∙ f.runs;
   };
 }
-poll_moves device pipe left old new (Err why) j s v x ran =
+poll_moves device pipe left old new (Err why) j s v made x ran =
     record {
       others = x.others;
       same = ap (λ (g : Registers). g.address) ran.1;

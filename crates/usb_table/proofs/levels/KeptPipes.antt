@@ -2,12 +2,14 @@
 use Rattle.std.proofs.Common.{◌≡◌, ◌≢◌, refl, sym, inl, inr, ap, subst, ◌∙◌, ◌⊎◌, ℕ, List, [], ◌∷◌}
 use Rattle.std.proofs.Common.{Bool, true, false, Option, Some, None, get_or}
 use Rattle.std.specs.Option.{option_map}
+use Rattle.arrayvec.specs.ArrayVec.{ArrayVec}
 use Rattle.usb_descriptor.specs.{EndpointKind, UsableEndpoint}
 use Rattle.usb_pipe.specs.{PipeState, pipe_made, Interrupt, interrupt_made, Condition}
 use Rattle.usb_pipe.specs.declared.condition.Condition.TheVariants.{Ready, Broken}
 use Rattle.usb_enum.specs.{Accepted, Finding}
 use Rattle.usb_enum.specs.declared.finding.Finding.TheVariants.{Device, Refused}
-use Rattle.usb_table.specs.{FunctionPipes, Pipes, Hub, Function, Absent, AreFunctionPipes}
+use Rattle.usb_table.specs.{FunctionPipes, Pipes, Hub, Function, Absent, AreAbsent}
+use Rattle.usb_table.specs.{AreFunctionPipes}
 use Rattle.usb_table.specs.{IsPlace, end_under, lost_row, pipe_at}
 use Rattle.usb_table.specs.{IsStatusPipe, IsPipe, ArePipesTo, ArePipesOf, first_number}
 use Rattle.usb_table.specs.{function_made, pipes_made}
@@ -99,12 +101,12 @@ pipes_to device below_hub (Hub pipe) (Hub left) same are =
     (are.0, status_to device below_hub pipe left (cc same) are.1)
 pipes_to device below_hub (Function pipes) (Function left) same are =
     function_to device below_hub pipes left (cc same) are
-pipes_to device below_hub Absent left same are = absurd are
+pipes_to device below_hub (Absent said) left same are = absurd are
 pipes_to device below_hub _ _ same are = absurd (cc same)
 
-made_absent : (left : Pipes) → pipes_made left ≡ Absent → left ≡ Absent
-made_absent Absent same = refl
-made_absent _ same = absurd (cc same)
+made_absent : (left : Pipes) (said : ArrayVec ℕ) → pipes_made left ≡ Absent said → AreAbsent left
+made_absent (Absent own) said same = (own, refl)
+made_absent _ said same = absurd (cc same)
 
 -- Calls keep them
 
@@ -117,4 +119,4 @@ pub same_keep : (finding : Finding) (pipes left : Pipes) → pipes_made left ≡
 same_keep (Device device) pipes left same below_hub are =
     pipes_to device below_hub pipes left same are
 same_keep (Refused cause) pipes left same below_hub are =
-    made_absent left (same ∙ ap pipes_made are)
+    made_absent left are.0 (same ∙ ap pipes_made are.1)

@@ -6,15 +6,18 @@ use Rattle.std.proofs.Common.{is_some, inl, inr, ◌⊎◌}
 use Rattle.std.proofs.lemmas.Bool.{and_parts}
 use Rattle.std.proofs.lemmas.Bool.Decides.{nat_tests}
 use Rattle.std.proofs.lemmas.Bool.{cases_lt}
+use Rattle.std.proofs.lemmas.Option.{same_Some}
 use Rattle.std.proofs.lemmas.List.{get_or-map, get_or-replicate, get_or_past}
 use Rattle.std.proofs.lemmas.List.FromFn.{get_or-range_with_len}
+use Rattle.arrayvec.specs.ArrayVec.{ArrayVec}
 use Rattle.usb_request.specs.{HUB_CLASS}
 use Rattle.usb_descriptor.specs.{UsableEndpoint, max_of_usable, status_endpoint_of, usable_of}
 use Rattle.usb_descriptor.specs.{usable_under}
 use Rattle.usb_descriptor.specs.{default_settings}
-use Rattle.usb_descriptor.proofs.Interface.{length-default_settings, usable_under-small}
+use Rattle.usb_descriptor.proofs.Interface.{length-default_settings, status_endpoint-wide}
+use Rattle.usb_descriptor.proofs.Interface.{usable_under-small}
 use Rattle.usb_device.specs.{EndpointState, end_numbers, served_at, tells_changes, text_of}
-use Rattle.usb_device.specs.{text_with}
+use Rattle.usb_device.specs.{hub_ports, number_or_one, status_length, status_number, text_with}
 use Rattle.usb_device.specs.{total_of, PollAt}
 use Rattle.usb_device.specs.{SourceAt, State, Hub as HubSpec, IsSpec, has_hub_class}
 use Rattle.usb_device.specs.{hub_fits, in_end}
@@ -23,7 +26,7 @@ use Rattle.usb_transaction.specs.{Target}
 use Rattle.usb_pipe.specs.{PipeState}
 use Rattle.usb_hub.specs.{IsFresh}
 use Rattle.usb_enum.specs.{Accepted, HubFacts, IsAs, texts_of, is_good_hub, gives_hub, target_of}
-use Rattle.usb_enum.specs.{configuration_of, is_hub_device, IsOwn}
+use Rattle.usb_enum.specs.{configuration_of, holds_changes, is_hub_device, IsOwn}
 use Rattle.usb_enum.specs.declared.finding.Finding.TheVariants.{Device}
 use Rattle.usb_table.specs.{Function, FitsOut, FitsIn, PipesInSync, new_status, pipe_at}
 use Rattle.usb_table.specs.{IsPlace, lost_at, none_lost}
@@ -119,16 +122,17 @@ new_function_fits device below_hub function = record {
 abbrev cut_text : List ℕ → List ℕ
 cut_text text = take (min (total_of text) (length text)) text
 
-module _ (tier supply : ℕ) (device : Accepted) (below_hub : Bool) (s : State)
-    (ruled : IsSpec s.spec) (own : IsOwn tier supply device s) where
+module _ (wide : Bool) (tier supply : ℕ) (device : Accepted) (below_hub : Bool)
+    (said : ArrayVec ℕ) (s : State)
+    (ruled : IsSpec s.spec) (own : IsOwn wide tier supply device s) where
   listed : IsAs s.spec device
   listed = own.0.1
 
   fresh : IsFresh s
   fresh = own.2
 
-  accepted : AcceptsChosen s.spec supply device.chosen
-  accepted = accepts s.spec tier supply device.chosen own.0.0
+  accepted : AcceptsChosen s.spec wide supply device.chosen
+  accepted = accepts s.spec wide tier supply device.chosen own.0.0
 
   chosen : HasChosen s.spec device.chosen
   chosen = has_chosen s.spec supply device.chosen accepted
@@ -144,6 +148,13 @@ module _ (tier supply : ℕ) (device : Accepted) (below_hub : Bool) (s : State)
   some_value = ap (λ n. not (n == 0)) configured
       ∙ ap not (is_some_byte (slice_index chosen.text 5) chosen.read.some)
 
+  -- the endpoints that it serves are those of the text that the host has
+  text_same : text_of s.spec s.registers ≡ configuration_of device
+  text_same =
+      ap (λ v. cut_text (text_with v s.spec.configs))
+      (own.1.configuration ∙ ap (λ t. slice_index t 5) (text_is ∙ chosen.is) ∙ chosen.read.value)
+      ∙ ap cut_text chosen.found ∙ chosen.read.read ∙ sym chosen.is ∙ sym text_is
+
   -- A hub
 
   is_hub_spec : is_some device.hub ≡ is_hub_device s.spec.descriptor
@@ -154,11 +165,11 @@ module _ (tier supply : ℕ) (device : Accepted) (below_hub : Bool) (s : State)
       by_test false x = refl
 
   module _ (hub : is_some device.hub ≡ true) where
-    good : is_good_hub s.spec (configuration_of device) ≡ true
+    good : is_good_hub wide s.spec (configuration_of device) ≡ true
     good =
-        ap (is_good_hub s.spec) text_is
-        ∙ by_test (is_good_hub s.spec (slice_index_or (texts_of s.spec) device.chosen []))
-        (ap (λ b. b && not (is_good_hub s.spec
+        ap (is_good_hub wide s.spec) text_is
+        ∙ by_test (is_good_hub wide s.spec (slice_index_or (texts_of s.spec) device.chosen []))
+        (ap (λ b. b && not (is_good_hub wide s.spec
         (slice_index_or (texts_of s.spec) device.chosen [])))
         (sym (sym is_hub_spec ∙ hub)) ∙ accepted.hub)
       where
@@ -166,22 +177,45 @@ module _ (tier supply : ℕ) (device : Accepted) (below_hub : Bool) (s : State)
         by_test true e = refl
         by_test false e = absurd (cc e)
 
+    good_parts : (holds_changes (status_endpoint_of wide (configuration_of device))
+        (hub_ports s.spec.hub) ≡ true) × (gives_hub wide s.spec s.spec.hub ≡ true)
+    good_parts = and_parts _ (gives_hub wide s.spec s.spec.hub) good
+
     has_ports : is_some s.spec.hub ≡ true
-    has_ports = by_hub s.spec.hub (and_parts
-        (is_some (status_endpoint_of (configuration_of device))) (gives_hub s.spec s.spec.hub)
-        good).1
+    has_ports = by_hub s.spec.hub good_parts.1
       where
-        by_hub : (o : Option HubSpec) → gives_hub s.spec o ≡ true → is_some o ≡ true
+        by_hub : (o : Option HubSpec) → gives_hub wide s.spec o ≡ true → is_some o ≡ true
         by_hub None e = absurd (cc e)
         by_hub (Some h) e = refl
 
     tells : tells_changes s.spec s.registers ≡ true
     tells = ap (λ b. b && not (s.registers.configuration == 0)) has_ports ∙ some_value
 
-    status_level : (o : Option (ℕ × ℕ)) → PipesInSync device (new_status device below_hub o) s
-    status_level None = tt
-    status_level (Some endpoint) = record {
-      tells = tells;
+    -- one packet of the status endpoint holds the changes of its ports
+    holds : (endpoint : ℕ × ℕ) → status_endpoint_of true (configuration_of device) ≡ Some endpoint
+        → status_length (hub_ports s.spec.hub) ≤ endpoint.1
+    holds endpoint is =
+        by_end (status_endpoint_of wide (configuration_of device)) refl good_parts.0
+      where
+        by_end : (o : Option (ℕ × ℕ)) → status_endpoint_of wide (configuration_of device) ≡ o
+            → holds_changes o (hub_ports s.spec.hub) ≡ true
+            → status_length (hub_ports s.spec.hub) ≤ endpoint.1
+        by_end None found fits = absurd (cc fits)
+        by_end (Some end) found fits =
+            let same : end ≡ endpoint = same_Some end endpoint
+            (sym (status_endpoint-wide wide (configuration_of device) found) ∙ is) in
+            subst (λ (e : ℕ × ℕ). status_length (hub_ports s.spec.hub) ≤ e.1) same
+            (grind (arith, nat_tests, fits))
+
+    status_level : (o : Option (ℕ × ℕ)) → status_endpoint_of true (configuration_of device) ≡ o
+        → PipesInSync device (new_status device below_hub o) s
+    status_level None is = tt
+    status_level (Some endpoint) is = record {
+      to = record {
+        number = sym (ap number_or_one (ap (status_endpoint_of true) text_same ∙ is));
+        tells = tells;
+        fits = holds endpoint is;
+      };
       level = PollAt.level fresh.held (ap (λ (p : EndpointState). p.toggle) fresh.changes);
       runs = ap (λ (p : EndpointState). p.halted) fresh.changes;
     }
@@ -209,13 +243,6 @@ module _ (tier supply : ℕ) (device : Accepted) (below_hub : Bool) (s : State)
     zero_not : (s.registers.configuration == 0) ≡ false
     zero_not = ap (λ n. n == 0) configured
         ∙ is_some_byte (slice_index chosen.text 5) chosen.read.some
-
-    -- the endpoints that it serves are those of the text that the host has
-    text_same : text_of s.spec s.registers ≡ configuration_of device
-    text_same =
-        ap (λ v. cut_text (text_with v s.spec.configs))
-        (own.1.configuration ∙ ap (λ t. slice_index t 5) (text_is ∙ chosen.is) ∙ chosen.read.value)
-        ∙ ap cut_text chosen.found ∙ chosen.read.read ∙ sym chosen.is ∙ sym text_is
 
     served_is : (is_in : Bool) (e : ℕ)
         → served_at s.spec s.registers is_in e ≡ usable_end device is_in e
@@ -264,7 +291,8 @@ module _ (tier supply : ℕ) (device : Accepted) (below_hub : Bool) (s : State)
             endpoint = record {
               endpoint = ap max_of_usable (served_is true e ∙ usable);
               not_zero = not_zero true e end usable;
-              alone = ap (λ b. e == 1 && b) quiet ∙ and_false (e == 1);
+              alone = ap (λ b. e == status_number s.spec s.registers && b) quiet
+                  ∙ and_false (e == status_number s.spec s.registers);
             };
             level = λ ready. SourceAt.level refl
                 (ap (λ (p : EndpointState). p.toggle) (fresh.ins e));
@@ -274,11 +302,11 @@ module _ (tier supply : ℕ) (device : Accepted) (below_hub : Bool) (s : State)
 
   by_kind : (b : Bool) → is_some device.hub ≡ b → PipesInSync device
       (if b then new_status device below_hub
-      (status_endpoint_of (configuration_of device))
+      (status_endpoint_of true (configuration_of device))
       else Function (new_function device below_hub)) s
-  by_kind true e = status_level e (status_endpoint_of (configuration_of device))
+  by_kind true e = status_level e (status_endpoint_of true (configuration_of device)) refl
   by_kind false e = record {
-    text = text_same e;
+    text = text_same;
     low = sym listed.low;
     quiet = quiet e;
     settings = ap length fresh.settings ∙ length-default_settings;
@@ -287,5 +315,5 @@ module _ (tier supply : ℕ) (device : Accepted) (below_hub : Bool) (s : State)
   }
 
   -- of a device whose finding is its own, and that keeps the rules of devices
-  pub new_level : PipesInSync device (new_pipes (Device device) below_hub) s
+  pub new_level : PipesInSync device (new_pipes (Device device) below_hub said) s
   new_level = by_kind (is_some device.hub) refl

@@ -14,7 +14,7 @@ use Rattle.usb_descriptor.proofs.Interface.{usable_under-small}
 use Rattle.usb_device.specs.{EndpointState, InEnd, OutEnd, SourceAt, State}
 use Rattle.usb_device.specs.{begun_if, in_data, in_end, in_max, is_of_setting, items_in_text}
 use Rattle.usb_device.specs.{out_end, out_max, rested, rested_in, rested_out, served_at, set_to}
-use Rattle.usb_device.specs.{tells_changes, text_of, with_interface}
+use Rattle.usb_device.specs.{status_number, tells_changes, text_of, with_interface}
 use Rattle.usb_device.proofs.Interface.{in_end-setting, in_max-elsewhere, is_of_setting-elsewhere}
 use Rattle.usb_device.proofs.Interface.{out_end-setting, out_max-elsewhere}
 use Rattle.usb_tree.proofs.Interface.{and_false}
@@ -71,6 +71,11 @@ module _ (device : Accepted) (below_hub : Bool) (interface setting : ℕ) (pipes
 
   tells_is : tells_changes v.spec v.registers ≡ tells_changes s.spec s.registers
   tells_is = ap (λ (d : State). tells_changes d.spec d.registers) took.is
+
+  alone_is : (e : ℕ) → (e == status_number v.spec v.registers && tells_changes v.spec v.registers)
+      ≡ (e == status_number s.spec s.registers && tells_changes s.spec s.registers)
+  alone_is e = ap (λ (d : State). e == status_number d.spec d.registers
+      && tells_changes d.spec d.registers) took.is
 
   out_is : (e : ℕ) → out_end v e
       ≡ begun_if (is_of_setting s.spec s.registers interface setting false e) rested_out (out_end s
@@ -139,7 +144,7 @@ module _ (device : Accepted) (below_hub : Bool) (interface setting : ℕ) (pipes
                 ∙ in_max-elsewhere s interface setting pipe.ep (apart_there true pipe.ep there)
                 ∙ fit.endpoint.endpoint;
             not_zero = fit.endpoint.not_zero;
-            alone = ap (λ b. pipe.ep == 1 && b) tells_is ∙ fit.endpoint.alone;
+            alone = alone_is pipe.ep ∙ fit.endpoint.alone;
           };
           level = λ ready. source_at-same pipe.ep pipe.max got pipe.toggle s v (data_is pipe.ep)
               (ap (λ (x : InEnd). x.place) (in_stays pipe.ep there))
@@ -264,7 +269,8 @@ module _ (device : Accepted) (below_hub : Bool) (interface setting : ℕ) (pipes
             endpoint = record {
               endpoint = in_most e ∙ most true e named end is;
               not_zero = far true e named end is;
-              alone = ap (λ b. e == 1 && b) (tells_is ∙ f.quiet) ∙ and_false (e == 1);
+              alone = ap (λ b. e == status_number v.spec v.registers && b) (tells_is ∙ f.quiet)
+                  ∙ and_false (e == status_number v.spec v.registers);
             };
             level = λ ready. SourceAt.level refl (ap (λ (x : EndpointState). x.toggle) rests);
             halted = λ halts. cc halts;

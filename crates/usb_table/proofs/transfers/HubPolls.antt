@@ -1,12 +1,12 @@
 -- A poll of a hub leaves its status pipe level, tells of its ports, and is answered where the hub
 -- is reached.
-use Rattle.std.proofs.Common.{◌≡◌, ◌≢◌, ◌∙◌, refl, sym, ap, subst, Bool, true, false, ℕ, ◌≤◌, ◌&&◌}
+use Rattle.std.proofs.Common.{◌≡◌, ◌≢◌, ◌∙◌, refl, sym, ap, subst, Bool, true, false, ℕ, ◌&&◌}
 use Rattle.std.proofs.Common.{eq-eqb, List, ◌||◌, not, Option, Some, None, IfSome, is_some, Result}
-use Rattle.std.proofs.Common.{Ok, Err, IsOk, MatchResult, if◌then◌else◌}
+use Rattle.std.proofs.Common.{arith, Ok, Err, IfOk, IsOk, MatchResult, if◌then◌else◌}
 use Rattle.std.proofs.lemmas.Option.{same_Some}
 use Rattle.arrayvec.specs.ArrayVec.{ArrayVec}
 use Rattle.usb_device.specs.{State, Spec, place, reach, Location, path_to, state_there, reach_on}
-use Rattle.usb_device.specs.{state_on}
+use Rattle.usb_device.specs.{change_bytes, hub_ports, state_on, told_bits}
 use Rattle.usb_world.specs.{Attempt, Outcome, is_setup, Was, EachWas, LeavesPortAlone, Course, here}
 use Rattle.usb_world.specs.{attempt, at_attempt, Relation, World}
 use Rattle.usb_tree.specs.{address_of, IsSettled, deep_at}
@@ -16,18 +16,17 @@ use Rattle.usb_transaction.specs.{AttemptsMade, transaction_bound, Target, Answe
 use Rattle.usb_transaction.specs.{AttemptLog, NoThreeDamaged, Listens}
 use Rattle.usb_transaction.proofs.Interface.{trail_settled}
 use Rattle.usb_pipe.specs.{PipeFault, FaultAfter, Interrupt, Polls, IsNoBusFault, PollLeaves}
-use Rattle.usb_pipe.specs.{PollTells, ToldOf, PollingFailure}
+use Rattle.usb_pipe.specs.{PollTells, ToldOf, PollingFailure, interrupt_made}
 use Rattle.usb_pipe.specs.declared.fault.PipeFault.TheVariants as why
 use Rattle.usb_pipe.proofs.Interface.{poll_tells, polling_why, who_polls}
 use Rattle.usb_hub.specs.{NoHubFailed}
-use Rattle.usb_enum.specs.{Accepted, configuration_of}
+use Rattle.usb_enum.specs.{Accepted}
 use Rattle.usb_enum.proofs.Interface.{each_joint}
 use Rattle.usb_table.specs.{Pipes, Hub, Function, Absent, accepted_device_at, is_below_hub}
 use Rattle.usb_table.specs.{StatusPipeInSync, PipesInSync, InSyncAt, IsHeld, KeepsInSync, BitsOf}
 use Rattle.usb_table.specs.{HubTold, IsListening, KeepsPolled, TablePolls, SparesBulk, IsStatusPipe}
 use Rattle.usb_table.specs.{ArePipesIf, ArePipesTo, Table, pipes_at, GoesThrough, NotPolled}
 use Rattle.usb_table.specs.{OnlyTransfers, PipesPolled, PollTook, PolledThrough}
-use Rattle.usb_table.proofs.levels.Endpoints.{status_end}
 use Rattle.usb_table.proofs.levels.FittingPipes.{PipesMove, poll_moves}
 use Rattle.usb_table.proofs.levels.Levels.{held_address, moved_levels, single, stands_there}
 use Rattle.usb_table.proofs.levels.Levels.{still_levels, stood_at}
@@ -53,18 +52,17 @@ module _ (path : List ℕ) (device : Accepted) (pipe rest : Interrupt) (old new 
     (was : pipes_at path old ≡ Hub pipe) (left : pipes_at path new ≡ Hub rest)
     (are : IsStatusPipe device (is_below_hub path) pipe)
     (x : PolledThrough pipe before result rest after) where
-  endpoint : (pipe.ep ≡ 1) × (1 ≤ pipe.target.max)
-  endpoint = subst (λ o. IfSome o (λ e. (e.0 ≡ 1) × (1 ≤ e.1))) are.endpoint
-      (status_end (configuration_of device))
-
   far : pipe.ep ≢ 0
-  far e = absurd (cc (endpoint.0, e))
+  far e = absurd (omega (arith, are.other, e))
+
+  made : interrupt_made rest ≡ interrupt_made pipe
+  made = ap interrupt_made x.polls.pipe_left
 
   addressed : pipe.target.addr ≡ device.address
   addressed = ap (λ (t : Target). t.addr) are.target
 
   leaves : after.shared ≡ false → EachWas (PollLeaves pipe before result rest after) before after
-  leaves = poll_tells pipe result rest before after endpoint.0 endpoint.1 x.settled x.polls
+  leaves = poll_tells pipe result rest before after x.settled x.polls
 
   ran : after.shared ≡ false → EachWas RanAs before after
   ran = (polls_spare pipe far before result rest after x.settled x.polls).ran
@@ -78,7 +76,8 @@ module _ (path : List ℕ) (device : Accepted) (pipe rest : Interrupt) (old new 
       addressed
       (each_joint (PollLeaves pipe before result rest after) RanAs
       (PipesMove device pipe.target.addr (IsOk result) (Hub pipe) (Hub rest))
-      (poll_moves device pipe rest before after result) before after (leaves unshared)
+      (λ j s v. poll_moves device pipe rest before after result j s v made) before after
+      (leaves unshared)
       (ran unshared))
 
   hub_levels : KeepsInSync path (IsOk result) old before new after
@@ -141,6 +140,7 @@ module _ (path : List ℕ) (device : Accepted) (pipe rest : Interrupt) (old new 
   hub_told held level got e = record {
     reached = ap (reach after.roots) is ∙ who.on;
     tells = tells_of who.spot is result told;
+    bytes = λ s at. whole s at result refl;
   }
     where
       who : Answerer pipe.target before after
@@ -157,7 +157,29 @@ module _ (path : List ℕ) (device : Accepted) (pipe rest : Interrupt) (old new 
       fitted = fits_was held level who.spot who.now is was_so
 
       told : PollTells (ToldOf pipe before after who.spot) result
-      told = was_so.so.tells fitted.1 fitted.0.tells fitted.0.level
+      told = was_so.so.tells fitted.1 fitted.0.to fitted.0.level
+
+      -- it is the one that stands there in the end, and that has the description that it had
+      same_ports : (s : State) → state_there after.roots path ≡ Some s
+          → hub_ports was_so.before.spec.hub ≡ hub_ports s.spec.hub
+      same_ports s at =
+          let now : state_there after.roots path ≡ Some who.now =
+          ap (state_there after.roots) is ∙ who.stands in
+          let ran_it : Was RanAs before who.spot who.now =
+          ran (unshared held) who.spot who.now who.on who.stands in
+          ap (λ (d : State). hub_ports d.spec.hub)
+          (same_Some was_so.before ran_it.before (sym was_so.stands ∙ ran_it.stands))
+          ∙ sym (ap (λ (d : Spec). hub_ports d.hub) ran_it.so.0)
+          ∙ ap (λ (d : State). hub_ports d.spec.hub) (same_Some who.now s (sym now ∙ at))
+
+      whole : (s : State) → state_there after.roots path ≡ Some s
+          → (r : Result (Option (ArrayVec ℕ)) PipeFault) → result ≡ r → IfOk r (λ got. IfSome got
+          (λ packet. packet.items ≡ change_bytes (hub_ports s.spec.hub) (told_bits packet.items)))
+      whole s at (Ok (Some packet)) e =
+          was_so.so.bytes fitted.1 fitted.0.to fitted.0.level packet e
+          ∙ ap (λ n. change_bytes n (told_bits packet.items)) (same_ports s at)
+      whole s at (Ok None) e = tt
+      whole s at (Err why) e = tt
 
   -- whoever else was asked has another address, so its bulk endpoints stay as they were, and so do
   -- those of the hub
@@ -167,7 +189,7 @@ module _ (path : List ℕ) (device : Accepted) (pipe rest : Interrupt) (old new 
   spared_by held level j v x false e = spares-same j x.before v (x.so.others e)
   spared_by held level j v x true e =
       let fitted = fits_was held level j v (there held j x.before x.on x.stands e) x in
-      spares-changes j x.before v (x.so.frame fitted.0.tells)
+      spares-changes j x.before v (x.so.frame fitted.0.to)
 
   hub_spares : IsHeld old before → InSyncAt path old before → EachWas SparesBulk before after
   hub_spares held level j v on there =
@@ -206,12 +228,12 @@ module _ (path : List ℕ) (device : Accepted) (pipe rest : Interrupt) (old new 
 
     never : (why : PipeFault) → IsNoBusFault {A = Option (ArrayVec ℕ)} (Err why) → result ≡ Err why
         → ⊥
-    never why sound e = answered_at.answered listened fitted.0.tells fitted.0.level fitted.0.runs
+    never why sound e = answered_at.answered listened fitted.0.to fitted.0.level fitted.0.runs
         why e
       where
         cause : Was (PollingFailure pipe result) before heard.spot heard.state
         cause =
-            polling_why pipe result rest before after endpoint.0 endpoint.1 x.settled three x.polls
+            polling_why pipe result rest before after x.settled three x.polls
             (subst (IsNoBusFault {A = Option (ArrayVec ℕ)}) (sym e) sound) (unshared held)
             heard.spot heard.state heard.on heard.stands
 
@@ -273,15 +295,15 @@ module _ (path : List ℕ) (old new : Table) (before after : World)
   polled_to device (Function pipes) left e was is are x =
       none_polled (λ d f hub. absurd (cc (same_Some device d (sym e ∙ f), hub, are.function)))
       (x.0, is ∙ x.1 ∙ sym was, x.2)
-  polled_to device Absent left e was is are x = absurd are
+  polled_to device (Absent said) left e was is are x = absurd are
 
   polled_by : (found : Option Accepted) → accepted_device_at path old.entries ≡ found
       → ArePipesIf found (is_below_hub path) (pipes_at path old)
       → PipesPolled (pipes_at path old) before result (pipes_at path new) after
       → KeepsPolled path old before result new after
   polled_by None e none x =
-      let y = subst (λ p. PipesPolled p before result (pipes_at path new) after) none x in
-      none_polled (λ d f hub. absurd (cc (sym e ∙ f))) (y.0, y.1 ∙ sym none, y.2)
+      let y = subst (λ p. PipesPolled p before result (pipes_at path new) after) none.1 x in
+      none_polled (λ d f hub. absurd (cc (sym e ∙ f))) (y.0, y.1 ∙ sym none.1, y.2)
   polled_by (Some device) e are x =
       polled_to device (pipes_at path old) (pipes_at path new) e refl refl are x
 

@@ -219,7 +219,7 @@ module _ (path : List ℕ) (interface setting : ℕ) (byte : interface < 256) (o
       absurd (cc (sym (ap not are.0) ∙ no))
   sent_to device found (Function pipes) was are both asks x =
       sent device found pipes was are (and_parts (not (is_some device.hub)) _ both).1 asks x
-  sent_to device found Absent was are both asks x = absurd are
+  sent_to device found (Absent said) was are both asks x = absurd are
 
   by_test : (device : Accepted) → accepted_device_at path old.entries ≡ Some device
       → ArePipesTo device (is_below_hub path) (pipes_at path old) → (b : Bool)

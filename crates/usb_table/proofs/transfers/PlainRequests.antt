@@ -1,7 +1,7 @@
 -- Control transfers of a driver's own are plain: reads, and what has no data.
-use Rattle.std.proofs.Common.{◌≡◌, ◌∙◌, refl, ap, subst, ℕ, ◌==◌, true, false, Bool, List}
+use Rattle.std.proofs.Common.{◌≡◌, ◌∙◌, refl, ap, subst, ℕ, true, false, Bool, List}
 use Rattle.std.proofs.Common.{None}
-use Rattle.std.proofs.Common.{Option, Some, Result, Ok, Err, is_ok, is_some, OnOk, ◌≢◌, ◌&&◌}
+use Rattle.std.proofs.Common.{Option, Some, Result, Ok, Err, is_ok, is_some, OnOk, ◌≢◌}
 use Rattle.std.proofs.Common.{get_or, length, ◌+◌}
 use Rattle.std.specs.Int.{div_ceil}
 use Rattle.std.specs.Global.{Vec}
@@ -36,7 +36,7 @@ use Rattle.usb_table.specs.{Absent, ArePipesTo, FitsIn, FitsOut, Function, Hub, 
 use Rattle.usb_table.specs.{pipe_at, Pipes, pipes_at, PipesInSync, SameSettings, Table}
 use Rattle.usb_table.specs.{without_bytes}
 use Rattle.usb_table.proofs.levels.FittingPipes.{root, same_all, same_in_max, same_low}
-use Rattle.usb_table.proofs.levels.FittingPipes.{same_out_max}
+use Rattle.usb_table.proofs.levels.FittingPipes.{same_alone, same_out_max}
 use Rattle.usb_table.proofs.levels.FittingPipes.{same_tells, same_text}
 use Rattle.usb_table.proofs.levels.FittingPipes.{still_level, still_source_at, still_status}
 use Rattle.usb_table.proofs.levels.FittingPipes.{written_level}
@@ -199,7 +199,7 @@ into_kept pipe got s v x f = record {
   endpoint = record {
     endpoint = same_in_max pipe.ep s v x.settings ∙ f.endpoint.endpoint;
     not_zero = f.endpoint.not_zero;
-    alone = ap (λ b. pipe.ep == 1 && b) (same_tells s v x.settings) ∙ f.endpoint.alone;
+    alone = same_alone pipe.ep s v x.settings ∙ f.endpoint.alone;
   };
   level = λ ready. still_source_at pipe.ep pipe.max got pipe.toggle s v x.settings
       (x.moved.given pipe.ep).0 (x.into pipe.ep).0 (f.level ready);
@@ -231,7 +231,7 @@ allowed_level of device below_hub (Function pipes) are s row n o fine v frame sa
       outs = λ e. out_kept (pipe_at false e pipes) s v ends (f.outs e);
       ins = λ e. in_kept (pipe_at true e pipes) s v ends (f.ins e);
     }
-allowed_level of device below_hub Absent are s row n o fine v frame same f = absurd are
+allowed_level of device below_hub (Absent said) are s row n o fine v frame same f = absurd are
 
 -- What has no data
 

@@ -46,6 +46,7 @@ goes_nowhere path table fits = record {
   fits = fits;
   entries = refl;
   others = λ other apart. refl;
+  said = refl;
 }
 
 -- such a transfer, by what it leaves of each device

@@ -5,6 +5,7 @@ use Rattle.usb_port.specs.{PortState}
 use Rattle.usb_device.specs.declared.answer.Answer.TheVariants as answer
 use Rattle.usb_device.specs.{ending, State, Reply, is_busy, ends_with_address, Way, is_whole}
 use Rattle.usb_device.specs.{in_law, in_stage_law, in_other_law, in_end_law, source_law, held_law}
+use Rattle.usb_device.specs.{changes_law, heard, in_max, status_number, tells_changes}
 use Rattle.usb_device.specs.{Ports, row_of, reach_at, state_at}
 use Rattle.usb_device.specs.declared.transfer.InEndpoint.TheVariants as by
 use Rattle.usb_world.specs.{Attempt, World, at_attempt, damage_in, with_attempt, attempt, after}
@@ -39,7 +40,11 @@ module _ (s : State) (max : ℕ) (x y : Way) where
   held_keeps row h = grind arith
 
   other_keeps : (row : List PortState) (e : ℕ) → AddressKept s (in_other_law s row e max x y)
-  other_keeps row e = grind (arith, end_law_keeps, held_keeps, kept_if)
+  other_keeps row e = kept_if s
+      (e == status_number s.spec s.registers && tells_changes s.spec s.registers)
+      (changes_law s row max x y) (in_end_law s e (in_max s e) max x y)
+      (kept_if s s.changes.halted (heard x (Some answer.Stall), s) (held_law s row s.held max x y)
+      refl (held_keeps row s.held)) (end_law_keeps e (in_max s e))
 
   stage_address : (n : ℕ) → s.stage ≡ ending (Some n)
       → address_of (in_stage_law s s.stage max x y).1

@@ -239,7 +239,7 @@ fn event_told(
 
 fn ask_told(alloc: Global, ask: &Ask) -> Result<String, AllocError> {
     match ask {
-        Ask::Show => String::from_str(alloc, "show"),
+        Ask::Show { .. } => String::from_str(alloc, "show"),
         Ask::Send(path, bytes) => {
             format!(in alloc; "send {:?} to {:?}", bytes.as_slice(), path.numbers())
         }

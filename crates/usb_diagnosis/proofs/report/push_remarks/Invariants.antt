@@ -6,4 +6,5 @@ use Rattle.usb_diagnosis.proofs.report.push_remarks.Given as goal
 -- the lines so far are written
 abbrev pub invariant-devices : goal.invariant-devices
 invariant-devices l = string_bytes l.out ≡ string_bytes l.fn.out
-    ++ flat_map (λ spec. line_if spec (remark_of spec)) (take l.device-index l.devices)
+    ++ flat_map (λ spec. line_if l.wide spec (remark_of l.wide spec))
+    (take l.device-index l.devices)

@@ -29,8 +29,9 @@ returns-in_err-fits_tier-clause-part g c known =
     let deep = sym c.in_err-fits_tier.ensures in
     part_fails _ _ c.from_residual.ensures.1 (steps_none _ _ (setting _))
     (record {
-      told = fits_stop _ _ _ _ _ _ deep;
-      so = deep_refused device.target c.args.tier c.args.supply device.bytes
+      told = fits_stop _ _ _ _ _ _ _ deep;
+      so = deep_refused device.target c.args.place.wide c.args.place.tier c.args.place.supply
+          device.bytes
           c.in_err-fits_tier.field-0.0 (g.B.Bus.world c.args.bus.now) deep;
     })
 
@@ -41,8 +42,9 @@ returns-in_err-configs-clause-part g c known =
     part_fails _ _ c.from_residual-in_err-configs.ensures.1
     (steps_wider (steps_as (sets_asked _) read.steps) (omega arith))
     (record {
-      told = stops_by _ _ _ _ _ _ _ read.ends.told;
-      so = read_refused device.target c.args.tier c.args.supply device.bytes (sym
+      told = stops_by _ _ _ _ _ _ _ _ read.ends.told;
+      so = read_refused device.target c.args.place.wide c.args.place.tier c.args.place.supply
+          device.bytes (sym
           c.in_ok-fits_tier.ensures) _ c.in_err-configs.field-0.0 (g.B.Bus.world c.args.bus.now)
           (g.B.Bus.world c.read_configurations.new.bus) c.configurations.ensures read.ends.so;
     })
@@ -54,7 +56,8 @@ returns-in_err-chosen-clause-part g c known =
     part_fails _ _ c.from_residual-in_err-chosen.ensures.1
     (steps_wider (steps_as (sets_asked _) read.steps) (omega arith)) (record {
       told = record { fits = tt; because = tt };
-      so = fault_explains _ device.target (configured_fault c.args.tier c.args.supply device.bytes)
+      so = fault_explains _ device.target (configured_fault c.args.place.wide c.args.place.tier
+          c.args.place.supply device.bytes)
           Memory (g.B.Bus.world c.args.bus.now) (g.B.Bus.world c.read_configurations.new.bus)
           read.ends.so;
     })
@@ -77,7 +80,7 @@ returns-in_default-clause-part g c known =
             all = c.in_ok-configs.ensures.all.0 ∙ c.configurations.ensures;
           }) none;
         };
-        so = power_refused t c.args.tier c.args.supply device.bytes
+        so = power_refused t c.args.place.wide c.args.place.tier c.args.place.supply device.bytes
             (sym c.in_ok-fits_tier.ensures) _ old mid none
             (rw c.configurations.ensures at read.ends.so);
       };
@@ -95,10 +98,10 @@ returns-in_err-answered_or-clause-part g c known =
     (steps_then (setting t.addr) (steps_as (sets_asked _) read.steps)
     (steps_set (set.uses.steps known) (set.ordered known) (set.what known) (set.keeps known))
     (omega arith))) (record {
-      told = stops_by _ _ _ _ _ _ _ (told_after _ t _ _ _ (leads_went read.steps.went)
+      told = stops_by _ _ _ _ _ _ _ _ (told_after _ t _ _ _ (leads_went read.steps.went)
           (write_stop_told SetConfig _ (c.value-value.result, refl) c.in_err-answered_or.ensures
           (set.ordered known)));
-      so = set_refused t c.args.tier c.args.supply device.bytes
+      so = set_refused t c.args.place.wide c.args.place.tier c.args.place.supply device.bytes
           (sym c.in_ok-fits_tier.ensures) _ c.in-Some.chosen
           (sym c.in_ok-chosen.ensures.chosen ∙ c.in-Some.is) c.value-value.result _ _
           c.set_configuration.result _ _ _ _ (λ z. omega (arith, z, c.requires)) inside
@@ -131,15 +134,17 @@ returns-in_err-hub-clause-part g c known =
     part_fails _ _ c.from_residual-in_err-hub.ensures.1 (steps_as
     (sets_at c.requires) (steps_then (setting t.addr) steps (steps_as (sets_told _) hub.steps)
     (omega arith))) (record {
-      told = hub_stops t device.bytes c.args.tier c.args.supply stop old mid before asked fits
+      told = hub_stops t device.bytes c.args.place.wide c.args.place.tier c.args.place.supply stop
+          old mid before asked fits
           is_hub configs (record {
             asked = read.ends.told;
             all = c.in_ok-configs.ensures.all.0 ∙ c.configurations.ensures;
           }) c.in-Some.chosen choice (leads_went read.steps.went)
           (leads_went (set.uses.steps known)) (subst
-          (λ text. CauseAllowedAtStart t text stop before asked)
+          (λ text. CauseAllowedAtStart c.args.place.wide t text stop before asked)
           same_text hub.ends.told);
-      so = hub_refused t c.args.tier c.args.supply device.bytes fits configs c.in-Some.chosen choice
+      so = hub_refused t c.args.place.wide c.args.place.tier c.args.place.supply device.bytes fits
+          configs c.in-Some.chosen choice
           c.value-value.result _ _ _ stop old before asked (λ z. omega (arith, z, c.requires))
           is_hub inside (c.value-value.ensures ∙ ap configuration_value chosen) (omega arith)
           (set_learned _ t c.value-value.result _ c.set_configuration.result old mid before
@@ -169,9 +174,10 @@ returns-in_err-strings-clause-part g c known =
     part_fails _ _ c.from_residual-in_err-strings.ensures.1
     (steps_as (sets_at c.requires) (steps_then (setting t.addr) steps
     (steps_as (sets_asked _) strings.steps) (omega arith))) (record {
-      told = stops_by _ _ _ _ _ _ _
+      told = stops_by _ _ _ _ _ _ _ _
           (told_after _ t _ _ _ (leads_went steps.went) strings.ends.told);
-      so = strings_refused t c.args.tier c.args.supply device.bytes _ c.value-value.result _ _ _
+      so = strings_refused t c.args.place.wide c.args.place.tier c.args.place.supply device.bytes _
+          c.value-value.result _ _ _
           _ _ _ (set_then _ _ t c.value-value.result _ old before asked learned
           hub.steps.went hub.ends.learned) steps.went strings.steps.went strings.ends.so;
     })
@@ -200,7 +206,7 @@ returns-clause-part g c known =
         bytes = refl;
         fits = sym c.in_ok-fits_tier.ensures;
         served = subst (λ a. IsStarted a c.in_ok-hub.hub) c.requires hub.ends.served;
-        learned = listed_learns _ _ _ _ _ _ _ _ _ _ c.set_configuration.result
+        learned = listed_learns _ _ _ _ _ _ _ _ _ _ _ c.set_configuration.result
             c.configurations.ensures read.ends.so (set.uses.steps known)
             (c.value-value.ensures ∙ ap configuration_value chosen) done (set.what known)
             hub.steps.went same_text hub.ends.learned strings.steps.went c.string_indexes.ensures

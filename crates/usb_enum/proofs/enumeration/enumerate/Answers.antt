@@ -1,6 +1,7 @@
-use Rattle.std.proofs.Common.{◌≡◌, arith, subst}
+use Rattle.std.proofs.Common.{◌≡◌, arith, inl, inr, refl, subst}
 use Rattle.usb_enum.specs.declared.finding.Finding.TheVariants.{Device}
-use Rattle.usb_enum.proofs.stops.PlainStops.{fits_found, without_found}
+use Rattle.usb_enum.proofs.stops.PlainStops.{fits_found, said_given, said_without, without_found}
+use Rattle.usb_enum.proofs.devices.SaidBytes.{said_found, said_on}
 use Rattle.usb_bus.proofs.Interface.{went_wider}
 use Rattle.usb_hub.proofs.Interface.{is_asked_stays}
 use Rattle.usb_enum.proofs.courses.Counts.{went_on_more}
@@ -9,7 +10,7 @@ use Rattle.usb_enum.proofs.stops.Endings.{zero_untaken, zero_before, free_untake
 use Rattle.usb_enum.proofs.stops.Endings.{found_true, device_placed, few_made, few_unaddressed}
 use Rattle.usb_enum.proofs.stops.Endings.{device_warranted, stopped_ends}
 use Rattle.usb_enum.specs.{unaddressed_fault, whole_fault}
-use Rattle.usb_enum.proofs.refusals.Warrants.{unaddressed_right, whole_right}
+use Rattle.usb_enum.proofs.refusals.Warrants.{matched, unaddressed_right, whole_right}
 use Rattle.usb_enum.proofs.courses.LastRequests.{leads_went}
 use Rattle.usb_enum.proofs.stops.Stops.{given_told, gives_reason, stopped_reasoned, stopped_without}
 use Rattle.usb_enum.proofs.stops.Stops.{without_reasoned}
@@ -23,14 +24,14 @@ returns-in_default-clause-ends g c known =
     let zero = zero_untaken pool
     (subst HasAddresses c.in_default.ensures.none.1 c.take.ensures.range) in
     let steps = c.without_address-stop.ensures.steps known in
-    let stops = c.without_address-stop.ensures.stops known in
+    let stops = (c.without_address-stop.ensures.stops known).stops in
     let closing = c.give_up.ensures.uses.steps known in
     let left = (c.give_up.ensures.left known).left in
-    stopped_ends _ pool 0 zero zero unaddressed_fault _ _ _ _ _ _ _ _ _ steps.went closing
+    stopped_ends _ pool 0 zero zero unaddressed_fault _ _ _ _ _ _ _ _ _ _ steps.went closing
     steps.keeps stops.so ((c.give_up.ensures.left known).closes 0) left (unaddressed_right (IsFull
-    pool) c.in_default.ensures.none.0 _ _)
-    (gives_reason _ pool _ _ c.without_address-stop.result _ _ _ c.give_up.result
-    (leads_went steps.went) (leads_went closing) (without_reasoned _ pool _ _
+    pool) c.in_default.ensures.none.0 _ _ _)
+    (gives_reason _ pool _ _ _ c.without_address-stop.result _ _ _ c.give_up.result
+    (leads_went steps.went) (leads_went closing) (without_reasoned _ pool _ _ _
     c.without_address-stop.result _ _ c.in_default.ensures.none.0 stops.told) left)
     (few_unaddressed _ pool _ _ _ steps.went closing)
     (stopped_works c.without_address-stop.result c.give_up.result (g.B.Bus.world c.args.bus.now)
@@ -50,12 +51,12 @@ returns-in-Ok-clause-ends g c known =
     record {
       addresses = enumerated port pool a zero free _ _ _ c.in-Ok.ensures.whole.0 found.takes
           examined.steps.keeps.only;
-      own = found_true port pool a zero free _ _ _ _ _ found.own;
+      own = found_true port pool a zero free _ _ _ _ _ _ found.own;
       places = device_placed port pool a zero free _ _ _ found.reaches
           (λ f p is t order occupied none. found.below f p is t order none);
-      warrants = device_warranted port pool a zero free _ _ _ _ _;
+      warrants = device_warranted port pool a zero free _ _ _ _ _ _;
       ended = tt;
-      few = few_made port pool a zero free _ _ _ (c.examine.ensures.few known) (omega arith);
+      few = few_made port pool a zero free _ _ _ (c.examine.ensures.made known).few (omega arith);
       strings = λ other e.
           let same : other ≡ c.in-Ok.device = cc in rw same found.strings;
       left = λ finding e.
@@ -74,12 +75,12 @@ returns-in-Err-clause-ends g c known =
     let stops = examined.ends in
     let closing = c.give_up-finding.ensures.uses.steps known in
     let left = (c.give_up-finding.ensures.left known).left in
-    stopped_ends _ pool _ zero free (whole_fault _ _) _ _ _ _ _ _ _ _ _ steps.went
+    stopped_ends _ pool _ zero free (whole_fault _ _ _) _ _ _ _ _ _ _ _ _ _ steps.went
     closing steps.keeps stops.so ((c.give_up-finding.ensures.left known).closes _) left (whole_right
-    (IsFull pool) _ _) (gives_reason _ pool _ _ c.in-Err.stop _ _ _ c.give_up-finding.result
-    (leads_went steps.went) (leads_went closing) (stopped_reasoned _ pool _ _ _
+    (IsFull pool) _ _ _) (gives_reason _ pool _ _ _ c.in-Err.stop _ _ _ c.give_up-finding.result
+    (leads_went steps.went) (leads_went closing) (stopped_reasoned _ pool _ _ _ _
     c.in-Err.stop _ _ taken.free stops.told.because) left)
-    (few_made _ pool _ zero free _ _ _ (c.examine.ensures.few known) closing.spends.most)
+    (few_made _ pool _ zero free _ _ _ (c.examine.ensures.made known).few closing.spends.most)
     (stopped_works c.in-Err.stop c.give_up-finding.result (g.B.Bus.world c.args.bus.now)
     (g.B.Bus.world c.examine.new.bus) (g.B.Bus.world c.give_up-finding.new.bus)
     c.give_up-finding.ensures.hands (c.in-Err.ensures.works known)
@@ -120,22 +121,63 @@ returns-in-Err-clause-uses g c = record {
 
 pub returns-in_default-clause-told : goal.returns-in_default-clause-told
 returns-in_default-clause-told g c known =
-    let told = stopped_without _ _ _ _ (c.without_address-stop.ensures.stops known).told in
-    given_told _ _ _ _ c.give_up.result (λ why is. rw is at told) (c.give_up.ensures.left
-    known).left
+    let stops = c.without_address-stop.ensures.stops known in
+    let closing = c.give_up.ensures.uses.steps known in
+    let told = stopped_without _ _ _ _ stops.stops.told in
+    matched c.give_up.result _ _ (said_found c.args.port c.args.pool.now _ _ _ c.give_up.result
+    (said_given c.without_address-stop.result c.give_up.result _ c.give_up.ensures.hands
+    (said_without c.without_address-stop.result _ c.without_address-stop.ensures.without)) (
+      0,
+      (
+        inl refl,
+        said_on c.args.port 0 _ _ (rw c.clear.ensures at stops.said)
+            (leads_went closing),
+      ),
+    ))
+    (given_told _ _ _ _ c.give_up.result (λ why is. rw is at told) (c.give_up.ensures.left
+    known).left)
+
+pub returns-in-Ok-clause-told : goal.returns-in-Ok-clause-told
+returns-in-Ok-clause-told g c known = record {
+  whole = c.in-Ok.ensures.whole.2;
+  read = (
+    c.in-Some.address,
+    (
+      inr c.in-Some.ensures.some.free,
+      rw c.clear.ensures at (c.in-Ok.ensures.made known).said,
+    ),
+  );
+}
+
+pub returns-in-Ok-clause-found : goal.returns-in-Ok-clause-found
+returns-in-Ok-clause-found g c = c.in-Ok.ensures.whole.1
 
 pub returns-in-Err-clause-told : goal.returns-in-Err-clause-told
 returns-in-Err-clause-told g c known =
-    given_told _ c.in-Err.stop _ _ c.give_up-finding.result (λ why is. rw is at
-    (c.in-Err.ensures.part known).ends.told.fits) (c.give_up-finding.ensures.left known).left
+    let closing = c.give_up-finding.ensures.uses.steps known in
+    matched c.give_up-finding.result _ _
+    (said_found c.args.port c.args.pool.now _ _ _ c.give_up-finding.result
+    (said_given c.in-Err.stop c.give_up-finding.result _ c.give_up-finding.ensures.hands
+    c.in-Err.ensures.whole.1) (
+      c.in-Some.address,
+      (
+        inr c.in-Some.ensures.some.free,
+        said_on c.args.port c.in-Some.address _ _
+            (rw c.clear.ensures at (c.in-Err.ensures.made known).said) (leads_went closing),
+      ),
+    ))
+    (given_told _ c.in-Err.stop _ _ c.give_up-finding.result (λ why is. rw is at
+    (c.in-Err.ensures.part known).ends.told.fits) (c.give_up-finding.ensures.left known).left)
 
 pub returns-in_default-clause-found : goal.returns-in_default-clause-found
 returns-in_default-clause-found g c =
-    without_found c.args.pool.now c.args.tier c.args.supply c.without_address-stop.result
+    without_found c.args.pool.now c.args.place.wide c.args.place.tier c.args.place.supply
+    c.without_address-stop.result
     c.give_up.result c.in_default.ensures.none.0 c.give_up.ensures.hands
     c.without_address-stop.ensures.without
 
 pub returns-in-Err-clause-found : goal.returns-in-Err-clause-found
 returns-in-Err-clause-found g c =
-    fits_found c.args.pool.now c.args.tier c.args.supply c.in-Err.stop c.give_up-finding.result
-    c.give_up-finding.ensures.hands c.in-Err.ensures.whole
+    fits_found c.args.pool.now c.args.place.wide c.args.place.tier c.args.place.supply
+    c.in-Err.stop c.give_up-finding.result
+    c.give_up-finding.ensures.hands c.in-Err.ensures.whole.0

@@ -1,7 +1,10 @@
-use Rattle.usb_enum.proofs.stops.PlainStops.{plain_stop_fits, whole_only}
+use Rattle.usb_enum.proofs.stops.PlainStops.{early_stop_fits, examined_whole, said_early}
+use Rattle.usb_enum.proofs.stops.PlainStops.{whole_only}
 use Rattle.usb_enum.specs.{addressed_fault, whole_fault, StopsExamining}
 use Rattle.std.proofs.Common.{arith, inr}
 use Rattle.usb_enum.proofs.devices.Frames.{at_configured}
+use Rattle.usb_enum.proofs.devices.SaidBytes.{said_on}
+use Rattle.usb_enum.proofs.courses.LastRequests.{leads_went}
 use Rattle.usb_enum.proofs.courses.Counts.{went_on_more}
 use Rattle.usb_enum.proofs.courses.Fairness.{stops_wider}
 use Rattle.usb_enum.proofs.Parts.{part_fails, steps_wider}
@@ -17,18 +20,19 @@ returns-in_err-device-clause-part g c known =
     let early = rw c.number.ensures.value at (c.in_err-device.ensures.part known) in
     part_fails _ _ c.from_residual.ensures.1
     (steps_wider early.steps (omega arith)) (record {
-      told = early_stops c.args.port c.args.address _ _ c.in_err-device.field-0.0 _ _
+      told = early_stops c.args.port c.args.address _ _ _ c.in_err-device.field-0.0 _ _
           early.ends.told;
-      so = stops_wider addressed_fault (whole_fault _ _) _ _ _ _ _
-          (addressed_verdict _ _) early.ends.so;
+      so = stops_wider addressed_fault (whole_fault _ _ _) _ _ _ _ _
+          (addressed_verdict _ _ _) early.ends.so;
     })
 
 pub returns-clause-part : goal.returns-clause-part
 returns-clause-part g c known =
     let port = c.args.port in
     let a = c.args.address in
-    let tier = c.args.tier in
-    let supply = c.args.supply in
+    let wide = c.args.place.wide in
+    let tier = c.args.place.tier in
+    let supply = c.args.place.supply in
     let device = c.in_ok-device.device in
     let pass = rw c.number.ensures.value at (c.in_ok-device.ensures.part known) in
     let went = pass.steps.went in
@@ -42,32 +46,49 @@ returns-clause-part g c known =
         went = went_on_more _ _ _ _ _ _ went set.steps.went (omega arith);
         keeps = at_configured _ _ _ _ _ _ at taken.takes set.steps.went sets;
       };
-      ends = matched result _ (StopsExamining port a tier supply _ _) (accepted _ _ _ _ _ _ _
-          result went at.within taken sets set.steps.went (whole_only result _ _
+      ends = matched result _ (StopsExamining port a wide tier supply _ _) (accepted _ _ _ _ _ _ _ _
+          result went at.within taken sets set.steps.went (whole_only result _ _ _
           (matched_ok result _ _ c.configure.ensures.whole)) (matched_ok result _ _ set.ends))
-          (by_error result (StopsExamining port a tier supply _ _) (λ stop is.
+          (by_error result (StopsExamining port a wide tier supply _ _) (λ stop is.
           let stopped = (rw is at set).ends in
           record {
-            told = device_stops port a tier supply device.target device.bytes stop _ _ _
+            told = device_stops port a wide tier supply device.target device.bytes stop _ _ _
                 (record { at = inr taken.address; pre = taken.pre }) pass.ends.told stopped.told;
-            so = configured_stops _ _ _ _ _ _ device went set.steps.went at taken sets device.device
+            so = configured_stops _ _ _ _ _ _ _ device went set.steps.went at taken sets
+                device.device
                 stop stopped.told.fits stopped.so;
           }));
     }
 
-pub returns-in_err-device-clause-few : goal.returns-in_err-device-clause-few
-returns-in_err-device-clause-few g c known = record {
-  few = λ f p spare till regular most plan. omega
-      (arith, (c.in_err-device.ensures.part known).steps.went.spends.most);
+pub returns-in_err-device-clause-made : goal.returns-in_err-device-clause-made
+returns-in_err-device-clause-made g c known = record {
+  few = record {
+    few = λ f p spare till regular most plan. omega
+        (arith, (c.in_err-device.ensures.part known).steps.went.spends.most);
+  };
+  said = rw c.number.ensures.value at (c.in_err-device.ensures.said known);
 }
 
-pub returns-clause-few : goal.returns-clause-few
-returns-clause-few g c known =
+pub returns-clause-made : goal.returns-clause-made
+returns-clause-made g c known =
     let pass = rw c.number.ensures.value at (c.in_ok-device.ensures.part known) in
-    examined_few _ _ c.in_ok-device.device _ _ _ pass.steps.went pass.ends.so
-    (c.configure.ensures.few known) (c.configure.ensures.part known).steps.keeps.addresses
+    let set = c.configure.ensures.part known in
+    record {
+      few = examined_few _ _ c.in_ok-device.device _ _ _ pass.steps.went pass.ends.so
+          (c.configure.ensures.few known) set.steps.keeps.addresses;
+      said = said_on c.args.port c.args.address _ _
+          (rw c.number.ensures.value at (c.in_ok-device.ensures.said known))
+          (leads_went set.steps.went);
+    }
+
+pub returns-clause-whole : goal.returns-clause-whole
+returns-clause-whole g c =
+    examined_whole c.configure.result _ _ _ _ c.in_ok-device.device.target.low _
+    c.configure.ensures.whole c.in_ok-device.ensures.addressed.1 c.in_ok-device.device.device
 
 pub returns-in_err-device-clause-whole : goal.returns-in_err-device-clause-whole
 returns-in_err-device-clause-whole g c =
-    handed_match _ _ _ _ c.from_residual.ensures.1 (plain_stop_fits _ _
-    c.in_err-device.ensures.addressed)
+    handed_match _ _ _ _ c.from_residual.ensures.1 (
+      early_stop_fits _ _ c.in_err-device.ensures.addressed,
+      said_early _ _ c.in_err-device.ensures.addressed,
+    )

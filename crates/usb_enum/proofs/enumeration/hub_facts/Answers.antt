@@ -13,6 +13,14 @@ returns-in_err-start_hub-clause-hub g c =
       c.in_err-start_hub.ensures.facts,
     )
 
+pub returns-clause-hub : goal.returns-clause-hub
+returns-clause-hub g c =
+    let serves = c.in_ok-start_hub.ensures.facts in
+    record {
+      has = (sym c.is_hub.ensures ∙ c.if-not-is_hub.false, serves.facts, serves.status);
+      fits = serves.fits;
+    }
+
 pub returns-then-not-is_hub-clause-part : goal.returns-then-not-is_hub-clause-part
 returns-then-not-is_hub-clause-part g c known = record {
   steps = steps_none _ _ (telling _);

@@ -16,7 +16,10 @@ use Rattle.usb_enum.proofs.courses.Counts.{read_spends}
 use Rattle.usb_enum.proofs.hub.port_count.Goals as goal
 
 pub returns-in-Ok-clause-count : goal.returns-in-Ok-clause-count
-returns-in-Ok-clause-count g c = rw c.ports.ensures.value c.in-Ok.ensures.ports
+returns-in-Ok-clause-count g c = (
+  (c.ports.ensures.least, c.ports.ensures.most),
+  rw c.ports.ensures.value c.in-Ok.ensures.ports.1,
+)
 
 pub returns-in_err-bytes-clause-count : goal.returns-in_err-bytes-clause-count
 returns-in_err-bytes-clause-count g c =
@@ -34,9 +37,11 @@ returns-in-Ok-clause-read g c known =
       steps = steps_asked hub_given 9 c.requires.max (hub.uses.steps known) asked (hub.what known)
           (hub.keeps known);
       ends = rw c.ports.ensures.value (record {
-        told = count_told c.args.target BadHub c.hub_descriptor.result c.in_ok-bytes.bytes
+        told = count_told c.args.wide c.args.target BadHub c.hub_descriptor.result
+            c.in_ok-bytes.bytes
             c.in-Ok.hub old new c.in_ok-bytes.ensures asked (cc) same;
-        so = ports_learned c.args.target BadHub c.hub_descriptor.result c.in_ok-bytes.bytes
+        so = ports_learned c.args.wide c.args.target BadHub c.hub_descriptor.result
+            c.in_ok-bytes.bytes
             c.in-Ok.hub old new c.in_ok-bytes.ensures (cc) same (hub.what known);
       });
     }
@@ -51,11 +56,14 @@ returns-in_err-bytes-clause-read g c known =
     part_fails _ _ c.from_residual.ensures.1
     (steps_asked hub_given 9 c.requires.max (hub.uses.steps known) asked what (hub.keeps known))
     (record {
-      told = bad_hub_told c.args.target get_hub_descriptor c.hub_descriptor.result _ 3 1 old new
+      told = bad_hub_told c.args.wide c.args.target get_hub_descriptor c.hub_descriptor.result _ 3 1
+          old new
           c.in_err-bytes.ensures (reads_failed c.args.target get_hub_descriptor
           c.hub_descriptor.result old new asked.stages) asked.ends no_descriptor;
-      so = request_refused _ _ _ _ _ old new what c.requires.max (hub.why known) hub_fault BadHub _
-          c.in_err-bytes.ensures (λ spec none. bad_hub spec (hub_ungiven spec spec.hub none));
+      so = request_refused _ _ _ _ _ old new what c.requires.max (hub.why known)
+          (hub_fault c.args.wide) BadHub _
+          c.in_err-bytes.ensures (λ spec none.
+          bad_hub c.args.wide spec (hub_ungiven c.args.wide spec spec.hub none));
     })
 
 pub returns-clause-read : goal.returns-clause-read
@@ -64,7 +72,8 @@ returns-clause-read g c known =
     let new = g.B.Bus.world c.hub_descriptor.new.bus in
     let hub = c.hub_descriptor.ensures in
     let asked = hub.asked known in
-    let bad = ap hub_spelled (sym c.as_slice.ensures.value) ∙ sym c.read_hub.ensures.answer
+    let bad = ap (hub_spelled c.args.wide) (sym c.as_slice.ensures.value)
+    ∙ sym c.read_hub.ensures.answer
     ∙ c.in-Err.is in
     record {
       steps = steps_asked hub_given 9 c.requires.max (hub.uses.steps known) asked (hub.what known)
@@ -75,7 +84,8 @@ returns-clause-read g c known =
           bad_descriptor c.in_ok-bytes.bytes.items c.in-Err.field-0
               (was_read BadHub c.in_ok-bytes.bytes c.in_ok-bytes.ensures asked) bad,
         );
-        so = count_refused c.args.target BadHub c.hub_descriptor.result c.in_ok-bytes.bytes
+        so = count_refused c.args.wide c.args.target BadHub c.hub_descriptor.result
+            c.in_ok-bytes.bytes
             c.in-Err.field-0 old new c.in_ok-bytes.ensures bad (hub.what known);
       };
     }

@@ -14,7 +14,7 @@ use Rattle.usb_enum.proofs.stops.ToldFailures.{handed_on}
 use Rattle.usb_enum.proofs.hub.port_supply.Goals as goal
 
 pub returns-clause-read : goal.returns-clause-read
-returns-clause-read g c known =
+returns-clause-read g c known wide =
     let answer = c.get_status.ensures in
     let old = g.B.Bus.world c.args.bus.now in
     let new = g.B.Bus.world c.get_status.new.bus in
@@ -38,7 +38,7 @@ returns-clause-read g c known =
     }
 
 pub returns-in_err-status-clause-read : goal.returns-in_err-status-clause-read
-returns-in_err-status-clause-read g c known =
+returns-in_err-status-clause-read g c known wide =
     let old = g.B.Bus.world c.args.bus.now in
     let new = g.B.Bus.world c.get_status.new.bus in
     let answer = c.get_status.ensures in
@@ -51,10 +51,10 @@ returns-in_err-status-clause-read g c known =
           c.get_status.result _ _ _ told.asked (answer.what known) (answer.keeps known);
     })
     (record {
-      told = status_told t c.get_status.result _ old new c.in_err-status.ensures told;
+      told = status_told wide t c.get_status.result _ old new c.in_err-status.ensures told;
       so = request_refused _ _ _ _ _ old new (answer.what known) c.requires.max (answer.why known)
-          hub_fault BadHub _ c.in_err-status.ensures (λ spec none. bad_hub spec
-          (status_ungiven spec spec.hub (unless_refused-not spec.stalls.status _ none)));
+          (hub_fault wide) BadHub _ c.in_err-status.ensures (λ spec none. bad_hub wide spec
+          (status_ungiven wide spec spec.hub (unless_refused-not spec.stalls.status _ none)));
     })
 
 pub returns-in_err-status-clause-said : goal.returns-in_err-status-clause-said

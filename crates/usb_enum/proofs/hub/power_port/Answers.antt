@@ -14,7 +14,7 @@ use Rattle.usb_enum.proofs.ports.WorkingBuses.{answer_ends}
 use Rattle.usb_enum.proofs.hub.power_port.Goals as goal
 
 pub returns-clause-part : goal.returns-clause-part
-returns-clause-part g c known =
+returns-clause-part g c known wide =
     let t = c.args.target in
     let port = c.args.port in
     let setup = set_port_feature PORT_POWER port in
@@ -26,10 +26,10 @@ returns-clause-part g c known =
         keeps = power_tells t port _ _ _ ordered
             (c.set_hub_port.ensures.keeps known (λ e. absurd cc)) devices;
       };
-      ends = matched c.answered_or.result _ (StopsPower t port _ _)
+      ends = matched c.answered_or.result _ (StopsPower wide t port _ _)
           (powered_by t port _ _ _ c.answered_or.result c.answered_or.ensures ordered)
-          (by_error c.answered_or.result (StopsPower t port _ _) (λ stop is. record {
-            told = bad_hub_told t setup _ stop 2 1 _ _ (sym is ∙ c.answered_or.ensures)
+          (by_error c.answered_or.result (StopsPower wide t port _ _) (λ stop is. record {
+            told = bad_hub_told wide t setup _ stop 2 1 _ _ (sym is ∙ c.answered_or.ensures)
                 (writes_failed t setup _ _ _ ordered.stages) ordered.ends (no_power port);
             so = power_explains t port _ stop _ _ ordered (sym is ∙ c.answered_or.ensures) devices;
           }));

@@ -1,13 +1,14 @@
 use Rattle.std.proofs.Common.{inl, arith, ◌≡◌, ◌∙◌, Err, ap, refl, sym, take}
 use Rattle.std.proofs.lemmas.List.{take-take}
 use Rattle.usb_enum.specs.{AtMaximum, HasDescriptor, device_fault, is_device, bad_front, Stalled}
+use Rattle.usb_enum.proofs.devices.SaidBytes.{whole_said}
 use Rattle.usb_enum.proofs.readings.Heads.{answered}
 use Rattle.usb_enum.proofs.refusals.DeviceRefusals.{device_ungiven, descriptor_none}
 use Rattle.usb_enum.proofs.refusals.DeviceRefusals.{descriptor_refused, device_read, no_answer}
 use Rattle.usb_enum.proofs.refusals.DeviceRefusals.{some_answer, answered_who, refused_who}
 use Rattle.usb_enum.proofs.refusals.DeviceRefusals.{short_device}
 use Rattle.usb_enum.proofs.refusals.Refusals.{request_refused, handed_match}
-use Rattle.usb_enum.proofs.stops.PlainStops.{answered_plain, device_good}
+use Rattle.usb_enum.proofs.stops.PlainStops.{answered_early, device_good}
 use Rattle.usb_pipe.specs.declared.fault.PipeFault.TheVariants.{NoAnswer}
 use Rattle.usb_hub.specs.{device_given}
 use Rattle.usb_enum.proofs.Parts.{part_fails, steps_asked}
@@ -61,7 +62,7 @@ returns-in-Some-clause-read g c known =
     let asked = device.asked known in
     let what = device.what known in
     let bytes = c.in_ok-bytes.bytes in
-    let front = c.in-Some.ensures.cases.same ∙ ap (take 18) c.as_slice.ensures.value in
+    let front = c.in-Some.ensures.cases.same ∙ ap (take 18) c.as_slice-2.ensures.value in
     record {
       steps = steps_asked device_given 18 c.requires.max (device.uses.steps known) asked what
           (device.addresses known).keeps;
@@ -88,7 +89,7 @@ returns-clause-read g c known =
     let asked = device.asked known in
     let what = device.what known in
     let bytes = c.in_ok-bytes.bytes in
-    let short = rw c.as_slice.ensures.value at c.in-None.ensures.cases in
+    let short = rw c.as_slice-2.ensures.value at c.in-None.ensures.cases in
     let bad = short_device t.low bytes.items short in
     record {
       steps = steps_asked device_given 18 c.requires.max (device.uses.steps known) asked what
@@ -110,11 +111,14 @@ returns-clause-read g c known =
 
 pub returns-in-Some-clause-device : goal.returns-in-Some-clause-device
 returns-in-Some-clause-device g c =
-    rw c.device_bytes.ensures (device_good c.args.target.low c.in-Some.bytes.now)
+    let said = c.keep.ensures ∙ ap (take 18) c.as_slice.ensures.value in
+    let front = c.in-Some.ensures.cases.same ∙ ap (take 18) c.as_slice-2.ensures.value in
+    rw c.device_bytes.ensures
+    (device_good c.args.target.low c.in-Some.bytes.now _ (said ∙ sym front))
 
 pub returns-in_err-bytes-clause-device : goal.returns-in_err-bytes-clause-device
 returns-in_err-bytes-clause-device g c =
-    handed_match _ _ _ _ c.from_residual.ensures.1 (answered_plain (Stalled Device) _ _ tt
+    handed_match _ _ _ _ c.from_residual.ensures.1 (answered_early (Stalled Device) _ _ tt
     c.in_err-bytes.ensures)
 
 pub returns-in_err-bytes-clause-any_bus : goal.returns-in_err-bytes-clause-any_bus
@@ -129,3 +133,23 @@ returns-in-Some-clause-any_bus g c = (
   read_spends c.args.target.max 18 c.requires.max c.get_device-outcome.ensures.uses,
   rw c.device_bytes.ensures (device_reported _ c.args.target.low c.in-Some.bytes.now),
 )
+
+pub returns-in-Some-clause-said : goal.returns-in-Some-clause-said
+returns-in-Some-clause-said g c known =
+    let device = c.get_device-outcome.ensures in
+    whole_said c.args.target c.in_ok-bytes.bytes _ _ (Stalled Device) c.get_device-outcome.result
+    _ _ (c.keep.ensures ∙ ap (take 18) c.as_slice.ensures.value) c.in_ok-bytes.ensures
+    (device.asked known) (device.addresses known) (device.what known)
+
+pub returns-clause-said : goal.returns-clause-said
+returns-clause-said g c known =
+    let device = c.get_device-outcome.ensures in
+    whole_said c.args.target c.in_ok-bytes.bytes _ _ (Stalled Device) c.get_device-outcome.result
+    _ _ (c.keep.ensures ∙ ap (take 18) c.as_slice.ensures.value) c.in_ok-bytes.ensures
+    (device.asked known) (device.addresses known) (device.what known)
+
+pub returns-then-eq-clause-said : goal.returns-then-eq-clause-said
+returns-then-eq-clause-said g c known = inl refl
+
+pub returns-in_err-bytes-clause-said : goal.returns-in_err-bytes-clause-said
+returns-in_err-bytes-clause-said g c known = inl refl

@@ -1,8 +1,9 @@
-use Rattle.std.proofs.Common.{inr, ◌≤◌, ◌∙◌, ap, arith, refl, sym}
+use Rattle.std.proofs.Common.{inl, inr, ◌≤◌, ◌∙◌, ap, arith, refl, sym, take}
+use Rattle.usb_enum.proofs.devices.SaidBytes.{head_said}
 use Rattle.usb_enum.specs.{IsRefusedFor, head_fault, bad_head, Stalled}
 use Rattle.usb_enum.proofs.refusals.DeviceRefusals.{head_failed, head_refused}
 use Rattle.usb_enum.proofs.refusals.Refusals.{stop_explains, handed_match}
-use Rattle.usb_enum.proofs.stops.PlainStops.{answered_plain}
+use Rattle.usb_enum.proofs.stops.PlainStops.{answered_early}
 use Rattle.usb_descriptor.specs.{device_head_of}
 use Rattle.usb_enum.proofs.readings.Heads.{head_answered}
 use Rattle.usb_hub.specs.{device_given}
@@ -21,7 +22,7 @@ returns-in-Ok-clause-read g c known =
     let asked = device.asked known in
     let answers = head_answered _ c.in-Ok.max c.in_ok-bytes.bytes _ c.get_device.result _ _
     c.in_ok-bytes.ensures
-    (sym (rw c.as_slice.ensures.value at c.in-Ok.ensures.answer)) asked.ends
+    (sym (rw c.as_slice-2.ensures.value at c.in-Ok.ensures.answer)) asked.ends
     (device.addresses known) (device.what known) in
     record {
       steps = steps_asked device_given 8 (omega (arith, c.requires.max)) (device.uses.steps known)
@@ -51,7 +52,7 @@ returns-clause-read g c known =
     let device = c.get_device.ensures in
     let asked = device.asked known in
     let bytes = c.in_ok-bytes.bytes in
-    let bad = ap (device_head_of t.low) (sym c.as_slice.ensures.value) ∙ sym
+    let bad = ap (device_head_of t.low) (sym c.as_slice-2.ensures.value) ∙ sym
     c.device_head.ensures.answer ∙ c.in-Err.is in
     record {
       steps = steps_asked device_given 8 (omega (arith, c.requires.max)) (device.uses.steps known)
@@ -66,7 +67,7 @@ returns-clause-read g c known =
 
 pub returns-in_err-bytes-clause-fits : goal.returns-in_err-bytes-clause-fits
 returns-in_err-bytes-clause-fits g c =
-    handed_match _ _ _ _ c.from_residual.ensures.1 (answered_plain (Stalled Device) _ _ tt
+    handed_match _ _ _ _ c.from_residual.ensures.1 (answered_early (Stalled Device) _ _ tt
     c.in_err-bytes.ensures)
 
 pub returns-in_err-bytes-clause-any_bus : goal.returns-in_err-bytes-clause-any_bus
@@ -75,3 +76,20 @@ returns-in_err-bytes-clause-any_bus g c = (
   handed_on _ _ _ c.from_residual.ensures.1 (answered_reported _ (Stalled Device) _ _
       c.get_device.ensures.uses.told c.in_err-bytes.ensures),
 )
+
+pub returns-in-Ok-clause-said : goal.returns-in-Ok-clause-said
+returns-in-Ok-clause-said g c known =
+    let device = c.get_device.ensures in
+    head_said c.args.unaddressed c.in_ok-bytes.bytes _ _ (Stalled Device) c.get_device.result _ _
+    (c.keep.ensures ∙ ap (take 18) c.as_slice.ensures.value) c.in_ok-bytes.ensures
+    (device.asked known) (device.addresses known) (device.what known)
+
+pub returns-clause-said : goal.returns-clause-said
+returns-clause-said g c known =
+    let device = c.get_device.ensures in
+    head_said c.args.unaddressed c.in_ok-bytes.bytes _ _ (Stalled Device) c.get_device.result _ _
+    (c.keep.ensures ∙ ap (take 18) c.as_slice.ensures.value) c.in_ok-bytes.ensures
+    (device.asked known) (device.addresses known) (device.what known)
+
+pub returns-in_err-bytes-clause-said : goal.returns-in_err-bytes-clause-said
+returns-in_err-bytes-clause-said g c known = inl refl

@@ -1,7 +1,8 @@
 use Rattle.usb_enum.specs.{Stalled, addressed_fault, early_fault}
-use Rattle.usb_enum.proofs.stops.PlainStops.{answered_plain}
+use Rattle.usb_enum.proofs.stops.PlainStops.{answered_early}
 use Rattle.std.proofs.Common.{inl, inr, arith, refl, rules}
 use Rattle.usb_enum.proofs.devices.Presence.{address_finds}
+use Rattle.usb_enum.proofs.devices.SaidBytes.{said_on, said_then, whole_said_at}
 use Rattle.usb_enum.proofs.devices.ReachedDevices.{reaches_addressed, reaches_rest}
 use Rattle.usb_enum.proofs.devices.Enumerations.{takes_after, takes_answered}
 use Rattle.usb_enum.proofs.devices.Frames.{at_asked}
@@ -12,7 +13,7 @@ use Rattle.usb_enum.proofs.refusals.Refusals.{answered_ok, handed_match}
 use Rattle.usb_enum.proofs.stops.StopReasons.{address_stops, addressed_early, descriptor_stops}
 use Rattle.usb_enum.proofs.stops.StopReasons.{pass_misses}
 use Rattle.usb_enum.specs.declared.cause.Request.TheVariants.{Address}
-use Rattle.usb_enum.proofs.courses.LastRequests.{leads_went}
+use Rattle.usb_enum.proofs.courses.LastRequests.{leads_then, leads_went}
 use Rattle.usb_enum.proofs.stops.Reasons.{at_after, descriptor_after, failing_after, stop_told_at}
 use Rattle.usb_enum.proofs.stops.Reasons.{told_faults, write_stop_told}
 use Rattle.usb_enum.proofs.stops.ReportedFaults.{answered_reported}
@@ -130,7 +131,7 @@ returns-in-None-clause-part g c known =
 
 pub returns-in_err-answered_or-clause-addressed : goal.returns-in_err-answered_or-clause-addressed
 returns-in_err-answered_or-clause-addressed g c =
-    handed_match _ _ _ _ c.from_residual-in_err-answered_or.ensures.1 (answered_plain (Stalled
+    handed_match _ _ _ _ c.from_residual-in_err-answered_or.ensures.1 (answered_early (Stalled
     Address) _ _ tt c.in_err-answered_or.ensures)
 
 pub returns-in_err-answered_or-clause-any_bus : goal.returns-in_err-answered_or-clause-any_bus
@@ -139,3 +140,71 @@ returns-in_err-answered_or-clause-any_bus g c = (
   handed_on _ _ _ c.from_residual-in_err-answered_or.ensures.1 (answered_reported _
       (Stalled Address) _ _ c.set_address.ensures.uses.told c.in_err-answered_or.ensures),
 )
+
+pub returns-in-Some-clause-addressed : goal.returns-in-Some-clause-addressed
+returns-in-Some-clause-addressed g c = (refl, (rw c.in-Some.is at c.in_ok-bytes.ensures.device).1)
+
+pub returns-in_err-target-clause-said : goal.returns-in_err-target-clause-said
+returns-in_err-target-clause-said g c known = c.in_err-target.ensures.said known c.args.address
+
+pub returns-in_err-answered_or-clause-said : goal.returns-in_err-answered_or-clause-said
+returns-in_err-answered_or-clause-said g c known =
+    said_on c.args.port c.args.address _ _ (c.in_ok-target.ensures.said known c.args.address)
+    (leads_went (c.set_address.ensures.uses.steps known))
+
+pub returns-in_err-bytes-clause-said : goal.returns-in_err-bytes-clause-said
+returns-in_err-bytes-clause-said g c known =
+    let a = c.args.address in
+    let t = c.in_ok-target.target in
+    let is = c.in_ok-target.ensures.target in
+    let early = c.in_ok-target.ensures.part known a in
+    let set = c.set_address.ensures in
+    let addressed = steps_addressed early.steps is.zero c.requires.least (set.uses.steps known)
+    (set.ordered known) (set.what known) (set.gives known) in
+    let bytes = c.in_err-bytes.ensures.read known in
+    let done = answered_ok _ _ tt c.in_ok-answered_or.ensures in
+    said_then c.args.port a _ _ _
+    (said_on c.args.port a _ _ (c.in_ok-target.ensures.said known a)
+    (leads_then (leads_went (set.uses.steps known)) (leads_went bytes.steps.went)))
+    (whole_said_at c.args.port a _ _ t (record t { addr = a }) _ _
+    (record { at = inr refl; pre = is.pre }) is.zero refl early.ends.found
+    (rw done at (set.what known)) addressed.went addressed.keeps.within bytes.steps.went
+    bytes.steps.keeps.addresses (c.in_err-bytes.ensures.said known))
+
+pub returns-in-Some-clause-said : goal.returns-in-Some-clause-said
+returns-in-Some-clause-said g c known =
+    let a = c.args.address in
+    let t = c.in_ok-target.target in
+    let is = c.in_ok-target.ensures.target in
+    let early = c.in_ok-target.ensures.part known a in
+    let set = c.set_address.ensures in
+    let addressed = steps_addressed early.steps is.zero c.requires.least (set.uses.steps known)
+    (set.ordered known) (set.what known) (set.gives known) in
+    let bytes = c.in_ok-bytes.ensures.read known in
+    let done = answered_ok _ _ tt c.in_ok-answered_or.ensures in
+    said_then c.args.port a _ _ _
+    (said_on c.args.port a _ _ (c.in_ok-target.ensures.said known a)
+    (leads_then (leads_went (set.uses.steps known)) (leads_went bytes.steps.went)))
+    (whole_said_at c.args.port a _ _ t (record t { addr = a }) _ _
+    (record { at = inr refl; pre = is.pre }) is.zero refl early.ends.found
+    (rw done at (set.what known)) addressed.went addressed.keeps.within bytes.steps.went
+    bytes.steps.keeps.addresses (c.in_ok-bytes.ensures.said known))
+
+pub returns-in-None-clause-said : goal.returns-in-None-clause-said
+returns-in-None-clause-said g c known =
+    let a = c.args.address in
+    let t = c.in_ok-target.target in
+    let is = c.in_ok-target.ensures.target in
+    let early = c.in_ok-target.ensures.part known a in
+    let set = c.set_address.ensures in
+    let addressed = steps_addressed early.steps is.zero c.requires.least (set.uses.steps known)
+    (set.ordered known) (set.what known) (set.gives known) in
+    let bytes = c.in_ok-bytes.ensures.read known in
+    let done = answered_ok _ _ tt c.in_ok-answered_or.ensures in
+    said_then c.args.port a _ _ _
+    (said_on c.args.port a _ _ (c.in_ok-target.ensures.said known a)
+    (leads_then (leads_went (set.uses.steps known)) (leads_went bytes.steps.went)))
+    (whole_said_at c.args.port a _ _ t (record t { addr = a }) _ _
+    (record { at = inr refl; pre = is.pre }) is.zero refl early.ends.found
+    (rw done at (set.what known)) addressed.went addressed.keeps.within bytes.steps.went
+    bytes.steps.keeps.addresses (c.in_ok-bytes.ensures.said known))

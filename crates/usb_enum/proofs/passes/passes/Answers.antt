@@ -3,6 +3,7 @@ use Rattle.usb_enum.specs.{answered}
 use Rattle.std.proofs.Common.{◌≡◌, ◌⊎◌, inl, inr, arith, refl, rules}
 use Rattle.usb_hub.proofs.Interface.{is_asked_stays}
 use Rattle.usb_enum.proofs.devices.Enumerations.{takes_after}
+use Rattle.usb_enum.proofs.devices.SaidBytes.{said_after, said_on, said_then}
 use Rattle.usb_enum.proofs.Parts.{enumerating, part_fails, steps_again, steps_more, steps_none}
 use Rattle.usb_enum.proofs.Parts.{steps_times}
 use Rattle.usb_enum.proofs.courses.Courses.{went_in_order, went_regular, went_sound}
@@ -18,6 +19,7 @@ loop-pass-init g c = record {
   steps = λ known. steps_none _ _ (enumerating _ _);
   silent = λ known. inl refl;
   missed = λ known. misses_none _ _ _;
+  said = λ known. inl refl;
   works = λ known none. none;
 }
 
@@ -44,6 +46,13 @@ loop-pass-preserved g c =
           let one = rw c.in_default.is at (c.in_ok-device.ensures.part known) in
           misses_then _ _ _ _ _ steps.went one.steps.went steps.keeps one.steps.keeps
           (before.missed known) one.ends.so;
+      said = λ known.
+          let steps = before.steps known in
+          let one = c.in_ok-device.ensures.part known in
+          said_then c.args.port c.args.address _ _ _
+          (said_on c.args.port c.args.address _ _ (before.said known) (leads_went one.steps.went))
+          (said_after c.args.port c.args.address _ _ _ steps.went steps.keeps.within
+          (c.in_ok-device.ensures.said known));
       works = λ known none. (c.in_ok-device.ensures.works known) (before.works known none);
     }
 
@@ -109,3 +118,27 @@ returns-clause-part g c known =
     silent (inl none) =
         absurd (omega (arith, none, c.loop-pass-test.false, c.loop-pass.auto._pass-end))
     silent (inr told) = answered told.target told.is told.failed
+
+pub returns-in-Some-clause-addressed : goal.returns-in-Some-clause-addressed
+returns-in-Some-clause-addressed g c = rw c.in-Some.is at c.in_ok-device.ensures.addressed
+
+pub returns-in-Some-clause-said : goal.returns-in-Some-clause-said
+returns-in-Some-clause-said g c known =
+    let steps = c.loop-pass.invariant.steps known in
+    let one = c.in_ok-device.ensures.part known in
+    said_then c.args.port c.args.address _ _ _
+    (said_on c.args.port c.args.address _ _ (c.loop-pass.invariant.said known)
+    (leads_went one.steps.went)) (said_after c.args.port c.args.address _ _ _ steps.went
+    steps.keeps.within (c.in_ok-device.ensures.said known))
+
+pub returns-in_err-device-clause-said : goal.returns-in_err-device-clause-said
+returns-in_err-device-clause-said g c known =
+    let steps = c.loop-pass.invariant.steps known in
+    let one = c.in_err-device.ensures.part known in
+    said_then c.args.port c.args.address _ _ _
+    (said_on c.args.port c.args.address _ _ (c.loop-pass.invariant.said known)
+    (leads_went one.steps.went)) (said_after c.args.port c.args.address _ _ _ steps.went
+    steps.keeps.within (c.in_err-device.ensures.said known))
+
+pub returns-clause-said : goal.returns-clause-said
+returns-clause-said g c known = c.loop-pass.invariant.said known

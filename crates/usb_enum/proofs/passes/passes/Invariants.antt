@@ -1,7 +1,7 @@
 use Rattle.std.proofs.Common.{◌≡◌, ◌⊎◌, ◌*◌, true}
 use Rattle.usb_bus.specs.{Spends}
 use Rattle.usb_hub.specs.{StillWorks}
-use Rattle.usb_enum.specs.{AtPort, pass_bound, Misses, KeepingSteps, NoAnswerTold}
+use Rattle.usb_enum.specs.{AtPort, pass_bound, Misses, KeepingSteps, NoAnswerTold, Says}
 use Rattle.usb_enum.proofs.passes.passes.Given as goal
 
 abbrev pub invariant-loop-pass : goal.invariant-loop-pass
@@ -15,6 +15,9 @@ invariant-loop-pass g l = record {
       ⊎ NoAnswerTold l.port l.address (g.B.Bus.world l.initial.bus) (g.B.Bus.world l.bus);
   missed : g.B.Bus.modelled ≡ true
       → Misses l.port l.address l._pass (g.B.Bus.world l.initial.bus) (g.B.Bus.world l.bus);
+  said : g.B.Bus.modelled ≡ true
+      → Says l.port l.address l.initial.said.items l.said.items (g.B.Bus.world l.initial.bus)
+      (g.B.Bus.world l.bus);
   works : g.B.Bus.modelled ≡ true
       → StillWorks (g.B.Bus.world l.initial.bus) (g.B.Bus.world l.bus);
 }

@@ -3,6 +3,7 @@ use Rattle.std.proofs.Common.{◌≡◌, inl, ◌&&◌, ◌∙◌, ap, arith, re
 use Rattle.usb_enum.proofs.devices.Frames.{at_asked}
 use Rattle.usb_enum.proofs.Parts.{enumerating, part_fails, steps_as, steps_then, steps_wider}
 use Rattle.usb_enum.proofs.devices.Presence.{unaddressed_finds}
+use Rattle.usb_enum.proofs.devices.SaidBytes.{head_said_at}
 use Rattle.usb_enum.proofs.courses.Fairness.{stops_wider}
 use Rattle.usb_enum.proofs.devices.ReachedDevices.{reaches_rest}
 use Rattle.usb_enum.proofs.courses.Courses.{went_sound}
@@ -62,3 +63,38 @@ returns-clause-part g c known a =
             head.ends.goes;
       };
     }
+
+pub returns-in_err-low-clause-said : goal.returns-in_err-low-clause-said
+returns-in_err-low-clause-said g c known a = inl refl
+
+pub returns-in_err-max-clause-said : goal.returns-in_err-max-clause-said
+returns-in_err-max-clause-said g c known a =
+    let port = c.args.port in
+    let low = c.in_ok-low.low in
+    let reset = c.in_ok-low.ensures.part known a in
+    let head = c.in_err-max.ensures.read known in
+    let t : Target = record { addr = 0; max = 8; low = low; pre = c.if-low.pre } in
+    let pre : c.if-low.pre ≡ (low && needs_pre port) = elim c.if-low.branch [
+      | then-low w ↦ w.pre-is ∙ w.needs_pre-pre.ensures ∙ sym
+          (ap (λ b. b && needs_pre port) w.if-low.true)
+      | else-low w ↦ w.pre-is ∙ w.if-low.false ∙ sym (ap (λ b. b && needs_pre port) w.if-low.false)
+    ] in
+    head_said_at port a _ _ t _ _ (record { at = inl refl; pre = pre }) reset.steps.went
+    head.steps.went reset.steps.keeps.within head.steps.keeps.addresses
+    (c.in_err-max.ensures.said known)
+
+pub returns-clause-said : goal.returns-clause-said
+returns-clause-said g c known a =
+    let port = c.args.port in
+    let low = c.in_ok-low.low in
+    let reset = c.in_ok-low.ensures.part known a in
+    let head = c.in_ok-max.ensures.read known in
+    let t : Target = record { addr = 0; max = 8; low = low; pre = c.if-low.pre } in
+    let pre : c.if-low.pre ≡ (low && needs_pre port) = elim c.if-low.branch [
+      | then-low w ↦ w.pre-is ∙ w.needs_pre-pre.ensures ∙ sym
+          (ap (λ b. b && needs_pre port) w.if-low.true)
+      | else-low w ↦ w.pre-is ∙ w.if-low.false ∙ sym (ap (λ b. b && needs_pre port) w.if-low.false)
+    ] in
+    head_said_at port a _ _ t _ _ (record { at = inl refl; pre = pre }) reset.steps.went
+    head.steps.went reset.steps.keeps.within head.steps.keeps.addresses
+    (c.in_ok-max.ensures.said known)

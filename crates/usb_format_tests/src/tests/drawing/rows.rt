@@ -1,5 +1,5 @@
 //! Plans, with what is drawn of each.
-use super::rule_rows::{BROKEN_RULES, RULES_OF_WHAT_IS_PLUGGED};
+use super::rule_rows::{BROKEN_RULES, BROKEN_RULES_OF_WIDE_HUBS, RULES_OF_WHAT_IS_PLUGGED};
 
 /// A plan, and what is drawn of it in both styles.
 #[derive(Clone, Copy)]
@@ -484,7 +484,48 @@ after = 0
 "#,
 };
 
-pub(super) const ROWS: [Row; 9] = [
+/// Numbers of two digits take a column more.
+const A_WIDE_HUB: Row = Row {
+    name: "a wide hub",
+    plan: r#"limit = 20000
+roots = 1
+wide_hubs = true
+event = [
+  { do = "plug", path = "1", device = "hub" },
+  { do = "plug", path = "1.2", device = "hub" },
+  { do = "plug", path = "1.10", device = "mouse" },
+  { do = "plug", path = "1.2.11", device = "mouse" },
+]
+
+[[device]]
+name = "hub"
+speed = "full"
+descriptor = "120100020900004001000200000100000001"
+configs = ["09021900010100C000090400000109000000070581030200FF"]
+ports = 11
+self_powered = true
+
+[[device]]
+name = "mouse"
+speed = "low"
+descriptor = "120110010000000834120100000100000001"
+configs = ["090219000101008032090400000103010200070581030400FF"]
+"#,
+    lines: r#"listing 1
+└─ 1             address 1    full  0001:0002 hub, 11 ports  0 of 500 mA
+   ├─ 1.2        address 2    full  0001:0002 hub, 11 ports  0 of 500 mA
+   │  └─ 1.2.11  address 4    low   1234:0001 HID mouse  100 of 500 mA
+   └─ 1.10       address 3    low   1234:0001 HID mouse  100 of 500 mA
+"#,
+    ascii: r#"listing 1
+`- 1             address 1    full  0001:0002 hub, 11 ports  0 of 500 mA
+   |- 1.2        address 2    full  0001:0002 hub, 11 ports  0 of 500 mA
+   |  `- 1.2.11  address 4    low   1234:0001 HID mouse  100 of 500 mA
+   `- 1.10       address 3    low   1234:0001 HID mouse  100 of 500 mA
+"#,
+};
+
+pub(super) const ROWS: [Row; 11] = [
     A_FUNCTION,
     A_TREE_OF_HUBS,
     A_HUB_BESIDE_A_FUNCTION,
@@ -492,6 +533,8 @@ pub(super) const ROWS: [Row; 9] = [
     STRINGS,
     TRANSFERS,
     CLASSES,
+    A_WIDE_HUB,
     BROKEN_RULES,
+    BROKEN_RULES_OF_WIDE_HUBS,
     RULES_OF_WHAT_IS_PLUGGED,
 ];

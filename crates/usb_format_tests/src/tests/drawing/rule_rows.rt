@@ -232,3 +232,51 @@ listing 3
 `- 1  refused: malformed or repeated: configuration 0; configs[0], byte 2: wTotalLength is 8, it is at least 9
 "#,
 };
+
+/// The same of a host that takes wide hubs. The last device breaks no rule of its bytes alone: its status endpoint has no
+/// room for the changes of its ports.
+pub(super) const BROKEN_RULES_OF_WIDE_HUBS: Row = Row {
+    name: "broken rules of wide hubs",
+    plan: r#"limit = 20000
+roots = 3
+wide_hubs = true
+event = [
+  { do = "plug", path = "1", device = "short" },
+  { do = "plug", path = "2", device = "sixteen" },
+  { do = "plug", path = "3", device = "small status" },
+]
+
+[[device]]
+name = "short"
+speed = "full"
+descriptor = "120100020900004001000200000100000001"
+configs = ["09021900010100C000090400000109000000070581030200FF"]
+ports = 8
+hub_descriptor = "0A29080100000000000000"
+
+[[device]]
+name = "sixteen"
+speed = "full"
+descriptor = "120100020900004001000200000100000001"
+configs = ["09021900010100C000090400000109000000070581030200FF"]
+ports = 15
+hub_descriptor = "0D29100100000000000000FFFF"
+
+[[device]]
+name = "small status"
+speed = "full"
+descriptor = "120100020900004001000200000100000001"
+configs = ["09021900010100C000090400000109000000070581030100FF"]
+ports = 8
+"#,
+    lines: r#"listing 1
+├─ 1  refused: a hub that cannot be served; hub_descriptor, byte 0: bDescLength is 10, with more than 7 ports it is at least 11
+├─ 2  refused: a hub that cannot be served; hub_descriptor, byte 2: bNbrPorts is 16, it is 1 to 15
+└─ 3  refused: a hub that cannot be served
+"#,
+    ascii: r#"listing 1
+|- 1  refused: a hub that cannot be served; hub_descriptor, byte 0: bDescLength is 10, with more than 7 ports it is at least 11
+|- 2  refused: a hub that cannot be served; hub_descriptor, byte 2: bNbrPorts is 16, it is 1 to 15
+`- 3  refused: a hub that cannot be served
+"#,
+};

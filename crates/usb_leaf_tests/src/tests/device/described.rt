@@ -1,8 +1,8 @@
 //! Devices as they are described.
 use super::kinds::{
-    BULK, BUS_HUB, EMPTY, FUNCTION, HUB, LATE_HALT, LOW, NO_CONFIG, NO_SET_CONFIG, NO_STATUS,
-    NO_STRING, ODD, ODD_HUB, OWN, Own, OwnText, Plan, Refused, SHORT, STALLING, TEXTS, new_device,
-    spec_of,
+    BULK, BUS_HUB, EMPTY, FUNCTION, HUB, HUB_AT_2, LATE_HALT, LOW, NO_CONFIG, NO_SET_CONFIG,
+    NO_STATUS, NO_STRING, ODD, ODD_HUB, OWN, Own, OwnText, Plan, Refused, SHORT, STALLING, TEXTS,
+    WIDE_HUB, new_device, spec_of,
 };
 use std::alloc::{AllocError, Global};
 use std::test::Fail;
@@ -26,6 +26,8 @@ const PLANS: &[Plan] = &[
     HUB,
     BUS_HUB,
     ODD_HUB,
+    WIDE_HUB,
+    HUB_AT_2,
     LOW,
     ODD,
     OWN,

@@ -1,5 +1,5 @@
 //! Hubs, packet by packet.
-use super::kinds::{BUS_HUB, HUB};
+use super::kinds::{BUS_HUB, HUB, HUB_AT_2, WIDE_HUB};
 use super::packets::Exchange;
 use super::packets::Host::{Ack, Data0, In, InAt, Setup};
 use super::steps::Row;
@@ -102,6 +102,62 @@ const CHANGES: &[Row] = &[
             Asks(1, SET_CONFIGURATION),
             Gets(InAt(1, 1), "NAK"),
             PortBytes(1, Some([0, 0, 0, 0])),
+        ],
+    },
+    Row {
+        about: "a hub of more than seven ports tells its changes in two bytes (11.12.4)",
+        device: &WIDE_HUB,
+        steps: &[
+            TakesAddress,
+            Asks(1, SET_CONFIGURATION),
+            Answers(
+                1,
+                &[0xa0, 6, 0, 0x29, 0, 0, 9, 0],
+                "DATA1 0B290A010000000000",
+            ),
+            Gets(Ack, "none"),
+            Answers(
+                1,
+                &[0xa0, 6, 0, 0x29, 0, 0, 11, 0],
+                "DATA1 0B290A010000000000FFFF",
+            ),
+            Gets(Ack, "none"),
+            PortBytes(10, Some([0, 0, 0, 0])),
+            PortBytes(11, None),
+            Asks(1, &[0x23, 3, 8, 0, 9, 0, 0, 0]),
+            Gets(InAt(1, 1), "NAK"),
+            Plugs(9, &[]),
+            Gets(InAt(1, 1), "DATA0 0002"),
+            Gets(Ack, "none"),
+            Asks(1, POWER_PORT_1),
+            Plugs(1, &[]),
+            Gets(InAt(1, 1), "DATA1 0202"),
+            Gets(Ack, "none"),
+            Asks(1, &[0x23, 1, 16, 0, 9, 0, 0, 0]),
+            Gets(InAt(1, 1), "DATA0 0200"),
+            Asks(1, CLEAR_CONNECTION_CHANGE),
+            Gets(InAt(1, 1), "DATA0 0200"),
+            Gets(Ack, "none"),
+            Gets(InAt(1, 1), "NAK"),
+        ],
+    },
+    Row {
+        about: "a hub tells its changes at the number that its configuration has (11.23.1)",
+        device: &HUB_AT_2,
+        steps: &[
+            TakesAddress,
+            Gets(InAt(1, 2), "none"),
+            Asks(1, SET_CONFIGURATION),
+            Asks(1, POWER_PORT_1),
+            Gets(InAt(1, 2), "NAK"),
+            Plugs(1, &[]),
+            Gets(InAt(1, 1), "none"),
+            Gets(InAt(1, 2), "DATA0 02"),
+            Gets(Ack, "none"),
+            Asks(1, &[2, 3, 0, 0, 0x82, 0, 0, 0]),
+            Gets(InAt(1, 2), "STALL"),
+            Asks(1, &[2, 1, 0, 0, 0x82, 0, 0, 0]),
+            Gets(InAt(1, 2), "DATA0 02"),
         ],
     },
 ];

@@ -363,6 +363,29 @@ pub(super) const ODD_HUB: Plan = Plan {
     ..HUB
 };
 
+/// A hub with ten ports, which reports its changes in two bytes.
+pub(super) const WIDE_HUB: Plan = Plan {
+    name: "hub10",
+    configs: &[&[
+        9, 2, 25, 0, 1, 1, 0, 192, 0, 9, 4, 0, 0, 1, 9, 0, 0, 0, 7, 5, 129, 3, 2, 0, 255,
+    ]],
+    hub: Some(HubText {
+        ports: 10,
+        usual: true,
+        descriptor: &[11, 0x29, 10, 1, 0, 0, 0, 0, 0, 0xff, 0xff],
+    }),
+    ..HUB
+};
+
+/// A hub with two ports, which reports its changes at endpoint 2.
+pub(super) const HUB_AT_2: Plan = Plan {
+    name: "hub at 2",
+    configs: &[&[
+        9, 2, 25, 0, 1, 1, 0, 192, 0, 9, 4, 0, 0, 1, 9, 0, 0, 0, 7, 5, 130, 3, 1, 0, 255,
+    ]],
+    ..HUB
+};
+
 /// A low-speed function.
 pub(super) const LOW: Plan = Plan {
     name: "low",
@@ -465,7 +488,7 @@ fn function(alloc: Global, plan: &Plan) -> Result<DeviceSpec, AllocError> {
 
 /// The usual hub takes the place of one whose descriptor has other ports.
 fn hub_spec(alloc: Global, hub: HubText) -> Result<HubSpec, AllocError> {
-    let ports = hub.ports.max(1).min(7);
+    let ports = hub.ports.max(1).min(15);
     let descriptor = bytes(alloc, hub.descriptor)?;
     if !hub.usual && HubSpec::agrees(ports, descriptor.as_slice()) {
         Ok(HubSpec::new(ports, descriptor))

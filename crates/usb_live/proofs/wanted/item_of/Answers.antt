@@ -2,7 +2,8 @@ use Rattle.std.proofs.Common.{refl}
 use Rattle.usb_live.proofs.wanted.item_of.Goals as goal
 
 pub returns-in-Ok-clause-shown : goal.returns-in-Ok-clause-shown
-returns-in-Ok-clause-shown g c = rw c.in-Ok.ensures.entries (_, c.in-Ok.ensures.agree)
+returns-in-Ok-clause-shown g c = rw c.in-Ok.ensures.entries
+    ((_, _, c.in-Ok.ensures.agree), c.none.ensures)
 
 pub returns-in_ok-all_news-in-News-clause-does : goal.returns-in_ok-all_news-in-News-clause-does
 returns-in_ok-all_news-in-News-clause-does g c = λ _. rw c.in-News.is

@@ -9,7 +9,7 @@ pub device_with-requires : goal.device_with-requires
 device_with-requires c =
     let ms = table_view c.args.table.now in
     record {
-      hub = λ x e. identity_of_ok c.args.earlier.now ms x
+      hub = λ x e. identity_of_ok c.args.wide c.args.earlier.now ms x
           (unless_ok Memory c.identity_of-identity.result _ x c.identity_of-identity.ensures e);
       naks = λ x e. quirks_of_ok ms x (sym c.quirks_of-quirks.ensures ∙ e);
       halt = λ x e. read_bulk_ok ms x (unless_ok Memory c.read_bulk-bulk.result _ x

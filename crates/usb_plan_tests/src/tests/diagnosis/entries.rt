@@ -18,7 +18,7 @@ const INLINE: [Row; 7] = [
     },
     Row {
         text: "limit = 1\nroots = 1\nevent = [\n  { do = \"show\" },\n  { \"do\" = 'show', aftr = 1 },\n]\n",
-        told: "p.toml:5: plan: event 2: bad value\n  event 2, line 5: unknown key `aftr`\n  allowed: `do`, `after`\n  did you mean `after`?\n",
+        told: "p.toml:5: plan: event 2: bad value\n  event 2, line 5: unknown key `aftr`\n  allowed: `do`, `after`, `said`\n  did you mean `after`?\n",
     },
     Row {
         text: "limit = 1\nroots = 1\ndevice = [\n  { name = \"{\", speed = \"full\", descriptor = \"\", configs = [\"\", \"\"] },\n  { name = \"b\" },\n]\n",

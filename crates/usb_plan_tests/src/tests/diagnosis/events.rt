@@ -3,7 +3,7 @@ use super::{FUNCTION, Row, check_rows};
 use std::alloc::AllocError;
 
 /// An event that begins on line 8.
-const EVENTS: [Row; 25] = [
+const EVENTS: [Row; 27] = [
     Row {
         text: "[[event]]\npath = \"1\"\n",
         told: "p.toml:8: plan: event 1: missing key\n  event 1, line 8: no key `do`\n  allowed: \"plug\", \"unplug\", \"show\", \"send\", \"receive\", \"clear\", \"interrupt\", \"control\", \"interface\", \"look\" or \"news\"\n  such as: do = \"plug\"\n",
@@ -55,6 +55,14 @@ const EVENTS: [Row; 25] = [
     Row {
         text: "[[event]]\ndo = \"show\"\nafter = 1.5\n",
         told: "p.toml:10: plan: event 1: bad value\n  event 1, line 8: `after` is 1.5\n  allowed: a number from 0 to 1000000000\n",
+    },
+    Row {
+        text: "[[event]]\ndo = \"show\"\nsaid = 1\n",
+        told: "p.toml:10: plan: event 1: bad value\n  event 1, line 8: `said` is 1\n  allowed: true or false\n",
+    },
+    Row {
+        text: "[[event]]\ndo = \"show\"\nsayd = true\n",
+        told: "p.toml:10: plan: event 1: bad value\n  event 1, line 8: unknown key `sayd`\n  allowed: `do`, `after`, `said`\n  did you mean `said`?\n",
     },
     Row {
         text: "[[event]]\ndo = \"clear\"\npath = \"1\"\nbytes = \"00\"\n",
@@ -368,4 +376,41 @@ fn a_bad_path(rt: HostRuntime) -> Result<(), AllocError> {
     let mut before = String::from_str(rt.alloc(), FUNCTION)?;
     before.push_str(HUB)?;
     check_rows(&rt, rt.alloc(), before.as_str(), &PATHS)
+}
+
+/// A plan with wide hubs that has a hub of ten ports, on fourteen lines.
+const WIDE_HUB: &str =
+    "limit = 10000\nroots = 1\nwide_hubs = true\n[[device]]\nname = \"fn\"\nspeed = \"full\"\ndescriptor = \"120100020000004034127856000100000001\"\nconfigs = []\n[[device]]\nname = \"hub\"\nspeed = \"full\"\ndescriptor = \"0102030409\"\nconfigs = []\nports = 10\n";
+
+/// Events of it, and other faults of its.
+const WIDE: [Row; 6] = [
+    Row {
+        text: "[[event]]\ndo = \"clear\"\npath = \"1.16\"\n",
+        told: "p.toml:17: plan: event 1: bad path\n  event 1, line 15: `path` is \"1.16\"\n  no path of ports, each 1 to 15\n  allowed: the numbers of ports from a root port on, joined by dots\n",
+    },
+    Row {
+        text: "[[event]]\ndo = \"clear\"\npath = \"1/15\"\n",
+        told: "p.toml:17: plan: event 1: bad path\n  event 1, line 15: `path` is \"1/15\"\n  no path of ports, each 1 to 15: did you mean \"1.15\"?\n  allowed: the numbers of ports from a root port on, joined by dots\n",
+    },
+    Row {
+        text: "[[event]]\ndo = \"clear\"\npath = \"1.2.3.4.5.6.7.15\"\n",
+        told: "p.toml:17: plan: event 1: bad path\n  event 1, line 15: `path` is \"1.2.3.4.5.6.7.15\"\n  too deep: a path has at most 7 ports\n  allowed: the numbers of ports from a root port on, joined by dots\n",
+    },
+    Row {
+        text: "[[event]]\ndo = \"clear\"\npath = \"10.1\"\n",
+        told: "p.toml:17: plan: event 1: bad path\n  event 1, line 15: `path` is \"10.1\"\n  no such root port: `roots` is 1\n  allowed: the numbers of ports from a root port on, joined by dots\n",
+    },
+    Row {
+        text: "[[event]]\ndo = \"plug\"\npath = \"1\"\ndevice = \"hub\"\n[[event]]\ndo = \"plug\"\npath = \"1.11\"\ndevice = \"fn\"\n",
+        told: "p.toml:21: plan: event 2: bad path\n  event 2, line 19: `path` is \"1.11\"\n  \"hub\", which is plugged at 1, has only ports 1 to 10\n  allowed: the numbers of ports from a root port on, joined by dots\n",
+    },
+    Row {
+        text: "[[device]]\nname = \"k\"\nspeed = \"full\"\ndescriptor = \"0102030409\"\nconfigs = []\nports = 16\n",
+        told: "p.toml:20: plan: device 3: bad value\n  device 3 \"k\", line 15: `ports` is 16\n  allowed: a number from 1 to 15, at full speed, where the descriptor's fifth byte is 09\n",
+    },
+];
+
+#[test]
+fn a_plan_with_wide_hubs(rt: HostRuntime) -> Result<(), AllocError> {
+    check_rows(&rt, rt.alloc(), WIDE_HUB, &WIDE)
 }

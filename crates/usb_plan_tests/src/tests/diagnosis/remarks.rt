@@ -6,6 +6,9 @@ use usb_diagnosis::{Verdict, check_text};
 /// What all these plans hold, apart from the device.
 const HEAD: &str = "limit = 10000\nroots = 1\n[[device]]\n";
 
+/// The same of a plan whose host takes wide hubs.
+const WIDE_HEAD: &str = "limit = 10000\nroots = 1\nwide_hubs = true\n[[device]]\n";
+
 /// What is reported of each of them first.
 const COUNTS: &str = "devices 1\nevents 0\ndamages 0\nbound 2\n";
 
@@ -34,11 +37,12 @@ struct Remarked {
 fn check_remarks(
     rt: &impl Abort,
     alloc: Global,
-    others: &str,
+    before: [&str; 2],
     rows: &[Remarked],
 ) -> Result<(), AllocError> {
     for row in rows {
-        let text = format!(in alloc; "{HEAD}{others}{}", row.line)?;
+        let text = before.concat(alloc)?;
+        let text = format!(in alloc; "{text}{}", row.line)?;
         let checked = check_text(alloc, "p.toml", text.as_bytes())?;
         let expected = format!(in alloc; "{COUNTS}{}", row.told)?;
         assert_eq!(rt;
@@ -93,7 +97,7 @@ const DESCRIPTORS: [Remarked; 9] = [
 
 #[test]
 fn a_device_descriptor(rt: HostRuntime) -> Result<(), AllocError> {
-    check_remarks(&rt, rt.alloc(), WITH_CONFIG, &DESCRIPTORS)
+    check_remarks(&rt, rt.alloc(), [HEAD, WITH_CONFIG], &DESCRIPTORS)
 }
 
 const CONFIGS: [Remarked; 14] = [
@@ -157,7 +161,7 @@ const CONFIGS: [Remarked; 14] = [
 
 #[test]
 fn a_configuration(rt: HostRuntime) -> Result<(), AllocError> {
-    check_remarks(&rt, rt.alloc(), WITH_ONE, &CONFIGS)
+    check_remarks(&rt, rt.alloc(), [HEAD, WITH_ONE], &CONFIGS)
 }
 
 const SECONDS: [Remarked; 4] = [
@@ -181,10 +185,10 @@ const SECONDS: [Remarked; 4] = [
 
 #[test]
 fn a_second_configuration(rt: HostRuntime) -> Result<(), AllocError> {
-    check_remarks(&rt, rt.alloc(), WITH_TWO, &SECONDS)
+    check_remarks(&rt, rt.alloc(), [HEAD, WITH_TWO], &SECONDS)
 }
 
-const HUBS: [Remarked; 6] = [
+const HUBS: [Remarked; 7] = [
     Remarked {
         line: "self_powered = true\n",
         told: "",
@@ -209,11 +213,48 @@ const HUBS: [Remarked; 6] = [
         line: "hub_descriptor = \"0929080100000000FF\"\n",
         told: "remark: device \"d\", hub_descriptor, byte 2: bNbrPorts is 8, it is 1 to 7\n",
     },
+    Remarked {
+        line: "hub_descriptor = \"0B29100100000000FF\"\n",
+        told: "remark: device \"d\", hub_descriptor, byte 2: bNbrPorts is 16, it is 1 to 7\n",
+    },
 ];
 
 #[test]
 fn a_hub(rt: HostRuntime) -> Result<(), AllocError> {
-    check_remarks(&rt, rt.alloc(), WITH_PORTS, &HUBS)
+    check_remarks(&rt, rt.alloc(), [HEAD, WITH_PORTS], &HUBS)
+}
+
+/// With more than seven ports, DeviceRemovable and PortPwrCtrlMask have two bytes each.
+const WIDE_HUBS: [Remarked; 6] = [
+    Remarked {
+        line: "hub_descriptor = \"0929020100000000FF\"\n",
+        told: "",
+    },
+    Remarked {
+        line: "hub_descriptor = \"0929080100000000FF\"\n",
+        told: "remark: device \"d\", hub_descriptor, byte 0: bDescLength is 9, with more than 7 ports it is at least 11\n",
+    },
+    Remarked {
+        line: "hub_descriptor = \"0A290F0100000000FF\"\n",
+        told: "remark: device \"d\", hub_descriptor, byte 0: bDescLength is 10, with more than 7 ports it is at least 11\n",
+    },
+    Remarked {
+        line: "hub_descriptor = \"0829080100000000FF\"\n",
+        told: "remark: device \"d\", hub_descriptor, byte 0: bDescLength is 8, it is at least 9\n",
+    },
+    Remarked {
+        line: "hub_descriptor = \"0B29100100000000FF\"\n",
+        told: "remark: device \"d\", hub_descriptor, byte 2: bNbrPorts is 16, it is 1 to 15\n",
+    },
+    Remarked {
+        line: "hub_descriptor = \"0929000100000000FF\"\n",
+        told: "remark: device \"d\", hub_descriptor, byte 2: bNbrPorts is 0, it is 1 to 15\n",
+    },
+];
+
+#[test]
+fn a_hub_of_a_plan_with_wide_hubs(rt: HostRuntime) -> Result<(), AllocError> {
+    check_remarks(&rt, rt.alloc(), [WIDE_HEAD, WITH_PORTS], &WIDE_HUBS)
 }
 
 /// Each of the devices with a remark has one line, and a name does not end it.
@@ -224,7 +265,7 @@ const SLOW: [Remarked; 1] = [Remarked {
 
 #[test]
 fn a_name_that_could_end_the_line(rt: HostRuntime) -> Result<(), AllocError> {
-    check_remarks(&rt, rt.alloc(), "", &SLOW)
+    check_remarks(&rt, rt.alloc(), [HEAD, ""], &SLOW)
 }
 
 #[test]

@@ -2,7 +2,7 @@
 use super::{Row, check_rows};
 use std::alloc::AllocError;
 
-const ROWS: [Row; 13] = [
+const ROWS: [Row; 15] = [
     Row {
         text: "",
         told: "p.toml: plan: top: missing key\n  top: no key `limit`\n  allowed: a number from 0 to 100000000000000\n  such as: limit = 10000\n",
@@ -29,15 +29,15 @@ const ROWS: [Row; 13] = [
     },
     Row {
         text: "limit = 1\nroots = 1\n[[devices]]\nname = \"a\"\n",
-        told: "p.toml:3: plan: top: bad value\n  top: unknown key `devices`\n  allowed: `limit`, `roots`, `device`, `event`, `damage`\n  did you mean `device`?\n",
+        told: "p.toml:3: plan: top: bad value\n  top: unknown key `devices`\n  allowed: `limit`, `roots`, `wide_hubs`, `device`, `event`, `damage`\n  did you mean `device`?\n",
     },
     Row {
         text: "limit = 1\nroots = 1\nspeed.all = \"full\"\n",
-        told: "p.toml:3: plan: top: bad value\n  top: unknown key `speed`\n  allowed: `limit`, `roots`, `device`, `event`, `damage`\n",
+        told: "p.toml:3: plan: top: bad value\n  top: unknown key `speed`\n  allowed: `limit`, `roots`, `wide_hubs`, `device`, `event`, `damage`\n",
     },
     Row {
         text: "limit = 1\nroots = 1\n\"a\\tb\" = 2\n",
-        told: "p.toml:3: plan: top: bad value\n  top: unknown key `a\\u0009b`\n  allowed: `limit`, `roots`, `device`, `event`, `damage`\n",
+        told: "p.toml:3: plan: top: bad value\n  top: unknown key `a\\u0009b`\n  allowed: `limit`, `roots`, `wide_hubs`, `device`, `event`, `damage`\n",
     },
     Row {
         text: "limit = 100_000_000_000_001\nroots = 1\n",
@@ -50,6 +50,14 @@ const ROWS: [Row; 13] = [
     Row {
         text: "limit = 1\nroots = true\n",
         told: "p.toml:2: plan: top: bad value\n  top: `roots` is true\n  allowed: a number from 1 to 7\n",
+    },
+    Row {
+        text: "limit = 1\nroots = 1\nwide_hubs = 1\n",
+        told: "p.toml:3: plan: top: bad value\n  top: `wide_hubs` is 1\n  allowed: true or false\n",
+    },
+    Row {
+        text: "limit = 1\nroots = 1\nwide_hub = true\n",
+        told: "p.toml:3: plan: top: bad value\n  top: unknown key `wide_hub`\n  allowed: `limit`, `roots`, `wide_hubs`, `device`, `event`, `damage`\n  did you mean `wide_hubs`?\n",
     },
     Row {
         text: "limit = 1\nroots = 1\ndamage = \"none\"\n",

@@ -79,6 +79,8 @@ const KEYS: [Cases; 3] = [
             "ports = \"1\"",
             "ports = 2\nhub_descriptor = \"0929030100000000FF\"",
             "ports = 8\nhub_descriptor = \"0\"",
+            // a hub descriptor of eight ports, for two
+            "ports = 2\nhub_descriptor = \"0B29080100000000FF\"",
             "ports = 2\nhub_descriptor = 0",
             "hub_descriptor = \"0\"",
             "hub_descriptor = \"0929020100000000FF\"",
@@ -282,6 +284,46 @@ const ENDPOINTS: [Cases; 4] = [
         ],
     },
 ];
+
+/// Further lines of a second device, of class 9 and full speed, in a plan with wide hubs.
+const WIDE: [Cases; 2] = [
+    Cases {
+        told: "plan",
+        texts: &[
+            "ports = 1",
+            "ports = 7",
+            "ports = 8",
+            "ports = 15",
+            "ports = 2\nhub_descriptor = \"0929020100000000FF\"",
+            "ports = 10\nhub_descriptor = \"0B290A010000000000FFFF\"",
+            "ports = 15\nhub_descriptor = \"0B290F010000000000\"",
+            // these are no hub descriptors: nine bytes for eight ports, and sixteen ports
+            "ports = 2\nhub_descriptor = \"0929080100000000FF\"",
+            "ports = 2\nhub_descriptor = \"0B29100100000000FF\"",
+        ],
+    },
+    Cases {
+        told: "plan: device 2: bad value",
+        texts: &[
+            "ports = 0",
+            "ports = 16",
+            "ports = true",
+            "ports = 9\nhub_descriptor = \"0B290A010000000000FFFF\"",
+            "ports = 2\nhub_descriptor = \"0B29080100000000FF\"",
+            "ports = 10\nhub_descriptor = \"0929020100000000FF\"",
+        ],
+    },
+];
+
+#[test]
+fn ports_of_wide_hubs(rt: HostRuntime) -> Result<(), AllocError> {
+    check(
+        &rt,
+        rt.alloc(),
+        &["wide_hubs = true\n", FUNCTION, HUB],
+        &WIDE,
+    )
+}
 
 #[test]
 fn devices(rt: HostRuntime) -> Result<(), AllocError> {

@@ -6,7 +6,12 @@ use std::alloc::AllocError;
 const TOPS: [Cases; 5] = [
     Cases {
         told: "plan",
-        texts: &["limit = 100000000000000\nroots = 7", "limit = 0\nroots = 7"],
+        texts: &[
+            "limit = 100000000000000\nroots = 7",
+            "limit = 0\nroots = 7",
+            "limit = 0\nroots = 7\nwide_hubs = true",
+            "wide_hubs = false\nlimit = 0\nroots = 7",
+        ],
     },
     Cases {
         told: "plan: syntax",
@@ -14,7 +19,12 @@ const TOPS: [Cases; 5] = [
     },
     Cases {
         told: "plan: top: missing key",
-        texts: &["roots = 1", "limit = 1\ndamages = []", "limit = 1"],
+        texts: &[
+            "roots = 1",
+            "limit = 1\ndamages = []",
+            "limit = 1",
+            "limit = 1\nwide_hubs = 1",
+        ],
     },
     Cases {
         told: "plan: top: bad value",
@@ -23,6 +33,11 @@ const TOPS: [Cases; 5] = [
             "limit = 100000000000001\nroots = 7",
             "limit = 1\nroots = 0",
             "limit = 1\nroots = 8",
+            "limit = 1\nroots = 8\nwide_hubs = true",
+            "limit = 1\nroots = 1\nwide_hubs = 1",
+            "limit = 1\nroots = 1\nwide_hubs = \"true\"",
+            "limit = 1\nroots = 1\nwide_hubs = [true]",
+            "limit = 1\nroots = 1\nwide_hub = true",
             "limit = 1\nroots = \"1\"",
             "limit = 1\nroots = 1\ndamages = []",
             "limit = 1\nroots = 1\ndevice = 1",

@@ -10,6 +10,8 @@ const EVENTS: [Cases; 8] = [
             "do = \"plug\"\npath = \"1\"\ndevice = \"fn\"",
             "do = \"plug\"\npath = \"1\"\ndevice = \"fn\"\nafter = 1000000000",
             "do = \"show\"\nafter = 0",
+            "do = \"show\"\nsaid = true",
+            "said = false\ndo = \"show\"\nafter = 9",
             "do = \"receive\"\npath = \"1\"\npackets = 0",
             "do = \"clear\"\npath = \"1.1.1.1.1.1.1\"",
             "do = \"clear\"\npath = \"1.7.7.7.7.7.7\"",
@@ -45,6 +47,13 @@ const EVENTS: [Cases; 8] = [
             "do = \"plug\"\npath = \"8\"\ndevice = \"fn\"\nbytes = \"\"",
             "do = \"plugs\"",
             "do = 1\npath = \"8\"",
+            "do = \"show\"\nsaid = 1",
+            "do = \"show\"\nsaid = \"true\"",
+            "do = \"show\"\nsay = true",
+            "do = \"news\"\nsaid = true",
+            "do = \"look\"\npath = \"1\"\nsaid = true",
+            "do = \"clear\"\npath = \"1\"\nsaid = false",
+            "do = \"plug\"\npath = \"1\"\ndevice = \"fn\"\nsaid = true",
             "do = \"show\"\nafter = -1",
             "do = \"show\"\nafter = \"0\"",
             "do = \"plug\"\npath = \"1\"\ndevice = 1",
@@ -327,6 +336,39 @@ const HUB_EVENTS: [Cases; 4] = [
         ],
     },
 ];
+
+/// Lines of the first event of a plan with wide hubs.
+const WIDE: [Cases; 2] = [
+    Cases {
+        told: "plan",
+        texts: &[
+            "do = \"clear\"\npath = \"1.8\"",
+            "do = \"clear\"\npath = \"1.9.10.11.12.13.14\"",
+            "do = \"look\"\npath = \"1.15.15.15.15.15.15\"",
+            "do = \"plug\"\npath = \"1\"\ndevice = \"fn\"",
+        ],
+    },
+    Cases {
+        told: "plan: event 1: bad path",
+        texts: &[
+            "do = \"clear\"\npath = \"1.16\"",
+            "do = \"clear\"\npath = \"1.0\"",
+            "do = \"clear\"\npath = \"1.08\"",
+            "do = \"clear\"\npath = \"1.100\"",
+            "do = \"clear\"\npath = \"1.10.\"",
+            "do = \"clear\"\npath = \"1.1.1.1.1.1.1.10\"",
+            "do = \"clear\"\npath = \"8\"",
+            "do = \"clear\"\npath = \"10\"",
+            "do = \"plug\"\npath = \"1.10\"\ndevice = \"fn\"",
+        ],
+    },
+];
+
+#[test]
+fn paths_of_wide_hubs(rt: HostRuntime) -> Result<(), AllocError> {
+    let before = ["wide_hubs = true\n", FUNCTION, "[[event]]\n"];
+    check(&rt, rt.alloc(), &before, &WIDE)
+}
 
 #[test]
 fn keys_of_each_event(rt: HostRuntime) -> Result<(), AllocError> {

@@ -119,6 +119,8 @@ fn put_action(text: &mut String, action: &Action) -> Result<(), AllocError> {
         }
         Action::Ask(Ask::Look(path)) => write!(text, "look {}", path.text()),
         Action::Ask(Ask::News) => text.push_str("news"),
+        Action::Ask(Ask::Show { said: false }) => text.push_str("show"),
+        Action::Ask(Ask::Show { said: true }) => text.push_str("show said"),
         _ => text.push_str("other"),
     }
 }
@@ -141,7 +143,8 @@ fn put_entries(text: &mut String, plan: &Plan) -> Result<(), AllocError> {
 /// All that a plan holds.
 fn printed(alloc: Global, plan: &Plan) -> Result<String, AllocError> {
     let (limit, roots, attempts) = (plan.limit(), plan.roots(), bound(plan));
-    let mut text = format!(in alloc; "limit {limit}, roots {roots}, bound {attempts}")?;
+    let wide = if plan.wide_hubs() { ", wide hubs" } else { "" };
+    let mut text = format!(in alloc; "limit {limit}, roots {roots}{wide}, bound {attempts}")?;
     put_entries(&mut text, plan)?;
     Ok(text)
 }
@@ -166,7 +169,7 @@ struct Example {
     read: &'static str,
 }
 
-const EXAMPLES: [Example; 13] = [
+const EXAMPLES: [Example; 14] = [
     Example {
         text: &["limit = 0\nroots = 1\n"],
         read: "limit 0, roots 1, bound 2",
@@ -253,6 +256,13 @@ const EXAMPLES: [Example; 13] = [
             "limit = 1\nroots = 1\n[[event]]\ndo = \"interface\"\npath = \"1.7\"\nsetting = 255\ninterface = 2\nafter = 3\n",
         ],
         read: "limit 1, roots 1, bound 6050002; 3 interface 1.7 2 255",
+    },
+    Example {
+        text: &[
+            "limit = 1\nroots = 1\nwide_hubs = true\n[[event]]\ndo = \"show\"\n[[event]]\ndo = \"show\"\nsaid = true\n",
+            "[[event]]\ndo = \"clear\"\npath = \"1.15.10\"\n[[event]]\ndo = \"show\"\nsaid = false\nafter = 2\n",
+        ],
+        read: "limit 1, roots 1, wide hubs, bound 24800002; 0 show; 0 show said; 0 clear 1.15.10; 2 show",
     },
 ];
 

@@ -6,11 +6,11 @@ use Rattle.usb_run.proofs.runs.asked_item.Goals as goal
 
 pub returns-in_ok-listing-in-Show-clause-on : goal.returns-in_ok-listing-in-Show-clause-on
 returns-in_ok-listing-in-Show-clause-on g c =
-    listing_asked _ _ _ c.in-Show.is c.in_ok-listing-in-Show.ensures.item c.requires.running
+    listing_asked _ _ _ _ c.in-Show.is c.in_ok-listing-in-Show.ensures.item c.requires.running
 
 pub returns-in_err-listing-in-Show-clause-on : goal.returns-in_err-listing-in-Show-clause-on
 returns-in_err-listing-in-Show-clause-on g c =
-    listing_refused _ _ _ _ c.in-Show.is c.from_residual.ensures.1
+    listing_refused _ _ _ _ _ c.in-Show.is c.from_residual.ensures.1
     c.in_err-listing-in-Show.ensures.fault
 
 pub returns-in_ok-send-in-Send-clause-on : goal.returns-in_ok-send-in-Send-clause-on

@@ -42,14 +42,14 @@ pub returns-in-Moved-clause-polls : goal.returns-in-Moved-clause-polls
 returns-in-Moved-clause-polls g c known =
     let made = rw c.attempt_of_in-attempt.ensures.value at (c.in-Ok.ensures.attempts known) in
     rw c.data.ensures (polls_in c.args.target c.args.ep c.args.toggle.now _ _
-    c.requires.target.max_least (g.met.B.Bus.settled known c.args.bus.now) c.tries.invariant.0 (Ok
+    (g.met.B.Bus.settled known c.args.bus.now) c.tries.invariant.0 (Ok
     (Some c.in-Moved.bytes.items)) (told_moved (c.tries.invariant.2 known) made c.in-Moved.bytes
     (sym (ap polled c.in-Moved.ensures))) (read_fits c.tries.toggle _ c.in-Moved.bytes
     c.in-Moved.ensures made))
 
 pub returns-in-NotReady-clause-polls : goal.returns-in-NotReady-clause-polls
 returns-in-NotReady-clause-polls g c known = polls_in c.args.target c.args.ep c.args.toggle.now _ _
-    c.requires.target.max_least (g.met.B.Bus.settled known c.args.bus.now) c.tries.invariant.0 (Ok
+    (g.met.B.Bus.settled known c.args.bus.now) c.tries.invariant.0 (Ok
     None) (told_waiting (c.tries.invariant.2 known) (rw c.attempt_of_in-attempt.ensures.value at
     (c.in-Ok.ensures.attempts known)) (heard_as-nak _ _ c.in-NotReady.ensures)) tt
 
@@ -58,14 +58,14 @@ returns-in_err-wait-in-Repeat-clause-polls g c known =
     let end = c.in_err-wait-in-Repeat.ensures.end in
     let told = err_from_is_err_and c.from_residual.result c.from_residual.ensures.1 in
     rw (told.1, told.2, end.0) (polls_in c.args.target c.args.ep c.args.toggle.now _ _
-    c.requires.target.max_least (g.met.B.Bus.settled known c.args.bus.now) c.tries.invariant.0 (Err
+    (g.met.B.Bus.settled known c.args.bus.now) c.tries.invariant.0 (Err
     Busy) (told_busy (c.tries.invariant.2 known) (rw c.attempt_of_in-attempt.ensures.value at
     (c.in-Ok.ensures.attempts known)) Repeat _ (ap polled c.in-Repeat.ensures) (inr refl)
     c.wait.ensures.count end.1) tt)
 
 pub returns-in-Refused-clause-polls : goal.returns-in-Refused-clause-polls
 returns-in-Refused-clause-polls g c known = polls_in c.args.target c.args.ep c.args.toggle.now _ _
-    c.requires.target.max_least (g.met.B.Bus.settled known c.args.bus.now) c.tries.invariant.0 (Err
+    (g.met.B.Bus.settled known c.args.bus.now) c.tries.invariant.0 (Err
     Stalled) (told_stalled (c.tries.invariant.2 known) (rw c.attempt_of_in-attempt.ensures.value at
     (c.in-Ok.ensures.attempts known)) (heard_stall _ _ c.in-Refused.ensures)) tt
 
@@ -75,14 +75,14 @@ returns-in_err-error-in-Lost-clause-polls g c known =
     let told = err_from_is_err_and c.from_residual-in_err-error-in-Lost.result
     c.from_residual-in_err-error-in-Lost.ensures.1 in
     rw (told.1, told.2, end.0) (polls_in c.args.target c.args.ep c.args.toggle.now _ _
-    c.requires.target.max_least (g.met.B.Bus.settled known c.args.bus.now) c.tries.invariant.0 (Err
+    (g.met.B.Bus.settled known c.args.bus.now) c.tries.invariant.0 (Err
     NoAnswer) (told_silent (c.tries.invariant.2 known) (rw c.attempt_of_in-attempt.ensures.value at
     (c.in-Ok.ensures.attempts known)) _ (ap polled c.in-Lost.ensures) c.error.ensures.count end.1)
     tt)
 
 pub returns-in-Err-clause-polls : goal.returns-in-Err-clause-polls
 returns-in-Err-clause-polls g c known = polls_in c.args.target c.args.ep c.args.toggle.now _ _
-    c.requires.target.max_least (g.met.B.Bus.settled known c.args.bus.now) c.tries.invariant.0 (Err
+    (g.met.B.Bus.settled known c.args.bus.now) c.tries.invariant.0 (Err
     (Bus c.in-Err.fault)) (told_cut (c.tries.invariant.2 known) (rw
     c.attempt_of_in-attempt.ensures.value at (c.in-Err.ensures.attempts known))) tt
 

@@ -7,7 +7,6 @@ use Rattle.clap.specs.declared.parser.matches.ArgMatches.TheViews.{out-ArgMatche
 use Rattle.std.specs.Box.{box_value}
 use Rattle.clap.proofs.WalkLemmas.{first_value-rows, one_text-rows}
 use Rattle.usb_words.specs.{HasSubcommand, program_app}
-use Rattle.usb_words.proofs.Numbers.{number_text}
 use Rattle.usb_words.proofs.words.words_of.Goals as goal
 
 -- the subcommand's name and rows as one pair
@@ -91,20 +90,3 @@ returns-in_ok-get_str-in-Some-far-default c =
     let arm = c.in-Some-far-default in
     command_of c.args.matches.now arm.found.now (codes "far") _ (sym (ap Some arm.is-far)
     ∙ arm.ensures.name) arm.ensures.rows c.in_ok-get_str-in-Some-far-default.ensures
-
-pub returns-in_ok-get_one-in-Some-live-default : goal.returns-in_ok-get_one-in-Some-live-default
-returns-in_ok-get_one-in-Some-live-default c = λ words read.
-    let arm = c.in-Some-live-default in
-    let found = found_of arm.found.now in
-    let text = number_text (one_text found (codes "limit")) c.get_one.result _
-    c.get_one.ensures.none c.in_ok-get_one-in-Some-live-default.was in
-    let value = c.in_ok-get_one-in-Some-live-default.ensures.value text.0 text.1 in
-    record {
-      rows = rows_of found;
-      subcommand = sym read ∙ pair_of c.args.matches.now (codes "live") (rows_of found)
-          (sym (ap Some arm.is-live) ∙ arm.ensures.name) arm.ensures.rows;
-      numeral = text.0;
-      given = sym (one_text-rows found (codes "limit")) ∙ text.1;
-      is_numeral = value.0.0.0;
-      value = value.0.1;
-    }

@@ -8,7 +8,7 @@ use Rattle.usb_host.proofs.host.Host.clear.Goals as goal
 pub returns-clause-clears : goal.returns-clause-clears
 returns-clause-clears g c known =
     let s = c.clear_port.ensures in
-    rw (← c.self.view_is) (clears_by c.args.port c.args.feature _ _ (s.uses.steps known) refl
+    rw (← c.self.view_is) (clears_by c.args.port c.args.feature _ _ (s.uses.steps known) refl refl
     (s.fault known) (s.effect known) (s.addresses known) (s.ports known) c.at_port.ensures)
 
 pub returns-clause-spends : goal.returns-clause-spends

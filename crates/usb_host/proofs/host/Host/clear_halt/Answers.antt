@@ -30,7 +30,7 @@ returns-clause-tells g c known = record {
       (c.clear_halt.ensures.clears known).did);
   did = first_of (search rules, grind (arith, common_steps));
   keeps = rw (← c.self.view_is) (transfer_kept _ _ _ _ _ c.self.invariant
-      c.clear_halt.ensures.through.entries (c.clear_halt.ensures.clears known).went
+      c.clear_halt.ensures.through.entries refl (c.clear_halt.ensures.clears known).went
       (c.clear_halt.ensures.clears known).keeps c.if-self.false (λ still. still));
 }
 
@@ -45,7 +45,7 @@ returns-clause-any_bus g c = record {
         (g.B.Bus.spent c.clear_halt.new.bus) (g.B.Bus.failed c.clear_halt.new.bus)
         c.self.inside.left g.B.Bus.modelled
         c.clear_halt.result c.clear_halt.ensures.any_bus.1 off);
-    numbers = rw (← c.self.view_is) (keeps_by c.clear_halt.ensures.through.entries refl refl);
+    numbers = rw (← c.self.view_is) (keeps_by c.clear_halt.ensures.through.entries refl refl refl);
   };
   left = rw (← c.self.view_is) (left_same g.B.Bus.modelled (g.B.Bus.spent c.self.inside.bus)
       (g.B.Bus.spent c.clear_halt.new.bus) (g.B.Bus.failed c.self.inside.bus)

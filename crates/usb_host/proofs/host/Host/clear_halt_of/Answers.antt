@@ -33,7 +33,7 @@ returns-clause-tells g c known = record {
       (c.clear_halt_of.ensures.clears known).did);
   did = first_of (search rules, grind (arith, common_steps));
   keeps = rw (← c.self.view_is) (transfer_kept _ _ _ _ _ c.self.invariant
-      c.clear_halt_of.ensures.through.entries (c.clear_halt_of.ensures.clears known).went
+      c.clear_halt_of.ensures.through.entries refl (c.clear_halt_of.ensures.clears known).went
       (c.clear_halt_of.ensures.clears known).keeps c.if-self.false (λ still. still));
 }
 
@@ -49,7 +49,8 @@ returns-clause-any_bus g c = record {
           (g.B.Bus.spent c.clear_halt_of.new.bus) (g.B.Bus.failed c.clear_halt_of.new.bus)
           c.self.inside.left g.B.Bus.modelled c.clear_halt_of.result
           c.clear_halt_of.ensures.any_bus.1 off);
-      numbers = rw (← c.self.view_is) (keeps_by c.clear_halt_of.ensures.through.entries refl refl);
+      numbers = rw (← c.self.view_is) (keeps_by c.clear_halt_of.ensures.through.entries refl refl
+          refl);
     };
     left = rw (← c.self.view_is) (left_same g.B.Bus.modelled (g.B.Bus.spent c.self.inside.bus)
         (g.B.Bus.spent c.clear_halt_of.new.bus) (g.B.Bus.failed c.self.inside.bus)
@@ -66,8 +67,10 @@ returns-clause-any_bus g c = record {
         addresses = c.self.inside.pool;
         numbers = c.self.inside.numbers;
         reported = c.self.inside.reported;
+        wide = c.self.inside.wide;
         stopped = c.self.inside.stopped;
-      }) c.self.inside.bus c.clear_halt_of.new.bus c.clear_halt_of.ensures.through c.clear_halt_of.result
+      }) c.self.inside.bus c.clear_halt_of.new.bus c.clear_halt_of.ensures.through
+      c.clear_halt_of.result
       c.as_host_fault-cleared.ensures c.if-self.false c.is_final-self-inside.ensures
       (asked_through (pipe_to c.args.endpoint) (clears_miss c.args.endpoint)
       (pipes_at c.args.path.now c.self.inside.table))

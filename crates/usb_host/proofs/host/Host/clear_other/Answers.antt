@@ -9,8 +9,8 @@ pub returns-then-asked-clause-clears : goal.returns-then-asked-clause-clears
 returns-then-asked-clause-clears g c known =
     let s = c.clear_port_change.ensures in
     rw (← c.self.view_is) (others_by c.args.port c.args.feature _ _ c.clear_port_change.result
-    c.if-asked.true (s.uses.steps known) refl (s.fault known) (s.cleared known) (s.addresses known)
-    (s.devices known) c.at_port.ensures)
+    c.if-asked.true (s.uses.steps known) refl refl (s.fault known) (s.cleared known)
+    (s.addresses known) (s.devices known) c.at_port.ensures)
 
 pub returns-else-asked-clause-clears : goal.returns-else-asked-clause-clears
 returns-else-asked-clause-clears g c known = others_none c.if-asked.false

@@ -24,7 +24,7 @@ returns-in-External-clause-clears g c known =
       arith,
       status_most (External c.in-External.hub c.in-External.port)
           (rw c.in-External.is at c.requires.askable).wide,
-    )) refl) (s.fault known) (s.addresses known) (s.cleared known)
+    )) refl refl) (s.fault known) (s.addresses known) (s.cleared known)
     c.at_port.ensures)
 
 pub returns-in-External-clause-spends : goal.returns-in-External-clause-spends

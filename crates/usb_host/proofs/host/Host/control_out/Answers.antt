@@ -36,7 +36,7 @@ returns-clause-tells g c known = record {
     keeps = (c.control_out.ensures.writes known).keeps;
   });
   keeps = rw (← c.self.view_is) (transfer_kept _ _ _ _ _ c.self.invariant
-      refl (c.control_out.ensures.writes known).went
+      refl refl (c.control_out.ensures.writes known).went
       (c.control_out.ensures.writes known).keeps c.if-self.false (λ still. still));
 }
 
@@ -70,6 +70,7 @@ returns-clause-any_bus g c = record {
         addresses = c.self.inside.pool;
         numbers = c.self.inside.numbers;
         reported = c.self.inside.reported;
+        wide = c.self.inside.wide;
         stopped = stopped;
       }) c.self.inside.bus c.control_out.new.bus c.control_out.result c.as_host_fault-written.result
       c.self.inside.stopped c.is_final-self-inside.result c.control_out.ensures.any_bus.2

@@ -49,6 +49,7 @@ returns-clause-disables g c known =
       addresses = c.self.inside.pool;
       numbers = c.self.inside.numbers;
       reported = c.self.inside.reported;
+      wide = c.self.inside.wide;
       stopped = c.self.inside.stopped;
     } in
     let went = c.clear_port.ensures.uses.steps known in
@@ -56,7 +57,7 @@ returns-clause-disables g c known =
     let devices = (c.clear_port.ensures.addresses known).devices in
     rw (← c.self.view_is) (elim c.match-clear_port.branch [
       | in-Ok w ↦ rw w.result-is (record {
-        goes = goes_by _ _ went (order_most port) refl;
+        goes = goes_by _ _ went (order_most port) refl refl;
         owned = cleared_enable_disabled _ _ s refl
             (rw w.in-Ok.is at (c.clear_port.ensures.addresses known));
         devices = devices;
@@ -71,7 +72,7 @@ returns-clause-disables g c known =
             (rw w.in-Ok.is at (c.clear_port.ensures.ports known)) pends caused;
       })
       | in-Err-Bus w ↦ rw w.result-is (record {
-        goes = goes_by _ _ went (order_most port) refl;
+        goes = goes_by _ _ went (order_most port) refl refl;
         owned = record { keeps = keeps; done = λ e. absurd (cc e); none = λ e root. absurd (cc e) };
         devices = devices;
         control = λ still. (rw w.in-Err-Bus.is at (c.clear_port.ensures.ports known)).control
@@ -86,7 +87,7 @@ returns-clause-disables g c known =
         caused = λ d fair pends caused. tt;
       })
       | in-Err w ↦ rw w.result-is (record {
-        goes = goes_by _ _ went (order_most port) refl;
+        goes = goes_by _ _ went (order_most port) refl refl;
         owned = port_failed _ _ 1 w.in-Err.field-0 s (w.in-Err.ensures.effect known) keeps;
         devices = devices;
         control = λ still. (rw w.in-Err.is at (c.clear_port.ensures.ports known)).control

@@ -31,7 +31,7 @@ invariant_of-self-2 g c =
           c.self.invariant.nested;
       found = found_entered path finding away (λ port at.
           let same : c.args.port ≡ port = same_Some c.args.port port (sym known ∙ at) in
-          subst (λ (p : KnownPort). IsFoundAt path p finding) same
+          subst (λ (p : KnownPort). IsFoundAt c.self.inside.wide path p finding) same
           (c.self.inside.pool, rw c.tier.ensures at c.in_ok-finding.ensures.found))
           c.self.invariant.found;
     })
@@ -42,7 +42,7 @@ returns-in_err-finding-clause-finds g c known =
     let s = rw (← c.self.view_is) at (placed known c.requires.port) in
     let away = rw (← c.self.view_is) at c.requires.away in
     rw (← c.self.view_is, told.1, told.2) (discover_fails s away c.self.invariant.accounts
-    (c.enumerate.ensures.uses.steps known) refl
+    (c.enumerate.ensures.uses.steps known) refl refl
     (rw c.tier.ensures at (c.in_err-finding.ensures.ends known)) refl refl
     c.in_err-finding.ensures.pool (c.in_err-finding.ensures.told known))
 
@@ -53,7 +53,7 @@ returns-in_err-enter-clause-finds g c known =
     let s = rw (← c.self.view_is) at (placed known c.requires.port) in
     let away = rw (← c.self.view_is) at c.requires.away in
     rw (← c.self.view_is, told.1, told.2) (discover_lost s away c.self.invariant.accounts
-    (c.enumerate.ensures.uses.steps known) refl
+    (c.enumerate.ensures.uses.steps known) refl refl
     (rw c.tier.ensures at (c.in_ok-finding.ensures.ends known))
     (ap (λ (t : Table). t.entries) c.in_err-enter.ensures.err.0)
     (ap (λ (t : Table). t.pipes) c.in_err-enter.ensures.err.0))
@@ -63,10 +63,11 @@ returns-clause-finds g c known =
     let s = rw (← c.self.view_is) at (placed known c.requires.port) in
     let away = rw (← c.self.view_is) at c.requires.away in
     rw (← c.self.view_is) (discover_done s away c.self.invariant.accounts
-    (c.enumerate.ensures.uses.steps known) refl
+    (c.enumerate.ensures.uses.steps known) refl refl
     (rw c.tier.ensures at (c.in_ok-finding.ensures.ends known))
     (rw c.tier.ensures at c.in_ok-finding.ensures.found)
-    (rw c.duplicate.ensures at c.in_ok-enter.ensures.ok.0))
+    c.enumerate.new.said (c.in_ok-finding.ensures.told known) (rw c.duplicate.ensures at
+    c.in_ok-enter.ensures.ok.0))
 
 pub returns-in_err-finding-clause-spends : goal.returns-in_err-finding-clause-spends
 returns-in_err-finding-clause-spends g c =
@@ -108,7 +109,7 @@ returns-in_err-finding-clause-numbers g c = rw (← c.self.view_is) (keeps_none 
 pub returns-in_err-enter-clause-numbers : goal.returns-in_err-enter-clause-numbers
 returns-in_err-enter-clause-numbers g c =
     rw (← c.self.view_is) (keeps_by (ap (λ (t : Table). t.entries) c.in_err-enter.ensures.err.0)
-    c.in_err-enter.ensures.kept refl)
+    c.in_err-enter.ensures.kept refl refl)
 
 pub returns-clause-numbers : goal.returns-clause-numbers
 returns-clause-numbers g c =

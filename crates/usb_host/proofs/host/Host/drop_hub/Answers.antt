@@ -64,11 +64,11 @@ returns-clause-drops g c known =
       addresses = c.self.inside.pool;
     }) c.self.view_is in
     let table = c.in_ok-insert.ensures.ok ∙ ap
-    (λ (h : HostState). entered c.in_ok-lost.lost (Refused Lost) (table_in h))
+    (λ (h : HostState). entered c.in_ok-lost.lost (Refused Lost) c.new.result (table_in h))
     c.self.view_is in
     drop_done
     _ c.in_ok-lost.ensures.rests (c.in_ok-lost.ensures.climbs known)
-    c.forget.ensures others c.numbers-numbers.ensures.path table
+    c.forget.ensures others c.numbers-numbers.ensures.path _ table
 
 pub returns-in_err-lost-clause-goes : goal.returns-in_err-lost-clause-goes
 returns-in_err-lost-clause-goes g c = record {
@@ -84,7 +84,7 @@ returns-in_err-insert-clause-goes g c = record {
       );
   numbers = keeps_then (keeps_rests c.args.self.now c.in_ok-lost.ensures.rests) (keeps_then
       (keeps_forgets c.forget.ensures) (rw (← c.self.view_is)
-      (keeps_by (ap (λ (t : Table). t.entries) c.in_err-insert.ensures.err) refl refl)));
+      (keeps_by (ap (λ (t : Table). t.entries) c.in_err-insert.ensures.err) refl refl refl)));
 }
 
 pub returns-clause-goes : goal.returns-clause-goes
@@ -97,7 +97,7 @@ returns-clause-goes g c = record {
       (keeps_forgets c.forget.ensures) (rw (← c.self.view_is) (keeps_refused c.in_ok-lost.lost
       c.self.inside.table.entries Lost refl (ap (λ (t : Table). t.entries)
       c.in_ok-insert.ensures.ok)
-      refl refl)));
+      refl refl refl)));
 }
 
 -- Which entries changed

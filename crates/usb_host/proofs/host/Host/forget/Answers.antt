@@ -1,4 +1,4 @@
-use Rattle.std.proofs.Common.{◌≡◌, ◌∙◌, List, ℕ, sym, ap, subst, arith, rules}
+use Rattle.std.proofs.Common.{◌≡◌, ◌∙◌, Bool, List, ℕ, sym, ap, subst, arith, rules}
 use Rattle.std.proofs.lemmas.Grind.{common_steps}
 use Rattle.usb_resources.specs.{Addresses, HasAddresses, IsFull}
 use Rattle.usb_table.proofs.Interface.{none_apart}
@@ -12,9 +12,9 @@ use Rattle.usb_host.proofs.entries.FoundEntries.{found_without}
 use Rattle.usb_host.proofs.host.Host.forget.Goals as goal
 
 -- what is left agrees with the addresses that are left
-agrees_left : (path : List ℕ) {old : Entries} {before : Addresses} {new : Entries}
-    {after : Addresses} → Agrees old before → new ≡ without path old → Accounts new after
-    → HasAddresses after → Agrees new after
+agrees_left : {wide : Bool} (path : List ℕ) {old : Entries} {before : Addresses} {new : Entries}
+    {after : Addresses} → Agrees wide old before → new ≡ without path old → Accounts new after
+    → HasAddresses after → Agrees wide new after
 agrees_left path {old = old} agrees left accounts range = record {
   rises = rw left (rises_without path old agrees.rises);
   range = range;
@@ -29,8 +29,8 @@ invariant_of-self g c =
     let left = ap (λ (t : Table). t.entries) c.in_default.ensures.same ∙ sym
     (none_apart c.args.path.now c.entries.self-inside.table.entries c.in_default.ensures.none)
     ∙ i.rest in
-    agrees_left c.args.path.now c.self.invariant
-    left (rw c.in_default.ensures.same i.accounts) i.range
+    rw i.others (agrees_left c.args.path.now c.self.invariant
+    left (rw c.in_default.ensures.same i.accounts) i.range)
 
 pub returns : goal.returns
 returns g c =
@@ -48,5 +48,6 @@ returns g c =
           ap (λ (t : Table). pipes_at q t) same ∙ i.pipes q
           (at_or_below_way q c.args.path.now ∙ away) ∙ ap
           (λ (h : HostState). pipes_at q (table_in h)) c.self.view_is;
-      agrees = agrees_left c.args.path.now c.self.invariant left (rw same i.accounts) i.range;
+      agrees = rw i.others
+          (agrees_left c.args.path.now c.self.invariant left (rw same i.accounts) i.range);
     }

@@ -12,4 +12,4 @@ invariant-devices g l = record {
 }
 
 abbrev pub decreases-devices : goal.decreases-devices
-decreases-devices g l = 2097152 - rank_after l.last
+decreases-devices g l = 268435456 - rank_after l.last

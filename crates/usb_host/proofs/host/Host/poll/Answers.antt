@@ -32,7 +32,7 @@ returns-clause-tells g c known = record {
       (c.poll_of.ensures.reports known).did);
   did = first_of (search rules, grind (arith, common_steps));
   keeps = rw (← c.self.view_is) (transfer_kept _ _ _ _ _ c.self.invariant
-      c.poll_of.ensures.through.entries (c.poll_of.ensures.reports known).went
+      c.poll_of.ensures.through.entries refl (c.poll_of.ensures.reports known).went
       (c.poll_of.ensures.reports known).keeps c.if-self.false (λ still. still));
 }
 
@@ -48,7 +48,7 @@ returns-clause-any_bus g c = record {
           (g.B.Bus.spent c.poll_of.new.bus) (g.B.Bus.failed c.poll_of.new.bus)
           c.self.inside.left g.B.Bus.modelled c.poll_of.result
           c.poll_of.ensures.any_bus.1 off);
-      numbers = rw (← c.self.view_is) (keeps_by c.poll_of.ensures.through.entries refl refl);
+      numbers = rw (← c.self.view_is) (keeps_by c.poll_of.ensures.through.entries refl refl refl);
     };
     left = rw (← c.self.view_is) (left_same g.B.Bus.modelled (g.B.Bus.spent c.self.inside.bus)
         (g.B.Bus.spent c.poll_of.new.bus) (g.B.Bus.failed c.self.inside.bus)
@@ -65,6 +65,7 @@ returns-clause-any_bus g c = record {
         addresses = c.self.inside.pool;
         numbers = c.self.inside.numbers;
         reported = c.self.inside.reported;
+        wide = c.self.inside.wide;
         stopped = c.self.inside.stopped;
       }) c.self.inside.bus c.poll_of.new.bus c.poll_of.ensures.through c.poll_of.result
       c.as_host_fault-polled.ensures c.if-self.false c.is_final-self-inside.ensures

@@ -27,12 +27,13 @@ returns-clause-tells g c known = record {
   stopped = first_of (search rules, grind (arith, common_steps));
   went = first_of (search rules, grind (arith, common_steps));
   told = first_of (search rules, grind (arith, common_steps));
-  works = rw (← c.self.view_is) (received_works c.args.choice _ _ c.args.packets _ _ c.receive.result _
+  works = rw (← c.self.view_is) (received_works c.args.choice _ _ c.args.packets _ _
+      c.receive.result _
       c.as_host_fault-received.ensures
       (c.receive.ensures.receives known).did);
   did = first_of (search rules, grind (arith, common_steps));
   keeps = rw (← c.self.view_is) (transfer_kept _ _ _ _ _ c.self.invariant
-      c.receive.ensures.through.entries (c.receive.ensures.receives known).went
+      c.receive.ensures.through.entries refl (c.receive.ensures.receives known).went
       (c.receive.ensures.receives known).keeps c.if-self.false (λ still. still));
 }
 
@@ -48,7 +49,7 @@ returns-clause-any_bus g c = record {
           (g.B.Bus.spent c.receive.new.bus) (g.B.Bus.failed c.receive.new.bus)
           c.self.inside.left g.B.Bus.modelled c.receive.result
           c.receive.ensures.any_bus.1 off);
-      numbers = rw (← c.self.view_is) (keeps_by c.receive.ensures.through.entries refl refl);
+      numbers = rw (← c.self.view_is) (keeps_by c.receive.ensures.through.entries refl refl refl);
     };
     left = rw (← c.self.view_is) (left_same g.B.Bus.modelled (g.B.Bus.spent c.self.inside.bus)
         (g.B.Bus.spent c.receive.new.bus) (g.B.Bus.failed c.self.inside.bus)
@@ -65,6 +66,7 @@ returns-clause-any_bus g c = record {
         addresses = c.self.inside.pool;
         numbers = c.self.inside.numbers;
         reported = c.self.inside.reported;
+        wide = c.self.inside.wide;
         stopped = c.self.inside.stopped;
       }) c.self.inside.bus c.receive.new.bus c.receive.ensures.through c.receive.result
       c.as_host_fault-received.ensures c.if-self.false c.is_final-self-inside.ensures

@@ -9,7 +9,7 @@ use Rattle.usb_host.proofs.host.Host.retry_waiting.Given as goal
 abbrev pub invariant-waiting : goal.invariant-waiting
 invariant-waiting g l = record {
   quiet : l.round ≡ Quiet → StaysQuiet l.initial.self l.self;
-  spends : l.self.counts.spent + handling_bound * (2097152 - rank_after l.last)
+  spends : l.self.counts.spent + handling_bound * (268435456 - rank_after l.last)
       ≤ l.initial.self.counts.spent + looks_bound;
   numbers : KeepsNumbers l.initial.self l.self;
   so : g.B.Bus.modelled ≡ true → WaitingHandled l.last l.round l.initial.self l.self;
@@ -19,4 +19,4 @@ invariant-waiting g l = record {
 }
 
 abbrev pub decreases-waiting : goal.decreases-waiting
-decreases-waiting g l = 2097152 - rank_after l.last
+decreases-waiting g l = 268435456 - rank_after l.last

@@ -32,7 +32,7 @@ returns-clause-tells g c known = record {
       (c.send.ensures.sends known).did);
   did = first_of (search rules, grind (arith, common_steps));
   keeps = rw (← c.self.view_is) (transfer_kept _ _ _ _ _ c.self.invariant
-      c.send.ensures.through.entries (c.send.ensures.sends known).went
+      c.send.ensures.through.entries refl (c.send.ensures.sends known).went
       (c.send.ensures.sends known).keeps c.if-self.false (λ still. still));
 }
 
@@ -48,7 +48,7 @@ returns-clause-any_bus g c = record {
           (g.B.Bus.spent c.send.new.bus) (g.B.Bus.failed c.send.new.bus)
           c.self.inside.left g.B.Bus.modelled c.send.result
           c.send.ensures.any_bus.1 off);
-      numbers = rw (← c.self.view_is) (keeps_by c.send.ensures.through.entries refl refl);
+      numbers = rw (← c.self.view_is) (keeps_by c.send.ensures.through.entries refl refl refl);
     };
     left = rw (← c.self.view_is) (left_same g.B.Bus.modelled (g.B.Bus.spent c.self.inside.bus)
         (g.B.Bus.spent c.send.new.bus) (g.B.Bus.failed c.self.inside.bus)
@@ -65,6 +65,7 @@ returns-clause-any_bus g c = record {
         addresses = c.self.inside.pool;
         numbers = c.self.inside.numbers;
         reported = c.self.inside.reported;
+        wide = c.self.inside.wide;
         stopped = c.self.inside.stopped;
       }) c.self.inside.bus c.send.new.bus c.send.ensures.through c.send.result
       c.as_host_fault-sent.ensures c.if-self.false c.is_final-self-inside.ensures

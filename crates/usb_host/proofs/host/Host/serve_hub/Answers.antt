@@ -1,6 +1,6 @@
 use Rattle.std.proofs.Common.{◌∙◌, ap, refl, rules, arith}
 use Rattle.std.proofs.lemmas.Grind.{common_steps}
-use Rattle.usb_host.specs.{first_byte}
+use Rattle.usb_device.specs.{told_bits}
 use Rattle.usb_host.proofs.HubPolls.{poll_cut, poll_lost, poll_quiet, poll_served, poll_undropped}
 use Rattle.usb_host.proofs.HubPolls.{poll_unserved}
 use Rattle.usb_host.proofs.services.HubServices.{failed_more}
@@ -28,7 +28,7 @@ returns-in_ok-service_reported-in-Ok-Some-clause-polls g c known =
     let listed = rw (← c.self.view_is) at c.requires in
     rw (← c.self.view_is) (poll_served _ _ c.self.invariant p.through.entries refl refl refl
     (p.polls known).went p.through listed (some.polls known).polled (some.polls known).keeps
-    c.in-Ok-Some.field-0-is (c.first_byte.ensures ∙ ap first_byte c.as_slice.ensures.value)
+    c.in-Ok-Some.field-0-is (c.told_bits.ensures ∙ ap told_bits c.as_slice.ensures.value)
     ends.still c.service_reported.new.self ends.least
     (c.in_ok-service_reported-in-Ok-Some.ensures.serves known))
 
@@ -41,7 +41,7 @@ returns-in_err-service_reported-in-Ok-Some-clause-polls g c known =
     let listed = rw (← c.self.view_is) at c.requires in
     rw (← c.self.view_is) (poll_unserved _ _ c.self.invariant p.through.entries refl refl refl
     (p.polls known).went p.through listed (some.polls known).polled (some.polls known).keeps
-    c.in-Ok-Some.field-0-is (c.first_byte.ensures ∙ ap first_byte c.as_slice.ensures.value)
+    c.in-Ok-Some.field-0-is (c.told_bits.ensures ∙ ap told_bits c.as_slice.ensures.value)
     ends.still c.service_reported.new.self c.from_residual.result c.from_residual.ensures.0
     (c.in_err-service_reported-in-Ok-Some.ensures.serves known))
 
@@ -86,7 +86,7 @@ returns-in-Ok-None-clause-goes g c = record {
       (g.B.Bus.failed c.self.inside.bus) (g.B.Bus.failed c.poll.new.bus) c.self.inside.left 768
       c.poll.ensures.any_bus.0.0 (omega arith) in
       rw (← c.self.view_is) (omega (arith, polled));
-  numbers = rw (← c.self.view_is) (keeps_by c.poll.ensures.through.entries refl refl);
+  numbers = rw (← c.self.view_is) (keeps_by c.poll.ensures.through.entries refl refl refl);
 }
 
 pub returns-in_ok-service_reported-in-Ok-Some-clause-goes :
@@ -99,7 +99,7 @@ returns-in_ok-service_reported-in-Ok-Some-clause-goes g c = record {
       c.poll.ensures.any_bus.0.0 (omega arith) in
       rw (← c.self.view_is) (omega (arith, polled, c.service_reported.ensures.spends));
   numbers = rw (← c.self.view_is) (keeps_from c.service_reported.ensures.numbers
-      c.poll.ensures.through.entries refl refl);
+      c.poll.ensures.through.entries refl refl refl);
 }
 
 pub returns-in_err-service_reported-in-Ok-Some-clause-goes :
@@ -112,7 +112,7 @@ returns-in_err-service_reported-in-Ok-Some-clause-goes g c = record {
       c.poll.ensures.any_bus.0.0 (omega arith) in
       rw (← c.self.view_is) (omega (arith, polled, c.service_reported.ensures.spends));
   numbers = rw (← c.self.view_is) (keeps_from c.service_reported.ensures.numbers
-      c.poll.ensures.through.entries refl refl);
+      c.poll.ensures.through.entries refl refl refl);
 }
 
 pub returns-in-Err-Bus-clause-goes : goal.returns-in-Err-Bus-clause-goes
@@ -123,7 +123,7 @@ returns-in-Err-Bus-clause-goes g c = record {
       (g.B.Bus.failed c.self.inside.bus) (g.B.Bus.failed c.poll.new.bus) c.self.inside.left 768
       c.poll.ensures.any_bus.0.0 (omega arith) in
       rw (← c.self.view_is) (omega (arith, polled));
-  numbers = rw (← c.self.view_is) (keeps_by c.poll.ensures.through.entries refl refl);
+  numbers = rw (← c.self.view_is) (keeps_by c.poll.ensures.through.entries refl refl refl);
 }
 
 pub returns-in_err-drop_hub-in-Err-clause-goes : goal.returns-in_err-drop_hub-in-Err-clause-goes
@@ -135,7 +135,7 @@ returns-in_err-drop_hub-in-Err-clause-goes g c = record {
       c.poll.ensures.any_bus.0.0 (omega arith) in
       rw (← c.self.view_is) (omega (arith, polled, c.drop_hub.ensures.goes.spends));
   numbers = rw (← c.self.view_is) (keeps_from c.drop_hub.ensures.goes.numbers
-      c.poll.ensures.through.entries refl refl);
+      c.poll.ensures.through.entries refl refl refl);
 }
 
 pub returns-in_ok-drop_hub-in-Err-clause-goes : goal.returns-in_ok-drop_hub-in-Err-clause-goes
@@ -147,7 +147,7 @@ returns-in_ok-drop_hub-in-Err-clause-goes g c = record {
       c.poll.ensures.any_bus.0.0 (omega arith) in
       rw (← c.self.view_is) (omega (arith, polled, c.drop_hub.ensures.goes.spends));
   numbers = rw (← c.self.view_is) (keeps_from c.drop_hub.ensures.goes.numbers
-      c.poll.ensures.through.entries refl refl);
+      c.poll.ensures.through.entries refl refl refl);
 }
 
 pub returns-in-Err-Bus-clause-told : goal.returns-in-Err-Bus-clause-told

@@ -9,7 +9,7 @@ use Rattle.usb_host.proofs.host.Host.serve_hubs.Given as goal
 abbrev pub invariant-hubs : goal.invariant-hubs
 invariant-hubs g l = record {
   quiet : l.round ≡ Quiet → StaysQuiet l.initial.self l.self;
-  spends : l.self.counts.spent + hub_poll_bound * (2097152 - rank_after l.last)
+  spends : l.self.counts.spent + hub_poll_bound * (268435456 - rank_after l.last)
       ≤ l.initial.self.counts.spent + hubs_bound;
   numbers : KeepsNumbers l.initial.self l.self;
   so : g.B.Bus.modelled ≡ true → HubsHandled l.last l.round l.initial.self l.self;
@@ -19,4 +19,4 @@ invariant-hubs g l = record {
 }
 
 abbrev pub decreases-hubs : goal.decreases-hubs
-decreases-hubs g l = 2097152 - rank_after l.last
+decreases-hubs g l = 268435456 - rank_after l.last

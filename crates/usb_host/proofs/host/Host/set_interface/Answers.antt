@@ -38,7 +38,7 @@ returns-clause-tells g c known = record {
     keeps = (c.set_interface.ensures.sets known).keeps;
   });
   keeps = rw (← c.self.view_is) (transfer_under _ _ _ _ _ c.self.invariant
-      c.set_interface.ensures.through.entries (c.set_interface.ensures.sets known).went
+      c.set_interface.ensures.through.entries refl (c.set_interface.ensures.sets known).went
       (c.set_interface.ensures.sets known).keeps c.if-self.false (λ still. still));
 }
 
@@ -54,7 +54,8 @@ returns-clause-any_bus g c = record {
           (g.B.Bus.spent c.set_interface.new.bus) (g.B.Bus.failed c.set_interface.new.bus)
           c.self.inside.left g.B.Bus.modelled c.set_interface.result
           c.set_interface.ensures.any_bus.1 off);
-      numbers = rw (← c.self.view_is) (keeps_by c.set_interface.ensures.through.entries refl refl);
+      numbers = rw (← c.self.view_is) (keeps_by c.set_interface.ensures.through.entries refl refl
+          refl);
     };
     left = rw (← c.self.view_is) (left_same g.B.Bus.modelled (g.B.Bus.spent c.self.inside.bus)
         (g.B.Bus.spent c.set_interface.new.bus) (g.B.Bus.failed c.self.inside.bus)
@@ -71,6 +72,7 @@ returns-clause-any_bus g c = record {
         addresses = c.self.inside.pool;
         numbers = c.self.inside.numbers;
         reported = c.self.inside.reported;
+        wide = c.self.inside.wide;
         stopped = c.self.inside.stopped;
       }) c.self.inside.bus c.set_interface.new.bus c.set_interface.ensures.through
       c.set_interface.result c.as_host_fault-set.ensures c.if-self.false

@@ -9,7 +9,7 @@ use Rattle.usb_host.proofs.host.Host.status.Goals as goal
 pub returns-clause-shows : goal.returns-clause-shows
 returns-clause-shows g c known =
     let s = c.port_status.ensures in
-    rw (← c.self.view_is) (shows c.args.port _ _ c.requires.askable (s.uses.steps known) refl
+    rw (← c.self.view_is) (shows c.args.port _ _ c.requires.askable (s.uses.steps known) refl refl
     (s.fault known) (s.status known) (s.told known) (s.addresses known) c.at_port.ensures)
 
 pub returns-clause-spends : goal.returns-clause-spends

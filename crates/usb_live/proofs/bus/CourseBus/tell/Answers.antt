@@ -9,7 +9,7 @@ pub invariant_of-self : goal.invariant_of-self
 invariant_of-self g c = rw (c.stage_behind-stage.ensures, c.number-number.ensures) (record {
   bounded = c.args.self.now.bounded;
   course = ∥∥₁_map c.args.self.now.course
-      (λ x. tell_on g.R.Read.remaining g.W.Write.contents g.B.Begun.limit
+      (λ x. tell_on g.R.Read.remaining g.W.Write.contents g.B.Begun.host
       c.args.self.now.listings g.B.Begun.unread g.B.Begun.before c.args.self.now.bus
       c.tell-told.new.self c.args.self.now.stage
       c.args.self.now.owed c.args.item.now c.args.text.now c.tell-told.result
@@ -23,7 +23,7 @@ pub invariant_of-self-else-is_ok : goal.invariant_of-self-else-is_ok
 invariant_of-self-else-is_ok g c = record {
   bounded = c.args.self.now.bounded;
   course = ∥∥₁_map c.args.self.now.course
-      (λ x. tell_off g.R.Read.remaining g.W.Write.contents g.B.Begun.limit
+      (λ x. tell_off g.R.Read.remaining g.W.Write.contents g.B.Begun.host
       c.args.self.now.listings g.B.Begun.unread g.B.Begun.before c.args.self.now.bus
       c.tell-told.new.self c.args.self.now.stage
       c.args.self.now.owed c.args.item.now c.args.text.now c.tell-told.result

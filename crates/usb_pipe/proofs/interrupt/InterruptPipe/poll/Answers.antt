@@ -4,8 +4,8 @@ use Rattle.usb_pipe.proofs.interrupt.InterruptPipe.poll.Goals as goal
 
 pub returns-in_err-polled-clause-transfer : goal.returns-in_err-polled-clause-transfer
 returns-in_err-polled-clause-transfer g c known = poll_told _ c.args.self.now _ _ _ _ c.self.view_is
-    c.self.invariant.least (g.met.B.Bus.settled known c.args.bus.now) (search rules)
+    (g.met.B.Bus.settled known c.args.bus.now) (search rules)
 
 pub returns-clause-transfer : goal.returns-clause-transfer
 returns-clause-transfer g c known = poll_told _ c.args.self.now _ _ _ _ c.self.view_is
-    c.self.invariant.least (g.met.B.Bus.settled known c.args.bus.now) (search rules)
+    (g.met.B.Bus.settled known c.args.bus.now) (search rules)

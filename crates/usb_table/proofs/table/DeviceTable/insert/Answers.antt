@@ -43,14 +43,14 @@ returns-in_err-insert-clause-err c = on_err c.from_residual-in_err-insert.result
 abbrev new_standing : goal.After-insert_reserved → Entry
 new_standing c = record {
   finding = c.args.finding;
-  pipes = new_pipes c.args.finding (is_below_hub c.args.path);
+  pipes = new_pipes c.args.finding (is_below_hub c.args.path) c.args.said;
 }
 
 standing_is : (c : goal.After-insert_reserved) → c.new-entry.result ≡ new_standing c
 standing_is c =
     subst (λ b. c.new-entry.result ≡ record {
       finding = c.args.finding;
-      pipes = new_pipes c.args.finding b;
+      pipes = new_pipes c.args.finding b c.args.said;
     }) c.is_below_hub.ensures c.new-entry.ensures.value
 
 came : (c : goal.After-insert_reserved) → OneMore (get c.self.inside.entries)
@@ -98,4 +98,4 @@ pub returns-clause-ok : goal.returns-clause-ok
 returns-clause-ok c =
     come_table (came c) c.self.invariant.0 c.in_ok-insert.ensures.ok.paths
     c.in_ok-insert.ensures.ok.rises
-    ∙ ap (entered c.args.path c.args.finding) c.self.view_is
+    ∙ ap (entered c.args.path c.args.finding c.args.said) c.self.view_is

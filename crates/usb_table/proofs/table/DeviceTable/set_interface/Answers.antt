@@ -1,10 +1,10 @@
 use Rattle.std.proofs.Common.{sym, subst, refl, arith, Err, None, Some, Bool}
 use Rattle.slab.specs.Slab.{get, with_value}
 use Rattle.usb_bus.proofs.Interface.{went_none, went_wider}
-use Rattle.usb_table.specs.{Absent, ArePipesOf, Entry, NoDevice, Transfer, accepted_device_of}
+use Rattle.usb_table.specs.{no_pipes, ArePipesOf, Entry, NoDevice, Transfer, accepted_device_of}
 use Rattle.usb_table.specs.{is_below_hub}
 use Rattle.usb_table.proofs.levels.PipeCalls.{CallThrough, device_found, device_none, set_slot}
-use Rattle.usb_table.proofs.levels.PipeCalls.{through_none}
+use Rattle.usb_table.proofs.levels.PipeCalls.{set_said, through_none}
 use Rattle.usb_table.proofs.levels.SetCalls.{sent_at, set_at}
 use Rattle.usb_table.proofs.transfers.InterfaceSets.{table_sets}
 use Rattle.usb_table.proofs.table.DeviceTable.set_interface.Goals as goal
@@ -23,7 +23,11 @@ passed g c =
     c.index_mut.result.now c.set_interface.new.self.pipes c.self.invariant
     (sym c.in-Some.ensures.value) c.index_mut.ensures.value
     (subst (λ (b : Bool). ArePipesOf c.index_mut.result.now.finding b
-    c.set_interface.new.self.pipes) c.is_below_hub-below_hub.ensures c.set_interface.ensures.fits))
+    c.set_interface.new.self.pipes) c.is_below_hub-below_hub.ensures c.set_interface.ensures.fits)
+    (set_said c.index_mut.result.now.finding c.is_below_hub-below_hub.result c.args.interface
+    c.args.setting c.index_mut.result.now.pipes c.set_interface.new.self.pipes
+    c.set_interface.result c.args.bus.now c.set_interface.new.bus
+    c.set_interface.ensures.any_bus.2))
 
 pub set_interface-requires-clause-sound : goal.set_interface-requires-clause-sound
 set_interface-requires-clause-sound g c = (c.self.invariant.1 c.args.path.now c.in-Some.key.now
@@ -80,7 +84,7 @@ returns-in-None-clause-any_bus g c =
       set_at c.args.interface c.args.setting (is_below_hub c.args.path.now)
           (is_below_hub c.args.path.now) refl _ None
           (device_none (get c.self.inside.entries) c.args.path.now
-          c.self.inside.indexes.by_path.entries (sym c.in-None.ensures.value)) _ Absent _ Absent
+          c.self.inside.indexes.by_path.entries (sym c.in-None.ensures.value)) _ no_pipes _ no_pipes
           none.was none.is (Err (Transfer NoDevice)) c.args.bus.now c.args.bus.now
           (refl, refl, refl),
     )
@@ -101,5 +105,5 @@ returns-in-None-clause-sets g c known =
     (sent_at c.args.interface c.args.setting (is_below_hub c.args.path.now)
     (is_below_hub c.args.path.now) refl _ None
     (device_none (get c.self.inside.entries) c.args.path.now
-    c.self.inside.indexes.by_path.entries (sym c.in-None.ensures.value)) _ Absent _ Absent none.was
-    none.is (Err (Transfer NoDevice)) _ _ (refl, refl, refl)))
+    c.self.inside.indexes.by_path.entries (sym c.in-None.ensures.value)) _ no_pipes _ no_pipes
+    none.was none.is (Err (Transfer NoDevice)) _ _ (refl, refl, refl)))
