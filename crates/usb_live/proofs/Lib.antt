@@ -1,1 +1,2 @@
 mod Courses
+mod KeptWide

@@ -117,13 +117,16 @@ abbrev pub owes : Owed → ℕ
 owes owed.Nothing = 0
 owes other = 1
 
--- a listing is of entries that a host may hold: they rise by path, each is at a root port or at a
--- port of a hub that is listed, no two have one address, and accepted devices are whole. What
--- refused devices said is not told
-abbrev pub IsShown : Item → Type 0
-IsShown (Listing entries taken said) =
-    ((wide : Bool) × (addresses : Addresses) × Agrees wide entries addresses) × (said ≡ [])
-IsShown other = ⊤
+-- entries that a host may hold, which takes wide hubs or does not: they rise by path, each is at a
+-- root port or at a port of a hub that is listed, no two have one address, and accepted devices are
+-- whole
+abbrev pub MayHold : Bool → Entries → Type 0
+MayHold wide entries = (addresses : Addresses) × Agrees wide entries addresses
+
+-- a listing is of entries that such a host may hold. What refused devices said is not told
+abbrev pub IsShown : Bool → Item → Type 0
+IsShown wide (Listing entries taken said) = MayHold wide entries × (said ≡ [])
+IsShown wide other = ⊤
 
 -- how many listings were told, behind an item that was told, or a front of it
 abbrev pub listed : ℕ → Item → Result (Unit {0}) LiveFault → ℕ
@@ -153,7 +156,7 @@ pub data LiveCourse (host : LiveHost) (unread : Pipe) (before : OutPipe) : Owed 
   told : {o : Owed} {m : ℕ} {left : Pipe} {w now : OutPipe} {j k : Kept} {n : ℕ} (item : Item)
       (result : Result (Unit {0}) LiveFault)
       → LiveCourse host unread before o m left w j n → j.fault ≡ None → settles o item ≡ true
-      → IsShown item → WritesLines (told_text (number_of item m) item) w now j result k
+      → IsShown host.wide item → WritesLines (told_text (number_of item m) item) w now j result k
       → LiveCourse host unread before (owed_left o result) (listed m item result) left now k n
   still : {o : Owed} {m : ℕ} {r left : Pipe} {w now : OutPipe} {j k : Kept} {n : ℕ}
       → LiveCourse host unread before o m r w j n
@@ -180,7 +183,7 @@ pub record IsOver (host : LiveHost) (unread : Pipe) (before : OutPipe) (left : P
   pub j : Kept
   pub wanted : WantsEnd host count unread before left w j n
   pub entries : Entries
-  pub shown : (wide : Bool) × (addresses : Addresses) × Agrees wide entries addresses
+  pub shown : MayHold host.wide entries
   pub listed : WritesLines (lines_text (listing_lines (count + 1) entries [])) w now j (Ok tt) k
 
 -- how far it is behind an answer to what is wanted, and behind an item that was told

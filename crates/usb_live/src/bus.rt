@@ -213,7 +213,7 @@ impl<R: Read, W: Write, B: Begun> CourseBus<R, W, B> {
     /// The bus's fault.
     pub(crate) fn tell(&mut self, item: &Item, text: &[u8]) -> Result<(), LiveFault>
         requires owed { settles self.old.owed item.now ≡ true }
-        requires shown { IsShown item.now }
+        requires shown { IsShown B.host.wide item.now }
         requires text { text.now ≡ told_text (number_of item.now self.old.listings) item.now }
     {
         let number = self.number(item);

@@ -74,7 +74,9 @@ fn host_over<R: Read + Drop, W: Write + Drop, B: Begun>(
     alloc: Global,
     bus: CourseBus<R, W, B>,
     wide_hubs: bool,
-) -> LiveHost<R, W, B> {
+) -> LiveHost<R, W, B>
+    ensures { result.wide ≡ wide_hubs }
+{
     if wide_hubs {
         Host::with_wide_hubs(alloc, bus)
     } else {
@@ -88,7 +90,9 @@ fn run<R: Read + Drop, W: Write + Drop, B: Begun>(
     alloc: Global,
     host: &mut LiveHost<R, W, B>,
     limit: u64,
-) -> Result<(), LiveEnd> {
+) -> Result<(), LiveEnd>
+    requires wide { host.old.wide ≡ B.host.wide }
+{
     let mut busy = 0u16;
     // a round that worked has asked something, and so has each other turn
     'turns: for _ in 0..limit {
@@ -126,7 +130,8 @@ fn round_of<R: Read + Drop, W: Write + Drop, B: Begun>(
     host: &mut LiveHost<R, W, B>,
 ) -> Result<Round, LiveEnd>
     // A round that failed is not taken for one that was done.
-    ensures { OnOk result (host.new.stopped ≡ false) }
+    ensures done { OnOk result (host.new.stopped ≡ false) }
+    ensures wide { host.new.wide ≡ host.old.wide }
 {
     match host.round() {
         // calls at root ports tell no fault
@@ -152,7 +157,9 @@ fn bus_end<R: Read + Drop, W: Write + Drop, B: Begun>(host: &LiveHost<R, W, B>) 
 /// What is requested.
 fn wanted<R: Read + Drop, W: Write + Drop, B: Begun>(
     host: &mut LiveHost<R, W, B>,
-) -> Result<Answer, LiveEnd> {
+) -> Result<Answer, LiveEnd>
+    ensures wide { host.new.wide ≡ host.old.wide }
+{
     match host.bus_mut().wait() {
         Ok(answer) => Ok(answer),
         Err(fault) => Err(LiveEnd::Line(lines_of(host), fault)),
@@ -165,9 +172,10 @@ fn done<R: Read + Drop, W: Write + Drop, B: Begun>(
     host: &mut LiveHost<R, W, B>,
     answer: Answer,
 ) -> Result<Option<Item>, LiveEnd>
-    // A listing is of what the host has found.
+    // A listing is of what the host has found, and such a host may hold it.
     ensures lists { IfOk result (ListsEntries answer host.new.entries) }
-    ensures shown { IfOk result (λ item. IfSome item IsShown) }
+    ensures shown { IfOk result (λ item. IfSome item (IsShown host.new.wide)) }
+    ensures wide { host.new.wide ≡ host.old.wide }
     // Nothing that is wanted is dropped.
     ensures owed { IfOk result (IsOwed answer) }
 {
@@ -184,7 +192,8 @@ fn tell<R: Read + Drop, W: Write + Drop, B: Begun>(
     host: &mut LiveHost<R, W, B>,
     item: &Item,
 ) -> Result<(), LiveEnd>
-    requires { IsShown item.now }
+    requires shown { IsShown B.host.wide item.now }
+    ensures wide { host.new.wide ≡ host.old.wide }
 {
     let bus = host.bus_mut();
     if !bus.owes(item) {

@@ -10,7 +10,8 @@
 //! - `live` returns, and asks at most `limit` questions. After a fault it asks and reports nothing,
 //!   and the fault has its cause.
 //! - It reports each request exactly once, before it asks again, by the item that is owed
-//!   (*settles*). Listings are numbered from 1, and show what a host may hold (*IsShown*).
+//!   (*settles*). Listings are numbered from 1. Each shows what this host may hold, with wide hubs
+//!   or without (*IsShown*).
 //! - It returns `Ok` only if the end was requested, or the input ended in place of that answer. A
 //!   last listing was reported then, and nothing after it.
 //!
