@@ -1,6 +1,7 @@
 -- Loops over values.
 use Rattle.std.proofs.Common.{◌≡◌, ℕ, ◌+◌, ◌<◌, ◌≤◌, List, [], ◌∷◌, length, get_or, drop, map}
-use Rattle.std.proofs.Common.{Result, Ok, Err, IfOk, refl, sym, ap, ◌∙◌, arith, ◌||◌, true, false}
+use Rattle.std.proofs.Common.{slice_get, option_map, Result, Ok, Err, IfOk, refl, sym, ap, ◌∙◌, arith, ◌||◌, true, false}
+use Rattle.std.proofs.lemmas.Option.{slice_get-map}
 use Rattle.std.proofs.lemmas.List.{drop_more, drop_all, length_push, length-map}
 use Rattle.std.proofs.lemmas.Bool.{le-leb, lt-leb}
 use Rattle.std.proofs.lemmas.List.Folds.{list_all-map}
@@ -39,6 +40,10 @@ view_drop vs i v lt is = ap (map view) (drop_more vs i v lt) ∙ rw (← is)
 pub data_list_view : (vs : List Value) → data_list (items_view vs) ≡ map view vs
 data_list_view [] = refl
 data_list_view (v ∷ vs) = ap (λ ds. view v ∷ ds) (data_list_view vs)
+
+pub slice_get_view : (vs : List Value) (i : ℕ)
+    → slice_get (map view vs) i ≡ option_map view (slice_get vs i)
+slice_get_view vs i = slice_get-map view vs i
 
 pub are_tables_view : (vs : List Value) → list_all is_table (map view vs)
     ≡ list_all (λ v. is_table (view v)) vs

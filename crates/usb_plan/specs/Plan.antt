@@ -83,7 +83,7 @@ pub record TopFits (top : Top) : Type 0 where
 unfoldable pub plan_with : Top → List Data → List Data → List Data → Result PlanData PlanFault
 plan_with top devices events damages = do
   specs ← devices_from top.wide 1 [] devices
-  done ← events_from top.roots top.wide specs 1 [] events
+  done ← events_from top.roots top.wide specs devices 1 [] events
   harms ← damages_from 1 [] damages
   Ok (record {
     limit = top.limit;

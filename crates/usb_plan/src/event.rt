@@ -103,20 +103,21 @@ fn event_in(
     event_given(alloc, verb, scene, count, &members)
 }
 
-/// The events that the values describe, or the first fault.
+/// The events that the values describe, or the first fault. The tables are those of the devices.
 pub(crate) fn events_of(
     alloc: Global,
     roots: u8,
     wide: bool,
     devices: &[DeviceSpec],
+    tables: &[Value],
     values: &[Value],
 ) -> Result<Events, PlanFault>
-    ensures value { EqualUnless NoMemory result
-        (events_from roots wide devices.now 1 [] (map view values.now)) }
+    ensures value { EqualUnless NoMemory result (events_from roots wide devices.now
+        (map view tables.now) 1 [] (map view values.now)) }
     ensures fit { IfOk result (λ events. events_fit roots devices.now [] events ≡ true) }
 {
     let mut done = Events::new(alloc);
-    let mut scene = Scene::new(alloc, roots, wide, devices);
+    let mut scene = Scene::new(alloc, roots, wide, devices, tables);
     for (i, value) in values.iter().enumerate() {
         let count = done.as_slice().len();
         let read = event_in(alloc, &scene, count, value.as_table());

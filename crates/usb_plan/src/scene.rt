@@ -1,27 +1,35 @@
 //! What an event meets.
 
-ghost use Rattle.std.specs.Prelude.{◌≡◌, [], OnOk, option_map, position};
+ghost use Rattle.std.specs.Prelude.{◌≡◌, [], OnOk, map, option_map, position};
 ghost use Rattle.std.specs.Str.{bytes_eq};
+ghost use Rattle.toml.specs.View.{view, table_view};
+ghost use Rattle.usb_plan.specs.Scene.{is_port, says_port, scene_after, table_has, table_indexed};
 ghost use Rattle.usb_world.specs.PluggedDevices.{is_rooted, has_port, parent_has, device_indexed, spec_port_count, plugged_after};
 ghost use Rattle.usb_world.specs.Plans.{is_taken};
 
 use crate::plugged::Plugged;
+use crate::value::{number_at, value_at};
 use std::alloc::{AllocError, Global};
 use std::marker::Model;
+use toml::{Table, Value};
 use usb_device::DeviceSpec;
 use usb_port::PortPath;
 use usb_world::Action;
 
-/// The root ports, whether hubs may be wide, the devices of the plan, and which of these are plugged where.
+/// The root ports, whether hubs may be wide, the devices of the plan and the tables that describe them, and which
+/// devices are plugged where.
 #[derive(Drop)]
 pub(crate) struct Scene<'a> {
     roots: u8,
     wide: bool,
     devices: &'a [DeviceSpec],
+    tables: &'a [Value],
     plugged: Plugged,
 }
 
 impl<'a> Model for Scene<'a> {
+    ghost use Rattle.std.specs.Prelude.{map};
+    ghost use Rattle.toml.specs.View.{view as data_of};
     ghost use Rattle.usb_plan.specs.Scene.{SceneData};
 
     ghost Value = { SceneData };
@@ -30,20 +38,28 @@ impl<'a> Model for Scene<'a> {
       roots = s.roots;
       wide = s.wide;
       devices = s.devices.now;
+      tables = map data_of s.tables.now;
       plugged = s.plugged;
     } };
 }
 
 impl<'a> Scene<'a> {
     /// Nothing is plugged.
-    pub(crate) fn new(alloc: Global, roots: u8, wide: bool, devices: &'a [DeviceSpec]) -> Self
+    pub(crate) fn new(
+        alloc: Global,
+        roots: u8,
+        wide: bool,
+        devices: &'a [DeviceSpec],
+        tables: &'a [Value],
+    ) -> Self
         ensures { result
-            ≡ record { roots = roots; wide = wide; devices = devices.now; plugged = [] } }
+            ≡ scene_after roots wide devices.now (map view tables.now) [] }
     {
         Scene {
             roots,
             wide,
             devices,
+            tables,
             plugged: Plugged::new(alloc),
         }
     }
@@ -81,12 +97,27 @@ impl<'a> Scene<'a> {
         }
     }
 
-    /// Whether the path is a root port, or a port of a plugged device.
+    /// Whether the table of the device at the parent's path has the port.
+    #[tactic(auto, unfolding(crate::specs::Scene::says_port))]
+    fn says_port(&self, parent: Option<PortPath>, port: u8) -> bool
+        ensures { result ≡ says_port self.now.tables self.now.plugged parent port }
+    {
+        match parent {
+            None => true,
+            Some(parent) => {
+                table_has(table_indexed(self.tables, self.plugged.device_at(&parent)), port)
+            }
+        }
+    }
+
+    /// Whether the path is a root port, or a port of a plugged device, by its table too. A hub whose descriptor spells
+    /// more than 7 ports has more than its table says where hubs are not wide.
     pub(crate) fn has_port(&self, path: &PortPath) -> bool
-        ensures { result ≡ has_port self.now.roots self.now.devices self.now.plugged path.now }
+        ensures { result ≡ is_port self.now path.now }
     {
         self.is_rooted(path)
             && (path.numbers().len() == 1 || self.parent_has(path.parent(), path.port()))
+            && self.says_port(path.parent(), path.port())
     }
 
     /// Whether something is plugged at the path.
@@ -113,6 +144,26 @@ fn device_indexed(devices: &[DeviceSpec], index: Option<usize>) -> Option<&Devic
     ensures { option_map (λ d. d.now) result ≡ device_indexed devices.now index }
 {
     devices.get(index?)
+}
+
+/// The table of the device of an index.
+#[tactic(auto, using(crate::proofs::Steps::slice_get_view))]
+fn table_indexed(tables: &[Value], index: Option<usize>) -> Option<&Table>
+    ensures { option_map (λ t. table_view t.now) result
+        ≡ table_indexed (map view tables.now) index }
+{
+    tables.get(index?)?.as_table()
+}
+
+/// Whether the key `ports` of the table is the number of the port or a greater one.
+#[tactic(auto, unfolding(crate::specs::Scene::table_has))]
+fn table_has(table: Option<&Table>, port: u8) -> bool
+    ensures { result ≡ table_has (option_map (λ t. table_view t.now) table.entry) port }
+{
+    match table {
+        None => false,
+        Some(table) => number_at(u64::from(port), 15, value_at(table, "ports")).is_ok(),
+    }
 }
 
 /// How many ports the device has.
