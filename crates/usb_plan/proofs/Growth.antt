@@ -54,8 +54,8 @@ pub devices_from-end : (wide : Bool) (n : ℕ) (done : List Spec) (vs : List Val
 unfolding devices_from
 devices_from-end wide n done vs i le = rw (drop_all i vs le)
 
-pub events_from-next : (roots : ℕ) (wide : Bool) (specs : List Spec) (tables : List Data) (done : List Event)
-    (vs : List Value) (i : ℕ) (v : Value) (r : Result Event PlanFault) → i < length vs
+pub events_from-next : (roots : ℕ) (wide : Bool) (specs : List Spec) (tables : List Data)
+    (done : List Event) (vs : List Value) (i : ℕ) (v : Value) (r : Result Event PlanFault) → i < length vs
     → v ≡ get_or vs i v
     → entry_at (place.Event (i + 1)) (event_in (scene_after roots wide specs tables done) (length done)
     (as_table (view v))) ≡ r
@@ -65,8 +65,8 @@ pub events_from-next : (roots : ℕ) (wide : Bool) (specs : List Spec) (tables :
 unfolding events_from
 events_from-next roots wide specs tables done vs i v r lt is e = rw (view_drop vs i v lt is, e) refl
 
-pub events_from-end : (roots : ℕ) (wide : Bool) (specs : List Spec) (tables : List Data) (n : ℕ) (done : List Event)
-    (vs : List Value) (i : ℕ) → length vs ≤ i
+pub events_from-end : (roots : ℕ) (wide : Bool) (specs : List Spec) (tables : List Data)
+    (n : ℕ) (done : List Event) (vs : List Value) (i : ℕ) → length vs ≤ i
     → events_from roots wide specs tables n done (map view (drop i vs)) ≡ Ok done
 unfolding events_from
 events_from-end roots wide specs tables n done vs i le = rw (drop_all i vs le)

@@ -1,6 +1,7 @@
 -- Loops over values.
 use Rattle.std.proofs.Common.{◌≡◌, ℕ, ◌+◌, ◌<◌, ◌≤◌, List, [], ◌∷◌, length, get_or, drop, map}
-use Rattle.std.proofs.Common.{slice_get, option_map, Result, Ok, Err, IfOk, refl, sym, ap, ◌∙◌, arith, ◌||◌, true, false}
+use Rattle.std.proofs.Common.{Result, Ok, Err, IfOk, refl, sym, ap, ◌∙◌, arith, ◌||◌, true, false}
+use Rattle.std.proofs.Common.{slice_get, option_map}
 use Rattle.std.proofs.lemmas.Option.{slice_get-map}
 use Rattle.std.proofs.lemmas.List.{drop_more, drop_all, length_push, length-map}
 use Rattle.std.proofs.lemmas.Bool.{le-leb, lt-leb}

@@ -154,7 +154,14 @@ fn plan_with(
         (plan_with top (map view devices.now) (map view events.now) (map view damages.now)) }
 {
     let specs = devices_of(alloc, top.wide, devices)?;
-    let events = events_of(alloc, top.roots, top.wide, specs.as_slice(), devices, events)?;
+    let events = events_of(
+        alloc,
+        top.roots,
+        top.wide,
+        specs.as_slice(),
+        devices,
+        events,
+    )?;
     let damages = damages_of(alloc, damages)?;
     Ok(Plan::new(top.limit, top.roots, top.wide, specs, events, damages))
 }

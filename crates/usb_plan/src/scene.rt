@@ -105,7 +105,10 @@ impl<'a> Scene<'a> {
         match parent {
             None => true,
             Some(parent) => {
-                table_has(table_indexed(self.tables, self.plugged.device_at(&parent)), port)
+                table_has(
+                    table_indexed(self.tables, self.plugged.device_at(&parent)),
+                    port,
+                )
             }
         }
     }

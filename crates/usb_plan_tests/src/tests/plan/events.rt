@@ -412,7 +412,12 @@ fn later_events(rt: HostRuntime) -> Result<(), AllocError> {
 
 #[test]
 fn a_hub_that_says_more_ports(rt: HostRuntime) -> Result<(), AllocError> {
-    check(&rt, rt.alloc(), &[FUNCTION, HUB_TOLD_AS_TEN, HUB_PLUGGED], &PORTS_TOLD)
+    check(
+        &rt,
+        rt.alloc(),
+        &[FUNCTION, HUB_TOLD_AS_TEN, HUB_PLUGGED],
+        &PORTS_TOLD,
+    )
 }
 
 #[test]
