@@ -3,7 +3,7 @@ use Rattle.std.proofs.Common.{◌≡◌, ℕ, ◌+◌, ◌<◌, ◌≤◌, List,
 use Rattle.std.proofs.Common.{Bool, true, Result, Ok, refl}
 use Rattle.std.proofs.lemmas.Bool.{and_parts}
 use Rattle.std.proofs.lemmas.List.{drop_all}
-use Rattle.toml.specs.Data.{Data, as_table}
+use Rattle.toml.specs.Data.{as_table}
 use Rattle.toml.specs.declared.value.Value.{Value}
 use Rattle.toml.specs.View.{view}
 use Rattle.usb_plan.specs.declared.fault.Place.TheVariants as place
@@ -54,22 +54,22 @@ pub devices_from-end : (wide : Bool) (n : ℕ) (done : List Spec) (vs : List Val
 unfolding devices_from
 devices_from-end wide n done vs i le = rw (drop_all i vs le)
 
-pub events_from-next : (roots : ℕ) (wide : Bool) (specs : List Spec) (tables : List Data)
+pub events_from-next : (roots : ℕ) (wide : Bool) (specs : List Spec) (ports : List ℕ)
     (done : List Event) (vs : List Value) (i : ℕ) (v : Value) (r : Result Event PlanFault) → i < length vs
     → v ≡ get_or vs i v
-    → entry_at (place.Event (i + 1)) (event_in (scene_after roots wide specs tables done) (length done)
+    → entry_at (place.Event (i + 1)) (event_in (scene_after roots wide specs ports done) (length done)
     (as_table (view v))) ≡ r
-    → events_from roots wide specs tables (i + 1) done (map view (drop i vs))
-    ≡ (r >>= λ e. events_from roots wide specs tables (i + 1 + 1) (done ++ e ∷ [])
+    → events_from roots wide specs ports (i + 1) done (map view (drop i vs))
+    ≡ (r >>= λ e. events_from roots wide specs ports (i + 1 + 1) (done ++ e ∷ [])
     (map view (drop (i + 1) vs)))
 unfolding events_from
-events_from-next roots wide specs tables done vs i v r lt is e = rw (view_drop vs i v lt is, e) refl
+events_from-next roots wide specs ports done vs i v r lt is e = rw (view_drop vs i v lt is, e) refl
 
-pub events_from-end : (roots : ℕ) (wide : Bool) (specs : List Spec) (tables : List Data)
+pub events_from-end : (roots : ℕ) (wide : Bool) (specs : List Spec) (ports : List ℕ)
     (n : ℕ) (done : List Event) (vs : List Value) (i : ℕ) → length vs ≤ i
-    → events_from roots wide specs tables n done (map view (drop i vs)) ≡ Ok done
+    → events_from roots wide specs ports n done (map view (drop i vs)) ≡ Ok done
 unfolding events_from
-events_from-end roots wide specs tables n done vs i le = rw (drop_all i vs le)
+events_from-end roots wide specs ports n done vs i le = rw (drop_all i vs le)
 
 pub damages_from-next : (done : List Damage) (vs : List Value) (i : ℕ) (v : Value)
     (r : Result Damage PlanFault) → i < length vs → v ≡ get_or vs i v

@@ -48,8 +48,8 @@ unfoldable pub use Device.{configs_at, descriptor_at, device_in, device_of_parts
 unfoldable pub use Device.{device_tables_of, device_tables_with, device_texts_of, device_texts_with}
 unfoldable pub use Device.{device_with, devices_from, identity_of, identity_with, name_at, name_in}
 unfoldable pub use Device.{read_device, speed_at, strings_at, with_halt, with_hub, with_quirks}
-pub use Scene.{SceneData, is_port, scene_after, table_in, table_indexed}
-unfoldable pub use Scene.{says_port, table_has}
+pub use Scene.{SceneData, count_of, is_port, ports_in, read_count, scene_after}
+unfoldable pub use Scene.{ports_at, ports_said, says_port}
 unfoldable pub use Path.{free_path, has_numbers_of, read_path, taken_path}
 unfoldable pub use Plugged.{first_through}
 pub use EventMembers.{EventValues, all_event_keys, found}

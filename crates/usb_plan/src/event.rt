@@ -7,6 +7,7 @@ ghost use Rattle.usb_world.specs.Plans.{events_fit};
 ghost use Rattle.usb_plan.specs.Action.{keys_of, keys_given};
 ghost use Rattle.usb_plan.specs.Verb.{action_of, other_keys};
 ghost use Rattle.usb_plan.specs.EventMembers.{found};
+ghost use Rattle.usb_plan.specs.Scene.{ports_said};
 ghost use Rattle.usb_plan.specs.EntryFault.{EqualUnless};
 ghost use Rattle.usb_plan.specs.declared.entry_fault.EntryFault.TheVariants.{Memory};
 ghost use Rattle.usb_plan.specs.Event.{after_at, event_room, event_with, event_given, event_of, event_in, events_from};
@@ -113,7 +114,7 @@ pub(crate) fn events_of(
     values: &[Value],
 ) -> Result<Events, PlanFault>
     ensures value { EqualUnless NoMemory result (events_from roots wide devices.now
-        (map view tables.now) 1 [] (map view values.now)) }
+        (map ports_said (map view tables.now)) 1 [] (map view values.now)) }
     ensures fit { IfOk result (λ events. events_fit roots devices.now [] events ≡ true) }
 {
     let mut done = Events::new(alloc);

@@ -2,16 +2,16 @@
 
 ghost use Rattle.std.specs.Prelude.{◌≡◌, [], OnOk, map, option_map, position};
 ghost use Rattle.std.specs.Str.{bytes_eq};
-ghost use Rattle.toml.specs.View.{view, table_view};
-ghost use Rattle.usb_plan.specs.Scene.{is_port, says_port, scene_after, table_has, table_indexed};
+ghost use Rattle.toml.specs.View.{view};
+ghost use Rattle.usb_plan.specs.Scene.{is_port, ports_at, ports_said, says_port};
 ghost use Rattle.usb_world.specs.PluggedDevices.{is_rooted, has_port, parent_has, device_indexed, spec_port_count, plugged_after};
 ghost use Rattle.usb_world.specs.Plans.{is_taken};
 
 use crate::plugged::Plugged;
-use crate::value::{number_at, value_at};
+use crate::value::{number_or, value_at};
 use std::alloc::{AllocError, Global};
 use std::marker::Model;
-use toml::{Table, Value};
+use toml::Value;
 use usb_device::DeviceSpec;
 use usb_port::PortPath;
 use usb_world::Action;
@@ -30,7 +30,7 @@ pub(crate) struct Scene<'a> {
 impl<'a> Model for Scene<'a> {
     ghost use Rattle.std.specs.Prelude.{map};
     ghost use Rattle.toml.specs.View.{view as data_of};
-    ghost use Rattle.usb_plan.specs.Scene.{SceneData};
+    ghost use Rattle.usb_plan.specs.Scene.{SceneData, ports_said};
 
     ghost Value = { SceneData };
 
@@ -38,7 +38,7 @@ impl<'a> Model for Scene<'a> {
       roots = s.roots;
       wide = s.wide;
       devices = s.devices.now;
-      tables = map data_of s.tables.now;
+      ports = map ports_said (map data_of s.tables.now);
       plugged = s.plugged;
     } };
 }
@@ -52,8 +52,13 @@ impl<'a> Scene<'a> {
         devices: &'a [DeviceSpec],
         tables: &'a [Value],
     ) -> Self
-        ensures { result
-            ≡ scene_after roots wide devices.now (map view tables.now) [] }
+        ensures { result ≡ record {
+          roots = roots;
+          wide = wide;
+          devices = devices.now;
+          ports = map ports_said (map view tables.now);
+          plugged = [];
+        } }
     {
         Scene {
             roots,
@@ -97,24 +102,21 @@ impl<'a> Scene<'a> {
         }
     }
 
-    /// Whether the table of the device at the parent's path has the port.
+    /// Whether the table of the device at the parent's path says that there is the port.
     #[tactic(auto, unfolding(crate::specs::Scene::says_port))]
     fn says_port(&self, parent: Option<PortPath>, port: u8) -> bool
-        ensures { result ≡ says_port self.now.tables self.now.plugged parent port }
+        ensures { result ≡ says_port self.now.ports self.now.plugged parent port }
     {
         match parent {
             None => true,
             Some(parent) => {
-                table_has(
-                    table_indexed(self.tables, self.plugged.device_at(&parent)),
-                    port,
-                )
+                u64::from(port) <= ports_at(self.tables, self.plugged.device_at(&parent))
             }
         }
     }
 
-    /// Whether the path is a root port, or a port of a plugged device, by its table too. A hub whose descriptor spells
-    /// more than 7 ports has more than its table says where hubs are not wide.
+    /// Whether the path is a root port, or a port that a plugged device has and its table says. Where hubs are not
+    /// wide, one whose descriptor spells more than 7 ports has more than its table says.
     pub(crate) fn has_port(&self, path: &PortPath) -> bool
         ensures { result ≡ is_port self.now path.now }
     {
@@ -149,23 +151,31 @@ fn device_indexed(devices: &[DeviceSpec], index: Option<usize>) -> Option<&Devic
     devices.get(index?)
 }
 
-/// The table of the device of an index.
-#[tactic(auto, using(crate::proofs::Steps::slice_get_view))]
-fn table_indexed(tables: &[Value], index: Option<usize>) -> Option<&Table>
-    ensures { option_map (λ t. table_view t.now) result
-        ≡ table_indexed (map view tables.now) index }
+/// How many ports the key `ports` of a device's table says, 0 without it.
+#[tactic(auto, unfolding(crate::specs::Scene::ports_said))]
+fn ports_said(table: &Value) -> u64
+    ensures { result ≡ ports_said (view table.now) }
 {
-    tables.get(index?)?.as_table()
+    match table.as_table() {
+        None => 0,
+        Some(table) => match number_or(0, 1, 15, value_at(table, "ports")) {
+            Ok(ports) => ports,
+            Err(_) => 0,
+        },
+    }
 }
 
-/// Whether the key `ports` of the table is the number of the port or a greater one.
-#[tactic(auto, unfolding(crate::specs::Scene::table_has))]
-fn table_has(table: Option<&Table>, port: u8) -> bool
-    ensures { result ≡ table_has (option_map (λ t. table_view t.now) table.entry) port }
+/// How many ports its table says of the device of an index.
+#[tactic(auto, using(crate::proofs::Steps::said_found, crate::proofs::Steps::said_missing), unfolding(crate::specs::Scene::ports_at))]
+fn ports_at(tables: &[Value], index: Option<usize>) -> u64
+    ensures { result ≡ ports_at (map ports_said (map view tables.now)) index }
 {
-    match table {
-        None => false,
-        Some(table) => number_at(u64::from(port), 15, value_at(table, "ports")).is_ok(),
+    match index {
+        None => 0,
+        Some(index) => match tables.get(index) {
+            None => 0,
+            Some(table) => ports_said(table),
+        },
     }
 }
 
