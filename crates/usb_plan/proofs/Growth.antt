@@ -54,22 +54,22 @@ pub devices_from-end : (wide : Bool) (n : ℕ) (done : List Spec) (vs : List Val
 unfolding devices_from
 devices_from-end wide n done vs i le = rw (drop_all i vs le)
 
-pub events_from-next : (roots : ℕ) (wide : Bool) (specs : List Spec) (done : List Event)
-    (vs : List Value) (i : ℕ) (v : Value) (r : Result Event PlanFault) → i < length vs
+pub events_from-next : (roots : ℕ) (wide : Bool) (specs : List Spec) (ports : List ℕ)
+    (done : List Event) (vs : List Value) (i : ℕ) (v : Value) (r : Result Event PlanFault) → i < length vs
     → v ≡ get_or vs i v
-    → entry_at (place.Event (i + 1)) (event_in (scene_after roots wide specs done) (length done)
+    → entry_at (place.Event (i + 1)) (event_in (scene_after roots wide specs ports done) (length done)
     (as_table (view v))) ≡ r
-    → events_from roots wide specs (i + 1) done (map view (drop i vs))
-    ≡ (r >>= λ e. events_from roots wide specs (i + 1 + 1) (done ++ e ∷ [])
+    → events_from roots wide specs ports (i + 1) done (map view (drop i vs))
+    ≡ (r >>= λ e. events_from roots wide specs ports (i + 1 + 1) (done ++ e ∷ [])
     (map view (drop (i + 1) vs)))
 unfolding events_from
-events_from-next roots wide specs done vs i v r lt is e = rw (view_drop vs i v lt is, e) refl
+events_from-next roots wide specs ports done vs i v r lt is e = rw (view_drop vs i v lt is, e) refl
 
-pub events_from-end : (roots : ℕ) (wide : Bool) (specs : List Spec) (n : ℕ) (done : List Event)
-    (vs : List Value) (i : ℕ) → length vs ≤ i
-    → events_from roots wide specs n done (map view (drop i vs)) ≡ Ok done
+pub events_from-end : (roots : ℕ) (wide : Bool) (specs : List Spec) (ports : List ℕ)
+    (n : ℕ) (done : List Event) (vs : List Value) (i : ℕ) → length vs ≤ i
+    → events_from roots wide specs ports n done (map view (drop i vs)) ≡ Ok done
 unfolding events_from
-events_from-end roots wide specs n done vs i le = rw (drop_all i vs le)
+events_from-end roots wide specs ports n done vs i le = rw (drop_all i vs le)
 
 pub damages_from-next : (done : List Damage) (vs : List Value) (i : ℕ) (v : Value)
     (r : Result Damage PlanFault) → i < length vs → v ≡ get_or vs i v

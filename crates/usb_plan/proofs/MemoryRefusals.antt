@@ -85,12 +85,12 @@ least_fault-memory [] after = memory-sooner (least_fault after)
 least_fault-memory (f ∷ before) after = ap (sooner f) (least_fault-memory before after)
     ∙ sooner-memory f
 
-pub hub_with_unless : (ports : ℕ) (read spelled : Result (List ℕ) EntryFault)
-    → EqualUnless Memory read spelled → EqualUnless Memory (hub_with ports read)
-    (hub_with ports spelled)
+pub hub_with_unless : (wide : Bool) (ports : ℕ) (read spelled : Result (List ℕ) EntryFault)
+    → EqualUnless Memory read spelled → EqualUnless Memory (hub_with wide ports read)
+    (hub_with wide ports spelled)
 unfolding hub_with
-hub_with_unless ports read spelled h = unless_through Memory Memory (hub_with ports) read spelled
-    refl h
+hub_with_unless wide ports read spelled h = unless_through Memory Memory (hub_with wide ports) read
+    spelled refl h
 
 send_unless : (path bytes b : Result (List ℕ) EntryFault) → EqualUnless Memory bytes b
     → EqualUnless Memory (send path bytes) (send path b)

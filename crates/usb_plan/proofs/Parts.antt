@@ -11,7 +11,7 @@ use Rattle.usb_port.specs.{path_of}
 use Rattle.usb_request.specs.{DIRECTION_IN}
 use Rattle.usb_plan.specs.declared.entry_fault.EntryFault.{EntryFault}
 use Rattle.usb_plan.specs.{MissingKey, BadValue, UnknownDevice, BadPath, PortTaken, PortEmpty}
-use Rattle.usb_plan.specs.{Identity, DeviceTables, DeviceTexts, SceneData, Way, fault_in_part}
+use Rattle.usb_plan.specs.{Identity, DeviceTables, DeviceTexts, SceneData, Way, fault_in_part, is_port}
 use Rattle.usb_plan.specs.{sooner, least_fault, entry_at, ◌>>=◌, read_text, number_in, number_at}
 use Rattle.usb_plan.specs.{number_or, class_at, hub_at, no_hub, is_low_speed, is_other, quirks_with}
 use Rattle.usb_plan.specs.{quirks_of, flag_at, stalls_at, source_at, naks_at, bulk_with, read_bulk}
@@ -329,12 +329,12 @@ free_path_ok : (scene : SceneData) (r : Result (List ℕ) EntryFault) (p : List 
 unfolding free_path
 free_path_ok scene (Err k) p h = cc
 free_path_ok scene (Ok path) p h =
-    let test = ok_unless (not (has_port scene.roots scene.devices scene.plugged path)) _ BadPath p
-    h in
+    let test = ok_unless (not (is_port scene path)) _ BadPath p h in
     let empty = ok_unless (is_taken scene.plugged path) (Ok path) PortTaken p test.1 in
     let same : path ≡ p = cc empty.1 in
     rw (← same) (record {
-      port = not_false (has_port scene.roots scene.devices scene.plugged path) test.0;
+      port = (and_parts (has_port scene.roots scene.devices scene.plugged path) _
+          (not_false (is_port scene path) test.0)).0;
       free = empty.0;
     })
   where

@@ -54,11 +54,12 @@ event_in scene count table = do
   verb ← verb_at (get_member (codes "do") ms)
   event_of verb scene count ms
 
--- the events so far and those of the values; the first is number n
-unfoldable pub events_from : ℕ → Bool → List Spec → ℕ → List Event → List Data
+-- the events so far and those of the values; the first is number n, and so many ports are said of
+-- each device
+unfoldable pub events_from : ℕ → Bool → List Spec → List ℕ → ℕ → List Event → List Data
     → Result (List Event) PlanFault
-events_from roots wide devices n done [] = Ok done
-events_from roots wide devices n done (d ∷ ds) =
+events_from roots wide devices ports n done [] = Ok done
+events_from roots wide devices ports n done (d ∷ ds) =
     entry_at (place.Event n)
-    (event_in (scene_after roots wide devices done) (length done) (as_table d))
-    >>= λ e. events_from roots wide devices (n + 1) (done ++ e ∷ []) ds
+    (event_in (scene_after roots wide devices ports done) (length done) (as_table d))
+    >>= λ e. events_from roots wide devices ports (n + 1) (done ++ e ∷ []) ds

@@ -28,7 +28,8 @@ unfoldable pub use Value.{byte_at, hex_bytes, hex_in, number_at, number_in, numb
 unfoldable pub use Value.{read_text, tables_in, text_in}
 unfoldable pub use Keys.{keys_at, only_named}
 unfoldable pub use Texts.{items_from, texts_in, with_item}
-unfoldable pub use Hub.{class_at, hub_at, hub_in, hub_of, hub_with, is_low_speed, is_other, no_hub}
+unfoldable pub use Hub.{built_ports, class_at, hub_at, hub_in, hub_of, hub_with, is_agreed}
+unfoldable pub use Hub.{is_low_speed, is_other, no_hub}
 unfoldable pub use Quirks.{flag_at, is_stall, is_word, naks_at, names, quirks_of, quirks_with}
 unfoldable pub use Quirks.{stalls_at, stalls_in, stalls_named}
 unfoldable pub use Bulk.{bulk_with, halt_at, halt_in, read_bulk, source_at}
@@ -47,7 +48,8 @@ unfoldable pub use Device.{configs_at, descriptor_at, device_in, device_of_parts
 unfoldable pub use Device.{device_tables_of, device_tables_with, device_texts_of, device_texts_with}
 unfoldable pub use Device.{device_with, devices_from, identity_of, identity_with, name_at, name_in}
 unfoldable pub use Device.{read_device, speed_at, strings_at, with_halt, with_hub, with_quirks}
-pub use Scene.{SceneData, scene_after}
+pub use Scene.{SceneData, count_of, is_port, ports_in, read_count, scene_after}
+unfoldable pub use Scene.{ports_at, ports_said, says_port}
 unfoldable pub use Path.{free_path, has_numbers_of, read_path, taken_path}
 unfoldable pub use Plugged.{first_through}
 pub use EventMembers.{EventValues, all_event_keys, found}

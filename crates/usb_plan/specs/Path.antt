@@ -10,8 +10,8 @@ use Rattle.usb_plan.specs.declared.entry_fault.EntryFault.TheVariants.{BadPath, 
 use Rattle.usb_plan.specs.declared.entry_fault.EntryFault.TheVariants.{PortEmpty}
 use Rattle.usb_plan.specs.EntryFault.{◌>>=◌}
 use Rattle.usb_plan.specs.Value.{read_text}
-use Rattle.usb_plan.specs.Scene.{SceneData}
-use Rattle.usb_world.specs.{is_rooted, has_port, is_taken}
+use Rattle.usb_plan.specs.Scene.{SceneData, is_port}
+use Rattle.usb_world.specs.{is_rooted, is_taken}
 
 -- each number is one that a port of a hub may have
 unfoldable pub has_numbers_of : Bool → List ℕ → Bool
@@ -27,7 +27,7 @@ read_path scene d = do
 -- a path where there is a port, and nothing is plugged
 unfoldable pub free_path : SceneData → Result (List ℕ) EntryFault → Result (List ℕ) EntryFault
 free_path scene path =
-    path >>= λ p. if not (has_port scene.roots scene.devices scene.plugged p) then Err BadPath
+    path >>= λ p. if not (is_port scene p) then Err BadPath
     else if is_taken scene.plugged p then Err PortTaken else Ok p
 
 -- a path where something is plugged

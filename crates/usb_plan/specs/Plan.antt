@@ -1,6 +1,6 @@
 -- The plan that a text spells, or its first fault.
 use Rattle.std.specs.Prelude.{◌≤◌, ℕ, ◌^◌, codes, List, [], ◌∷◌, Option, Some, None, Result, Ok}
-use Rattle.std.specs.Prelude.{Bool, Err, if◌then◌else◌}
+use Rattle.std.specs.Prelude.{Bool, Err, if◌then◌else◌, map}
 use Rattle.std.specs.List.{list_all}
 use Rattle.toml.specs.Data.{Data, Items, Members, get_member, as_array}
 use Rattle.toml.specs.Parse.{parse_document}
@@ -17,6 +17,7 @@ use Rattle.usb_plan.specs.Value.{read_items, number_at, data_list, is_table}
 use Rattle.usb_plan.specs.Device.{devices_from}
 use Rattle.usb_plan.specs.Event.{events_from}
 use Rattle.usb_plan.specs.Damage.{damages_from}
+use Rattle.usb_plan.specs.Scene.{ports_said}
 use Rattle.usb_world.specs.{PlanData}
 
 -- the key `limit`
@@ -83,7 +84,7 @@ pub record TopFits (top : Top) : Type 0 where
 unfoldable pub plan_with : Top → List Data → List Data → List Data → Result PlanData PlanFault
 plan_with top devices events damages = do
   specs ← devices_from top.wide 1 [] devices
-  done ← events_from top.roots top.wide specs 1 [] events
+  done ← events_from top.roots top.wide specs (map ports_said devices) 1 [] events
   harms ← damages_from 1 [] damages
   Ok (record {
     limit = top.limit;

@@ -7,6 +7,7 @@ ghost use Rattle.usb_world.specs.Plans.{events_fit};
 ghost use Rattle.usb_plan.specs.Action.{keys_of, keys_given};
 ghost use Rattle.usb_plan.specs.Verb.{action_of, other_keys};
 ghost use Rattle.usb_plan.specs.EventMembers.{found};
+ghost use Rattle.usb_plan.specs.Scene.{ports_said};
 ghost use Rattle.usb_plan.specs.EntryFault.{EqualUnless};
 ghost use Rattle.usb_plan.specs.declared.entry_fault.EntryFault.TheVariants.{Memory};
 ghost use Rattle.usb_plan.specs.Event.{after_at, event_room, event_with, event_given, event_of, event_in, events_from};
@@ -103,20 +104,21 @@ fn event_in(
     event_given(alloc, verb, scene, count, &members)
 }
 
-/// The events that the values describe, or the first fault.
+/// The events that the values describe, or the first fault. The tables are those of the devices.
 pub(crate) fn events_of(
     alloc: Global,
     roots: u8,
     wide: bool,
     devices: &[DeviceSpec],
+    tables: &[Value],
     values: &[Value],
 ) -> Result<Events, PlanFault>
-    ensures value { EqualUnless NoMemory result
-        (events_from roots wide devices.now 1 [] (map view values.now)) }
+    ensures value { EqualUnless NoMemory result (events_from roots wide devices.now
+        (map ports_said (map view tables.now)) 1 [] (map view values.now)) }
     ensures fit { IfOk result (λ events. events_fit roots devices.now [] events ≡ true) }
 {
     let mut done = Events::new(alloc);
-    let mut scene = Scene::new(alloc, roots, wide, devices);
+    let mut scene = Scene::new(alloc, roots, wide, devices, tables);
     for (i, value) in values.iter().enumerate() {
         let count = done.as_slice().len();
         let read = event_in(alloc, &scene, count, value.as_table());

@@ -1,17 +1,20 @@
 //! The keys `ports` and `hub_descriptor` of a device.
 
-ghost use Rattle.std.specs.Prelude.{◌≡◌, ◌≤◌, option_map};
+ghost use Rattle.std.specs.Prelude.{◌≡◌, ◌≤◌, option_map, true};
 ghost use Rattle.toml.specs.View.{view};
 ghost use Rattle.usb_descriptor.specs.Hub.{most_ports};
 ghost use Rattle.usb_plan.specs.EntryFault.{EqualUnless};
 ghost use Rattle.usb_plan.specs.declared.entry_fault.EntryFault.TheVariants.{Memory};
-ghost use Rattle.usb_plan.specs.Hub.{no_hub, hub_with, hub_of, hub_in, hub_at, is_low_speed, is_other, class_at};
+ghost use Rattle.usb_device.specs.DeviceSpecs.{agrees};
+ghost use Rattle.usb_plan.specs.Hub.{no_hub, is_agreed, built_ports, hub_with, hub_of, hub_in, hub_at, is_low_speed, is_other, class_at};
 
 use crate::entry_fault::EntryFault;
 use crate::value::{hex_in, number_in};
 use std::alloc::Global;
 use toml::Value;
+use usb_descriptor::read_hub;
 use usb_device::{Bytes, HubSpec, has_hub_class};
+use usb_request::descriptor_length::HUB_LENGTH;
 
 /// The most ports that a hub may have: 7, and 15 with wide hubs (11.23.2.1).
 pub(crate) fn most_ports(wide: bool) -> u8
@@ -31,19 +34,52 @@ fn no_hub(descriptor: Option<&Value>) -> Result<Option<HubSpec>, EntryFault>
     }
 }
 
-/// The hub with this number of ports and this hub descriptor.
+/// Whether a host that takes wide hubs, or one that does not, finds this number of ports in the hub descriptor, or
+/// cannot read it.
+#[tactic(auto, unfolding(crate::specs::Hub::is_agreed))]
+fn is_agreed(wide: bool, ports: u8, descriptor: &[u8]) -> bool
+    ensures { result ≡ is_agreed wide ports descriptor.now }
+{
+    let front = &descriptor[..descriptor.len().min(HUB_LENGTH)];
+    match read_hub(front, wide) {
+        Ok(hub) => hub.ports() == ports,
+        Err(_) => true,
+    }
+}
+
+/// The number of ports that a host with wide hubs finds in the hub descriptor, else that of the key.
+#[tactic(auto, unfolding(crate::specs::Hub::built_ports))]
+fn built_ports(ports: u8, descriptor: &[u8]) -> u8
+    requires least { 1 ≤ ports }
+    requires most { ports ≤ 15 }
+    ensures value { result ≡ built_ports ports descriptor.now }
+    ensures least { 1 ≤ result }
+    ensures most { result ≤ 15 }
+    ensures agree { agrees result descriptor.now ≡ true }
+{
+    let front = &descriptor[..descriptor.len().min(HUB_LENGTH)];
+    match read_hub(front, true) {
+        Ok(hub) => hub.ports(),
+        Err(_) => ports,
+    }
+}
+
+/// The hub with this hub descriptor, unless the plan's host finds another number of ports in it than that of the key.
+/// Without wide hubs a descriptor may spell more than 7 ports. The hub has them then, and the host refuses it.
 #[tactic(auto, unfolding(crate::specs::Hub::hub_with))]
 fn hub_with(
+    wide: bool,
     ports: u8,
     descriptor: Result<Bytes<255>, EntryFault>,
 ) -> Result<Option<HubSpec>, EntryFault>
     requires least { 1 ≤ ports }
     requires most { ports ≤ 15 }
-    ensures { result ≡ hub_with ports descriptor }
+    ensures { result ≡ hub_with wide ports descriptor }
 {
     let bytes = descriptor?;
-    if HubSpec::agrees(ports, bytes.as_slice()) {
-        Ok(Some(HubSpec::new(ports, bytes)))
+    if is_agreed(wide, ports, bytes.as_slice()) {
+        let built = built_ports(ports, bytes.as_slice());
+        Ok(Some(HubSpec::new(built, bytes)))
     } else {
         Err(EntryFault::BadValue)
     }
@@ -52,17 +88,18 @@ fn hub_with(
 #[tactic(auto, using(crate::proofs::MemoryRefusals::hub_with_unless), unfolding(crate::specs::Hub::hub_of))]
 fn hub_of(
     alloc: Global,
+    wide: bool,
     ports: u8,
     descriptor: Option<&Value>,
 ) -> Result<Option<HubSpec>, EntryFault>
     requires least { 1 ≤ ports }
     requires most { ports ≤ 15 }
     ensures { EqualUnless Memory result
-        (hub_of ports (option_map (λ v. view v.now) descriptor.entry)) }
+        (hub_of wide ports (option_map (λ v. view v.now) descriptor.entry)) }
 {
     match descriptor {
         None => Ok(Some(HubSpec::usual(alloc, ports)?)),
-        Some(value) => hub_with(ports, hex_in::<255>(alloc, value)),
+        Some(value) => hub_with(wide, ports, hex_in::<255>(alloc, value)),
     }
 }
 
@@ -77,7 +114,7 @@ fn hub_in(
         (hub_in wide ports (option_map (λ v. view v.now) descriptor.entry)) }
 {
     let ports = number_in(1, u64::from(most_ports(wide)), ports)?;
-    hub_of(alloc, ports as u8, descriptor)
+    hub_of(alloc, wide, ports as u8, descriptor)
 }
 
 /// The keys `ports` and `hub_descriptor`, which may be absent.

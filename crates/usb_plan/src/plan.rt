@@ -153,10 +153,17 @@ fn plan_with(
     ensures { EqualUnless Memory result
         (plan_with top (map view devices.now) (map view events.now) (map view damages.now)) }
 {
-    let devices = devices_of(alloc, top.wide, devices)?;
-    let events = events_of(alloc, top.roots, top.wide, devices.as_slice(), events)?;
+    let specs = devices_of(alloc, top.wide, devices)?;
+    let events = events_of(
+        alloc,
+        top.roots,
+        top.wide,
+        specs.as_slice(),
+        devices,
+        events,
+    )?;
     let damages = damages_of(alloc, damages)?;
-    Ok(Plan::new(top.limit, top.roots, top.wide, devices, events, damages))
+    Ok(Plan::new(top.limit, top.roots, top.wide, specs, events, damages))
 }
 
 /// The plan that a table describes, or its first fault.

@@ -1,28 +1,36 @@
 //! What an event meets.
 
-ghost use Rattle.std.specs.Prelude.{◌≡◌, [], OnOk, option_map, position};
+ghost use Rattle.std.specs.Prelude.{◌≡◌, [], OnOk, map, option_map, position};
 ghost use Rattle.std.specs.Str.{bytes_eq};
+ghost use Rattle.toml.specs.View.{view};
+ghost use Rattle.usb_plan.specs.Scene.{is_port, ports_at, ports_said, says_port};
 ghost use Rattle.usb_world.specs.PluggedDevices.{is_rooted, has_port, parent_has, device_indexed, spec_port_count, plugged_after};
 ghost use Rattle.usb_world.specs.Plans.{is_taken};
 
 use crate::plugged::Plugged;
+use crate::value::{number_or, value_at};
 use std::alloc::{AllocError, Global};
 use std::marker::Model;
+use toml::Value;
 use usb_device::DeviceSpec;
 use usb_port::PortPath;
 use usb_world::Action;
 
-/// The root ports, whether hubs may be wide, the devices of the plan, and which of these are plugged where.
+/// The root ports, whether hubs may be wide, the devices of the plan and the tables that describe them, and which
+/// devices are plugged where.
 #[derive(Drop)]
 pub(crate) struct Scene<'a> {
     roots: u8,
     wide: bool,
     devices: &'a [DeviceSpec],
+    tables: &'a [Value],
     plugged: Plugged,
 }
 
 impl<'a> Model for Scene<'a> {
-    ghost use Rattle.usb_plan.specs.Scene.{SceneData};
+    ghost use Rattle.std.specs.Prelude.{map};
+    ghost use Rattle.toml.specs.View.{view as data_of};
+    ghost use Rattle.usb_plan.specs.Scene.{SceneData, ports_said};
 
     ghost Value = { SceneData };
 
@@ -30,20 +38,33 @@ impl<'a> Model for Scene<'a> {
       roots = s.roots;
       wide = s.wide;
       devices = s.devices.now;
+      ports = map ports_said (map data_of s.tables.now);
       plugged = s.plugged;
     } };
 }
 
 impl<'a> Scene<'a> {
     /// Nothing is plugged.
-    pub(crate) fn new(alloc: Global, roots: u8, wide: bool, devices: &'a [DeviceSpec]) -> Self
-        ensures { result
-            ≡ record { roots = roots; wide = wide; devices = devices.now; plugged = [] } }
+    pub(crate) fn new(
+        alloc: Global,
+        roots: u8,
+        wide: bool,
+        devices: &'a [DeviceSpec],
+        tables: &'a [Value],
+    ) -> Self
+        ensures { result ≡ record {
+          roots = roots;
+          wide = wide;
+          devices = devices.now;
+          ports = map ports_said (map view tables.now);
+          plugged = [];
+        } }
     {
         Scene {
             roots,
             wide,
             devices,
+            tables,
             plugged: Plugged::new(alloc),
         }
     }
@@ -81,12 +102,27 @@ impl<'a> Scene<'a> {
         }
     }
 
-    /// Whether the path is a root port, or a port of a plugged device.
+    /// Whether the table of the device at the parent's path says that there is the port.
+    #[tactic(auto, unfolding(crate::specs::Scene::says_port))]
+    fn says_port(&self, parent: Option<PortPath>, port: u8) -> bool
+        ensures { result ≡ says_port self.now.ports self.now.plugged parent port }
+    {
+        match parent {
+            None => true,
+            Some(parent) => {
+                u64::from(port) <= ports_at(self.tables, self.plugged.device_at(&parent))
+            }
+        }
+    }
+
+    /// Whether the path is a root port, or a port that a plugged device has and its table says. Where hubs are not
+    /// wide, one whose descriptor spells more than 7 ports has more than its table says.
     pub(crate) fn has_port(&self, path: &PortPath) -> bool
-        ensures { result ≡ has_port self.now.roots self.now.devices self.now.plugged path.now }
+        ensures { result ≡ is_port self.now path.now }
     {
         self.is_rooted(path)
             && (path.numbers().len() == 1 || self.parent_has(path.parent(), path.port()))
+            && self.says_port(path.parent(), path.port())
     }
 
     /// Whether something is plugged at the path.
@@ -113,6 +149,34 @@ fn device_indexed(devices: &[DeviceSpec], index: Option<usize>) -> Option<&Devic
     ensures { option_map (λ d. d.now) result ≡ device_indexed devices.now index }
 {
     devices.get(index?)
+}
+
+/// How many ports the key `ports` of a device's table says, 0 without it.
+#[tactic(auto, unfolding(crate::specs::Scene::ports_said))]
+fn ports_said(table: &Value) -> u64
+    ensures { result ≡ ports_said (view table.now) }
+{
+    match table.as_table() {
+        None => 0,
+        Some(table) => match number_or(0, 1, 15, value_at(table, "ports")) {
+            Ok(ports) => ports,
+            Err(_) => 0,
+        },
+    }
+}
+
+/// How many ports its table says of the device of an index.
+#[tactic(auto, using(crate::proofs::Steps::said_found, crate::proofs::Steps::said_missing), unfolding(crate::specs::Scene::ports_at))]
+fn ports_at(tables: &[Value], index: Option<usize>) -> u64
+    ensures { result ≡ ports_at (map ports_said (map view tables.now)) index }
+{
+    match index {
+        None => 0,
+        Some(index) => match tables.get(index) {
+            None => 0,
+            Some(table) => ports_said(table),
+        },
+    }
 }
 
 /// How many ports the device has.

@@ -55,6 +55,9 @@ const KEYS: [Cases; 3] = [
             "ports = 7",
             "ports = 2\nhub_descriptor = \"0929020100000000FF\"",
             "ports = 2\nhub_descriptor = \"09290301000000\"",
+            // hub descriptors of eight ports and of fifteen, which this plan's host does not take
+            "ports = 2\nhub_descriptor = \"0B29080100000000FF\"",
+            "ports = 7\nhub_descriptor = \"0B290F010000000000FFFF\"",
             "self_powered = true",
             "busy = true",
             "silent = false",
@@ -79,8 +82,6 @@ const KEYS: [Cases; 3] = [
             "ports = \"1\"",
             "ports = 2\nhub_descriptor = \"0929030100000000FF\"",
             "ports = 8\nhub_descriptor = \"0\"",
-            // a hub descriptor of eight ports, for two
-            "ports = 2\nhub_descriptor = \"0B29080100000000FF\"",
             "ports = 2\nhub_descriptor = 0",
             "hub_descriptor = \"0\"",
             "hub_descriptor = \"0929020100000000FF\"",

@@ -337,6 +337,36 @@ const HUB_EVENTS: [Cases; 4] = [
     },
 ];
 
+/// A hub with two ports, whose descriptor says ten.
+const HUB_TOLD_AS_TEN: &str =
+    "[[device]]\nname = \"hub\"\nspeed = \"full\"\ndescriptor = \"0000000009\"\nconfigs = []\nports = 2\nhub_descriptor = \"0B290A010000000000FFFF\"\n";
+
+/// Lines of the events after a plug of that hub at port 1.
+const PORTS_TOLD: [Cases; 3] = [
+    Cases {
+        told: "plan",
+        texts: &[
+            "do = \"plug\"\npath = \"1.1\"\ndevice = \"fn\"",
+            "do = \"plug\"\npath = \"1.2\"\ndevice = \"hub\"\n[[event]]\ndo = \"plug\"\npath = \"1.2.2\"\ndevice = \"fn\"",
+        ],
+    },
+    Cases {
+        told: "plan: event 2: bad path",
+        texts: &[
+            "do = \"plug\"\npath = \"1.3\"\ndevice = \"fn\"",
+            "do = \"plug\"\npath = \"1.7\"\ndevice = \"fn\"",
+            "do = \"plug\"\npath = \"1.10\"\ndevice = \"fn\"",
+        ],
+    },
+    Cases {
+        told: "plan: event 3: bad path",
+        texts: &[
+            "do = \"plug\"\npath = \"1.2\"\ndevice = \"hub\"\n[[event]]\ndo = \"plug\"\npath = \"1.2.3\"\ndevice = \"fn\"",
+            "do = \"plug\"\npath = \"1.2\"\ndevice = \"fn\"\n[[event]]\ndo = \"plug\"\npath = \"1.2.1\"\ndevice = \"fn\"",
+        ],
+    },
+];
+
 /// Lines of the first event of a plan with wide hubs.
 const WIDE: [Cases; 2] = [
     Cases {
@@ -378,6 +408,16 @@ fn keys_of_each_event(rt: HostRuntime) -> Result<(), AllocError> {
 #[test]
 fn later_events(rt: HostRuntime) -> Result<(), AllocError> {
     check(&rt, rt.alloc(), &[FUNCTION, PLUGGED], &LATER)
+}
+
+#[test]
+fn a_hub_that_says_more_ports(rt: HostRuntime) -> Result<(), AllocError> {
+    check(
+        &rt,
+        rt.alloc(),
+        &[FUNCTION, HUB_TOLD_AS_TEN, HUB_PLUGGED],
+        &PORTS_TOLD,
+    )
 }
 
 #[test]
