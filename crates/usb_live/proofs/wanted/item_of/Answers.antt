@@ -1,5 +1,5 @@
 use Rattle.std.proofs.Common.{refl}
-use Rattle.usb_live.proofs.KeptWide.{all_wide}
+use Rattle.usb_live.proofs.KeptWide.{all_wide, news_wide}
 use Rattle.usb_live.proofs.wanted.item_of.Goals as goal
 
 pub returns-in-Ok-clause-shown : goal.returns-in-Ok-clause-shown
@@ -12,3 +12,6 @@ returns-in_ok-all_news-in-News-clause-does g c = λ _. rw c.in-News.is
 
 pub returns-in_ok-all_news-in-News-clause-wide : goal.returns-in_ok-all_news-in-News-clause-wide
 returns-in_ok-all_news-in-News-clause-wide g c = all_wide _ _ _ c.in_ok-all_news-in-News.ensures.all
+
+pub returns-in_err-all_news-in-News-clause-wide : goal.returns-in_err-all_news-in-News-clause-wide
+returns-in_err-all_news-in-News-clause-wide g c = news_wide _ _ c.in_err-all_news-in-News.ensures.cut
