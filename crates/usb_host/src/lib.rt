@@ -18,6 +18,8 @@
 //! - **A transfer is refused just where it cannot go.** Over any bus, a call through the pipe to one
 //!   endpoint tells that there is no device, no such endpoint or a broken pipe. Then it attempts
 //!   nothing and changes no pipe (*MovesOrRefuses*; `Host::send_to` and the others).
+//! - **A copy of a host knows the same.** It is over another bus, and all but the bus is equal
+//!   (`Host::copied_onto`).
 //!
 //! One record has what a call promises: `specs/HostCalls.antt`, `Looks.antt`, `Controls.antt`,
 //! `NewsReports.antt`. What does not mention the simulated world holds over any bus
@@ -29,6 +31,7 @@
 #![tactic(auto)]
 
 mod control;
+mod copied;
 mod device;
 mod endpoint;
 mod fault;
