@@ -515,7 +515,8 @@ const char *usb_cause_text(enum usb_cause cause)
 {
     static const char *const texts[] = {
         "accepted",          "silent",   "busy",    "stalled", "bad device", "too deep",
-        "bad configuration", "no power", "bad hub", "lost",    "no address"
+        "bad configuration", "no power", "bad hub", "lost",    "no address",
+        "too large"
     };
-    return cause <= USB_CAUSE_NO_ADDRESS ? texts[cause] : "?";
+    return cause <= USB_CAUSE_TOO_LARGE ? texts[cause] : "?";
 }

@@ -220,7 +220,8 @@ enum usb_cause {
     USB_CAUSE_NO_POWER = 7,          /* no configuration needs as little power as the port gives */
     USB_CAUSE_BAD_HUB = 8,           /* it is a hub that the host does not take */
     USB_CAUSE_LOST = 9,              /* its port was not enabled by the reset */
-    USB_CAUSE_NO_ADDRESS = 10        /* no address was free */
+    USB_CAUSE_NO_ADDRESS = 10,       /* no address was free */
+    USB_CAUSE_TOO_LARGE = 11         /* its configurations say that they have more bytes than the host takes */
 };
 enum usb_request { USB_GET_DEVICE, USB_SET_ADDRESS, USB_GET_CONFIGURATION, USB_SET_CONFIGURATION };
 

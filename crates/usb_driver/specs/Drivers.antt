@@ -2,6 +2,7 @@
 use Rattle.std.specs.Prelude.{◌≡◌, ◌≢◌, ◌⊎◌, ℕ, ◌<◌, Bool, true, false, List, [], ◌∷◌}
 use Rattle.std.specs.Prelude.{◌++◌}
 use Rattle.std.specs.Prelude.{length, Option, Some, None, Result, Ok, Err}
+use Rattle.usb_enum.specs.{usual_options}
 use Rattle.usb_host.specs.{HostState, first_numbers, none_left}
 use Rattle.usb_driver.specs.Calls.{Makes}
 use Rattle.usb_driver.specs.Hearing.{Hears, failed_by, no_world, spent_in}
@@ -46,7 +47,7 @@ pub record Opens (takes : Bool) (new : HostState) : Type 0 where
   pub left : new.counts.left ≡ none_left
   pub numbers : new.numbers ≡ first_numbers
   pub reported : new.reported ≡ []
-  pub wide : new.wide ≡ takes
+  pub options : new.options ≡ usual_options takes
 
 -- a call: it opens a host, or does what is wanted on one
 pub data Call : Type 0 where

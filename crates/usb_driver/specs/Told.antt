@@ -131,6 +131,7 @@ cause_number cause.NoPower = 7
 cause_number cause.BadHub = 8
 cause_number cause.Lost = 9
 cause_number cause.NoAddress = 10
+cause_number cause.TooLarge = 11
 
 abbrev pub cause_names : Cause → ℕ
 cause_names (cause.Stalled r) = request_number r

@@ -333,6 +333,7 @@ fn cause_number(cause: Cause) -> u8
         Cause::BadHub => 8,
         Cause::Lost => 9,
         Cause::NoAddress => 10,
+        Cause::TooLarge => 11,
     }
 }
 

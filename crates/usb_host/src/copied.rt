@@ -10,7 +10,7 @@ use usb_bus::Bus;
 impl<B: Bus> Host<B> {
     /// A host of another bus that knows what this one knows: the devices with their numbers and pipes,
     /// those that were reported, the addresses that are taken, and the root ports that are left alone.
-    /// It takes wide hubs, or has stopped, if this one does. Nothing is attempted.
+    /// Its options are the same, and it has stopped if this one has. Nothing is attempted.
     ///
     /// It lets a caller undo a call. A driver that has not heard an answer yet makes the call on a copy,
     /// over a bus of what was heard. It drops the copy if the call needed an answer more, and else
@@ -43,7 +43,7 @@ impl<B: Bus> Host<B> {
                 left: self.left.of_bus(),
                 numbers: self.numbers.duplicate(),
                 reported: self.reported.duplicate(),
-                wide: self.wide,
+                options: self.options,
                 stopped: self.stopped,
             }),
             Err(_) => Err(bus),

@@ -27,6 +27,8 @@ pub enum Cause {
     Lost,
     /// No address was free.
     NoAddress,
+    /// Its configurations say that they have more bytes than the host takes.
+    TooLarge,
 }
 
 /// A request of an enumeration.
@@ -61,6 +63,7 @@ impl Cause {
             8 => Cause::BadHub,
             9 => Cause::Lost,
             10 => Cause::NoAddress,
+            11 => Cause::TooLarge,
             _ => return None,
         })
     }

@@ -12,7 +12,7 @@ use Rattle.usb_host.proofs.entries.Balances.{accounts_none, range_none}
 use Rattle.usb_host.proofs.BusCounts.{counts_known}
 use Rattle.usb_host.proofs.parts.Openings.{powered_is_opening, owning_opening, sound_opening}
 use Rattle.usb_host.specs.{HostMapHolds, HostInvariant, HostState}
-use Rattle.usb_host.proofs.host.Host.opened.Goals as goal
+use Rattle.usb_host.proofs.host.Host.with_options.Goals as goal
 
 pub ports-init : goal.ports-init
 ports-init g c = record {
@@ -77,7 +77,7 @@ returns-clause-tells g c known =
       c.root_ports-roots.ensures.count known,
       c.root_ports-roots.ensures.least,
     ) in
-    let opens = powered_is_opening w0 _ _ _ _ _ _ _ _ c.args.wide
+    let opens = powered_is_opening w0 _ _ _ _ _ _ _ _ c.args.options
     (powered_all w0 _ all (c.ports.invariant.powered known)) (c.ports.invariant.silent known)
     (counts_known g.B.Bus.modelled (g.B.Bus.spent c.ports.bus) (g.B.Bus.failed c.ports.bus) _
     known)
@@ -86,8 +86,8 @@ returns-clause-tells g c known =
       opens = opens;
       traced = c.ports.invariant.traced known;
       owning = λ single. subst HostMapHolds (sym opens)
-          (owning_opening c.args.wide w0 t0 (g.met.B.Bus.settled known c.args.bus) single);
-      sound = λ single. subst HostInvariant (sym opens) (sound_opening c.args.wide w0 t0
+          (owning_opening c.args.options w0 t0 (g.met.B.Bus.settled known c.args.bus) single);
+      sound = λ single. subst HostInvariant (sym opens) (sound_opening c.args.options w0 t0
           (subst (λ (h : HostState). Traced w0 t0 h.world h.trace) opens
           (c.ports.invariant.traced known)) (g.met.B.Bus.settled known c.args.bus)
           (g.met.B.Bus.between known c.args.bus) single);
