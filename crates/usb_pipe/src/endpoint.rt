@@ -4,7 +4,7 @@ ghost use Rattle.usb_pipe.specs.EndpointPipes.{halt_address};
 
 use crate::condition::Condition;
 use crate::control::control_none;
-use crate::rows::{receive_from, send_to};
+use crate::packets::{receive_packets, send_packets};
 use crate::{EndpointKind, PipeFault, Setup, UsableEndpoint};
 use arrayvec::ArrayVec;
 use std::alloc::Global;
@@ -142,8 +142,7 @@ impl EndpointPipe {
             return Ok(());
         }
         let mut toggle = self.toggle;
-        let target = self.packet_target();
-        let sent = send_to(self.kind, bus, target, self.ep, &mut toggle, bytes);
+        let sent = send_packets(bus, self.packet_target(), self.ep, &mut toggle, bytes);
         self.toggle = toggle;
         self.condition = self.condition.after_transfer(&sent);
         sent
@@ -186,8 +185,7 @@ impl EndpointPipe {
             return Ok(Vec::new(alloc));
         }
         let mut toggle = self.toggle;
-        let received = receive_from(
-            self.kind,
+        let received = receive_packets(
             alloc,
             bus,
             self.packet_target(),

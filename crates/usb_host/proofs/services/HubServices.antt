@@ -44,7 +44,7 @@ LeavesRest a b =
     b ≡ record b {
       numbers = a.numbers;
       reported = a.reported;
-      options = a.options;
+      wide = a.wide;
       stopped = a.stopped;
     }
 

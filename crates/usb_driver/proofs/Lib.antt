@@ -1,5 +1,0 @@
-pub mod StatusLaws
-pub mod AnswerLaws
-pub mod WantLaws
-pub mod HearingLaws
-pub mod DriverLaws
