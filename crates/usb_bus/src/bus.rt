@@ -1,4 +1,5 @@
-ghost use Rattle.std.specs.Prelude.{◌≡◌, ◌≤◌, ℕ, List, Option, None, Some, Bool, true, IfOk, IfErr};
+ghost use Rattle.std.specs.Prelude.{◌≡◌, ◌+◌, ◌*◌, ◌<◌, ◌≤◌, ℕ, List, length, Option, None, Some, Bool, true, IfOk, IfErr};
+ghost use Rattle.std.specs.Int.{div_ceil};
 ghost use Rattle.usb_port.specs.PortStates.{status_of};
 ghost use Rattle.usb_port.specs.Calls.{IsSetFeature, IsClearFeature};
 ghost use Rattle.usb_world.specs.declared.types.BusFault.{BusFault as AFault};
@@ -7,8 +8,12 @@ ghost use Rattle.usb_world.specs.Worlds.{World, IsAttempt, FitsMaximum, root_por
 ghost use Rattle.usb_world.specs.Steps.{WorldInvariant, SetsRoot, ClearsRoot};
 ghost use Rattle.usb_tree.specs.AttemptPackets.{IsSettled};
 ghost use Rattle.usb_bus.specs.Traces.{Attempts, Spends};
+ghost use Rattle.usb_bus.specs.Rows.{InsMade, OutsMade, IsDestination, CountsRow, RowTold, row_attempts};
 
-use crate::{Attempt, BusFault, Outcome};
+use crate::rows::{add_full, is_ack, out_attempt};
+use crate::{Attempt, BusFault, Destination, Outcome, ROW_ROOM, RowDone, RowEnd};
+use arrayvec::ArrayVec;
+use usb_packet::Toggle;
 
 /// A bus with the host's root ports.
 ///
@@ -55,6 +60,112 @@ pub trait Bus {
         ensures spends { Spends spent ports 1 self.old self.new }
         ensures fits { IfOk result (FitsMaximum (attempt_data attempt.now).max) }
         ensures told { IfErr result (λ fault. failed self.new ≡ Some fault) };
+
+    /// Makes INs of one endpoint, one after the other, until one is not answered by a full packet of the toggle that is
+    /// due.
+    ///
+    /// It asks for at most `most` packets, 0 to 64, whose toggles alternate from `toggle`. `got` is emptied, and then has
+    /// the bytes of the full packets. Data of the answer that ended the row are not among them.
+    ///
+    /// This body makes them one by one. A controller that has a queue makes one queue of them.
+    ///
+    /// # Errors
+    ///
+    /// `RowEnd::Faulted`: an attempt of the row failed, as `attempt` says. The packets before it were moved.
+    fn attempt_ins(
+        &mut self,
+        to: Destination,
+        toggle: Toggle,
+        most: u8,
+        got: &mut ArrayVec<u8, ROW_ROOM>,
+    ) -> RowDone
+        requires row { IsDestination to × (most ≤ 64) }
+        ensures attempts { modelled ≡ true → InsMade to toggle most (world self.old)
+            (trace self.old) result got.new.items (world self.new) (trace self.new) }
+        ensures spends { Spends spent ports (row_attempts result.moved result.end)
+            self.old self.new }
+        ensures fits { CountsRow to.max most result
+            × (length got.new.items ≡ result.moved * to.max) }
+        ensures told { RowTold result.end (failed self.new) }
+    {
+        got.clear();
+        let attempt = Attempt::In { to };
+        let mut due = toggle;
+        'packets: for moved in 0..most {
+            match self.attempt(&attempt) {
+                Ok(outcome) => {
+                    if !add_full(got, to.max, due, &outcome) {
+                        return RowDone {
+                            moved,
+                            end: RowEnd::Answered(outcome),
+                        };
+                    }
+                    due = due.other();
+                }
+                Err(fault) => {
+                    return RowDone {
+                        moved,
+                        end: RowEnd::Faulted(fault),
+                    };
+                }
+            }
+        }
+        RowDone {
+            moved: most,
+            end: RowEnd::Whole,
+        }
+    }
+
+    /// Makes OUTs to one endpoint, one after the other, until one is not answered by ACK.
+    ///
+    /// The bytes are cut into packets of the maximum, at most 64, whose toggles alternate from `toggle`. No bytes are
+    /// sent with no attempt.
+    ///
+    /// This body makes them one by one. A controller that has a queue makes one queue of them.
+    ///
+    /// # Errors
+    ///
+    /// `RowEnd::Faulted`: an attempt of the row failed, as `attempt` says. The packets before it were moved.
+    fn attempt_outs(&mut self, to: Destination, toggle: Toggle, bytes: &[u8]) -> RowDone
+        requires row { IsDestination to × (length bytes.now ≤ 64 * to.max) }
+        ensures attempts { modelled ≡ true → OutsMade to toggle bytes.now (world self.old)
+            (trace self.old) result (world self.new) (trace self.new) }
+        ensures spends { Spends spent ports (row_attempts result.moved result.end)
+            self.old self.new }
+        ensures fits { CountsRow to.max (div_ceil (length bytes.now) to.max) result }
+        ensures told { RowTold result.end (failed self.new) }
+    {
+        let mut rest = bytes;
+        let mut due = toggle;
+        let mut moved = 0;
+        'packets: while !rest.is_empty() {
+            let (packet, after) = rest.split_at(rest.len().min(usize::from(to.max)));
+            let attempt = out_attempt(to, due, packet);
+            match self.attempt(&attempt) {
+                Ok(outcome) => {
+                    if !is_ack(&outcome) {
+                        return RowDone {
+                            moved,
+                            end: RowEnd::Answered(outcome),
+                        };
+                    }
+                    rest = after;
+                    due = due.other();
+                    moved += 1;
+                }
+                Err(fault) => {
+                    return RowDone {
+                        moved,
+                        end: RowEnd::Faulted(fault),
+                    };
+                }
+            }
+        }
+        RowDone {
+            moved,
+            end: RowEnd::Whole,
+        }
+    }
 
     /// The number of root ports, 1 to 7.
     fn root_ports(&self) -> u8

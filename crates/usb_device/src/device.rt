@@ -24,7 +24,7 @@ use usb_packet::{Packet, decode};
 #[cycle(tree)]
 #[derive(Debug, Drop)]
 pub struct Device {
-    pub(crate) own: FunctionState,
+    pub(crate) own: Box<FunctionState>,
     pub(crate) ports: Ports,
 }
 
@@ -37,7 +37,7 @@ impl Model for Device {
 
     ghost coded = { plugged_code };
 
-    ghost view = { λ d. record { own = d.own; ports = d.ports } };
+    ghost view = { λ d. record { own = d.own.value; ports = d.ports } };
 
     ghost size = { plugged_weight };
 

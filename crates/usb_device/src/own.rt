@@ -283,23 +283,28 @@ impl FunctionState {
     ///
     /// Memory was refused, or the description has 2^64 - 1 owners.
     #[tactic(auto, unfolding(crate::specs::Rows::fresh))]
-    pub fn new(alloc: Global, spec: &Rc<DeviceSpec>) -> Result<Self, AllocError>
-        ensures { IfOk result (λ d. d ≡ fresh spec.now.value) }
+    pub fn new(alloc: Global, spec: &Rc<DeviceSpec>) -> Result<Box<Self>, AllocError>
+        ensures { IfOk result (λ d. d.value ≡ fresh spec.now.value) }
     {
-        Ok(FunctionState {
-            spec: spec.clone()?,
-            registers: at_reset(),
-            served: served_endpoints(spec, &at_reset()),
-            memory: RememberedPacket::Nothing,
-            naks: 0,
-            progress: Progress::Idle,
-            outs: OutEnds::new(alloc, spec)?,
-            ins: InEnds::new(spec),
-            changes: RESTED,
-            held: None,
-            taken: Vec::new(alloc),
-            write: ControlWrite::none(alloc),
-        })
+        let outs = OutEnds::new(alloc, spec)?;
+        let shared = spec.clone()?;
+        Ok(Box::new(
+            alloc,
+            FunctionState {
+                spec: shared,
+                registers: at_reset(),
+                served: served_endpoints(spec, &at_reset()),
+                memory: RememberedPacket::Nothing,
+                naks: 0,
+                progress: Progress::Idle,
+                outs,
+                ins: InEnds::new(spec),
+                changes: RESTED,
+                held: None,
+                taken: Vec::new(alloc),
+                write: ControlWrite::none(alloc),
+            },
+        )?)
     }
 
     /// Its address: 0 until SET_ADDRESS has ended (9.4.6).

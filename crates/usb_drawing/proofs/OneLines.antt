@@ -11,7 +11,7 @@ use Rattle.std.proofs.lemmas.Str.{inside_one}
 use Rattle.hex.specs.Hex.{encode_with, lower_digits, upper_digits}
 use Rattle.usb_port.specs.{number_text, path_text}
 use Rattle.usb_enum.specs.{Cause, Silent, Busy, Stalled, BadDevice, TooDeep, BadConfiguration}
-use Rattle.usb_enum.specs.{NoPower, BadHub, Lost, NoAddress, Request, Accepted, Finding, HubFacts}
+use Rattle.usb_enum.specs.{TooLarge, NoPower, BadHub, Lost, NoAddress, Request, Accepted, Finding, HubFacts}
 use Rattle.usb_enum.specs.{Strings, configuration_of, need_of}
 use Rattle.usb_enum.specs.declared.cause.Request.TheVariants as request
 use Rattle.usb_enum.specs.declared.finding.Finding.TheVariants.{Device, Refused}
@@ -271,6 +271,7 @@ words_unbroken (Stalled r) = stall_unbroken r
 words_unbroken BadDevice = refl
 words_unbroken TooDeep = refl
 words_unbroken (BadConfiguration index) = refl
+words_unbroken TooLarge = refl
 words_unbroken NoPower = refl
 words_unbroken BadHub = refl
 words_unbroken Lost = refl
@@ -288,6 +289,7 @@ number_unbroken granted (Stalled r) = refl
 number_unbroken granted BadDevice = refl
 number_unbroken granted TooDeep = refl
 number_unbroken granted (BadConfiguration index) = number index
+number_unbroken granted TooLarge = refl
 number_unbroken granted NoPower = supply_unbroken granted
 number_unbroken granted BadHub = refl
 number_unbroken granted Lost = refl

@@ -3,7 +3,7 @@ use Rattle.std.specs.Prelude.{ℕ, List, [], ◌∷◌, ◌++◌, Bool, Option, 
 use Rattle.std.specs.Prelude.{decimal, if◌then◌else◌, slice_index, ◌+◌}
 use Rattle.hex.specs.Hex.{encode_lower}
 use Rattle.usb_enum.specs.{Cause, Silent, Busy, Stalled, BadDevice, TooDeep, BadConfiguration}
-use Rattle.usb_enum.specs.{NoPower, BadHub, Lost, NoAddress, Request, Accepted, Finding, Strings}
+use Rattle.usb_enum.specs.{TooLarge, NoPower, BadHub, Lost, NoAddress, Request, Accepted, Finding, Strings}
 use Rattle.usb_enum.specs.{configuration_of, need_of}
 use Rattle.usb_enum.specs.declared.cause.Request.TheVariants as request
 use Rattle.usb_enum.specs.declared.finding.Finding.TheVariants.{Device, Refused}
@@ -65,6 +65,7 @@ cause_words (Stalled r) = stall_words r
 cause_words BadDevice = codes "its device descriptor is malformed"
 cause_words TooDeep = codes "a hub in the seventh tier"
 cause_words (BadConfiguration index) = codes "malformed or repeated: configuration "
+cause_words TooLarge = codes "its configurations have more bytes than the host takes"
 cause_words NoPower = codes "each configuration needs more than its port gives"
 cause_words BadHub = codes "a hub that cannot be served"
 cause_words Lost = codes "its port was not enabled by the reset"
@@ -82,6 +83,7 @@ cause_number granted (Stalled r) = []
 cause_number granted BadDevice = []
 cause_number granted TooDeep = []
 cause_number granted (BadConfiguration index) = decimal index
+cause_number granted TooLarge = []
 cause_number granted NoPower = supply_text granted
 cause_number granted BadHub = []
 cause_number granted Lost = []

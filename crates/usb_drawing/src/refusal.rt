@@ -31,6 +31,7 @@ fn cause_words(cause: Cause) -> &'static str
         Cause::BadDevice => "its device descriptor is malformed",
         Cause::TooDeep => "a hub in the seventh tier",
         Cause::BadConfiguration(_) => "malformed or repeated: configuration ",
+        Cause::TooLarge => "its configurations have more bytes than the host takes",
         Cause::NoPower => "each configuration needs more than its port gives",
         Cause::BadHub => "a hub that cannot be served",
         Cause::Lost => "its port was not enabled by the reset",

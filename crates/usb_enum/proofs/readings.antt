@@ -8,6 +8,7 @@ pub mod Readings
 pub mod SettingValues
 pub mod Settings
 pub mod StringReadings
+pub mod TextBytes
 pub mod TextLengths
 pub mod Truths
 pub mod Values

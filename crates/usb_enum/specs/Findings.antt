@@ -21,10 +21,11 @@ use Rattle.usb_enum.specs.declared.finding.Accepted.{Accepted}
 use Rattle.usb_enum.specs.declared.finding.Finding.{Finding}
 use Rattle.usb_enum.specs.declared.finding.Finding.TheVariants.{Device, Refused}
 use Rattle.usb_enum.specs.declared.hub.HubFacts.{HubFacts}
+use Rattle.usb_enum.specs.declared.options.HostOptions.{HostOptions}
 use Rattle.usb_enum.specs.Bounds.{IsWide}
 use Rattle.usb_enum.specs.Addresses.{IsSpare, EndsEnumeration, KeepsEnumerated, OnlyCalls}
 use Rattle.usb_enum.specs.Addresses.{TakesAddress as TakesAt}
-use Rattle.usb_enum.specs.Verdicts.{IsFindingOf, IsRight, IsSet}
+use Rattle.usb_enum.specs.Verdicts.{IsFindingOf, IsRight, IsSet, is_over}
 use Rattle.usb_enum.specs.Device.{is_device, configuration_of, fits_tier, string_indexes, HasFacts}
 use Rattle.usb_enum.specs.Device.{FitsHost, IsStarted}
 use Rattle.usb_enum.specs.FairEnumerations.{Faulted, HasServer, HubPends}
@@ -37,19 +38,20 @@ use Rattle.usb_enum.specs.Reasons.{EndsFor, FaultBy}
 use Rattle.usb_enum.specs.Said.{Says}
 use Rattle.usb_enum.specs.Stops.{EnumWorks, FitsTier}
 use Rattle.usb_enum.specs.StringRequests.{AsksStrings, EndsWithStrings}
-use Rattle.usb_enum.specs.Text.{ValuesDiffer, choice_of}
+use Rattle.usb_enum.specs.Text.{ValuesDiffer, choice_of, texts_length}
 use Rattle.usb_enum.specs.TextLengths.{FewFrom, HasPlanWithin}
 
--- the device has an address, its descriptor is good, every configuration was read, and the first
--- that the supply allows is chosen
-pub record IsWhole (wide : Bool) (supply : ℕ) (device : Accepted) : Type 0 where
+-- the device has an address, its descriptor is good, every configuration was read, they have no more
+-- bytes than the host takes, and the first that the supply allows is chosen
+pub record IsWhole (options : HostOptions) (supply : ℕ) (device : Accepted) : Type 0 where
   pub address : IsAddress device.address
   pub head : is_device device.low device.bytes ≡ true
   pub all : length device.configs ≡ configuration_count device.bytes
   pub differ : ValuesDiffer device.configs
+  pub within : is_over options.device_bytes (texts_length device.configs) ≡ false
   pub chosen : choice_of supply device.configs ≡ Some device.chosen
   pub hub : HasFacts device.bytes (configuration_of device) device.hub
-  pub fits : IfSome device.hub (FitsHost wide (configuration_of device))
+  pub fits : IfSome device.hub (FitsHost options.wide_hubs (configuration_of device))
 
 -- where a path claims the address, and as long as the bus is at work, the ports of the hub that was
 -- found there are empty, or a change is pending
@@ -58,14 +60,14 @@ pub record EmptiesPorts (address : ℕ) (told : Option HubFacts) (old new : Worl
       → IsInOrder old → new.fault ≡ None → HasEmptyPorts p told new
 
 -- the device that has its address was read and configured
-pub record IsListed (addressed : Addressed) (wide : Bool) (tier : ℕ) (old new : World)
+pub record IsListed (addressed : Addressed) (options : HostOptions) (tier : ℕ) (old new : World)
     (device : Accepted) : Type 0 where
   pub address : device.address ≡ addressed.target.addr
   pub low : device.low ≡ addressed.target.low
   pub bytes : device.bytes ≡ addressed.bytes
   pub fits : fits_tier tier addressed.bytes ≡ Ok tt
   pub served : IsStarted device.address device.hub
-  pub learned : LearnsSet (AtMaximum addressed.target (HasReadings wide addressed.bytes device))
+  pub learned : LearnsSet (AtMaximum addressed.target (HasReadings options addressed.bytes device))
       addressed.target (configuration_value (configuration_of device)) old new
   pub below : EmptiesPorts addressed.target.addr device.hub old new
   pub strings : EndsWithStrings addressed.target (string_indexes addressed.bytes) old new
@@ -73,17 +75,17 @@ pub record IsListed (addressed : Addressed) (wide : Bool) (tier : ℕ) (old new 
 
 -- it is the device's own finding, and the device is set as it says; each interface is at setting 0,
 -- and its endpoints begin again
-abbrev pub IsOwn : Bool → ℕ → ℕ → Accepted → State → Type 0
-IsOwn wide tier supply device s = IsFindingOf s.spec wide tier supply (Device device)
+abbrev pub IsOwn : HostOptions → ℕ → ℕ → Accepted → State → Type 0
+IsOwn options tier supply device s = IsFindingOf s.spec options tier supply (Device device)
     × IsSet device s × IsFresh s
 
 -- the device that was read and configured told its facts where it is a hub, took the address at the
 -- port, and the finding is its own
-pub record IsAccepted (port : HubPort) (given : ℕ) (wide : Bool) (tier supply : ℕ)
+pub record IsAccepted (port : HubPort) (given : ℕ) (options : HostOptions) (tier supply : ℕ)
     (old new : World) (device : Accepted) : Type 0 where
   pub served : IsStarted device.address device.hub
   pub takes : TakesAt port given old new
-  pub own : Finds (IsOwn wide tier supply device) port given old new
+  pub own : Finds (IsOwn options tier supply device) port given old new
   pub reaches : ReachesDevice port given old new
   pub below : (f : AddressMap) (p : List ℕ) → IsSpare f port p given
       → WhileBusWorks (Enumerating f p given) old → IsInOrder old → new.fault ≡ None
@@ -150,9 +152,9 @@ abbrev pub IsCause : Addresses → ℕ → Cause → Type 0
 IsCause addresses tier cause = (cause ≡ NoAddress × IsFull addresses) ⊎ FitsTier tier cause
 
 -- what a finding says of itself, over any bus
-abbrev pub IsFound : Addresses → Bool → ℕ → ℕ → Finding → Type 0
-IsFound addresses wide tier supply (Device device) = IsWhole wide supply device
-IsFound addresses wide tier supply (Refused cause) = IsCause addresses tier cause
+abbrev pub IsFound : Addresses → HostOptions → ℕ → ℕ → Finding → Type 0
+IsFound addresses options tier supply (Device device) = IsWhole options supply device
+IsFound addresses options tier supply (Refused cause) = IsCause addresses tier cause
 
 -- the hub that was found told its facts, or the port of a refused device is disabled
 abbrev pub IsLeft : HubPort → Finding → World → Type 0
@@ -168,13 +170,13 @@ TakesFor (Err fault) old new = new ≡ old
 -- where nothing is claimed at the port, and only addresses that are taken are claimed, the device
 -- that was found is the one at the port, where that
 -- is reachable
-pub record FindingIsTrue (port : HubPort) (addresses : Addresses) (wide : Bool) (tier supply : ℕ)
+pub record FindingIsTrue (port : HubPort) (addresses : Addresses) (options : HostOptions) (tier supply : ℕ)
     (old : World) (result : Result Finding EnumFault) (new : World) : Type 0 where
   pub truth : (f : AddressMap) (p : List ℕ) → IsAt f port p → Free f p
       → ((x : List ℕ) (a : ℕ) → f x ≡ Some a → IsTaken addresses a) → WhileBusWorks (MapHolds f) old
       → IsRegular old
       → (device : Accepted) → result ≡ Ok (Device device)
-      → AtPath (IsOwn wide tier supply device) p new
+      → AtPath (IsOwn options tier supply device) p new
 
 -- an enumeration may begin at the port of a path: nothing is claimed there, only addresses that are
 -- taken are claimed, each reachable device
@@ -207,12 +209,13 @@ pub record IsFair (f : AddressMap) (port : HubPort) (p : List ℕ) (addresses : 
 
 -- a refusal has its cause, or a change of connection is pending at the port; and a hub is lost only
 -- where one is pending there
-pub record JustifiesRefusal (port : HubPort) (addresses : Addresses) (wide : Bool)
-    (tier supply : ℕ) (old : World) (result : Result Finding EnumFault) (new : World) : Type 0 where
+pub record JustifiesRefusal (port : HubPort) (addresses : Addresses)
+    (options : HostOptions) (tier supply : ℕ) (old : World) (result : Result Finding EnumFault)
+    (new : World) : Type 0 where
   pub cause : (f : AddressMap) (p : List ℕ) → IsFair f port p addresses old new
       → (cause : Cause) (s : State) → result ≡ Ok (Refused cause) → state_there new.roots p ≡ Some s
       → (pending new.roots p ≡ true)
-      ⊎ IsRight (IsFull addresses) s.spec wide tier supply (Refused cause)
+      ⊎ IsRight (IsFull addresses) s.spec options tier supply (Refused cause)
   pub parent : (f : AddressMap) (p : List ℕ) → IsFair f port p addresses old new
       → result ≡ Err ParentLost → HubPends p new
 
@@ -226,13 +229,13 @@ pub record FewAttempts (port : HubPort) (addresses : Addresses) (old new : World
 -- who holds which address at each end, that what was found is so and there, why a device is
 -- refused, where all is fair and whatever is damaged, how
 -- few attempts that takes, how strings are asked for, and what is left at the port
-pub record Enumerates (port : HubPort) (before : Addresses) (wide : Bool) (tier supply : ℕ)
+pub record Enumerates (port : HubPort) (before : Addresses) (options : HostOptions) (tier supply : ℕ)
     (old : World) (result : Result Finding EnumFault) (new : World) : Type 0 where
   pub addresses : KeepsEnumerated port before old result new
-  pub own : FindingIsTrue port before wide tier supply old result new
+  pub own : FindingIsTrue port before options tier supply old result new
   pub places : FindingStands port before old result new
-  pub warrants : JustifiesRefusal port before wide tier supply old result new
-  pub ended : EndsFor port before wide tier supply old result new
+  pub warrants : JustifiesRefusal port before options tier supply old result new
+  pub ended : EndsFor port before options tier supply old result new
   pub few : FewAttempts port before old new
   pub strings : (device : Accepted) → result ≡ Ok (Device device) → AsksStrings port old new device
   pub left : (finding : Finding) → result ≡ Ok finding → IsLeft port finding new

@@ -46,7 +46,8 @@ pub use LearnedFacts.{DeviceFact, Explained, ExplainsSet, FailureReason, Hears, 
 pub use Losses.{FewLosses, NoNewStretch}
 pub use Parts.{Answered, Both, Ending, FailsAt, IsDone, KeepingSteps, Part, Read, StopsAt}
 pub use Parts.{StopsConfiguring, StopsDescriptor, StopsExamining, StopsHead, StopsHub, StopsPower}
-pub use Parts.{EndsWithout, StopsRead, StopsStart, StopsWithout, TakesAddressed}
+pub use Parts.{EndsWithout, StopsRead, StopsStart, StopsText, StopsTexts, StopsWithout}
+pub use Parts.{TakesAddressed}
 pub use Places.{HasEmptyPorts, IsDisabledAt, IsKnownAs, IsOccupied, IsPlaced, IsReachedAt, IsThere}
 pub use PresentDevices.{AnswersSo, AtPath, Awaits, AwaitsAddress, Finds, HasDescriptor, HasHead}
 pub use PresentDevices.{HasReadings, HasSpeed, HasTaken, IsAddressed, IsInOrder, IsOrderly}
@@ -55,7 +56,8 @@ pub use PresentDevices.{WasReset}
 pub use Readings.{AtMaximum, HasConfiguration, HasConfigurations, HasPorts, HasString, HasSupply}
 pub use Readings.{HasTotal, IsGoodHub, Ruled, bytes_given, language_of, no_strings, string_in}
 pub use Reasons.{AllTexts, BadChosen, BadDescriptor, BadText, Because, CannotStart, CauseAllowed}
-pub use Reasons.{CauseAllowedAt, CauseAllowedAtStart, CauseAllowedOfHub, DescriptorRead}
+pub use Reasons.{CauseAllowedAt, CauseAllowedAtStart, CauseAllowedOfHub, CauseAllowedOfText}
+pub use Reasons.{CauseAllowedOfTexts, DescriptorRead, GoesOver, HeadRead, TooLong, too_large}
 pub use Reasons.{DescriptorTold, EndsFailing, EndsFor, EndsReading, FailsAs, FaultBy, HasReason}
 pub use Reasons.{HoldsTooFew, HubFails, IsAny, IsNamed, IsSpokenTo, NoAnswerTold, NotEnabled}
 pub use Reasons.{PassTold, PortFails, RefusedAs, RefusedBefore, RefusedEarly, RefusedFor, StoppedAs}
@@ -78,11 +80,12 @@ pub use Stops.{stop_of, EnumWorks, IsNotOfBus, StopNotOfBus, StopWorks}
 pub use StringRequests.{AsksLanguage, AsksString, AsksStrings, EndsWithStrings, NamesNone, ReadsBy}
 pub use StringRequests.{ReadsIn, ReadsString, ReadsStrings, asked, given, named, refused, unnamed}
 pub use Text.{ValuesDiffer, any_has_value, choice_of, config_text_of, first_language_of, first_unit}
-pub use Text.{if_read, need_of, string_units}
+pub use Text.{if_read, need_of, string_units, texts_length}
 unfoldable pub use Text.{needs_of}
 pub use TextLengths.{EachAt, FewFor, FewFrom, HasPlanWithin, IsAnswered, IsPlanned, PlugsWithin}
 pub use TextLengths.{ReadsText, SaysWithin, SomeAt}
 pub use Verdicts.{IsAs, IsFindingOf, IsRight, IsSet, IsWithout, facts_of, gives_head, gives_hub}
+pub use Verdicts.{is_over, left_of, said_below, usual_options}
 pub use Verdicts.{is_good_hub, is_good_text, read_verdict, set_verdict, string_read, strings_by}
 pub use Verdicts.{strings_of, text_fault, texts_below, texts_of}
 unfoldable pub use Verdicts.{config_fault, first_fault, string_at, text_read, verdict}
@@ -90,12 +93,14 @@ pub use declared.addressed.Addressed.{Addressed}
 pub use declared.cause.Cause.{Cause}
 pub use declared.cause.Cause.TheVariants.{BadConfiguration, BadDevice, BadHub, Busy, Lost}
 pub use declared.cause.Cause.TheVariants.{NoAddress, NoPower, Silent, Stalled, TooDeep}
+pub use declared.cause.Cause.TheVariants.{TooLarge}
 pub use declared.cause.Request.{Request}
 pub use declared.fault.EnumFault.{EnumFault}
 pub use declared.fault.EnumFault.TheVariants.{Bus, Memory, ParentLost}
 pub use declared.finding.Accepted.{Accepted}
 pub use declared.finding.Finding.{Finding}
 pub use declared.hub.HubFacts.{HubFacts}
+pub use declared.options.HostOptions.{HostOptions}
 pub use declared.stop.Stop.{Stop}
 pub use declared.strings.StringIndexes.{StringIndexes}
 pub use declared.strings.Strings.{Strings}

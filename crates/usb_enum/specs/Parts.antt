@@ -9,6 +9,7 @@ use Rattle.usb_hub.specs.{HubPort}
 use Rattle.usb_enum.specs.declared.addressed.Addressed.{Addressed}
 use Rattle.usb_enum.specs.declared.cause.Cause.{Cause}
 use Rattle.usb_enum.specs.declared.fault.EnumFault.{EnumFault}
+use Rattle.usb_enum.specs.declared.options.HostOptions.{HostOptions}
 use Rattle.usb_enum.specs.declared.stop.Stop.{Stop}
 use Rattle.usb_enum.specs.FairEnumerations.{StopsFairly}
 use Rattle.usb_enum.specs.Frames.{OnlyAsks}
@@ -17,9 +18,10 @@ use Rattle.usb_enum.specs.PresentDevices.{HasTaken}
 use Rattle.usb_enum.specs.Readings.{AtMaximum}
 use Rattle.usb_enum.specs.Reasons.{DescriptorRead, FaultBy, CauseAllowed, CauseAllowedAt}
 use Rattle.usb_enum.specs.Reasons.{StoppedWithout, StopsAtPort, StopsDevice, CauseAllowedAtStart}
-use Rattle.usb_enum.specs.Reasons.{CauseAllowedOfHub}
+use Rattle.usb_enum.specs.Reasons.{CauseAllowedOfHub, CauseAllowedOfText, CauseAllowedOfTexts}
 use Rattle.usb_enum.specs.Refusals.{IsRefusedFor, Refuses, RefusesDescriptor, RefusesNoPort}
 use Rattle.usb_enum.specs.Refusals.{configured_fault, head_fault, hub_fault, start_fault}
+use Rattle.usb_enum.specs.Verdicts.{config_fault, first_fault}
 use Rattle.usb_enum.specs.Refusals.{unaddressed_fault, whole_fault}
 use Rattle.usb_enum.specs.Said.{Says}
 
@@ -63,6 +65,18 @@ Answered t Asked So = Both Asked (λ old new answer. DeviceFact (AtMaximum t (So
 abbrev pub StopsRead : Target → (Spec → Option Cause) → World → World → Stop → Type 0
 StopsRead t wrong = Both (λ old new stop. CauseAllowed t stop old new)
     (λ old new stop. FailureReason (Refuses t wrong stop) t old new)
+
+-- the same of the configuration of an index, where so many bytes are left
+abbrev pub StopsText : Option ℕ → Target → ℕ → World → World → Stop → Type 0
+StopsText room t index = Both (λ old new stop. CauseAllowedOfText room t index stop old new)
+    (λ old new stop. FailureReason (Refuses t (λ spec. config_fault room spec index) stop) t old
+    new)
+
+-- and of the first so many of them, which may have so many bytes together
+abbrev pub StopsTexts : Option ℕ → Target → ℕ → World → World → Stop → Type 0
+StopsTexts budget t count = Both (λ old new stop. CauseAllowedOfTexts budget t stop old new)
+    (λ old new stop. FailureReason (Refuses t (λ spec. first_fault budget spec count) stop) t old
+    new)
 
 -- the same of what a hub is asked
 abbrev pub StopsHub : Bool → Target → World → World → Stop → Type 0
@@ -111,15 +125,15 @@ pub record EndsWithout (port : HubPort) (before now : List ℕ) (old new : World
   pub said : Says port 0 before now old new
 
 -- why a device of this descriptor is not configured, in a tier and at a port of so many mA
-abbrev pub StopsConfiguring : Target → List ℕ → Bool → ℕ → ℕ → World → World → Stop → Type 0
-StopsConfiguring t bytes wide tier supply = Both (StopsDevice t bytes wide tier supply)
+abbrev pub StopsConfiguring : Target → List ℕ → HostOptions → ℕ → ℕ → World → World → Stop → Type 0
+StopsConfiguring t bytes options tier supply = Both (StopsDevice t bytes options tier supply)
     (λ old new stop.
-    FailureReason (Refuses t (configured_fault wide tier supply bytes) stop) t old new)
+    FailureReason (Refuses t (configured_fault options tier supply bytes) stop) t old new)
 
 -- why one at a port is not
-abbrev pub StopsExamining : HubPort → ℕ → Bool → ℕ → ℕ → World → World → Stop → Type 0
-StopsExamining port address wide tier supply = Both (StopsAtPort port address wide tier supply)
-    (λ old new stop. StopsFairly (whole_fault wide tier supply) port address stop old new)
+abbrev pub StopsExamining : HubPort → ℕ → HostOptions → ℕ → ℕ → World → World → Stop → Type 0
+StopsExamining port address options tier supply = Both (StopsAtPort port address options tier supply)
+    (λ old new stop. StopsFairly (whole_fault options tier supply) port address stop old new)
 
 -- a call at the port is done, or failed
 abbrev pub IsDone : World → World → Unit {0} → Type 0

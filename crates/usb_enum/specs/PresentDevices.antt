@@ -12,6 +12,7 @@ use Rattle.usb_hub.specs.{HubPort, IsClaimed, IsFresh}
 use Rattle.usb_enum.specs.declared.addressed.Addressed.{Addressed}
 use Rattle.usb_enum.specs.declared.finding.Accepted.{Accepted}
 use Rattle.usb_enum.specs.declared.hub.HubFacts.{HubFacts}
+use Rattle.usb_enum.specs.declared.options.HostOptions.{HostOptions}
 use Rattle.usb_enum.specs.Addresses.{IsSpare, TakesAddress}
 use Rattle.usb_enum.specs.Verdicts.{strings_by}
 use Rattle.usb_enum.specs.Device.{IsStarted, string_indexes, configuration_of, needs_pre}
@@ -129,12 +130,13 @@ pub record LearnsPorts (wide : Bool) (device : Addressed) (text : List ℕ) (old
   pub started : (facts : HubFacts) → told ≡ Some facts → Started device.target old new facts
 
 -- what was read is the description's, by the bytes of its device descriptor
-pub record HasReadings (wide : Bool) (bytes : List ℕ) (device : Accepted) (spec : Spec) : Type 0
-  where
-    pub configs : HasConfigurations (configuration_count bytes) device.configs spec
-    pub allowed : spec.stalls.set_config ≡ false
-    pub ports : TellsPorts wide (configuration_of device) device.hub spec
-    pub strings : device.strings ≡ strings_by spec (string_indexes bytes)
+pub record HasReadings (options : HostOptions) (bytes : List ℕ) (device : Accepted) (spec : Spec) :
+    Type 0 where
+  pub configs : HasConfigurations options.device_bytes (configuration_count bytes) device.configs
+      spec
+  pub allowed : spec.stalls.set_config ≡ false
+  pub ports : TellsPorts options.wide_hubs (configuration_of device) device.hub spec
+  pub strings : device.strings ≡ strings_by spec (string_indexes bytes)
 
 -- a device has the description and the address that it had; of the target's device this is so, it
 -- has this configuration with each interface at setting 0, and its endpoints began again

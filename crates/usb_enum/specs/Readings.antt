@@ -5,13 +5,13 @@ use Rattle.std.specs.Global.{Vec}
 use Rattle.usb_resources.specs.{supply_of}
 use Rattle.usb_request.specs.{CONFIGURATION_LENGTH, HUB_LENGTH}
 use Rattle.usb_descriptor.specs.{config_head_of, hub_spelled, port_count}
-use Rattle.usb_device.specs.{Spec, IsSpec, max_packet}
+use Rattle.usb_device.specs.{Spec, IsSpec, max_packet, said_length}
 use Rattle.usb_transaction.specs.{Target}
 use Rattle.usb_hub.specs.{config_given, hub_given}
 use Rattle.usb_enum.specs.declared.hub.HubFacts.{HubFacts}
 use Rattle.usb_enum.specs.declared.strings.Strings.{Strings}
 use Rattle.usb_enum.specs.Verdicts.{text_read, is_good_text, texts_below, first_fault, string_read}
-use Rattle.usb_enum.specs.Verdicts.{is_good_hub, facts_of}
+use Rattle.usb_enum.specs.Verdicts.{is_good_hub, facts_of, is_over}
 use Rattle.usb_enum.specs.Text.{string_units, first_language_of}
 
 -- so it is of a description with the target's maximum packet
@@ -26,16 +26,20 @@ pub record HasTotal (index total : ℕ) (spec : Spec) : Type 0 where
   pub given : config_given index spec ≡ Some text
   pub head : config_head_of (take CONFIGURATION_LENGTH text) ≡ Ok total
 
--- the configuration of an index is good, and this is what is read of it
-pub record HasConfiguration (index : ℕ) (bytes : List ℕ) (spec : Spec) : Type 0 where
-  pub text : List ℕ
-  pub given : config_given index spec ≡ Some text
-  pub good : is_good_text text ≡ true
-  pub read : bytes ≡ text_read text
+-- the configuration of an index is good and says no more bytes than are left, and this is what is
+-- read of it
+pub record HasConfiguration (room : Option ℕ) (index : ℕ) (bytes : List ℕ) (spec : Spec) : Type 0
+  where
+    pub text : List ℕ
+    pub given : config_given index spec ≡ Some text
+    pub fits : is_over room (said_length text) ≡ false
+    pub good : is_good_text text ≡ true
+    pub read : bytes ≡ text_read text
 
--- the first so many configurations are good, and these are their texts
-pub record HasConfigurations (count : ℕ) (texts : List (List ℕ)) (spec : Spec) : Type 0 where
-  pub good : first_fault spec count ≡ None
+-- the first so many configurations are good and within the budget, and these are their texts
+pub record HasConfigurations (budget : Option ℕ) (count : ℕ) (texts : List (List ℕ)) (spec : Spec) :
+    Type 0 where
+  pub good : first_fault budget spec count ≡ None
   pub read : texts ≡ texts_below spec count
 
 -- Strings

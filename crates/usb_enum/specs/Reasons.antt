@@ -1,5 +1,5 @@
 -- Why an enumeration stops: the last request, and what was answered to it (9.1.2, 9.4, 11.24.2).
-use Rattle.std.specs.Prelude.{◌≡◌, ◌⊎◌, ◌&&◌, ℕ, List, [], ◌∷◌, ◌++◌, length, take, Bool, true}
+use Rattle.std.specs.Prelude.{◌≡◌, ◌⊎◌, ◌+◌, ◌&&◌, ℕ, List, [], ◌∷◌, ◌++◌, length, take, Bool, true}
 use Rattle.std.specs.Prelude.{false, slice_index_or, Option, None, Some, Result, Ok, Err, ⊤}
 use Rattle.std.specs.Global.{Vec}
 use Rattle.usb_request.specs.{Setup, CONFIGURATION_LENGTH, DEVICE_HEAD_LENGTH, DEVICE_LENGTH}
@@ -25,13 +25,15 @@ use Rattle.usb_enum.specs.declared.fault.EnumFault.{EnumFault}
 use Rattle.usb_enum.specs.declared.fault.EnumFault.TheVariants as fault
 use Rattle.usb_enum.specs.declared.finding.Finding.{Finding}
 use Rattle.usb_enum.specs.declared.finding.Finding.TheVariants as finding
+use Rattle.usb_enum.specs.declared.options.HostOptions.{HostOptions}
 use Rattle.usb_enum.specs.declared.stop.Stop.{Stop}
 use Rattle.usb_enum.specs.declared.stop.Stop.TheVariants.{Refused, Fault}
 use Rattle.usb_enum.specs.Device.{LAST_TIER, holds_changes, is_device, is_hub_device, needs_pre}
 use Rattle.usb_enum.specs.Hub.{CountTold}
 use Rattle.usb_enum.specs.LastRequests.{Leads}
 use Rattle.usb_enum.specs.Stops.{FaultAllowed, CauseAllowedIn, CauseAllowedOfDevice, fault_at_port}
-use Rattle.usb_enum.specs.Text.{any_has_value, choice_of, config_text_of}
+use Rattle.usb_enum.specs.Text.{any_has_value, choice_of, config_text_of, texts_length}
+use Rattle.usb_enum.specs.Verdicts.{is_over, left_of}
 
 -- The last request to a device
 
@@ -115,6 +117,7 @@ Because t old new (cause.Stalled named) = EndsFailing t (IsNamed named) pipe.Sta
 Because t old new cause.BadDevice = BadDescriptor t old new
 Because t old new cause.TooDeep = ⊥
 Because t old new (cause.BadConfiguration index) = BadText t index old new
+Because t old new cause.TooLarge = ⊥
 Because t old new cause.NoPower = ⊥
 Because t old new cause.BadHub = ⊥
 Because t old new cause.Lost = ⊥
@@ -124,6 +127,39 @@ Because t old new cause.NoAddress = ⊥
 abbrev pub CauseAllowed : Target → Stop → World → World → Type 0
 CauseAllowed t (Refused why) old new = Because t old new why
 CauseAllowed t (Fault why) old new = FaultAllowed why new
+
+-- Why a device has too many bytes
+
+-- the head of the configuration of an index was read, and says so many bytes
+pub record HeadRead (t : Target) (index total : ℕ) (old new : World) : Type 0 where
+  pub bytes : List ℕ
+  pub read : EndsReading t (get_configuration_descriptor index CONFIGURATION_LENGTH) bytes old new
+  pub head : config_head_of bytes ≡ Ok total
+
+-- they are more than are left
+pub record TooLong (room : Option ℕ) (t : Target) (index : ℕ) (old new : World) : Type 0 where
+  pub total : ℕ
+  pub read : HeadRead t index total old new
+  pub over : is_over room total ≡ true
+
+-- so it is at a stop
+abbrev pub CauseAllowedOfText : Option ℕ → Target → ℕ → Stop → World → World → Type 0
+CauseAllowedOfText room t index (Refused why) old new =
+    (why ≡ cause.TooLarge × TooLong room t index old new) ⊎ Because t old new why
+CauseAllowedOfText room t index (Fault why) old new = FaultAllowed why new
+
+-- the texts before it were read, and so much is left of a budget
+pub record GoesOver (budget : Option ℕ) (t : Target) (old new : World) : Type 0 where
+  pub texts : List (List ℕ)
+  pub mid : World
+  pub asked : TextsAsked t old texts mid
+  pub long : TooLong (left_of budget (texts_length texts)) t (length texts) mid new
+
+-- so it is at a stop
+abbrev pub CauseAllowedOfTexts : Option ℕ → Target → Stop → World → World → Type 0
+CauseAllowedOfTexts budget t (Refused why) old new =
+    (why ≡ cause.TooLarge × GoesOver budget t old new) ⊎ Because t old new why
+CauseAllowedOfTexts budget t (Fault why) old new = FaultAllowed why new
 
 -- Why a hub is bad
 
@@ -185,28 +221,30 @@ pub record BadChosen (t : Target) (bytes : List ℕ) (wide : Bool) (supply : ℕ
   pub led : Leads read set
   pub fails : CannotStart wide t (slice_index_or texts chosen []) set new
 
--- by an answer; as a hub in the last tier; since no configuration needs as little power as the port
--- gives; or as a hub that is bad
-pub data RefusedAs (t : Target) (bytes : List ℕ) (wide : Bool) (tier supply : ℕ)
+-- by an answer; as a hub in the last tier; since its configurations have too many bytes, or none
+-- needs as little power as the port gives; or as a hub that is bad
+pub data RefusedAs (t : Target) (bytes : List ℕ) (options : HostOptions) (tier supply : ℕ)
     (old new : World) : Cause → Type 0 where
-  by_answer : {why : Cause} → Because t old new why → RefusedAs t bytes wide tier supply old new why
+  by_answer : {why : Cause} → Because t old new why → RefusedAs t bytes options tier supply old new why
   too_deep : tier ≡ LAST_TIER → is_hub_device bytes ≡ true → new ≡ old
-      → RefusedAs t bytes wide tier supply old new cause.TooDeep
+      → RefusedAs t bytes options tier supply old new cause.TooDeep
+  too_large : GoesOver options.device_bytes t old new
+      → RefusedAs t bytes options tier supply old new cause.TooLarge
   lacks_power : (texts : List (List ℕ)) → AllTexts t bytes texts old new
-      → choice_of supply texts ≡ None → RefusedAs t bytes wide tier supply old new cause.NoPower
-  bad_hub : BadChosen t bytes wide supply old new
-      → RefusedAs t bytes wide tier supply old new cause.BadHub
+      → choice_of supply texts ≡ None → RefusedAs t bytes options tier supply old new cause.NoPower
+  bad_hub : BadChosen t bytes options.wide_hubs supply old new
+      → RefusedAs t bytes options tier supply old new cause.BadHub
 
 -- so it is at a stop, which fits the tier
-abbrev pub StoppedAs : Target → List ℕ → Bool → ℕ → ℕ → Stop → World → World → Type 0
-StoppedAs t bytes wide tier supply (Refused why) old new =
-    RefusedAs t bytes wide tier supply old new why
-StoppedAs t bytes wide tier supply (Fault why) old new = FaultAllowed why new
+abbrev pub StoppedAs : Target → List ℕ → HostOptions → ℕ → ℕ → Stop → World → World → Type 0
+StoppedAs t bytes options tier supply (Refused why) old new =
+    RefusedAs t bytes options tier supply old new why
+StoppedAs t bytes options tier supply (Fault why) old new = FaultAllowed why new
 
-pub record StopsDevice (t : Target) (bytes : List ℕ) (wide : Bool) (tier supply : ℕ)
+pub record StopsDevice (t : Target) (bytes : List ℕ) (options : HostOptions) (tier supply : ℕ)
     (old new : World) (stop : Stop) : Type 0 where
   pub fits : CauseAllowedOfDevice tier stop new
-  pub because : StoppedAs t bytes wide tier supply stop old new
+  pub because : StoppedAs t bytes options tier supply stop old new
 
 -- At a port
 
@@ -264,23 +302,23 @@ DescriptorTold t old new (Some bytes) = DescriptorRead t bytes old new
 DescriptorTold t old new None = EndsFailing t IsAny pipe.NoAnswer old new
 
 -- whenever it is refused
-pub data RefusedFor (port : HubPort) (address : ℕ) (wide : Bool) (tier supply : ℕ)
+pub data RefusedFor (port : HubPort) (address : ℕ) (options : HostOptions) (tier supply : ℕ)
     (old new : World) : Cause → Type 0 where
   early : {why : Cause} → RefusedEarly port address old new why
-      → RefusedFor port address wide tier supply old new why
+      → RefusedFor port address options tier supply old new why
   late : {why : Cause} (t : Target) (bytes : List ℕ) (mid : World) → IsSpokenTo port address t
-      → DescriptorRead t bytes old mid → RefusedAs t bytes wide tier supply mid new why
-      → RefusedFor port address wide tier supply old new why
+      → DescriptorRead t bytes old mid → RefusedAs t bytes options tier supply mid new why
+      → RefusedFor port address options tier supply old new why
 
-abbrev pub StoppedFor : HubPort → ℕ → Bool → ℕ → ℕ → Stop → World → World → Type 0
-StoppedFor port address wide tier supply (Refused why) old new =
-    RefusedFor port address wide tier supply old new why
-StoppedFor port address wide tier supply (Fault why) old new = FaultBy port why old new
+abbrev pub StoppedFor : HubPort → ℕ → HostOptions → ℕ → ℕ → Stop → World → World → Type 0
+StoppedFor port address options tier supply (Refused why) old new =
+    RefusedFor port address options tier supply old new why
+StoppedFor port address options tier supply (Fault why) old new = FaultBy port why old new
 
-pub record StopsAtPort (port : HubPort) (address : ℕ) (wide : Bool) (tier supply : ℕ)
+pub record StopsAtPort (port : HubPort) (address : ℕ) (options : HostOptions) (tier supply : ℕ)
     (old new : World) (stop : Stop) : Type 0 where
   pub fits : CauseAllowedIn port tier stop new
-  pub because : StoppedFor port address wide tier supply stop old new
+  pub because : StoppedFor port address options tier supply stop old new
 
 -- where no address was free
 abbrev pub StoppedWithout : HubPort → Stop → World → World → Type 0
@@ -290,25 +328,25 @@ StoppedWithout port stop old new = (stop ≡ Refused cause.NoAddress)
 -- Of a whole enumeration
 
 -- the cause was found at a moment, at an address that is free; or none is
-pub data HasReason (port : HubPort) (addresses : Addresses) (wide : Bool) (tier supply : ℕ)
+pub data HasReason (port : HubPort) (addresses : Addresses) (options : HostOptions) (tier supply : ℕ)
     (old new : World) : Cause → Type 0 where
   refused_for : {why : Cause} (address : ℕ) → IsFree addresses address
-      → RefusedFor port address wide tier supply old new why
-      → HasReason port addresses wide tier supply old new why
+      → RefusedFor port address options tier supply old new why
+      → HasReason port addresses options tier supply old new why
   refused_early : {why : Cause} → IsFull addresses → RefusedEarly port 0 old new why
-      → HasReason port addresses wide tier supply old new why
-  none_free : IsFull addresses → HasReason port addresses wide tier supply old new cause.NoAddress
+      → HasReason port addresses options tier supply old new why
+  none_free : IsFull addresses → HasReason port addresses options tier supply old new cause.NoAddress
 
-pub record RefusedBefore (port : HubPort) (addresses : Addresses) (wide : Bool) (tier supply : ℕ)
+pub record RefusedBefore (port : HubPort) (addresses : Addresses) (options : HostOptions) (tier supply : ℕ)
     (old new : World) (why : Cause) : Type 0 where
   pub moment : World
-  pub reason : HasReason port addresses wide tier supply old moment why
+  pub reason : HasReason port addresses options tier supply old moment why
   pub led : Leads moment new
 
 -- a refusal names what ended it, and a hub is lost where a request about the port failed
-abbrev pub EndsFor : HubPort → Addresses → Bool → ℕ → ℕ → World → Result Finding EnumFault → World
-    → Type 0
-EndsFor port addresses wide tier supply old (Ok (finding.Device device)) new = ⊤
-EndsFor port addresses wide tier supply old (Ok (finding.Refused why)) new =
-    RefusedBefore port addresses wide tier supply old new why
-EndsFor port addresses wide tier supply old (Err why) new = FaultBy port why old new
+abbrev pub EndsFor : HubPort → Addresses → HostOptions → ℕ → ℕ → World → Result Finding EnumFault
+    → World → Type 0
+EndsFor port addresses options tier supply old (Ok (finding.Device device)) new = ⊤
+EndsFor port addresses options tier supply old (Ok (finding.Refused why)) new =
+    RefusedBefore port addresses options tier supply old new why
+EndsFor port addresses options tier supply old (Err why) new = FaultBy port why old new

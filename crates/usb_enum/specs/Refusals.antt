@@ -12,6 +12,7 @@ use Rattle.usb_enum.specs.declared.cause.Cause.{Cause}
 use Rattle.usb_enum.specs.declared.cause.Cause.TheVariants.{Silent, Busy, Stalled, BadDevice}
 use Rattle.usb_enum.specs.declared.cause.Cause.TheVariants.{TooDeep, NoPower, BadHub, NoAddress}
 use Rattle.usb_enum.specs.declared.cause.Request.TheVariants as request
+use Rattle.usb_enum.specs.declared.options.HostOptions.{HostOptions}
 use Rattle.usb_enum.specs.declared.stop.Stop.{Stop}
 use Rattle.usb_enum.specs.declared.stop.Stop.TheVariants.{Refused, Fault}
 use Rattle.usb_enum.specs.Verdicts.{gives_hub, is_good_hub, texts_below, first_fault, verdict}
@@ -82,8 +83,8 @@ cause_in (Ok chosen) = None
 cause_in (Err cause) = Some cause
 
 -- by the whole table, in a tier and at a port that gives so many mA
-abbrev pub whole_fault : Bool → ℕ → ℕ → Spec → Option Cause
-whole_fault wide tier supply spec = cause_in (verdict spec wide tier supply)
+abbrev pub whole_fault : HostOptions → ℕ → ℕ → Spec → Option Cause
+whole_fault options tier supply spec = cause_in (verdict spec options tier supply)
 
 -- with what a hub gives
 abbrev pub hub_fault : Bool → Spec → Option Cause
@@ -104,13 +105,13 @@ chosen_fault wide hub texts (Some chosen) spec = option_or (setting_fault spec)
     (if hub then start_fault wide (slice_index_or texts chosen []) spec else None)
 
 -- behind its device descriptor, which is this, in a tier and at a port that gives so many mA
-unfoldable pub configured_fault : Bool → ℕ → ℕ → List ℕ → Spec → Option Cause
-configured_fault wide tier supply bytes spec =
+unfoldable pub configured_fault : HostOptions → ℕ → ℕ → List ℕ → Spec → Option Cause
+configured_fault options tier supply bytes spec =
     let count = configuration_count bytes in
     let texts = texts_below spec count in
     if is_hub_device bytes && tier == LAST_TIER then Some TooDeep
-    else option_or (first_fault spec count)
-    (chosen_fault wide (is_hub_device bytes) texts (choice_of supply texts) spec)
+    else option_or (first_fault options.device_bytes spec count)
+    (chosen_fault options.wide_hubs (is_hub_device bytes) texts (choice_of supply texts) spec)
 
 -- Of the head of the device descriptor
 

@@ -1,7 +1,8 @@
 -- What a device's configuration texts say together.
 use Rattle.std.specs.Prelude.{◌≡◌, ⊤, position, nat_le, slice_get, ℕ, ◌*◌, List, [], ◌∷◌, map, Bool}
 use Rattle.std.specs.Prelude.{false, ◌||◌, ◌==◌, Option, Some, None, Result, Ok, Err, is_ok}
-use Rattle.std.specs.Prelude.{if◌then◌else◌}
+use Rattle.std.specs.Prelude.{if◌then◌else◌, length}
+use Rattle.std.specs.List.{sum_by}
 use Rattle.usb_descriptor.specs.{DescriptorFault, string_of, config_of, configuration_value}
 use Rattle.usb_descriptor.specs.{max_power_of}
 
@@ -13,6 +14,10 @@ config_text_of bytes = if is_ok (config_of bytes) then Some bytes else None
 abbrev pub any_has_value : ℕ → List (List ℕ) → Bool
 any_has_value value [] = false
 any_has_value value (text ∷ texts) = configuration_value text == value || any_has_value value texts
+
+-- how many bytes the texts have together
+abbrev pub texts_length : List (List ℕ) → ℕ
+texts_length texts = sum_by length texts
 
 -- bMaxPower counts 2 mA
 abbrev pub need_of : List ℕ → ℕ

@@ -39,6 +39,9 @@ pub enum Cause {
     /// The configuration of this index is malformed, or has the value of an earlier one.
     #[error("bad configuration {0}")]
     BadConfiguration(u8),
+    /// Its configurations say that they have more bytes than the host takes.
+    #[error("too large")]
+    TooLarge,
     /// No configuration needs as little power as the port gives.
     #[error("no power")]
     NoPower,

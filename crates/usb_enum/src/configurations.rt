@@ -1,17 +1,18 @@
 //! The configurations of a device: each is read, and one is chosen.
-ghost use Rattle.std.specs.Prelude.{◌≡◌, ◌≤◌, ◌<◌, ◌*◌, length, true, IfOk, IfErr, IfSome, MatchResult};
+ghost use Rattle.std.specs.Prelude.{◌≡◌, ◌≤◌, ◌<◌, ◌*◌, ℕ, Option, length, false, true, IfOk, IfErr, IfSome, MatchResult};
 ghost use Rattle.usb_request.specs.Codes.{CONFIGURATION_LENGTH};
 ghost use Rattle.usb_transaction.specs.Transactions.{IsTarget};
 ghost use Rattle.usb_enum.specs.Bounds.{read_bound, configuration_bound, texts_bound};
-ghost use Rattle.usb_enum.specs.Parts.{Answered, Read, StopsRead};
-ghost use Rattle.usb_enum.specs.Verdicts.{config_fault, first_fault};
+ghost use Rattle.usb_enum.specs.Parts.{Answered, Read, StopsRead, StopsText, StopsTexts};
+ghost use Rattle.usb_enum.specs.Verdicts.{config_fault, is_over};
 ghost use Rattle.usb_enum.specs.Readings.{HasTotal, HasConfiguration, HasConfigurations};
-ghost use Rattle.usb_enum.specs.Reasons.{TextRead, TextsAsked};
-ghost use Rattle.usb_enum.specs.Text.{ValuesDiffer, choice_of};
+ghost use Rattle.usb_enum.specs.Reasons.{HeadRead, TextRead, TextsAsked};
+ghost use Rattle.usb_enum.specs.Text.{ValuesDiffer, choice_of, texts_length};
 ghost use Rattle.usb_enum.specs.TextLengths.{IsAnswered, ReadsText, FewFor};
 ghost use Rattle.usb_bus.specs.Traces.{Spends};
 ghost use Rattle.usb_enum.specs.Stops.{IsPlainStop, IsReportedStop, StopWorks};
 
+use crate::options::{is_over, left_of};
 use crate::stop::{Stop, answered_or};
 use crate::{Cause, ConfigText, ConfigTexts, Request};
 use std::alloc::{AllocError, Global};
@@ -34,9 +35,11 @@ fn total_length<B: Bus>(alloc: Global, bus: &mut B, target: Target, index: u8) -
         × IfErr result (λ stop. IsReportedStop stop (B.failed bus.new)) }
     ensures fits { MatchResult result
         (λ total. (CONFIGURATION_LENGTH ≤ total) × (total ≤ 65535)) IsPlainStop }
-    ensures read { B.modelled ≡ true → Read B.world B.trace (read_bound CONFIGURATION_LENGTH)
-        (Answered target (λ old new _. IsAnswered target new) (HasTotal index))
-        (StopsRead target (λ spec. config_fault spec index)) bus.old result bus.new }
+    ensures read { B.modelled ≡ true → (room : Option ℕ)
+        → Read B.world B.trace (read_bound CONFIGURATION_LENGTH)
+        (Answered target (λ old new total. HeadRead target index total old new
+        × IsAnswered target new) (HasTotal index))
+        (StopsRead target (λ spec. config_fault room spec index)) bus.old result bus.new }
     ensures works { B.modelled ≡ true → StopWorks result (B.world bus.old) (B.world bus.new) }
 {
     let stalled = Cause::Stalled(Request::Config);
@@ -47,28 +50,32 @@ fn total_length<B: Bus>(alloc: Global, bus: &mut B, target: Target, index: u8) -
     }
 }
 
-/// The configuration text of an index.
+/// The configuration text of an index. It is read whole only if it fits what is left.
 #[tactic(auto, using(usb_pipe::proofs::Interface::bound_wide))]
 fn read_text<B: Bus>(
     alloc: Global,
     bus: &mut B,
     target: Target,
     index: u8,
+    room: Option<usize>,
 ) -> Result<ConfigText, Stop>
     requires target { IsTarget target }
     requires max { 8 ≤ target.max }
     ensures any_bus { Spends B.spent B.ports configuration_bound bus.old bus.new
         × IfErr result (λ stop. IsReportedStop stop (B.failed bus.new)) }
-    ensures plain { IfErr result IsPlainStop }
+    ensures fits { MatchResult result (λ text. is_over room (length text) ≡ false) IsPlainStop }
     ensures read { B.modelled ≡ true → Read B.world B.trace configuration_bound
         (Answered target (λ old new text. TextRead target index text old new)
-        (HasConfiguration index))
-        (StopsRead target (λ spec. config_fault spec index)) bus.old result bus.new }
+        (HasConfiguration room index))
+        (StopsText room target index) bus.old result bus.new }
     ensures count { B.modelled ≡ true
         → ReadsText target index (B.world bus.old) result (B.world bus.new) }
     ensures works { B.modelled ≡ true → StopWorks result (B.world bus.old) (B.world bus.new) }
 {
     let total = total_length(alloc, bus, target, index)?;
+    if is_over(room, total) {
+        return Err(Stop::Refused(Cause::TooLarge));
+    }
     let stalled = Cause::Stalled(Request::Config);
     let bytes = answered_or(stalled, get_config(alloc, bus, target, index, total))?;
     match ConfigText::new(bytes) {
@@ -77,33 +84,38 @@ fn read_text<B: Bus>(
     }
 }
 
-/// The configurations of a device that has this number of them. No two of them have the same value.
+/// The configurations of a device that has this number of them. No two of them have the same value,
+/// and all of them together have at most the bytes of the budget.
 pub(crate) fn read_configurations<B: Bus>(
     alloc: Global,
     bus: &mut B,
     target: Target,
     count: u8,
+    budget: Option<usize>,
 ) -> Result<ConfigTexts, Stop>
     requires target { IsTarget target }
     requires max { 8 ≤ target.max }
     ensures any_bus { Spends B.spent B.ports (255 * configuration_bound) bus.old bus.new
         × IfErr result (λ stop. IsReportedStop stop (B.failed bus.new)) }
     ensures all { MatchResult result
-        (λ texts. (length texts ≡ count) × ValuesDiffer texts) IsPlainStop }
+        (λ texts. (length texts ≡ count) × ValuesDiffer texts
+        × (is_over budget (texts_length texts) ≡ false)) IsPlainStop }
     ensures read { B.modelled ≡ true → Read B.world B.trace (255 * configuration_bound)
         (Answered target (λ old new texts. TextsAsked target old texts new)
-        (HasConfigurations count))
-        (StopsRead target (λ spec. first_fault spec count)) bus.old result bus.new }
+        (HasConfigurations budget count))
+        (StopsTexts budget target count) bus.old result bus.new }
     ensures few { B.modelled ≡ true
         → FewFor texts_bound target (B.world bus.old) (B.world bus.new) }
     ensures works { B.modelled ≡ true → StopWorks result (B.world bus.old) (B.world bus.new) }
 {
     let mut texts = ConfigTexts::new(alloc);
+    let mut room = budget;
     for index in 0..count {
-        let text = read_text(alloc, bus, target, index)?;
+        let text = read_text(alloc, bus, target, index, room)?;
         if texts.has_value(text.value()) {
             return Err(Stop::Refused(Cause::BadConfiguration(index)));
         }
+        room = left_of(room, text.as_slice().len());
         texts.push(text)?;
     }
     Ok(texts)

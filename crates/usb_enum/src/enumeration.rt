@@ -21,7 +21,7 @@ use crate::hub::start_hub;
 use crate::passes::{passes, unaddressed};
 use crate::stop::{Stop, answered_or, at_port};
 use crate::strings::read_strings;
-use crate::{Accepted, Cause, ConfigText, EnumFault, Finding, HubFacts, Request};
+use crate::{Accepted, Cause, ConfigText, EnumFault, Finding, HostOptions, HubFacts, Request};
 use arrayvec::ArrayVec;
 use std::alloc::Global;
 use usb_bus::Bus;
@@ -39,9 +39,8 @@ pub struct Place {
     pub tier: u8,
     /// What the port gives, in mA.
     pub supply: u16,
-    /// Whether the host takes wide hubs: of 8 to 15 ports, and with a status endpoint of any
-    /// number (11.12.1, 11.23.1).
-    pub wide: bool,
+    /// What the host takes.
+    pub options: HostOptions,
 }
 
 /// Enumerates the device at a port (9.1.2): the port is reset, and the device is given the least
@@ -79,8 +78,9 @@ pub fn enumerate<B: Bus>(
         (IsSaid port pool.old said.new.items (B.world bus.old) (B.world bus.new))
         (λ fault. FaultAllowedAt port fault (B.world bus.new)) }
     ensures pool { TakesFor result pool.old pool.new }
-    ensures found { IfOk result (IsFound pool.old place.wide place.tier place.supply) }
-    ensures ends { B.modelled ≡ true → Enumerates port pool.old place.wide place.tier place.supply
+    ensures found { IfOk result (IsFound pool.old place.options place.tier place.supply) }
+    ensures ends { B.modelled ≡ true
+        → Enumerates port pool.old place.options place.tier place.supply
         (B.world bus.old) result (B.world bus.new) }
 {
     said.clear();
@@ -156,12 +156,13 @@ fn examine<B: Bus>(
     ensures any_bus { Spends B.spent B.ports (examination_bound port) bus.old bus.new
         × IfErr result (λ stop. IsReportedStop stop (B.failed bus.new)) }
     ensures whole { MatchResult result
-        (λ device. (device.address ≡ address) × IsWhole place.wide place.supply device
+        (λ device. (device.address ≡ address) × IsWhole place.options place.supply device
         × (said.new.items ≡ device.bytes))
         (λ stop. FitsStop place.tier stop × IsSaidAt stop said.new.items) }
     ensures part { B.modelled ≡ true → Part B.world B.trace (AtPort port address)
-        (examination_bound port) (IsAccepted port address place.wide place.tier place.supply)
-        (StopsExamining port address place.wide place.tier place.supply) bus.old result bus.new }
+        (examination_bound port) (IsAccepted port address place.options place.tier place.supply)
+        (StopsExamining port address place.options place.tier place.supply)
+        bus.old result bus.new }
     ensures made { B.modelled ≡ true → ExaminesAt port address said.old.items said.new.items
         (B.world bus.old) (B.world bus.new) }
     ensures works { B.modelled ≡ true → StopWorks result (B.world bus.old) (B.world bus.new) }
@@ -182,11 +183,11 @@ fn configure<B: Bus>(
     ensures any_bus { Spends B.spent B.ports configured_bound bus.old bus.new
         × IfErr result (λ stop. IsReportedStop stop (B.failed bus.new)) }
     ensures whole { MatchResult result
-        (λ found. (found.address ≡ address) × IsWhole place.wide place.supply found
+        (λ found. (found.address ≡ address) × IsWhole place.options place.supply found
         × (found.bytes ≡ device.bytes)) (FitsStop place.tier) }
     ensures part { B.modelled ≡ true → Part B.world B.trace (OnlySets address)
-        configured_bound (IsListed device place.wide place.tier)
-        (StopsConfiguring device.target device.bytes place.wide place.tier place.supply)
+        configured_bound (IsListed device place.options place.tier)
+        (StopsConfiguring device.target device.bytes place.options place.tier place.supply)
         bus.old result bus.new }
     ensures few { B.modelled ≡ true
         → FewFor configured_by device.target (B.world bus.old) (B.world bus.new) }
@@ -194,14 +195,16 @@ fn configure<B: Bus>(
 {
     let target = device.target;
     fits_tier(&device, place.tier)?;
-    let configs = read_configurations(alloc, bus, target, device.configurations())?;
+    let budget = place.options.device_bytes;
+    let configs = read_configurations(alloc, bus, target, device.configurations(), budget)?;
     let Some(chosen) = choose_configuration(alloc, &configs, place.supply)? else {
         return Err(Stop::Refused(Cause::NoPower));
     };
     let value = configs.as_slice()[chosen].value();
     let stalled = Cause::Stalled(Request::SetConfig);
     answered_or(stalled, set_configuration(bus, target, value))?;
-    let hub = hub_facts(alloc, bus, &device, &configs.as_slice()[chosen], place.wide)?;
+    let wide = place.options.wide_hubs;
+    let hub = hub_facts(alloc, bus, &device, &configs.as_slice()[chosen], wide)?;
     let strings = read_strings(alloc, bus, target, device.string_indexes())?;
     Ok(Accepted {
         address,

@@ -12,6 +12,9 @@
 //!   (`EndsFor`).
 //! - *Few attempts* (`FewAttempts`): at most 250,000, and 100 for each byte of the longest
 //!   configuration texts in the plan.
+//! - *Few bytes* (`IsWhole`): over any bus, the configurations of an accepted device have at most
+//!   the bytes that the host takes. A device that says more is refused (`too_large` of `RefusedAs`),
+//!   before the configuration that goes over is read (`HostOptions`).
 //! - *What a device said is its own* (`IsSaid`): the bytes came from a read of its device
 //!   descriptor, which begins with them. They are all 18 where it is refused for what comes behind.
 //!
@@ -28,6 +31,7 @@ mod enumeration;
 mod fault;
 mod finding;
 mod hub;
+mod options;
 mod passes;
 mod said;
 mod stop;
@@ -39,6 +43,7 @@ pub use enumeration::{Place, enumerate};
 pub use fault::EnumFault;
 pub use finding::{Accepted, Finding};
 pub use hub::HubFacts;
+pub use options::HostOptions;
 pub use strings::Strings;
 pub use text::{ConfigText, ConfigTexts, StringUnits};
 pub use usb_hub::{Bus, BusFault, HubPort};

@@ -80,7 +80,11 @@ fn units_of(alloc: Global, bytes: &[u8]) -> Result<Option<StringUnits>, AllocErr
     ensures { IfOk result (λ units. units ≡ string_units bytes.now) }
 {
     match read_string(bytes) {
-        Ok(string) => Ok(Some(StringUnits::new(string.units().collect(alloc)?))),
+        Ok(string) => {
+            // for the checker: bLength is a byte, two more than twice the number of units
+            let _length = string.length();
+            Ok(Some(StringUnits::new(string.units().collect(alloc)?)))
+        }
         Err(_) => Ok(None),
     }
 }

@@ -1,5 +1,5 @@
 //! Texts of configurations and strings, as lists.
-ghost use Rattle.std.specs.Prelude.{◌≡◌, ◌<◌, ◌++◌, [], ◌∷◌, length, OnOk, OnErr, IfOk, IfSome, vec_len};
+ghost use Rattle.std.specs.Prelude.{◌≡◌, ◌<◌, ◌≤◌, ◌++◌, [], ◌∷◌, length, OnOk, OnErr, IfOk, IfSome, vec_len};
 ghost use Rattle.usb_descriptor.specs.Choice.{IsUsable, status_endpoint_of, bulk_out_of, bulk_in_of};
 ghost use Rattle.usb_descriptor.specs.Config.{HasConfig, configuration_value};
 ghost use Rattle.usb_enum.specs.Text.{config_text_of, any_has_value, need_of, needs_of};
@@ -174,22 +174,25 @@ impl ConfigTexts {
     }
 }
 
-/// The 16-bit units of a string (9.6.7).
+/// The 16-bit units of a string (9.6.7), at most 126 of them.
 #[derive(Debug, Drop)]
 pub struct StringUnits {
     units: Vec<u16>,
 }
 
 impl Model for StringUnits {
-    ghost use Rattle.std.specs.Prelude.{List, ℕ};
+    ghost use Rattle.std.specs.Prelude.{List, ℕ, ◌≤◌, length};
 
     ghost Value = { List ℕ };
 
     ghost view = { λ s. s.units.items };
+
+    ghost invariant = { λ s. length s.units.items ≤ 126 };
 }
 
 impl StringUnits {
     pub(crate) fn new(units: Vec<u16>) -> Self
+        requires { length units.items ≤ 126 }
         ensures { result ≡ units.items }
     {
         StringUnits { units }
@@ -197,7 +200,8 @@ impl StringUnits {
 
     /// The units, in order.
     pub fn as_slice(&self) -> &[u16]
-        ensures { result.now ≡ self.now }
+        ensures value { result.now ≡ self.now }
+        ensures few { length self.now ≤ 126 }
     {
         self.units.as_slice()
     }

@@ -28,16 +28,16 @@ use Rattle.usb_host.proofs.RoundParts.{part-fails, polled_hub_not_failed}
 use Rattle.usb_host.proofs.payments.Payments.{is_err-if_ok, pays_where}
 use Rattle.usb_host.proofs.knowledge.Soundness.{sound_kept}
 
-module _ {hub : List ℕ} (a b : HostState) (agrees : Agrees a.wide a.entries a.addresses)
+module _ {hub : List ℕ} (a b : HostState) (agrees : Agrees a.options a.entries a.addresses)
     (same : b.entries ≡ a.entries) (pool : b.addresses ≡ a.addresses)
     (stopped : b.stopped ≡ a.stopped) (rest : LeavesRest a b) (went : HostSteps 768 a b)
     (through : GoesThrough hub (table_in a) (table_in b))
     (listed : IsSome (hub_facts_at hub a.entries)) where
-  width : b.wide ≡ a.wide
-  width = ap (λ (h : HostState). h.wide) rest
+  width : b.options ≡ a.options
+  width = ap (λ (h : HostState). h.options) rest
 
   poll_goes : HostRuns 768 a b
-  poll_goes = record { went = went; going = stopped; wide = width }
+  poll_goes = record { went = went; going = stopped; options = width }
 
   -- the bus made no more steps
   pub poll_cut : (why : BusFault) → PipesPolled (pipes_at hub (table_in a)) a.world (Err (Bus why))

@@ -54,8 +54,8 @@ pub record ClimbedTo (first path : List ℕ) (a b : HostState) : Type 0 where
   pub sound : IsDroppable first a → IsDroppable path b
   pub backlog : IsDroppable first a → b.world.fault ≡ None → KeepsAll a.world b.world
   pub caused : IsDroppable first a → IsFairTo a.world b.world → pending a.world.roots first ≡ true
-      → CausesBut a.wide first a.world a.entries
-      → (pending b.world.roots path ≡ true) × CausesBut b.wide path b.world b.entries
+      → CausesBut a.options first a.world a.entries
+      → (pending b.world.roots path ≡ true) × CausesBut b.options path b.world b.entries
 
 pub climbed_none : (first : List ℕ) (h : HostState) → ClimbedTo first first h h
 climbed_none first h = record {
@@ -177,8 +177,8 @@ module _ {hub lost : List ℕ} {a b c : HostState} (d : HostState) (r : OnlyBusS
   drop_world : d.world ≡ c.world
   drop_world = ap (λ (h : HostState). h.world) others
 
-  drop_wide : d.wide ≡ c.wide
-  drop_wide = ap (λ (h : HostState). h.wide) others
+  drop_wide : d.options ≡ c.options
+  drop_wide = ap (λ (h : HostState). h.options) others
 
   drop_goes : HostRuns drop_bound a d
   drop_goes = goes_forgotten a (goes_forgotten a x.goes f.others) others

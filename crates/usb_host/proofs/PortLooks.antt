@@ -52,12 +52,12 @@ use Rattle.usb_host.proofs.PortLocations.{stands_at-claim}
 module _ {path : List ℕ} {port : KnownPort} {a b : HostState} (s : StandsAt path port a)
     (away : has_at path a.entries ≡ false) (accounts : Accounts a.entries a.addresses)
     (went : HostSteps (enumeration_bound port.port) a b) (same : b.stopped ≡ a.stopped)
-    (width : b.wide ≡ a.wide) where
+    (width : b.options ≡ a.options) where
   found_goes : HostRuns widest_enumeration a b
   found_goes = enumeration_goes port.port a b s.askable went same width
 
   pub discover_fails : {fault : EnumFault}
-      → Enumerates port.port a.addresses b.wide (tier_of path) port.supply a.world (Err fault)
+      → Enumerates port.port a.addresses b.options (tier_of path) port.supply a.world (Err fault)
       b.world
       → b.entries ≡ a.entries → b.pipes ≡ a.pipes → b.addresses ≡ a.addresses
       → FaultAllowedAt port.port fault b.world → Discovers path port a (Err fault) b
@@ -77,7 +77,7 @@ module _ {path : List ℕ} {port : KnownPort} {a b : HostState} (s : StandsAt pa
 
   -- for what was found there is no memory
   pub discover_lost : {f : Finding}
-      → Enumerates port.port a.addresses b.wide (tier_of path) port.supply a.world (Ok f) b.world
+      → Enumerates port.port a.addresses b.options (tier_of path) port.supply a.world (Ok f) b.world
       → b.entries ≡ a.entries → b.pipes ≡ a.pipes → Discovers path port a (Err Memory) b
   discover_lost {f = f} x entries pipes = record {
     requested = record { goes = found_goes; told = tt; works = λ sound. x.works };
@@ -87,8 +87,8 @@ module _ {path : List ℕ} {port : KnownPort} {a b : HostState} (s : StandsAt pa
   }
 
   pub discover_done : {f : Finding}
-      → Enumerates port.port a.addresses b.wide (tier_of path) port.supply a.world (Ok f) b.world
-      → IsFound a.addresses b.wide (tier_of path) port.supply f → (said : ArrayVec ℕ)
+      → Enumerates port.port a.addresses b.options (tier_of path) port.supply a.world (Ok f) b.world
+      → IsFound a.addresses b.options (tier_of path) port.supply f → (said : ArrayVec ℕ)
       → IsSaid port.port a.addresses said.items a.world b.world f
       → table_in b ≡ entered path f said (table_in a) → Discovers path port a (Ok tt) b
   discover_done {f = f} x is said says table =
@@ -306,16 +306,16 @@ module _ {path : List ℕ} {port : KnownPort} {a b c : HostState} (s : StandsAt 
     found_renewed (Ok done) d e = renews path a b c d r f.rest e
     found_renewed (Err fault) d e = tt
 
-    found_anew : (d : HostState) → d.wide ≡ c.wide
+    found_anew : (d : HostState) → d.options ≡ c.options
         → EntersFound path port c.addresses c.world c.entries d → FindsAnew path a.entries b.world d
     found_anew d width g = record {
       port = port;
       known = s.known;
       addresses = c.addresses;
-      agrees = rw width (subst (λ (es : Entries). Agrees c.wide es c.addresses) look_left f.agrees);
+      agrees = rw width (subst (λ (es : Entries). Agrees c.options es c.addresses) look_left f.agrees);
       found = record {
         finding = g.finding;
-        gave = subst (λ (w : World). Enumerates port.port c.addresses d.wide (tier_of path)
+        gave = subst (λ (w : World). Enumerates port.port c.addresses d.options (tier_of path)
             port.supply w (Ok g.finding) d.world) (ap (λ (h : HostState). h.world) f.others) g.gave;
         is = g.is;
         entries = g.entries
@@ -328,7 +328,7 @@ module _ {path : List ℕ} {port : KnownPort} {a b c : HostState} (s : StandsAt 
     }
 
     found_looked : (result : Result (Unit {0}) EnumFault) (d : HostState) → Entered path c result d
-        → d.wide ≡ c.wide → OnOk result (EntersFound path port c.addresses c.world c.entries d)
+        → d.options ≡ c.options → OnOk result (EntersFound path port c.addresses c.world c.entries d)
         → IsOwned a → LookedOrLost path a result d
     found_looked (Ok done) d e width g o = record {
       status = status;
@@ -404,7 +404,7 @@ look_done {path = path} {a = a} {b = b} {d = d} result {status = status} s r x y
   hubs = renew_hubs y r x.requested.goes;
   looked = cases (λ q h. IsOwned a → LookedOrLost path a q h)
       (λ on. found_looked s r x y.forgot on result d (y.entered on)
-      (y.found on).requested.goes.wide (y.found on).gave)
+      (y.found on).requested.goes.options (y.found on).gave)
       (bare_looked s r x y.forgot);
   order = next_done status b x y;
 }

@@ -119,7 +119,7 @@ read_can (External hub number) old answer new x = inl tt
 
 pub shows : (port : HubPort) (a b : HostState) {answer : Result PortStatus PipeFault}
     {result : Result PortStatus EnumFault} → IsAskable port → HostSteps (status_bound port) a b
-    → b.stopped ≡ a.stopped → b.wide ≡ a.wide
+    → b.stopped ≡ a.stopped → b.options ≡ a.options
     → IfErr answer (λ fault. FaultAfter 1 a.world fault b.world)
     → PortRead port a.world answer b.world → ReadsPort port a.world answer b.world
     → KeepsAsked port a.world answer b.world → result ≡ at_port answer → ShowsPort port a result b
@@ -141,7 +141,7 @@ cleared_can (External hub number) feature old answer new x = inl tt
 
 pub clears_by : (port : HubPort) (feature : ℕ) (a b : HostState)
     {answer : Result (Unit {0}) PipeFault} {result : Result (Unit {0}) EnumFault}
-    → HostSteps (order_bound port) a b → b.stopped ≡ a.stopped → b.wide ≡ a.wide
+    → HostSteps (order_bound port) a b → b.stopped ≡ a.stopped → b.options ≡ a.options
     → IfErr answer (λ fault. FaultAfter 1 a.world fault b.world)
     → PortCleared port feature a.world answer b.world
     → KeepsCleared port feature a.world answer b.world
@@ -167,7 +167,7 @@ other_can (External hub number) feature old answer new x = inl tt
 
 pub others_by : {asked : Bool} (port : HubPort) (feature : ℕ) (a b : HostState)
     (answer : Result (Unit {0}) PipeFault) {result : Result (Unit {0}) EnumFault} → asked ≡ true
-    → HostSteps (order_bound port) a b → b.stopped ≡ a.stopped → b.wide ≡ a.wide
+    → HostSteps (order_bound port) a b → b.stopped ≡ a.stopped → b.options ≡ a.options
     → IfErr answer (λ fault. FaultAfter 1 a.world fault b.world)
     → ClearsOfPort port feature a.world answer b.world → KeepsAddresses a.world b.world
     → KeepsDevices a.world b.world → result ≡ at_port answer

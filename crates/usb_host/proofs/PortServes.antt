@@ -264,26 +264,26 @@ module _ {path : List ℕ} {port : KnownPort} {a b d : HostState} (s : StandsAt 
     (ends : EndsAs served result) (y : FinishesAt path served b result d) where
   -- a part of what is done at a port
   finished_part : {n : ℕ} → HostSteps n a b → n + drop_bound ≤ handling_bound
-      → b.stopped ≡ a.stopped → b.wide ≡ a.wide → KeepsPort path a served b
+      → b.stopped ≡ a.stopped → b.options ≡ a.options → KeepsPort path a served b
       → ServesSound path a served b → Part handling_bound a result d
   finished_part {n = n} went le same width owned sound = record {
     goes =
-        host_goes_then {m = n} (record { went = went; going = same; wide = width }) y.goes le;
+        host_goes_then {m = n} (record { went = went; going = same; options = width }) y.goes le;
     owned = port_finished path port a result d s went.spends.roots owned y.drops.owned;
-    sound = finished_sound n served result a b d went y.goes.went (y.goes.wide ∙ width) ends
+    sound = finished_sound n served result a b d went y.goes.went (y.goes.options ∙ width) ends
         sound y.drops;
   }
 
   pub look_finished : LooksAt path port a served b → Part handling_bound a result d
   look_finished x =
       finished_part x.requested.goes.went (omega arith) x.requested.goes.going
-      x.requested.goes.wide x.owned x.sound
+      x.requested.goes.options x.owned x.sound
 
   pub handle_finished : ServesPort path port a served b
       → HandlesPort path (IsDue a.world port.port) a result d
   handle_finished x = record {
     part = finished_part x.requested.goes.went (omega arith) x.requested.goes.going
-        x.requested.goes.wide x.owned x.sound;
+        x.requested.goes.options x.owned x.sound;
     handled = handles_at path (IsDue a.world port.port) result a d
         (handled result served a b d ends y.holds x.on)
         (λ i. handled_at path served result a b d ends y.left (x.served i))

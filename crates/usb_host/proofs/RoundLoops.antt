@@ -314,7 +314,7 @@ module _ {last : Option (List ℕ)} {hub : List ℕ} {round : Round} {a b d : Ho
 
 pub hubs_all_handled : (last : Option (List ℕ)) (round : Round) {a b : HostState}
     → HubsHandled last round a b → IfSome last IsPath → IsLast is_hub last b.entries
-    → Agrees b.wide b.entries b.addresses → (a.entries ≡ [] → (round ≡ Quiet) × (b ≡ a))
+    → Agrees b.options b.entries b.addresses → (a.entries ≡ [] → (round ≡ Quiet) × (b ≡ a))
     → ServesHubs a (Ok round) b
 hubs_all_handled last round {a = a} {b = b} x path none agrees idle = record {
   keeps = record {
@@ -396,7 +396,7 @@ module _ {last : Option (List ℕ)} {path : List ℕ} {round : Round} {a b d : H
   }
 
 pub waiting_end : {last : Option (List ℕ)} {round : Round} {a b : HostState}
-    → WaitingHandled last round a b → IfSome last IsPath → Agrees b.wide b.entries b.addresses
+    → WaitingHandled last round a b → IfSome last IsPath → Agrees b.options b.entries b.addresses
     → (IsFull b.addresses ⊎ IsLast is_waiting last b.entries)
     → (NoneWait a.entries → (round ≡ Quiet) × (b ≡ a)) → LooksAgain a (Ok round) b
 waiting_end {last = last} {round = round} x path agrees all idle = record {

@@ -82,7 +82,7 @@ module _ {result : Result Round HostFault} {a c : HostState} (e : IsErr result) 
     part = x;
     calm = λ is. not_done result e is;
     silent = λ s is. not_done result e is;
-    agrees = on_failed result (Agrees c.wide c.entries c.addresses) e;
+    agrees = on_failed result (Agrees c.options c.entries c.addresses) e;
   }
 
   pub looks_fail : Part looks_bound a result c → (NoneWait a.entries → ⊥) → LooksKeep a result c
@@ -114,11 +114,11 @@ pub hub_listed : (o : Option Finding) → IsSome (hub_facts_in o) → IsSome o
 hub_listed None some = absurd (cc some)
 hub_listed (Some f) some = refl
 
-part_where : (a c : HostState) → c.wide ≡ a.wide → (HostInvariant a → PartStays a c)
+part_where : (a c : HostState) → c.options ≡ a.options → (HostInvariant a → PartStays a c)
     → PartStays a c
-part_where a c wide f = record {
+part_where a c options f = record {
   sound = record {
-    wide = wide;
+    options = options;
     sound = λ s. (f s).sound.sound s;
     caused = λ s fair q. (f s).sound.caused s fair q;
   };
@@ -127,21 +127,21 @@ part_where a c wide f = record {
 }
 
 module _ {hub : List ℕ} {answer : Result (Option (ArrayVec ℕ)) PipeFault} (a b : HostState)
-    (agrees : Agrees a.wide a.entries a.addresses) (same : b.entries ≡ a.entries)
+    (agrees : Agrees a.options a.entries a.addresses) (same : b.entries ≡ a.entries)
     (pool : b.addresses ≡ a.addresses) (stopped : b.stopped ≡ a.stopped)
-    (width : b.wide ≡ a.wide) (went : HostSteps 768 a b)
+    (width : b.options ≡ a.options) (went : HostSteps 768 a b)
     (keeps : KeepsPolled hub (table_in a) a.world answer (table_in b) b.world)
     (through : GoesThrough hub (table_in a) (table_in b))
     (asks : PipesPolled (pipes_at hub (table_in a)) a.world answer (pipes_at hub (table_in b))
     b.world) where
-  agrees_on : Agrees b.wide b.entries b.addresses
+  agrees_on : Agrees b.options b.entries b.addresses
   agrees_on = rw (width, same) (rw pool agrees)
 
   polled : StaysOwned a b
   polled = stays_kept a b same went.spends.roots keeps.levels.worlds.addresses
 
   goes : HostRuns 768 a b
-  goes = record { went = went; going = stopped; wide = width }
+  goes = record { went = went; going = stopped; options = width }
 
   sound : IsOk answer → KeepsInvariant a b
   sound ok = sound_kept 768 hub (IsOk answer) a b agrees same width went keeps.levels (λ still. ok)
@@ -183,7 +183,7 @@ module _ {hub : List ℕ} {answer : Result (Option (ArrayVec ℕ)) PipeFault} (a
     part = record {
       goes = host_goes_then goes q (omega arith);
       owned = stays_owned_then polled owned;
-      sound = part_where a c (q.wide ∙ goes.wide) (λ s. part_then 768 a b c goes.went q.went (part
+      sound = part_where a c (q.options ∙ goes.options) (λ s. part_then 768 a b c goes.went q.went (part
           ok) (told s));
     };
     calm = λ is. absurd (cc is);

@@ -6,26 +6,26 @@ use Rattle.usb_host.specs.{Remains, Did, either, waiting, Round, Worked, Quiet}
 
 pub host_goes_none : {n : ℕ} {h : HostState} → HostRuns n h h
 host_goes_none {n = n} =
-    record { went = went_wider 0 n went_none (omega arith); going = refl; wide = refl }
+    record { went = went_wider 0 n went_none (omega arith); going = refl; options = refl }
 
 pub host_goes_then : {k m n : ℕ} {a b c : HostState} → HostRuns m a b → HostRuns n b c → m + n ≤ k
     → HostRuns k a c
 host_goes_then {k = k} {m = m} {n = n} p q le = record {
   went = went_wider (m + n) k (went_then m n p.went q.went) le;
   going = q.going ∙ p.going;
-  wide = q.wide ∙ p.wide;
+  options = q.options ∙ p.options;
 }
 
 pub goes_wider : {m k : ℕ} {a b : HostState} → HostRuns m a b → m ≤ k → HostRuns k a b
 goes_wider {m = m} {k = k} p le =
-    record { went = went_wider m k p.went le; going = p.going; wide = p.wide }
+    record { went = went_wider m k p.went le; going = p.going; options = p.options }
 
 -- what is forgotten takes no attempt
 pub goes_forgotten : {n : ℕ} (a : HostState) {b c : HostState} → HostRuns n a b
     → c ≡ record b { entries = c.entries; pipes = c.pipes; addresses = c.addresses }
     → HostRuns n a c
 goes_forgotten {n = n} a g others =
-    rw others (record { went = g.went; going = g.going; wide = g.wide })
+    rw others (record { went = g.went; going = g.going; options = g.options })
 
 pub host_rests_then : (a : HostState) {b : HostState} (c : HostState) → OnlyBusSteps a b
     → OnlyBusSteps b c → OnlyBusSteps a c
@@ -75,8 +75,8 @@ did_then Quiet Quiet a b c p q ab bc = remains_then a b c ab bc
 
 -- a call on the bus alone
 pub goes_by : {n k : ℕ} (a b : HostState) → HostSteps n a b → n ≤ k → b.stopped ≡ a.stopped
-    → b.wide ≡ a.wide → HostRuns k a b
-goes_by {n = n} {k = k} a b w le e f = record { went = went_wider n k w le; going = e; wide = f }
+    → b.options ≡ a.options → HostRuns k a b
+goes_by {n = n} {k = k} a b w le e f = record { went = went_wider n k w le; going = e; options = f }
 
 pub either_quiet : (a b : Round) → either a b ≡ Quiet → (a ≡ Quiet) × (b ≡ Quiet)
 either_quiet Worked b is = absurd (cc is)

@@ -3,6 +3,7 @@ pub mod Agreements
 pub mod Balances
 pub mod EntryClaims
 pub mod HubCounts
+pub mod KeptBytes
 pub mod KindCounts
 pub mod Ranks
 pub mod RisingEntries

@@ -17,9 +17,9 @@ pub record EntersFound (path : List ℕ) (port : KnownPort) (addresses : Address
     (before : Entries) (new : HostState) : Type 0 where
   pub finding : Finding
   pub said : List ℕ
-  pub gave : Enumerates port.port addresses new.wide (tier_of path) port.supply old (Ok finding)
+  pub gave : Enumerates port.port addresses new.options (tier_of path) port.supply old (Ok finding)
       new.world
-  pub is : IsFound addresses new.wide (tier_of path) port.supply finding
+  pub is : IsFound addresses new.options (tier_of path) port.supply finding
   pub entries : new.entries ≡ insert_entry path_cmp before path finding
   pub says : IsSaid port.port addresses said old new.world finding
   pub keeps : (cause : Cause) → finding ≡ Refused cause → said_at path (table_in new) ≡ Some said
@@ -31,5 +31,5 @@ pub record FindsAnew (path : List ℕ) (before : Entries) (old : World) (new : H
     pub port : KnownPort
     pub known : known_port path before ≡ Some port
     pub addresses : Addresses
-    pub agrees : Agrees new.wide (without path before) addresses
+    pub agrees : Agrees new.options (without path before) addresses
     pub found : EntersFound path port addresses old (without path before) new

@@ -22,6 +22,7 @@ use Rattle.usb_host.specs.Transfers.{ClearedAt, ClearedOfAt, MovesOrRefuses, Rec
 use Rattle.usb_host.specs.Transfers.{ReportedAt, SentAt}
 use Rattle.usb_host.specs.declared.fault.HostFault.{HostFault}
 use Rattle.usb_host.specs.declared.host.Round.{Round}
+use Rattle.usb_enum.specs.{HostOptions}
 
 -- over any bus: at most so many attempts were made, and a fault of the bus is the one that it
 -- reported last. Of a modelled bus its world says both. Devices keep their numbers
@@ -54,9 +55,9 @@ pub record MovesAnyBus {A : Type 0} (modelled : Bool) (most : ℕ)
 -- `new` and `with_wide_hubs`, whatever was done before over a bus in this world, with this trace:
 -- its root ports lost power and have it again, and no device is known. At no attempt so far two
 -- reachable devices may have held one address, since that stays told
-pub record NewTells (wide : Bool) (w : World) (t : Option (List ℕ)) (host : HostState) : Type 0
+pub record NewTells (options : HostOptions) (w : World) (t : Option (List ℕ)) (host : HostState) : Type 0
   where
-    pub opens : host ≡ opening_host wide w t
+    pub opens : host ≡ opening_host options w t
     pub traced : Traced w t host.world host.trace
     pub owning : w.shared ≡ false → HostMapHolds host
     pub sound : w.shared ≡ false → HostInvariant host

@@ -5,7 +5,7 @@ use Rattle.usb_port.specs.{powered_off, powered_on}
 use Rattle.usb_device.specs.{Ports, ended, vacant, taken}
 use Rattle.usb_world.specs.{BusFault, World, root_row, to_come, changes}
 use Rattle.usb_resources.specs.{Addresses, Releases}
-use Rattle.usb_enum.specs.{Finding}
+use Rattle.usb_enum.specs.{Finding, HostOptions}
 use Rattle.usb_enum.specs.declared.finding.Finding.TheVariants.{Device, Refused}
 use Rattle.usb_table.specs.{Pipes, Entries}
 use Rattle.usb_host.specs.LeftPorts.{LeftStatuses, none_left}
@@ -40,7 +40,7 @@ pub record HostState : Type 0 where
   pub addresses : Addresses  -- those that are taken
   pub numbers : DeviceNumbers
   pub reported : ReportedDevices  -- to the caller, by `next_news`
-  pub wide : Bool  -- whether it takes hubs of 8 to 15 ports, for good
+  pub options : HostOptions  -- what it takes of devices, for good
   pub stopped : Bool
 
 -- each port of a row lost power and has it again, and what is on it stays
@@ -50,8 +50,8 @@ repowered (vacant b k) = vacant (powered_on (powered_off b)) (repowered k)
 repowered (taken b s a k) = taken (powered_on (powered_off b)) s a (repowered k)
 
 -- the root ports lost power and have it again, and no device is known
-abbrev pub opening_host : Bool → World → Option (List ℕ) → HostState
-opening_host wide w t = record {
+abbrev pub opening_host : HostOptions → World → Option (List ℕ) → HostState
+opening_host options w t = record {
   world = record w { roots = repowered w.roots };
   trace = t;
   counts = no_counts;
@@ -61,7 +61,7 @@ opening_host wide w t = record {
   addresses = set.empty;
   numbers = first_numbers;
   reported = [];
-  wide = wide;
+  options = options;
   stopped = false;
 }
 

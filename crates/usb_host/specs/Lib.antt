@@ -11,6 +11,7 @@ pub mod PortHandling
 pub mod HostCalls
 pub mod HostStates
 pub mod InterfaceSettings
+pub mod KeptBytes
 pub mod LeftPorts
 pub mod Looks
 pub mod NearPorts
@@ -52,6 +53,7 @@ pub use PortHandling.{PortCaused, RestElsewhere, ServesSound, Tidies, Watches}
 pub use HostCalls.{CallsAnyBus, MovesAnyBus, RoundsAnyBus, TransfersAnyBus}
 pub use HostCalls.{ClearOfTells, ClearTells, NewTells, ReceiveTells, ReportTells, RoundTells}
 pub use HostCalls.{SendTells, StopsIn, TransferTells}
+pub use KeptBytes.{KeepsFew, kept_bytes, kept_in}
 pub use InterfaceSettings.{InterfaceSetAt, InterfaceTells, SetsAnyBus, SetsInterface, SetsOrRefuses}
 pub use HostStates.{BusCounts, Frees, HostState, counts_after, counts_of, no_counts}
 pub use HostStates.{opening_host, work}

@@ -2,7 +2,7 @@
 use Rattle.std.specs.Prelude.{◌≡◌, ◌⊎◌, ℕ, ◌+◌, ◌<◌, ◌≤◌, Bool, List, Option, Some, None}
 use Rattle.std.specs.Prelude.{length, slice_index, slice_set}
 use Rattle.std.specs.List.{range_with_len}
-use Rattle.usb_enum.specs.{Accepted, Finding}
+use Rattle.usb_enum.specs.{Accepted, Finding, HostOptions}
 use Rattle.usb_enum.specs.declared.finding.Finding.TheVariants.{Device, Refused}
 use Rattle.usb_table.specs.{Entries, accepted_device_at}
 
@@ -40,26 +40,26 @@ known_device None numbers = None
 known_device (Some device) numbers =
     Some (record { accepted = device; number = slice_index numbers.of device.address })
 
--- the accepted devices with their numbers, those that were reported to the caller, and whether
--- hubs of 8 to 15 ports are taken
+-- the accepted devices with their numbers, those that were reported to the caller, and what is taken
+-- of devices
 pub record Known : Type 0 where
   pub entries : Entries
   pub numbers : DeviceNumbers
   pub reported : List (List ℕ × ℕ)
-  pub wide : Bool
+  pub options : HostOptions
 
 -- the accepted device at a path
 abbrev pub device_in : List ℕ → Known → Option KnownDevice
 device_in path known = known_device (accepted_device_at path known.entries) known.numbers
 
 -- numbers rise. A device that is listed now was listed before at the same path, with the same
--- description and number, or its number is new. What was reported stays, and which hubs are taken
+-- description and number, or its number is new. What was reported stays, and what is taken
 pub record KeepsKnown (old new : Known) : Type 0 where
   pub rising : old.numbers.next ≤ new.numbers.next
   pub each : (path : List ℕ) (device : KnownDevice) → device_in path new ≡ Some device
       → (device_in path old ≡ Some device) ⊎ (old.numbers.next ≤ device.number)
   pub reported : new.reported ≡ old.reported
-  pub wide : new.wide ≡ old.wide
+  pub options : new.options ≡ old.options
 
 -- no two devices have the same number, and each was given before the next one
 pub record NumbersFit (known : Known) : Type 0 where

@@ -121,10 +121,10 @@ InvariantAfterPort path (Err Memory) new = ⊤
 
 -- each refused device has its cause; where the hub is lost, a change is pending there
 abbrev pub PortCaused : List ℕ → Result (Unit {0}) EnumFault → HostState → Type 0
-PortCaused path (Ok done) new = RefusalsJustified new.wide new.world new.entries
+PortCaused path (Ok done) new = RefusalsJustified new.options new.world new.entries
 PortCaused path (Err ParentLost) new =
     IsSomeAnd (parent_of path) (λ hub. (pending new.world.roots hub ≡ true)
-    × CausesBut new.wide hub new.world new.entries)
+    × CausesBut new.options hub new.world new.entries)
 PortCaused path (Err (Bus fault)) new = ⊤
 PortCaused path (Err Memory) new = ⊤
 
@@ -136,7 +136,7 @@ pub record ServesSound (path : List ℕ) (old : HostState) (result : Result (Uni
   pub cut : HostInvariant old → OnErr result (StaysWhere (new.world.fault ≡ None) old new)
   pub plugs : HostInvariant old → new.world.fault ≡ None → KeepsPlugs old new
   pub caused : HostInvariant old → IsFairTo old.world new.world
-      → RefusalsJustified old.wide old.world old.entries → PortCaused path result new
+      → RefusalsJustified old.options old.world old.entries → PortCaused path result new
 
 -- a port of which nothing is listed, and where a device stands or a change is pending
 pub record IsOpen (path : List ℕ) (h : HostState) : Type 0 where
@@ -157,7 +157,7 @@ pub record FindsSound (path : List ℕ) (old : HostState) (result : Result (Unit
   pub few : IsOpen path old → (most : ℕ) → (old.world.fault ≡ None → HasPlanWithin most old.world)
       → new.world.attempts ≤ old.world.attempts + (250000 + 100 * most)
   pub caused : IsOpen path old → IsFairTo old.world new.world
-      → CausesBut old.wide path old.world old.entries
+      → CausesBut old.options path old.world old.entries
       → PortCaused path result new
 
 -- the hub of a port that was served is dropped, where it is lost
@@ -174,7 +174,7 @@ pub record DropsLost (path : List ℕ) (served : Result (Unit {0}) EnumFault) (o
       → OnErr result (StaysWhere (new.world.fault ≡ None) old new)
   pub plugs : OnOk result (KeepsPlugs old new)
   pub caused : InvariantAfterPort path served old → IsFairTo old.world new.world
-      → PortCaused path served old → OnOk result (RefusalsJustified new.wide new.world new.entries)
+      → PortCaused path served old → OnOk result (RefusalsJustified new.options new.world new.entries)
 
 -- Where a hub is dropped
 
@@ -187,9 +187,9 @@ pub record IsDroppedAt (path : List ℕ) (h : HostState) : Type 0 where
 -- what pends where a port was told to pass nothing on, and where it could not be told
 abbrev pub Disabled : Bool → List ℕ → HostState → Type 0
 Disabled true path new = (pending new.world.roots path ≡ true)
-    × CausesBut new.wide path new.world new.entries
+    × CausesBut new.options path new.world new.entries
 Disabled false path new = IsSomeAnd (parent_of path) (λ hub. (pending new.world.roots hub ≡ true)
-    × CausesBut new.wide hub new.world new.entries)
+    × CausesBut new.options hub new.world new.entries)
 
 -- a port on the way is told to pass nothing on: it does; or, where it could not be told, the hub
 -- above it may be dropped
@@ -205,7 +205,7 @@ pub record DisablesOnWay (path : List ℕ) (old : HostState) (result : Result Bo
   -- no more is left to do, but by events
   pub backlog : IsDroppable path old → new.world.fault ≡ None → KeepsAll old.world new.world
   pub caused : IsDroppable path old → IsFairTo old.world new.world → pending old.world.roots path
-      ≡ true → CausesBut old.wide path old.world old.entries
+      ≡ true → CausesBut old.options path old.world old.entries
       → IfOk result (λ done. Disabled done path new)
 
 -- the first port on the way up that can be told passes nothing on
@@ -219,6 +219,6 @@ pub record Climbs (first : List ℕ) (old : HostState) (result : Result (List �
   -- no more is left to do, but by events
   pub backlog : IsDroppable first old → new.world.fault ≡ None → KeepsAll old.world new.world
   pub caused : IsDroppable first old → IsFairTo old.world new.world → pending old.world.roots first
-      ≡ true → CausesBut old.wide first old.world old.entries
+      ≡ true → CausesBut old.options first old.world old.entries
       → IfOk result (λ path. (pending new.world.roots path ≡ true)
-      × CausesBut new.wide path new.world new.entries)
+      × CausesBut new.options path new.world new.entries)

@@ -28,7 +28,7 @@ pub record StandsAt (path : List ℕ) (port : KnownPort) (h : HostState) : Type 
   pub known : known_port path h.entries ≡ Some port
   pub there : IsPort h.world port.port
   pub askable : IsAskable port.port
-  pub agrees : Agrees h.wide h.entries h.addresses
+  pub agrees : Agrees h.options h.entries h.addresses
 
 -- the same, where what the bus has is said of one that does what its world does
 pub record IsPortAt (modelled : Bool) (path : List ℕ) (port : KnownPort) (h : HostState) : Type 0
@@ -37,7 +37,7 @@ pub record IsPortAt (modelled : Bool) (path : List ℕ) (port : KnownPort) (h : 
     pub known : known_port path h.entries ≡ Some port
     pub asked : IsAsked modelled h.world port.port
     pub askable : IsAskable port.port
-    pub agrees : Agrees h.wide h.entries h.addresses
+    pub agrees : Agrees h.options h.entries h.addresses
 
 -- a path of no port: of a hub that is not known to have it, or of a root port that the root has
 -- not; the table agrees with the pool
@@ -45,7 +45,7 @@ pub record StandsNowhere (path : List ℕ) (h : HostState) : Type 0 where
   pub is : IsPath path
   pub beyond : parent_of path ≡ None → roots_of h.world < port_on_hub path
   pub unknown : IsSome (parent_of path) → known_port path h.entries ≡ None
-  pub agrees : Agrees h.wide h.entries h.addresses
+  pub agrees : Agrees h.options h.entries h.addresses
 
 -- requests at a port: so many attempts at most, a fault has its cause, and without one of the bus,
 -- that still works
@@ -68,7 +68,7 @@ pub record Forgets (path : List ℕ) (old new : HostState) : Type 0 where
   pub full : IsFull new.addresses → IsFull old.addresses
   pub pipes : (other : List ℕ) → is_way path other ≡ false
       → pipes_at other (table_in new) ≡ pipes_at other (table_in old)
-  pub agrees : Agrees new.wide new.entries new.addresses
+  pub agrees : Agrees new.options new.entries new.addresses
 
 -- a root port tells of a change; a hub has told of it
 abbrev pub IsDue : World → HubPort → Type 0

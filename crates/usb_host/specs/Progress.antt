@@ -55,7 +55,7 @@ known_in h = record {
   entries = h.entries;
   numbers = h.numbers;
   reported = h.reported;
-  wide = h.wide;
+  options = h.options;
 }
 
 -- over any bus: each device that is still listed keeps its number, and no number is given twice
@@ -79,7 +79,7 @@ HostSteps most old new = StepRun most old.world old.trace new.world new.trace
 pub record HostRuns (most : ℕ) (old new : HostState) : Type 0 where
   pub went : HostSteps most old new
   pub going : new.stopped ≡ old.stopped
-  pub wide : new.wide ≡ old.wide
+  pub options : new.options ≡ old.options
 
 -- no entry has changed, and no more root ports are left alone
 pub record StaysQuiet (old new : HostState) : Type 0 where

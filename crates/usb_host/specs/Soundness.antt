@@ -7,8 +7,8 @@ use Rattle.usb_device.specs.{State, reach, state_there, port_there}
 use Rattle.usb_world.specs.{EachWas, World, root_row, roots_of, changes}
 use Rattle.usb_tree.specs.{pending, is_way}
 use Rattle.usb_hub.specs.{EachElsewhere, TouchesNoPort}
-use Rattle.usb_enum.specs.{Cause, NoAddress, Accepted, HubFacts, IsFindingOf, IsRight, IsSet}
-use Rattle.usb_enum.specs.{IsKnownAs, IsOccupied, FewLosses, IsInOrder}
+use Rattle.usb_enum.specs.{Cause, NoAddress, Accepted, HostOptions, HubFacts, IsFindingOf, IsRight}
+use Rattle.usb_enum.specs.{IsKnownAs, IsOccupied, FewLosses, IsInOrder, IsSet}
 use Rattle.usb_enum.specs.declared.finding.Finding.TheVariants.{Device, Refused}
 use Rattle.usb_backlog.specs.{KeepsAll}
 use Rattle.usb_table.specs.{KnownPort, Entries, accepted_device_at, known_port, AllInSync, InSyncAt}
@@ -41,35 +41,35 @@ abbrev pub known_supply : List ℕ → Entries → ℕ
 known_supply path entries = unwrap_or (option_map (λ (known : KnownPort). known.supply)
     (known_port path entries)) 0
 
--- what is known of an accepted device is so, of a host that takes wide hubs or does not
-pub record IsTruthOf (wide : Bool) (entries : Entries) (path : List ℕ) (device : Accepted)
+-- what is known of an accepted device is so, of a host of these options
+pub record IsTruthOf (options : HostOptions) (entries : Entries) (path : List ℕ) (device : Accepted)
     (s : State) : Type 0
   where
-    pub found : IsFindingOf s.spec wide (tier_of path) (known_supply path entries) (Device device)
+    pub found : IsFindingOf s.spec options (tier_of path) (known_supply path entries) (Device device)
     pub set : IsSet device s
 
 -- what is known of the accepted device at a path is so where it is reached, whatever is damaged or
 -- pending
-abbrev pub IsAccurateAt : Bool → World → Entries → List ℕ → Type 0
-IsAccurateAt wide w entries path = (device : Accepted) (s : State) → accepted_device_at path entries
+abbrev pub IsAccurateAt : HostOptions → World → Entries → List ℕ → Type 0
+IsAccurateAt options w entries path = (device : Accepted) (s : State) → accepted_device_at path entries
     ≡ Some device → reach w.roots path ≡ true → state_there w.roots path ≡ Some s
-    → IsTruthOf wide entries path device s
+    → IsTruthOf options entries path device s
 
 -- so it is of each
-abbrev pub DevicesAccurate : Bool → World → Entries → Type 0
-DevicesAccurate wide w entries = (path : List ℕ) → IsAccurateAt wide w entries path
+abbrev pub DevicesAccurate : HostOptions → World → Entries → Type 0
+DevicesAccurate options w entries = (path : List ℕ) → IsAccurateAt options w entries path
 
 -- the refused device at a path has its cause, or a change of connection is pending at its port; one
 -- that waits for an address may have waited too long
-abbrev pub IsJustifiedAt : Bool → World → Entries → List ℕ → Type 0
-IsJustifiedAt wide w entries path = (cause : Cause) (s : State)
+abbrev pub IsJustifiedAt : HostOptions → World → Entries → List ℕ → Type 0
+IsJustifiedAt options w entries path = (cause : Cause) (s : State)
     → finding_at path entries ≡ Some (Refused cause) → state_there w.roots path ≡ Some s
-    → (pending w.roots path ≡ true) ⊎ IsRight ⊤ s.spec wide (tier_of path)
+    → (pending w.roots path ≡ true) ⊎ IsRight ⊤ s.spec options (tier_of path)
     (known_supply path entries) (Refused cause)
 
 -- so it is of each
-abbrev pub RefusalsJustified : Bool → World → Entries → Type 0
-RefusalsJustified wide w entries = (path : List ℕ) → IsJustifiedAt wide w entries path
+abbrev pub RefusalsJustified : HostOptions → World → Entries → Type 0
+RefusalsJustified options w entries = (path : List ℕ) → IsJustifiedAt options w entries path
 
 -- The same but at a path and below it
 
@@ -80,11 +80,11 @@ abbrev pub KnownBut : List ℕ → World → Entries → Type 0
 KnownBut path w entries = Elsewhere path (λ other. IsListedPort (roots_of w) entries other
     → IsKnownAs w other (finding_at other entries))
 
-abbrev pub TruthfulBut : Bool → List ℕ → World → Entries → Type 0
-TruthfulBut wide path w entries = Elsewhere path (IsAccurateAt wide w entries)
+abbrev pub TruthfulBut : HostOptions → List ℕ → World → Entries → Type 0
+TruthfulBut options path w entries = Elsewhere path (IsAccurateAt options w entries)
 
-abbrev pub CausesBut : Bool → List ℕ → World → Entries → Type 0
-CausesBut wide path w entries = Elsewhere path (IsJustifiedAt wide w entries)
+abbrev pub CausesBut : HostOptions → List ℕ → World → Entries → Type 0
+CausesBut options path w entries = Elsewhere path (IsJustifiedAt options w entries)
 
 -- Between two worlds
 
@@ -100,9 +100,9 @@ EachStillBut path = EachElsewhere path SameDevice
 
 -- entries agree with the addresses that are taken, and one without a hub stands at a port that the
 -- root has
-pub record Accounted (wide : Bool) (roots : ℕ) (entries : Entries) (addresses : Addresses) : Type 0
+pub record Accounted (options : HostOptions) (roots : ℕ) (entries : Entries) (addresses : Addresses) : Type 0
   where
-    pub agrees : Agrees wide entries addresses
+    pub agrees : Agrees options entries addresses
     pub root : (path : List ℕ) → IsSome (finding_at path entries) → parent_of path ≡ None
         → port_on_hub path ≤ roots
 
@@ -132,7 +132,7 @@ pub record HostInvariant (h : HostState) : Type 0 where
   pub rooted : IsRooted h
   pub order : IsInOrder h.world
   pub known : h.world.fault ≡ None → PortsListed h.world h.entries
-  pub truthful : h.world.fault ≡ None → DevicesAccurate h.wide h.world h.entries
+  pub truthful : h.world.fault ≡ None → DevicesAccurate h.options h.world h.entries
   -- pipes are as far as their endpoints
   pub level : h.world.fault ≡ None → AllInSync (table_in h) h.world
 
@@ -142,7 +142,7 @@ pub record IsSoundBut (path : List ℕ) (h : HostState) : Type 0 where
   pub rooted : IsRooted h
   pub order : IsInOrder h.world
   pub known : h.world.fault ≡ None → KnownBut path h.world h.entries
-  pub truthful : h.world.fault ≡ None → TruthfulBut h.wide path h.world h.entries
+  pub truthful : h.world.fault ≡ None → TruthfulBut h.options path h.world h.entries
   pub level : h.world.fault ≡ None → Elsewhere path (λ other. InSyncAt other (table_in h) h.world)
 
 -- the bus is at work, no three attempts running are damaged, and up to the new world no address is
@@ -152,14 +152,14 @@ pub record IsFairTo (old new : World) : Type 0 where
   pub few : NoThreeDamaged old
   pub kept : FewLosses new
 
--- what is known stays so, of a host that stays as wide as it is, and where damage is fair each
+-- what is known stays so, of a host whose options stay, and where damage is fair each
 -- refused device still has its cause
 pub record KeepsInvariant (old new : HostState) : Type 0 where
-  pub wide : new.wide ≡ old.wide
+  pub options : new.options ≡ old.options
   pub sound : HostInvariant old → HostInvariant new
   pub caused : HostInvariant old → IsFairTo old.world new.world
-      → RefusalsJustified old.wide old.world old.entries
-      → RefusalsJustified new.wide new.world new.entries
+      → RefusalsJustified old.options old.world old.entries
+      → RefusalsJustified new.options new.world new.entries
 
 -- the same over a part of a round, which leaves the pipes to functions and their endpoints alone,
 -- but where a device is found anew; devices stand where one was plugged, and with few plugs none
@@ -190,8 +190,8 @@ pub record DropsSound (hub : List ℕ) (old : HostState) (result : Result (Unit 
   pub bulk : IsDroppable hub old → OnOk result (new.world.fault ≡ None → KeepsBulk old new)
   pub plugs : OnOk result (KeepsPlugs old new)
   pub caused : IsDroppable hub old → IsFairTo old.world new.world → pending old.world.roots hub
-      ≡ true → CausesBut old.wide hub old.world old.entries
-      → OnOk result (RefusalsJustified new.wide new.world new.entries)
+      ≡ true → CausesBut old.options hub old.world old.entries
+      → OnOk result (RefusalsJustified new.options new.world new.entries)
 
 -- a round keeps what is known; a quiet one in which no event came leaves nothing to do, as long as
 -- the bus is at work
@@ -240,7 +240,7 @@ pub record HubsKeep (old : HostState) (result : Result Round HostFault) (new : H
     pub silent : HostInvariant old → result ≡ Ok Quiet → new.world.fault ≡ None
         → new.world.taken ≡ old.world.taken → (hub : List ℕ) → pending new.world.roots hub ≡ false
         → IsSilent hub new
-    pub agrees : OnOk result (Agrees new.wide new.entries new.addresses)
+    pub agrees : OnOk result (Agrees new.options new.entries new.addresses)
 
 -- devices that wait were looked at again; where none was, none need be
 pub record LooksKeep (old : HostState) (result : Result Round HostFault) (new : HostState) : Type 0

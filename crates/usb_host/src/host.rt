@@ -4,10 +4,12 @@ ghost use Rattle.std.specs.Borrow.{Lends, sem};
 ghost use Rattle.usb_host.specs.Agreement.{Agrees};
 ghost use Rattle.usb_host.specs.HostCalls.{ClearTells, MovesAnyBus, NewTells, ReceiveTells, RoundTells, RoundsAnyBus, SendTells, TransfersAnyBus};
 ghost use Rattle.usb_transaction.specs.Transactions.{transaction_bound};
+ghost use Rattle.usb_enum.specs.Verdicts.{usual_options};
 ghost use Rattle.usb_table.specs.PipeRows.{receives_miss, receives_through, sends_miss, sends_through, unless_broken};
 ghost use Rattle.usb_table.specs.declared.choice.EndpointChoice.TheVariants.{FirstBulk};
 ghost use Rattle.usb_host.specs.Bounds.{clear_bound};
 ghost use Rattle.usb_host.specs.HostStates.{counts_after, counts_of};
+ghost use Rattle.usb_host.specs.KeptBytes.{KeepsFew};
 ghost use Rattle.usb_host.specs.LeftPorts.{none_left};
 ghost use Rattle.usb_host.specs.Numbers.{first_numbers};
 ghost use Rattle.usb_host.specs.ToldFaults.{StopsAsRound, StopsAsTransfer, host_told, is_final};
@@ -20,6 +22,7 @@ use crate::{HostFault, Tree};
 use std::alloc::Global;
 use std::marker::Model;
 use usb_bus::Bus;
+use usb_enum::HostOptions;
 use usb_port::PortPath;
 use usb_request::feature::PORT_POWER;
 use usb_resources::AddressPool;
@@ -45,7 +48,7 @@ pub struct Host<B: Bus> {
     pub(crate) left: LeftPorts<B>,
     pub(crate) numbers: Numbers,
     pub(crate) reported: Reported,
-    pub(crate) wide: bool,
+    pub(crate) options: HostOptions,
     pub(crate) stopped: bool,
 }
 
@@ -70,11 +73,11 @@ impl<B: Bus> Model for Host<B> {
       addresses = h.pool;
       numbers = h.numbers;
       reported = h.reported;
-      wide = h.wide;
+      options = h.options;
       stopped = h.stopped;
     } };
 
-    ghost invariant = { λ h. Agrees h.wide h.table.entries h.pool };
+    ghost invariant = { λ h. Agrees h.options h.table.entries h.pool };
 }
 
 impl<B: Bus> Host<B> {
@@ -84,15 +87,17 @@ impl<B: Bus> Host<B> {
     /// it again (11.24.2.2, 11.24.2.13): a device there is disabled, and reported as plugged (11.5.1). So
     /// the bus may be one that another host had, also one that has stopped (`into_bus`).
     ///
-    /// It takes hubs of 1 to 7 ports whose status endpoint is number 1, and refuses others.
+    /// It takes hubs of 1 to 7 ports whose status endpoint is number 1, and refuses others. It keeps as
+    /// many bytes as a device says.
     pub fn new(alloc: Global, bus: B) -> Host<B>
         ensures any_bus { (result.entries ≡ []) × ((result.stopped ≡ false)
             × (result.counts.left ≡ none_left)) }
         ensures known { (result.numbers ≡ first_numbers) × (result.reported ≡ []) }
-        ensures wide { result.wide ≡ false }
-        ensures tells { B.modelled ≡ true → NewTells false (B.world bus) (B.trace bus) result }
+        ensures options { result.options ≡ usual_options false }
+        ensures tells { B.modelled ≡ true
+            → NewTells (usual_options false) (B.world bus) (B.trace bus) result }
     {
-        Host::opened(alloc, bus, false)
+        Host::with_options(alloc, bus, HostOptions::usual(false))
     }
 
     /// The same, of a host that also takes hubs of 8 to 15 ports (11.23.2.1), and status endpoints
@@ -101,19 +106,22 @@ impl<B: Bus> Host<B> {
         ensures any_bus { (result.entries ≡ []) × ((result.stopped ≡ false)
             × (result.counts.left ≡ none_left)) }
         ensures known { (result.numbers ≡ first_numbers) × (result.reported ≡ []) }
-        ensures wide { result.wide ≡ true }
-        ensures tells { B.modelled ≡ true → NewTells true (B.world bus) (B.trace bus) result }
+        ensures options { result.options ≡ usual_options true }
+        ensures tells { B.modelled ≡ true
+            → NewTells (usual_options true) (B.world bus) (B.trace bus) result }
     {
-        Host::opened(alloc, bus, true)
+        Host::with_options(alloc, bus, HostOptions::usual(true))
     }
 
-    /// The host of a bus, which takes wide hubs or does not.
-    fn opened(alloc: Global, bus: B, wide: bool) -> Host<B>
+    /// The same, of a host that takes what its options say: wide hubs or none, and a limited number of
+    /// bytes of each device or as many as it says. So a device that says too much is refused
+    /// (`Cause::TooLarge`), and can't use up the memory.
+    pub fn with_options(alloc: Global, bus: B, options: HostOptions) -> Host<B>
         ensures any_bus { (result.entries ≡ []) × ((result.stopped ≡ false)
             × (result.counts.left ≡ none_left)) }
         ensures known { (result.numbers ≡ first_numbers) × (result.reported ≡ []) }
-        ensures wide { result.wide ≡ wide }
-        ensures tells { B.modelled ≡ true → NewTells wide (B.world bus) (B.trace bus) result }
+        ensures options { result.options ≡ options }
+        ensures tells { B.modelled ≡ true → NewTells options (B.world bus) (B.trace bus) result }
     {
         let mut bus = bus;
         let roots = bus.root_ports();
@@ -129,7 +137,7 @@ impl<B: Bus> Host<B> {
             left: LeftPorts::new(),
             numbers: Numbers::new(),
             reported: Reported::new(),
-            wide,
+            options,
             stopped: false,
         }
     }
@@ -149,7 +157,7 @@ impl<B: Bus> Host<B> {
     pub fn bus_mut(&mut self) -> &mut B
         ensures world { B.world result.now ≡ self.old.world }
         ensures trace { B.trace result.now ≡ self.old.trace }
-        ensures agree { Agrees self.old.wide self.old.entries self.old.addresses }
+        ensures agree { Agrees self.old.options self.old.entries self.old.addresses }
         ensures* writes_back { sem 𝓛 (Lends (the_row B.row B.Bus) B.row self.entry result
             (λ b. record self.old {
               world = B.world b;
@@ -177,13 +185,14 @@ impl<B: Bus> Host<B> {
             left: _,
             numbers: _,
             reported: _,
-            wide: _,
+            options: _,
             stopped: _,
         } = self;
         bus
     }
 
-    /// What is known of the ports.
+    /// What is known of the ports. Each accepted device has at most the bytes of configurations that the
+    /// options allow (`KeepsFew`).
     ///
     /// # Errors
     ///
@@ -191,7 +200,8 @@ impl<B: Bus> Host<B> {
     pub fn tree(&self) -> Result<Tree, HostFault>
         ensures entries { IfOk result (λ tree. tree ≡ self.now.entries) }
         ensures memory { IfErr result (λ fault. fault ≡ HostFault.Memory) }
-        ensures agree { Agrees self.now.wide self.now.entries self.now.addresses }
+        ensures agree { Agrees self.now.options self.now.entries self.now.addresses }
+        ensures few { KeepsFew self.now.options self.now.entries }
     {
         Ok(Tree::new(self.table.entries(self.alloc)?))
     }

@@ -39,6 +39,20 @@ impl<B: Bus> LeftPorts<B> {
         }
     }
 
+    /// The same ports of another bus, left alone at the same statuses. A bus that does what its world does
+    /// leaves none alone.
+    pub(crate) fn of_bus<C: Bus>(&self) -> LeftPorts<C>
+        requires { C.modelled ≡ true → B.modelled ≡ false → self.now ≡ none_left }
+        ensures value { result ≡ self.now }
+        ensures none { B.modelled ≡ true → self.now ≡ none_left }
+    {
+        LeftPorts {
+            at: self.at,
+            tried: self.tried,
+            bus: PhantomData,
+        }
+    }
+
     /// Whether a port is left alone.
     pub(crate) fn has(&self, number: u8) -> bool
         ensures value { result ≡ is_some (slice_index_or self.now number None) }

@@ -12,12 +12,15 @@
 //! - **A device is the same as long as its number is.** Over any bus, an accepted device that stays
 //!   listed keeps its number, and no number is given twice (`KeepsNumbers`; `Host::device`,
 //!   `next_news`).
-//! - **Which hubs are taken.** A host takes hubs of 1 to 7 ports, or with `Host::with_wide_hubs`
-//!   of 1 to 15 (11.23.2.1). It stays so (`KeepsNumbers`). What a refused device said of itself is
-//!   kept (*EntersFound*; `Host::said`).
+//! - **What is taken.** A host takes hubs of 1 to 7 ports, or with `HostOptions::wide_hubs` of 1
+//!   to 15 (11.23.2.1). With `HostOptions::device_bytes` it keeps at most that number of bytes of the
+//!   configurations of each device, over any bus (`KeepsFew`; `Host::tree`). It stays so
+//!   (`KeepsNumbers`). What a refused device said of itself is kept (*EntersFound*; `Host::said`).
 //! - **A transfer is refused just where it cannot go.** Over any bus, a call through the pipe to one
 //!   endpoint tells that there is no device, no such endpoint or a broken pipe. Then it attempts
 //!   nothing and changes no pipe (*MovesOrRefuses*; `Host::send_to` and the others).
+//! - **A copy of a host knows the same.** It is over another bus, and all but the bus is equal
+//!   (`Host::copied_onto`).
 //!
 //! One record has what a call promises: `specs/HostCalls.antt`, `Looks.antt`, `Controls.antt`,
 //! `NewsReports.antt`. What does not mention the simulated world holds over any bus
@@ -29,6 +32,7 @@
 #![tactic(auto)]
 
 mod control;
+mod copied;
 mod device;
 mod endpoint;
 mod fault;
@@ -49,13 +53,13 @@ mod tree;
 pub use device::Device;
 pub use fault::HostFault;
 pub use host::{Host, Round};
-pub use listing_laws::{known_stays, known_stays_at_events, settled_matches};
+pub use listing_laws::{keeps_few, known_stays, known_stays_at_events, settled_matches};
 pub use look::Look;
 pub use news::News;
 pub use news_laws::device_stays;
 pub use tree::Tree;
 pub use usb_bus::{Bus, BusFault};
-pub use usb_enum::{Cause, Finding};
+pub use usb_enum::{Cause, Finding, HostOptions};
 pub use usb_pipe::Setup;
 pub use usb_port::PortPath;
 pub use usb_request::EndpointAddress;

@@ -38,6 +38,16 @@ impl Numbers {
         Numbers { of, next: 128 }
     }
 
+    /// The same numbers again.
+    pub(crate) fn duplicate(&self) -> Numbers
+        ensures { result ≡ self.now }
+    {
+        Numbers {
+            of: self.of,
+            next: self.next,
+        }
+    }
+
     /// Whether there is a next number.
     pub(crate) fn has_next(&self) -> bool
         ensures value { IsTrue result ↔ (self.now.next + 1 < 2 ^ 64) }

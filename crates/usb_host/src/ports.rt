@@ -523,7 +523,7 @@ impl<B: Bus> Host<B> {
         let place = Place {
             tier: tier(path),
             supply: port.supply,
-            wide: self.wide,
+            options: self.options,
         };
         let mut said = ArrayVec::new();
         let finding = enumerate(

@@ -23,6 +23,18 @@ impl Model for ReportedDevice {
     ghost view = { λ d. (d.path, d.number) };
 }
 
+impl ReportedDevice {
+    /// The same device again.
+    fn duplicate(&self) -> ReportedDevice
+        ensures { result ≡ self.now }
+    {
+        ReportedDevice {
+            path: self.path.duplicate(),
+            number: self.number,
+        }
+    }
+}
+
 impl Default for ReportedDevice {
     fn default() -> ReportedDevice {
         match PortPath::root(1) {
@@ -57,6 +69,17 @@ impl Reported {
         Reported {
             devices: ArrayVec::new(),
         }
+    }
+
+    /// The same devices again.
+    pub fn duplicate(&self) -> Reported
+        ensures { result ≡ self.now }
+    {
+        let mut devices = ArrayVec::new();
+        'devices: for device in self.devices.as_slice() {
+            devices.push(device.duplicate());
+        }
+        Reported { devices }
     }
 
     /// The devices, by rising path.

@@ -165,7 +165,7 @@ impl<B: Bus> Host<B> {
     fn next_hub(&self, last: &Option<PortPath>) -> Option<PortPath>
         ensures some { IfSome result (IsNext is_hub last.now self.now.entries) }
         ensures none { IfNone result (IsLast is_hub last.now self.now.entries) }
-        ensures agree { Agrees self.now.wide self.now.entries self.now.addresses }
+        ensures agree { Agrees self.now.options self.now.entries self.now.addresses }
     {
         self.table.next_hub(last.as_ref())
     }
@@ -175,7 +175,7 @@ impl<B: Bus> Host<B> {
         ensures some { IfSome result (λ path. Waits path self.now × ComesAfter last.now path) }
         ensures none { IfNone result
             (IsFull self.now.addresses ⊎ IsLast is_waiting last.now self.now.entries) }
-        ensures agree { Agrees self.now.wide self.now.entries self.now.addresses }
+        ensures agree { Agrees self.now.options self.now.entries self.now.addresses }
     {
         if self.pool.is_full() {
             return None;

@@ -19,7 +19,7 @@ pub use Moments.{ReadsPort, UpToFault, ports_at_step}
 pub use Port.{IsAsked, IsPort, PortCleared, PortRead, PortSet, RootCleared, RootRead, RootSet}
 pub use Port.{SetSteps, TakesNoTime, order_bound, status_bound}
 pub use Requests.{Commanded, EndsAfter, Queried, ReadAs, StillWorks, TouchesNoPort}
-pub use Requests.{TouchesPortsBelow, WorksAfter, device_status, said_in}
+pub use Requests.{ToldWithin, TouchesPortsBelow, WorksAfter, device_status, said_in}
 pub use Settings.{AddressAsked, ConfigurationAsked, InterfaceAsked, IsConfigured, IsFresh, OnlySet}
 pub use Settings.{TookSetting, WentOff, offers_setting, takes_value}
 pub use CallFailures.{HasPort, HubServes, NoHubFailed}

@@ -1,16 +1,17 @@
 -- What a typed request leaves, and what its answer says.
 use Rattle.std.specs.Prelude.{◌≡◌, ◌≢◌, ℕ, ◌≤◌, ◌==◌, true, false, if◌then◌else◌, List, length}
-use Rattle.std.specs.Prelude.{slice_index, Some, None, Result, Ok, Err, IfOk, MatchResult}
+use Rattle.std.specs.Prelude.{slice_index, Option, Some, None, Result, Ok, Err, IfOk, MatchResult}
 use Rattle.std.specs.Global.{Vec}
 use Rattle.usb_request.specs.{Setup, PORT_OUT, SET_FEATURE}
 use Rattle.usb_tree.specs.{IsSettled}
-use Rattle.usb_world.specs.{is_harmless, asks_no_port, is_above, LeavesPortAlone, Course, World}
+use Rattle.usb_world.specs.{BusFault, is_harmless, asks_no_port, is_above, LeavesPortAlone, Course}
+use Rattle.usb_world.specs.{World}
 use Rattle.usb_transaction.specs.{Target, AttemptsMade}
 use Rattle.usb_port.specs.{has_bit}
 use Rattle.usb_address.specs.{AddressMap, MapHolds}
 use Rattle.usb_backlog.specs.{KeepsAll}
 use Rattle.usb_device.specs.{Is}
-use Rattle.usb_pipe.specs.{PipeFault, FaultAfter, Reads, Writes, IsNoBusFault}
+use Rattle.usb_pipe.specs.{BusToldIt, PipeFault, FaultAfter, Reads, Writes, IsNoBusFault}
 use Rattle.usb_pipe.specs.declared.fault.PipeFault.TheVariants.{Stalled, Memory}
 use Rattle.usb_hub.specs.declared.status.DeviceStatus.{DeviceStatus}
 
@@ -35,6 +36,13 @@ TouchesNoPort w v = (x : List ℕ) → Course (LeavesPortAlone x) w v
 abbrev pub TouchesPortsBelow : ℕ → World → World → Type 0
 TouchesPortsBelow address w v = (f : AddressMap) (q : List ℕ) → f q ≡ Some address → MapHolds f w
     → (x : List ℕ) → is_above q x ≡ false → Course (LeavesPortAlone x) w v
+
+-- over any bus: a fault of the bus is the one that it reported last, and an answer has so many bytes
+-- at most
+pub record ToldWithin (most : ℕ) (answer : Result (Vec ℕ) PipeFault) (last : Option BusFault)
+    : Type 0 where
+  pub told : BusToldIt answer last
+  pub within : IfOk answer (λ bytes. length bytes.items ≤ most)
 
 -- a target was asked for data: how few attempts were made, and which they were; no more bytes came
 -- than the request says, and nothing

@@ -1,5 +1,5 @@
 //! The two shapes of a request: one that is answered with data, and one without.
-ghost use Rattle.std.specs.Prelude.{◌≡◌, ◌≤◌, true};
+ghost use Rattle.std.specs.Prelude.{◌≡◌, ◌≤◌, length, true, IfOk};
 ghost use Rattle.usb_transaction.specs.Transactions.{IsTarget};
 ghost use Rattle.usb_request.specs.Layout.{IsToHost, IsToDevice};
 ghost use Rattle.usb_pipe.specs.Control.{BusToldIt, control_bound, write_bound};
@@ -29,6 +29,7 @@ pub(crate) fn ask<B: Bus>(
     requires some { 1 ≤ setup.length }
     ensures uses { UsesBus B.modelled (Steps B.world B.trace) B.spent B.ports B.failed
         (control_bound target.max setup.length) (BusToldIt result) bus.old bus.new }
+    ensures most { IfOk result (λ bytes. length bytes.items ≤ setup.length) }
     ensures asked { B.modelled ≡ true
         → Queried target setup (B.world bus.old) result (B.world bus.new) }
     ensures addresses { B.modelled ≡ true

@@ -12,7 +12,7 @@ ghost use Rattle.usb_request.specs.Requests.{get_device_descriptor, get_configur
 ghost use Rattle.usb_address.specs.Ownership.{KeepsAddresses};
 ghost use Rattle.usb_hub.specs.Addresses.{KeepsAnswered, GivesAddress};
 ghost use Rattle.usb_hub.specs.GivenAnswers.{DeviceAsked, ConfigAsked, StringAsked, HubAsked, StatusAsked, ReadFailure};
-ghost use Rattle.usb_hub.specs.Requests.{Queried, ReadAs, Commanded, device_status};
+ghost use Rattle.usb_hub.specs.Requests.{Queried, ReadAs, Commanded, ToldWithin, device_status};
 ghost use Rattle.usb_hub.specs.Settings.{AddressAsked, ConfigurationAsked, InterfaceAsked};
 
 use crate::DeviceStatus;
@@ -53,7 +53,7 @@ pub fn get_device<B: Bus>(
 }
 
 /// The first `length` bytes, or all, of a configuration's text, by its index from 0 (9.4.3);
-/// `length` is not 0.
+/// `length` is not 0. No more bytes are given, whatever the bus does.
 ///
 /// # Errors
 ///
@@ -72,7 +72,7 @@ pub fn get_config<B: Bus>(
     requires target { IsTarget target }
     requires some { 1 ≤ length }
     ensures uses { UsesBus B.modelled (Steps B.world B.trace) B.spent B.ports B.failed
-        (control_bound target.max length) (BusToldIt result) bus.old bus.new }
+        (control_bound target.max length) (ToldWithin length result) bus.old bus.new }
     ensures asked { B.modelled ≡ true → Queried target (get_configuration_descriptor index length)
         (B.world bus.old) result (B.world bus.new) }
     ensures what { B.modelled ≡ true → (B.world bus.new).shared ≡ false

@@ -4,6 +4,7 @@ use Rattle.std.proofs.Common.{Option, Some, None, Result, Ok, Err, refl, sym, ap
 use Rattle.std.proofs.Common.{Bool, is_ok, true, false, nat_lt, if◌then◌else◌}
 use Rattle.std.proofs.lemmas.Bool.{cases_lt}
 use Rattle.std.proofs.lemmas.Grind.{not_there}
+use Rattle.usb_enum.specs.{usual_options}
 use Rattle.usb_port.specs.{PortCall}
 use Rattle.usb_world.specs.{BusFault, Outcome, destination_of}
 use Rattle.usb_world.specs.declared.types.Attempt.{Attempt}
@@ -278,7 +279,8 @@ wait_on rem con host m u b old new st result None is again asks c =
 told_on : {st : Stage} {o : Owed} {host : LiveHost} {m : ℕ} {u : Pipe} {b : OutPipe} (r : Pipe)
     (w0 w1 : OutPipe) (j k : Kept) (item : Item) (result : Result (Unit {0}) LiveFault)
     → CourseTo st o host m u b r w0 j → j.fault ≡ None → k.left ≡ j.left → settles o item ≡ true
-    → IsShown host.wide item → WritesLines (told_text (number_of item m) item) w0 w1 j result k
+    → IsShown (usual_options host.wide) item
+    → WritesLines (told_text (number_of item m) item) w0 w1 j result k
     → CourseTo Asks (owed_left o result) host (listed m item result) u b r w1 k
 told_on {st} {o} {host} {m} r w0 w1 j k item result c sound same fits shown h = record {
   asked = c.asked;
@@ -298,7 +300,8 @@ same_left lines w0 w1 j (Err f) k h = ap (λ (x : Kept). x.left) h.2
 course_tells : {o : Owed} {host : LiveHost} {m : ℕ} {u : Pipe} {b : OutPipe} (st : Stage) (r : Pipe)
     (w0 w1 : OutPipe) (j k : Kept) (item : Item) (done : Unit {0})
     → CourseTo st o host m u b r w0 j → j.fault ≡ None → settles o item ≡ true
-    → IsShown host.wide item → WritesLines (told_text (number_of item m) item) w0 w1 j (Ok done) k
+    → IsShown (usual_options host.wide) item
+    → WritesLines (told_text (number_of item m) item) w0 w1 j (Ok done) k
     → CourseTo (stage_behind st item) owed.Nothing host (number_of item m) u b r w1 k
 unfolding told_on
 course_tells {o} {host} {m} Asks r w0 w1 j k item done c sound fits shown h =
@@ -338,7 +341,7 @@ pub tell_on : {R W : Type 0} (rem : R → Option (List ℕ)) (con : W → Option
     (ow : Owed) (item : Item) (text : List ℕ) (result : Result (Unit {0}) LiveFault)
     (o : Option LiveFault)
     → is_ok result ≡ true → text ≡ told_text (number_of item m) item → settles ow item ≡ true
-    → IsShown host.wide item → (kept_of old).fault ≡ o
+    → IsShown (usual_options host.wide) item → (kept_of old).fault ≡ o
     → ((f : LiveFault) → (kept_of old).fault ≡ Some f → (result ≡ Err f) × (new ≡ old))
     → unread_of rem new ≡ unread_of rem old
     → ((kept_of old).fault ≡ None → WritesLines text (written_of con old) (written_of con new)
@@ -364,7 +367,8 @@ tells_off : {st : Stage} {o : Owed} {host : LiveHost} {m : ℕ} {u : Pipe} {b : 
     (w0 w1 : OutPipe) (j k : Kept) (item : Item)
     (result : Result (Unit {0}) LiveFault) → is_ok result ≡ false
     → CourseTo st o host m u b r w0 j → j.fault ≡ None → settles o item ≡ true
-    → IsShown host.wide item → WritesLines (told_text (number_of item m) item) w0 w1 j result k
+    → IsShown (usual_options host.wide) item
+    → WritesLines (told_text (number_of item m) item) w0 w1 j result k
     → CourseTo Asks o host m u b r w1 k
 tells_off r w0 w1 j k item (Ok done) bad c sound fits shown h = cc
 tells_off {st} {o} {host} {m} r w0 w1 j k item (Err f) bad c sound fits shown h =
@@ -376,7 +380,7 @@ pub tell_off : {R W : Type 0} (rem : R → Option (List ℕ)) (con : W → Optio
     (u : Pipe) (b : OutPipe) (old new : StreamBus R W) (st : Stage)
     (ow : Owed) (item : Item) (text : List ℕ) (result : Result (Unit {0}) LiveFault)
     → is_ok result ≡ false → text ≡ told_text (number_of item m) item → settles ow item ≡ true
-    → IsShown host.wide item
+    → IsShown (usual_options host.wide) item
     → ((f : LiveFault) → (kept_of old).fault ≡ Some f → (result ≡ Err f) × (new ≡ old))
     → unread_of rem new ≡ unread_of rem old
     → ((kept_of old).fault ≡ None → WritesLines text (written_of con old) (written_of con new)

@@ -1,2 +1,2 @@
 mod Courses
-mod KeptWide
+mod KeptOptions

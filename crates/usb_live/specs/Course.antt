@@ -3,6 +3,7 @@ use Rattle.std.specs.Prelude.{◌≡◌, ⊤, ℕ, ◌+◌, ◌≤◌, ◌==◌,
 use Rattle.std.specs.Prelude.{List, [], length, Option, Some, None, Result, Ok, Err}
 use Rattle.std.specs.Global.{Vec}
 use Rattle.std.specs.Str.{bytes_eq}
+use Rattle.usb_enum.specs.{HostOptions, usual_options}
 use Rattle.usb_table.specs.{Entries, TransferFault}
 use Rattle.usb_text.specs.{lines_text, listing_lines}
 use Rattle.usb_wire.specs.{Answer, Question}
@@ -117,16 +118,15 @@ abbrev pub owes : Owed → ℕ
 owes owed.Nothing = 0
 owes other = 1
 
--- entries that a host may hold, which takes wide hubs or does not: they rise by path, each is at a
--- root port or at a port of a hub that is listed, no two have one address, and accepted devices are
--- whole
-abbrev pub MayHold : Bool → Entries → Type 0
-MayHold wide entries = (addresses : Addresses) × Agrees wide entries addresses
+-- entries that a host of these options may hold: they rise by path, each is at a root port or at a
+-- port of a hub that is listed, no two have one address, and accepted devices are whole
+abbrev pub MayHold : HostOptions → Entries → Type 0
+MayHold options entries = (addresses : Addresses) × Agrees options entries addresses
 
 -- a listing is of entries that such a host may hold. What refused devices said is not told
-abbrev pub IsShown : Bool → Item → Type 0
-IsShown wide (Listing entries taken said) = MayHold wide entries × (said ≡ [])
-IsShown wide other = ⊤
+abbrev pub IsShown : HostOptions → Item → Type 0
+IsShown options (Listing entries taken said) = MayHold options entries × (said ≡ [])
+IsShown options other = ⊤
 
 -- how many listings were told, behind an item that was told, or a front of it
 abbrev pub listed : ℕ → Item → Result (Unit {0}) LiveFault → ℕ
@@ -156,7 +156,8 @@ pub data LiveCourse (host : LiveHost) (unread : Pipe) (before : OutPipe) : Owed 
   told : {o : Owed} {m : ℕ} {left : Pipe} {w now : OutPipe} {j k : Kept} {n : ℕ} (item : Item)
       (result : Result (Unit {0}) LiveFault)
       → LiveCourse host unread before o m left w j n → j.fault ≡ None → settles o item ≡ true
-      → IsShown host.wide item → WritesLines (told_text (number_of item m) item) w now j result k
+      → IsShown (usual_options host.wide) item
+      → WritesLines (told_text (number_of item m) item) w now j result k
       → LiveCourse host unread before (owed_left o result) (listed m item result) left now k n
   still : {o : Owed} {m : ℕ} {r left : Pipe} {w now : OutPipe} {j k : Kept} {n : ℕ}
       → LiveCourse host unread before o m r w j n
@@ -183,7 +184,7 @@ pub record IsOver (host : LiveHost) (unread : Pipe) (before : OutPipe) (left : P
   pub j : Kept
   pub wanted : WantsEnd host count unread before left w j n
   pub entries : Entries
-  pub shown : MayHold host.wide entries
+  pub shown : MayHold (usual_options host.wide) entries
   pub listed : WritesLines (lines_text (listing_lines (count + 1) entries [])) w now j (Ok tt) k
 
 -- how far it is behind an answer to what is wanted, and behind an item that was told

@@ -157,6 +157,7 @@ impl<R: Read, W: Write, B: Begun> Bus for CourseBus<R, W, B> {
 }
 
 impl<R: Read, W: Write, B: Begun> CourseBus<R, W, B> {
+    ghost use Rattle.usb_enum.specs.Verdicts.{usual_options};
     ghost use Rattle.usb_live.specs.Course.{IsShown, Lives, settles, told_text};
     ghost use Rattle.usb_run.specs.ItemLines.{number_of};
     ghost use Rattle.std.specs.Prelude.{true};
@@ -213,7 +214,7 @@ impl<R: Read, W: Write, B: Begun> CourseBus<R, W, B> {
     /// The bus's fault.
     pub(crate) fn tell(&mut self, item: &Item, text: &[u8]) -> Result<(), LiveFault>
         requires owed { settles self.old.owed item.now ≡ true }
-        requires shown { IsShown B.host.wide item.now }
+        requires shown { IsShown (usual_options B.host.wide) item.now }
         requires text { text.now ≡ told_text (number_of item.now self.old.listings) item.now }
     {
         let number = self.number(item);

@@ -1,5 +1,6 @@
 //! The host, from the hello to the end.
 ghost use Rattle.std.specs.Prelude.{◌≡◌, IfOk, IfSome, OnOk, false};
+ghost use Rattle.usb_enum.specs.Verdicts.{usual_options};
 ghost use Rattle.usb_text.specs.ListingLines.{written_lines};
 ghost use Rattle.usb_lines.specs.Pipes.{out_pipe_of, pipe_of};
 ghost use Rattle.usb_live.specs.Course.{IsShown, ListsEntries, Lives, goes_on, live_host, told_text};
@@ -75,7 +76,7 @@ fn host_over<R: Read + Drop, W: Write + Drop, B: Begun>(
     bus: CourseBus<R, W, B>,
     wide_hubs: bool,
 ) -> LiveHost<R, W, B>
-    ensures { result.wide ≡ wide_hubs }
+    ensures { result.options ≡ usual_options wide_hubs }
 {
     if wide_hubs {
         Host::with_wide_hubs(alloc, bus)
@@ -91,7 +92,7 @@ fn run<R: Read + Drop, W: Write + Drop, B: Begun>(
     host: &mut LiveHost<R, W, B>,
     limit: u64,
 ) -> Result<(), LiveEnd>
-    requires wide { host.old.wide ≡ B.host.wide }
+    requires options { host.old.options ≡ usual_options B.host.wide }
 {
     let mut busy = 0u16;
     // a round that worked has asked something, and so has each other turn
@@ -131,7 +132,7 @@ fn round_of<R: Read + Drop, W: Write + Drop, B: Begun>(
 ) -> Result<Round, LiveEnd>
     // A round that failed is not taken for one that was done.
     ensures done { OnOk result (host.new.stopped ≡ false) }
-    ensures wide { host.new.wide ≡ host.old.wide }
+    ensures options { host.new.options ≡ host.old.options }
 {
     match host.round() {
         // calls at root ports tell no fault
@@ -158,7 +159,7 @@ fn bus_end<R: Read + Drop, W: Write + Drop, B: Begun>(host: &LiveHost<R, W, B>) 
 fn wanted<R: Read + Drop, W: Write + Drop, B: Begun>(
     host: &mut LiveHost<R, W, B>,
 ) -> Result<Answer, LiveEnd>
-    ensures wide { host.new.wide ≡ host.old.wide }
+    ensures options { host.new.options ≡ host.old.options }
 {
     match host.bus_mut().wait() {
         Ok(answer) => Ok(answer),
@@ -174,8 +175,8 @@ fn done<R: Read + Drop, W: Write + Drop, B: Begun>(
 ) -> Result<Option<Item>, LiveEnd>
     // A listing is of what the host has found, and such a host may hold it.
     ensures lists { IfOk result (ListsEntries answer host.new.entries) }
-    ensures shown { IfOk result (λ item. IfSome item (IsShown host.new.wide)) }
-    ensures wide { host.new.wide ≡ host.old.wide }
+    ensures shown { IfOk result (λ item. IfSome item (IsShown host.new.options)) }
+    ensures options { host.new.options ≡ host.old.options }
     // Nothing that is wanted is dropped.
     ensures owed { IfOk result (IsOwed answer) }
 {
@@ -192,8 +193,8 @@ fn tell<R: Read + Drop, W: Write + Drop, B: Begun>(
     host: &mut LiveHost<R, W, B>,
     item: &Item,
 ) -> Result<(), LiveEnd>
-    requires shown { IsShown B.host.wide item.now }
-    ensures wide { host.new.wide ≡ host.old.wide }
+    requires shown { IsShown (usual_options B.host.wide) item.now }
+    ensures options { host.new.options ≡ host.old.options }
 {
     let bus = host.bus_mut();
     if !bus.owes(item) {

@@ -19,8 +19,8 @@ pub(crate) fn read<B: Bus>(
     request: ReadRequest,
 ) -> Result<Item, RunFault>
     ensures owed { IfOk result (λ item. settles (Owed.Read path request.length) item ≡ true) }
-    ensures shown { IfOk result (IsShown host.new.wide) }
-    ensures wide { host.new.wide ≡ host.old.wide }
+    ensures shown { IfOk result (IsShown host.new.options) }
+    ensures options { host.new.options ≡ host.old.options }
     ensures does { B.modelled ≡ true → Gives (Ask.ControlIn path request) host.old result host.new }
 {
     let bytes = answered(host.control_in(&path, request.setup()))?;
@@ -35,8 +35,8 @@ pub(crate) fn write<B: Bus>(
 ) -> Result<Item, RunFault>
     ensures owed { IfOk result (λ item.
         settles (Owed.Write path (length request.now.bytes)) item ≡ true) }
-    ensures shown { IfOk result (IsShown host.new.wide) }
-    ensures wide { host.new.wide ≡ host.old.wide }
+    ensures shown { IfOk result (IsShown host.new.options) }
+    ensures options { host.new.options ≡ host.old.options }
     ensures does { B.modelled ≡ true → Gives (Ask.ControlOut path
         (record { setup = request.now.setup; bytes = request.now.bytes })) host.old result host.new }
 {
@@ -54,8 +54,8 @@ pub(crate) fn send_to<B: Bus>(
 ) -> Result<Item, RunFault>
     ensures owed { IfOk result (λ item.
         settles (Owed.SendTo path endpoint (length bytes.now)) item ≡ true) }
-    ensures shown { IfOk result (IsShown host.new.wide) }
-    ensures wide { host.new.wide ≡ host.old.wide }
+    ensures shown { IfOk result (IsShown host.new.options) }
+    ensures options { host.new.options ≡ host.old.options }
     ensures does { B.modelled ≡ true → Gives (Ask.SendTo path endpoint bytes.now) host.old result host.new }
 {
     let sent = answered(host.send_to(&path, endpoint, bytes))?;
@@ -70,8 +70,8 @@ pub(crate) fn receive_from<B: Bus>(
     packets: u16,
 ) -> Result<Item, RunFault>
     ensures owed { IfOk result (λ item. settles (Owed.ReceiveFrom path endpoint) item ≡ true) }
-    ensures shown { IfOk result (IsShown host.new.wide) }
-    ensures wide { host.new.wide ≡ host.old.wide }
+    ensures shown { IfOk result (IsShown host.new.options) }
+    ensures options { host.new.options ≡ host.old.options }
     ensures does { B.modelled ≡ true
         → Gives (Ask.ReceiveFrom path endpoint packets) host.old result host.new }
 {
@@ -86,8 +86,8 @@ pub(crate) fn poll<B: Bus>(
     endpoint: EndpointAddress,
 ) -> Result<Item, RunFault>
     ensures owed { IfOk result (λ item. settles (Owed.Poll path endpoint) item ≡ true) }
-    ensures shown { IfOk result (IsShown host.new.wide) }
-    ensures wide { host.new.wide ≡ host.old.wide }
+    ensures shown { IfOk result (IsShown host.new.options) }
+    ensures options { host.new.options ≡ host.old.options }
     ensures does { B.modelled ≡ true → Gives (Ask.Poll path endpoint) host.old result host.new }
 {
     let polled = answered(host.poll(&path, endpoint))?;
@@ -101,8 +101,8 @@ pub(crate) fn clear_of<B: Bus>(
     endpoint: EndpointAddress,
 ) -> Result<Item, RunFault>
     ensures owed { IfOk result (λ item. settles (Owed.ClearOf path endpoint) item ≡ true) }
-    ensures shown { IfOk result (IsShown host.new.wide) }
-    ensures wide { host.new.wide ≡ host.old.wide }
+    ensures shown { IfOk result (IsShown host.new.options) }
+    ensures options { host.new.options ≡ host.old.options }
     ensures does { B.modelled ≡ true → Gives (Ask.ClearOf path endpoint) host.old result host.new }
 {
     let cleared = answered(host.clear_halt_of(&path, endpoint))?;
@@ -118,8 +118,8 @@ pub(crate) fn set_interface<B: Bus>(
 ) -> Result<Item, RunFault>
     ensures owed { IfOk result (λ item.
         settles (Owed.Interface path interface setting) item ≡ true) }
-    ensures shown { IfOk result (IsShown host.new.wide) }
-    ensures wide { host.new.wide ≡ host.old.wide }
+    ensures shown { IfOk result (IsShown host.new.options) }
+    ensures options { host.new.options ≡ host.old.options }
     ensures does { B.modelled ≡ true
         → Gives (Ask.SetInterface path interface setting) host.old result host.new }
 {

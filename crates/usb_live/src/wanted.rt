@@ -23,8 +23,8 @@ pub(crate) fn item_of<B: Bus>(
 ) -> Result<Option<Item>, RunFault>
     // A listing is of what the host has found.
     ensures lists { IfOk result (ListsEntries answer host.new.entries) }
-    ensures shown { IfOk result (λ item. IfSome item (IsShown host.new.wide)) }
-    ensures wide { host.new.wide ≡ host.old.wide }
+    ensures shown { IfOk result (λ item. IfSome item (IsShown host.new.options)) }
+    ensures options { host.new.options ≡ host.old.options }
     // The item is the one that is owed.
     ensures owed { IfOk result (IsOwed answer) }
     // Over a bus that does what its world does, exactly that was done.

@@ -8,8 +8,8 @@ abbrev pub causes : List (List ℕ)
 causes =
     codes "silent" ∷ codes "busy" ∷ codes "stalled device" ∷ codes "stalled address" ∷
     codes "stalled config" ∷ codes "stalled set config"
-    ∷ codes "bad device" ∷ codes "too deep" ∷ codes "no power" ∷ codes "bad hub" ∷ codes "lost" ∷
-    codes "no address" ∷ []
+    ∷ codes "bad device" ∷ codes "too deep" ∷ codes "too large" ∷ codes "no power" ∷
+    codes "bad hub" ∷ codes "lost" ∷ codes "no address" ∷ []
 
 -- why a transfer was not done
 abbrev pub failures : List (List ℕ)

@@ -7,7 +7,7 @@ use crate::part::Part::{self, Bytes, Endpoint, Name, Number, OneOf, Path, Text, 
 use crate::part::fits_form;
 
 /// Why a device was refused.
-const CAUSES: [&str; 12] = [
+const CAUSES: [&str; 13] = [
     "silent",
     "busy",
     "stalled device",
@@ -16,6 +16,7 @@ const CAUSES: [&str; 12] = [
     "stalled set config",
     "bad device",
     "too deep",
+    "too large",
     "no power",
     "bad hub",
     "lost",

@@ -3,6 +3,7 @@ pub mod Interface
 pub mod TransactionFaults
 pub mod BulkCalls
 pub mod MovedPackets
+pub mod MovedRows
 pub mod NextPackets
 pub mod ControlSteps
 pub mod Attempts

@@ -97,7 +97,7 @@ gave_packets t ep first (packet {n} {sent} bytes g full more fits puts) some =
     (omega (arith, more, fits)) (omega (arith, l, full, fits)) (omega (arith, l, full, more))
 
 -- full packets leave something over
-few_full : (n max total : ℕ) → 1 ≤ max → n * max < total → n < div_ceil total max
+pub few_full : (n max total : ℕ) → 1 ≤ max → n * max < total → n < div_ceil total max
 few_full n max total some less = let c = div_ceil_times total max some in
     lt_of_mul-lt-mul_right max (omega (arith, c, less))
 
@@ -270,7 +270,7 @@ coming_none t ep first got w text none =
 
 module _ (t : Target) (ep : ℕ) (first : Toggle) {old : World} {text : Option (List ℕ)} (wanted : ℕ)
     (least : 1 ≤ t.max) where
-  all_received : {bytes : Vec ℕ} {now : World} {toggle : Toggle} {written : Option (List ℕ)}
+  pub all_received : {bytes : Vec ℕ} {now : World} {toggle : Toggle} {written : Option (List ℕ)}
       (a : AllCame t ep first wanted old bytes.items now)
       → Moved (a.packets + 1) first toggle old text now written
       → PacketsReceived t ep first wanted old (Ok bytes) toggle now

@@ -4,7 +4,7 @@ ghost use Rattle.usb_pipe.specs.EndpointPipes.{halt_address};
 
 use crate::condition::Condition;
 use crate::control::control_none;
-use crate::packets::{receive_packets, send_packets};
+use crate::rows::{receive_from, send_to};
 use crate::{EndpointKind, PipeFault, Setup, UsableEndpoint};
 use arrayvec::ArrayVec;
 use std::alloc::Global;
@@ -142,7 +142,8 @@ impl EndpointPipe {
             return Ok(());
         }
         let mut toggle = self.toggle;
-        let sent = send_packets(bus, self.packet_target(), self.ep, &mut toggle, bytes);
+        let target = self.packet_target();
+        let sent = send_to(self.kind, bus, target, self.ep, &mut toggle, bytes);
         self.toggle = toggle;
         self.condition = self.condition.after_transfer(&sent);
         sent
@@ -185,7 +186,8 @@ impl EndpointPipe {
             return Ok(Vec::new(alloc));
         }
         let mut toggle = self.toggle;
-        let received = receive_packets(
+        let received = receive_from(
+            self.kind,
             alloc,
             bus,
             self.packet_target(),

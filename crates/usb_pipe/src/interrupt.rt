@@ -53,6 +53,18 @@ impl InterruptPipe {
         }
     }
 
+    /// A second pipe to the endpoint, as far as this one, for a copy of the host. Only one of the two may
+    /// ask the endpoint from here on.
+    pub fn duplicate(&self) -> InterruptPipe
+        ensures { result ≡ self.now }
+    {
+        InterruptPipe {
+            target: self.target,
+            ep: self.ep,
+            toggle: self.toggle,
+        }
+    }
+
     /// Asks once whether there are data: the packet, or None where the endpoint has nothing.
     ///
     /// It asks again after an error, and after a repeat, which is discarded.

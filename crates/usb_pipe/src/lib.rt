@@ -27,6 +27,7 @@ mod fault;
 mod interrupt;
 mod laws;
 mod packets;
+mod rows;
 mod stage;
 
 pub use control::{control_in, control_none, control_out};

@@ -9,7 +9,7 @@ use Rattle.usb_device.specs.{Hub, Spec, hub_ports}
 use Rattle.usb_enum.specs.{BadConfiguration, BadHub, Cause, any_has_value}
 use Rattle.usb_enum.specs.{choice_of, config_fault, first_fault, gives_hub, holds_changes, is_good_text}
 use Rattle.usb_enum.specs.{is_device, is_hub_device, read_verdict, set_verdict, text_fault, text_read}
-use Rattle.usb_enum.specs.{texts_below, texts_of, verdict}
+use Rattle.usb_enum.specs.{texts_below, texts_of, usual_options, verdict}
 use Rattle.usb_remarks.specs.{IsRefused, Remark, TextRemark, at_index, config_remark, configs_remark}
 use Rattle.usb_remarks.specs.{device_remark, hub_remark, remark_of, text_remark, unless_repeated}
 use Rattle.usb_remarks.specs.{spelled_remark, with_text}
@@ -22,7 +22,7 @@ unless_err false cause r h = h
 
 -- its device descriptor is malformed
 device_bad : (spec : Spec) (wide : Bool) (tier supply : ℕ) → is_device spec.low (take 18 spec.descriptor) ≡ false
-    → is_ok (verdict spec wide tier supply) ≡ false
+    → is_ok (verdict spec (usual_options wide) tier supply) ≡ false
 unfolding verdict
 device_bad spec wide tier supply bad =
     unless_err spec.silent _ _ (unless_err spec.busy _ _ (unless_err spec.stalls.device _ _
@@ -31,8 +31,8 @@ device_bad spec wide tier supply bad =
 
 -- it is refused after its device descriptor
 later_bad : (spec : Spec) (wide : Bool) (tier supply : ℕ) → is_ok (read_verdict wide spec supply
-    (first_fault spec (configuration_count spec.descriptor))) ≡ false
-    → is_ok (verdict spec wide tier supply) ≡ false
+    (first_fault None spec (configuration_count spec.descriptor))) ≡ false
+    → is_ok (verdict spec (usual_options wide) tier supply) ≡ false
 unfolding verdict
 later_bad spec wide tier supply bad =
     unless_err spec.silent _ _ (unless_err spec.busy _ _ (unless_err spec.stalls.device _ _
@@ -61,7 +61,7 @@ text_bad index earlier text None r is h =
 
 index_bad : (spec : Spec) (index : ℕ) (o : Option (List ℕ)) (r : Remark)
     → at_index spec.configs index o ≡ Some r
-    → is_some (text_fault index (texts_below spec index) o) ≡ true
+    → is_some (text_fault None index (texts_below spec index) o) ≡ true
 index_bad spec index None r h = refl
 index_bad spec index (Some text) r h =
     ap (λ b. is_some (if b then None else Some (BadConfiguration index)))
@@ -73,7 +73,7 @@ stalled_some true cause o h = refl
 stalled_some false cause o h = h
 
 config_bad_one : (spec : Spec) (index : ℕ) (r : Remark) → config_remark spec.configs index ≡ Some r
-    → is_some (config_fault spec index) ≡ true
+    → is_some (config_fault None spec index) ≡ true
 unfolding config_fault config_remark
 config_bad_one spec index r h = stalled_some spec.stalls.config _ _
     (index_bad spec index (slice_get spec.configs index) r h)
@@ -92,13 +92,13 @@ either_some (Some x) p r h = inl h
 either_some None p r h = inr h
 
 configs_bad : (spec : Spec) (n : ℕ) (r : Remark) → configs_remark spec.configs n ≡ Some r
-    → is_some (first_fault spec n) ≡ true
+    → is_some (first_fault None spec n) ≡ true
 unfolding first_fault configs_remark
 configs_bad spec zero r h = absurd cc
 configs_bad spec (suc n) r h =
     elim (either_some (configs_remark spec.configs n) (config_remark spec.configs n) r h) [
-      | inl before ↦ left_some (first_fault spec n) (config_fault spec n) (configs_bad spec n r before)
-      | inr here ↦ right_some (first_fault spec n) (config_fault spec n)
+      | inl before ↦ left_some (first_fault None spec n) (config_fault None spec n) (configs_bad spec n r before)
+      | inr here ↦ right_some (first_fault None spec n) (config_fault None spec n)
           (config_bad_one spec n r here)
     ]
 
@@ -155,7 +155,7 @@ remarked_refused wide spec r is tier supply =
     split (device_spelled spec.low (take 18 spec.descriptor)) refl is
   where
     split : (o : Result (List ℕ) DescriptorFault) → device_spelled spec.low (take 18 spec.descriptor)
-        ≡ o → device_remark wide spec o ≡ Some r → is_ok (verdict spec wide tier supply) ≡ false
+        ≡ o → device_remark wide spec o ≡ Some r → is_ok (verdict spec (usual_options wide) tier supply) ≡ false
     split (Err fault) spelled h = device_bad spec wide tier supply (ap is_ok spelled)
     split (Ok bytes) spelled h =
         later_bad spec wide tier supply (elim (either_some (configs_remark spec.configs

@@ -12,7 +12,7 @@ use Rattle.usb_device.specs.{Spec}
 use Rattle.usb_enum.specs.{BadConfiguration, BadHub, Cause, any_has_value, choice_of}
 use Rattle.usb_enum.specs.{config_fault, first_fault, is_device, is_good_hub, is_good_text}
 use Rattle.usb_enum.specs.{is_hub_device, read_verdict, set_verdict, text_fault, text_read}
-use Rattle.usb_enum.specs.{texts_below, texts_of, verdict}
+use Rattle.usb_enum.specs.{texts_below, texts_of, usual_options, verdict}
 use Rattle.usb_remarks.specs.{BlamesNoDescriptor, Remark, TextRemark, at_index, blames_descriptor}
 use Rattle.usb_remarks.specs.{config_remark, configs_remark, device_remark, is_of_descriptor}
 use Rattle.usb_remarks.specs.{remark_of, text_remark, unless_repeated, with_text}
@@ -83,7 +83,7 @@ good_text index earlier text None is h = rw (unremarked_good text is)
     single false h = refl
 
 good_index : (spec : Spec) (index : ℕ) (o : Option (List ℕ))
-    → at_index spec.configs index o ≡ None → text_fault index (texts_below spec index) o ≡ None
+    → at_index spec.configs index o ≡ None → text_fault None index (texts_below spec index) o ≡ None
 good_index spec index None h = absurd cc
 good_index spec index (Some text) h =
     ap (λ b. if b then None else Some (BadConfiguration index))
@@ -95,7 +95,7 @@ stalled_speaks true cause o h k = h
 stalled_speaks false cause o h k = ap speaks k
 
 good_config : (spec : Spec) (index : ℕ) → config_remark spec.configs index ≡ None
-    → speaks (config_fault spec index) ≡ false
+    → speaks (config_fault None spec index) ≡ false
 unfolding config_fault config_remark
 good_config spec index h = stalled_speaks spec.stalls.config _ _ refl
     (good_index spec index (slice_get spec.configs index) h)
@@ -110,12 +110,12 @@ neither_speaks (Some x) p h k = h
 neither_speaks None p h k = k
 
 good_configs : (spec : Spec) (n : ℕ) → configs_remark spec.configs n ≡ None
-    → speaks (first_fault spec n) ≡ false
+    → speaks (first_fault None spec n) ≡ false
 unfolding first_fault configs_remark
 good_configs spec zero h = refl
 good_configs spec (suc n) h =
     let parts = both_none (configs_remark spec.configs n) (config_remark spec.configs n) h in
-    neither_speaks (first_fault spec n) (config_fault spec n) (good_configs spec n parts.0)
+    neither_speaks (first_fault None spec n) (config_fault None spec n) (good_configs spec n parts.0)
     (good_config spec n parts.1)
 
 -- The verdict
@@ -135,8 +135,8 @@ read_other wide spec supply None h = set_other wide spec (texts_of spec) (choice
 verdict_other : (spec : Spec) (wide : Bool) (tier supply : ℕ)
     → is_ok (device_head_of spec.low (take 8 spec.descriptor)) ≡ true
     → is_device spec.low (take 18 spec.descriptor) ≡ true
-    → speaks (first_fault spec (configuration_count spec.descriptor)) ≡ false
-    → blames_descriptor (verdict spec wide tier supply) ≡ false
+    → speaks (first_fault None spec (configuration_count spec.descriptor)) ≡ false
+    → blames_descriptor (verdict spec (usual_options wide) tier supply) ≡ false
 unfolding verdict
 verdict_other spec wide tier supply head device configs =
     other_cause spec.silent _ _ refl (other_cause spec.busy _ _ refl
@@ -153,7 +153,8 @@ unremarked_unblamed wide spec is tier supply =
     split (device_spelled spec.low (take 18 spec.descriptor)) refl is
   where
     split : (o : Result (List ℕ) DescriptorFault) → device_spelled spec.low (take 18 spec.descriptor)
-        ≡ o → device_remark wide spec o ≡ None → blames_descriptor (verdict spec wide tier supply) ≡ false
+        ≡ o → device_remark wide spec o ≡ None
+        → blames_descriptor (verdict spec (usual_options wide) tier supply) ≡ false
     split (Err fault) spelled h = absurd cc
     split (Ok bytes) spelled h =
         let parts = both_none (configs_remark spec.configs (configuration_count spec.descriptor)) _ h

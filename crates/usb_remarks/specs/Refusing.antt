@@ -4,7 +4,8 @@ use Rattle.usb_request.specs.{CONFIGURATION_LENGTH}
 use Rattle.usb_descriptor.specs.{DescriptorFault, Short, config_head_of, config_of}
 use Rattle.usb_device.specs.{Spec}
 use Rattle.usb_enum.specs.{BadConfiguration, BadDevice, BadHub, Busy, Cause, Lost, NoAddress}
-use Rattle.usb_enum.specs.{NoPower, Silent, Stalled, TooDeep, text_read, verdict}
+use Rattle.usb_enum.specs.{NoPower, Silent, Stalled, TooDeep, TooLarge, text_read, usual_options}
+use Rattle.usb_enum.specs.{verdict}
 use Rattle.usb_remarks.specs.declared.text.TextRemark.{TextRemark}
 use Rattle.usb_remarks.specs.declared.text.TextRemark.TheVariants.{Cut, Head, Item}
 
@@ -32,6 +33,7 @@ is_of_descriptor (Stalled request) = false
 is_of_descriptor BadDevice = true
 is_of_descriptor TooDeep = false
 is_of_descriptor (BadConfiguration index) = true
+is_of_descriptor TooLarge = false
 is_of_descriptor NoPower = false
 is_of_descriptor BadHub = false
 is_of_descriptor Lost = false
@@ -44,8 +46,9 @@ blames_descriptor (Err cause) = is_of_descriptor cause
 -- where a host refuses the device, one that takes wide hubs or not, that is for another cause
 abbrev pub BlamesNoDescriptor : Bool → Spec → Type 0
 BlamesNoDescriptor wide spec = (tier supply : ℕ)
-    → blames_descriptor (verdict spec wide tier supply) ≡ false
+    → blames_descriptor (verdict spec (usual_options wide) tier supply) ≡ false
 
 -- a host accepts the device in no tier and at no port
 abbrev pub IsRefused : Bool → Spec → Type 0
-IsRefused wide spec = (tier supply : ℕ) → is_ok (verdict spec wide tier supply) ≡ false
+IsRefused wide spec = (tier supply : ℕ)
+    → is_ok (verdict spec (usual_options wide) tier supply) ≡ false

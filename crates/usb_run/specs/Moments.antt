@@ -9,7 +9,7 @@ use Rattle.usb_world.specs.{PlanData, AreOfDamages, AtMostTwoRunning, EachWas, W
 use Rattle.usb_device.specs.{reach}
 use Rattle.usb_transaction.specs.{Target}
 use Rattle.usb_pipe.specs.{PipeFault}
-use Rattle.usb_enum.specs.{FewLosses}
+use Rattle.usb_enum.specs.{FewLosses, usual_options}
 use Rattle.usb_table.specs.{ChangesAt, Delivered, Collected, ReadLeft, ReadMade, Restarted}
 use Rattle.usb_table.specs.{TransferFault, TransferIs, TransferLeaves, WriteLeft, WriteMade}
 use Rattle.usb_table.specs.{bytes_in, control_target, Lists, table_answer, tree_after, write_target}
@@ -124,7 +124,7 @@ TellsRight due item old new = ⊥
 -- a listing is what the events that had come have left plugged
 abbrev pub IsListingOf : PlanData → Item → Type 0
 IsListingOf plan (Listing tree taken said) =
-    Lists plan.wide plan.roots (tree_after plan taken) tree
+    Lists (usual_options plan.wide) plan.roots (tree_after plan taken) tree
 IsListingOf plan (Sent path sent) = ⊤
 IsListingOf plan (Received path received) = ⊤
 IsListingOf plan (Cleared path cleared) = ⊤

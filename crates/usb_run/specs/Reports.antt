@@ -3,6 +3,7 @@ use Rattle.std.specs.Prelude.{◌≡◌, ◌≢◌, ◌⊎◌, ℕ, List, revers
 use Rattle.std.specs.Prelude.{IfOk, IfErr}
 use Rattle.usb_world.specs.{PlanData, IsPlan, AtPorts, opening, World}
 use Rattle.usb_bus.specs.{Traced}
+use Rattle.usb_enum.specs.{usual_options}
 use Rattle.usb_host.specs.{HostState, opening_host as host_opening, HostInvariant}
 use Rattle.usb_run.specs.declared.runs.Item.{Item}
 use Rattle.usb_run.specs.declared.runs.Report.{Report}
@@ -16,7 +17,7 @@ use Rattle.usb_run.specs.Transcript.{RunsTo, itself, never}
 -- a host of a plan's bus, whose root ports were given power in silence: it knows of no device, and
 -- that is so
 pub record Opens (plan : PlanData) (before : Option (List ℕ)) (h : HostState) : Type 0 where
-  pub is : h ≡ host_opening plan.wide (opening plan) before
+  pub is : h ≡ host_opening (usual_options plan.wide) (opening plan) before
   pub traced : Traced (opening plan) before h.world h.trace
   pub sound : HostInvariant h
   pub rules : IsPlan plan

@@ -16,7 +16,7 @@ use Rattle.usb_run.specs.Transfers.{IsItemOf}
 -- has its cause
 pub record Knows (h : HostState) : Type 0 where
   pub sound : HostInvariant h
-  pub causes : IsFairTo h.world h.world → RefusalsJustified h.wide h.world h.entries
+  pub causes : IsFairTo h.world h.world → RefusalsJustified h.options h.world h.entries
 
 -- a host has settled: it goes on, and what it knows is so; as long as the bus is at work nothing is
 -- left to do, and where damage was fair it lists what is plugged
@@ -24,7 +24,7 @@ pub record Settled (h : HostState) : Type 0 where
   pub running : h.stopped ≡ false
   pub knows : Knows h
   pub rest : h.world.fault ≡ None → IsAtRest h.world h.entries
-  pub matches : IsFairTo h.world h.world → Matches h.wide h.world h.entries
+  pub matches : IsFairTo h.world h.world → Matches h.options h.world h.entries
 
 -- Rounds
 
@@ -74,7 +74,7 @@ Settling old (Err fault) new = Unsettled old fault new
 pub record LeavesSettled (old new : HostState) : Type 0 where
   pub works : old.world.fault ≡ None → new.world.fault ≡ None
   pub rest : HostInvariant old → new.world.fault ≡ None → IsAtRest new.world new.entries
-  pub settled : Agrees new.wide new.entries new.addresses → Knows old → Settled new
+  pub settled : Agrees new.options new.entries new.addresses → Knows old → Settled new
 
 -- Events
 
@@ -84,7 +84,7 @@ pub record Comes (old : HostState) (result : Result (Option (Option Ask)) BusFau
     (new : HostState) : Type 0 where
   pub takes : TakesEvent old.world old.trace result new.world new.trace
   pub rests : OnlyBusSteps old new
-  pub agrees : Agrees old.wide old.entries old.addresses
+  pub agrees : Agrees old.options old.entries old.addresses
 
 -- the host settled, and then the next event came, or none was left, or the bus told its fault
 pub record Arrives (old : HostState) (result : Result (Option (Option Ask)) BusFault)

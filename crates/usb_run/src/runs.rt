@@ -8,6 +8,7 @@ ghost use Rattle.usb_sim.specs.Sim.{world_of, trace_of};
 ghost use Rattle.std.specs.Io.KnownBytes.{Appends};
 ghost use Rattle.usb_bus.specs.Watch.{inner_of, has_failed, tells_failure, AppendsFront};
 ghost use Rattle.usb_world.specs.Steps.{PutLine, opening};
+ghost use Rattle.usb_enum.specs.Verdicts.{usual_options};
 ghost use Rattle.usb_host.specs.HostCalls.{NewTells};
 ghost use Rattle.usb_host.specs.Plugs.{plug_events};
 ghost use Rattle.usb_host.specs.Transfers.{table_in};
@@ -411,7 +412,7 @@ impl<T: Trace> Runner<T> {
 
 /// The host of a plan's bus, which takes wide hubs or does not.
 fn host_of<T: Trace>(alloc: Global, wide: bool, bus: SimBus<T>) -> Host<SimBus<T>>
-    ensures { NewTells wide (world_of bus) (trace_of bus) result }
+    ensures { NewTells (usual_options wide) (world_of bus) (trace_of bus) result }
 {
     if wide {
         Host::with_wide_hubs(alloc, bus)

@@ -7,6 +7,7 @@ use Rattle.usb_world.specs.{after_event}
 use Rattle.usb_world.specs.declared.event.Action.TheVariants as act
 use Rattle.usb_world.specs.declared.event.Change.TheVariants as change
 use Rattle.usb_world.specs.declared.event.Ask.{Ask}
+use Rattle.usb_enum.specs.{usual_options}
 use Rattle.usb_host.specs.{HostState, opening_host as host_opening, repowered}
 use Rattle.usb_plan.specs.{PlanFault, spelled_plan}
 use Rattle.usb_plan.specs.declared.fault.PlanFault.TheVariants as plan_fault
@@ -47,7 +48,7 @@ two_plugs = record {
 
 -- the host of its bus
 abbrev refused_host : HostState
-refused_host = host_opening false (opening two_plugs) None
+refused_host = host_opening (usual_options false) (opening two_plugs) None
 
 abbrev refused_world : World
 refused_world = after event (after event refused_host.world)

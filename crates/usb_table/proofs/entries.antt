@@ -1,5 +1,6 @@
 -- The entries of the table.
 pub mod Addresses
+pub mod Copies
 pub mod EnteredFindings
 pub mod Keys
 pub mod NewEntries

@@ -63,6 +63,7 @@ is_no_address (cause.Stalled request) = false
 is_no_address cause.BadDevice = false
 is_no_address cause.TooDeep = false
 is_no_address (cause.BadConfiguration index) = false
+is_no_address cause.TooLarge = false
 is_no_address cause.NoPower = false
 is_no_address cause.BadHub = false
 is_no_address cause.Lost = false

@@ -64,7 +64,7 @@ pub use TablePipes.{new_pipes_to, new_row, new_status, no_pipes, none_lost, numb
 pub use TablePipes.{row_of_ends}
 pub use TablePipes.{usable_end}
 pub use Tables.{ArePipesAt, GoesThrough, Table, TakesOut, empty, entered, pipes_at, removed}
-pub use Tables.{said_at, said_in, said_of}
+pub use Tables.{said_at, said_in, said_of, with_entry}
 pub use Transfers.{ClearedAfter, ClearedBy, ClearedFirst, ClearedIf, ClearedInOrder, ClearedInTurn}
 pub use Transfers.{ClearedOfThrough, ClearedThrough, KeepsSettings, MovedOrRefused, NotPolled}
 pub use Transfers.{NotTried, OnlySets, OnlyTransfers, PipeDid, PipesCleared, PipesClearedOf}

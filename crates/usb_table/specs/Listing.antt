@@ -10,7 +10,7 @@ use Rattle.usb_device.specs.{Spec, reach, state_there}
 use Rattle.usb_world.specs.{PlanData, device_indexed, index_at, plugged_by, spec_of, World}
 use Rattle.usb_world.specs.{roots_of}
 use Rattle.usb_enum.specs.{Cause, NoAddress, Accepted, Finding, HubFacts, IsRight, IsSet}
-use Rattle.usb_enum.specs.{IsDisabledAt}
+use Rattle.usb_enum.specs.{HostOptions, IsDisabledAt}
 use Rattle.usb_enum.specs.declared.finding.Finding.TheVariants.{Device, Refused}
 use Rattle.usb_table.specs.TableEntries.{Entries, Rises}
 use Rattle.usb_table.specs.Findings.{accepted_device_of, accepted_device_at}
@@ -85,12 +85,13 @@ ListsEach entries = (address : ℕ) → IsAddress address → (path : List ℕ)
 -- is plugged there is listed with its own
 -- descriptors and the first configuration within its port's power, or refused with its cause.
 -- Nothing else is listed. No two devices have one address. Hubs of 8 to 15 ports, and status
--- endpoints of any number, are accepted where hubs may be wide.
-pub record Lists (wide : Bool) (roots : ℕ) (tree : SpecTree) (entries : Entries) : Type 0 where
+-- endpoints of any number, are accepted where hubs may be wide; a device that has more bytes than
+-- the host takes is not.
+pub record Lists (options : HostOptions) (roots : ℕ) (tree : SpecTree) (entries : Entries) : Type 0 where
   pub rises : Rises entries
   pub there : (path : List ℕ) (spec : Spec) → IsListedPort roots entries path
       → tree path ≡ Some spec
-      → IsSomeAnd (finding_at path entries) (IsRight (ListsEach entries) spec wide
+      → IsSomeAnd (finding_at path entries) (IsRight (ListsEach entries) spec options
       (tier_of path) (supply_at tree path))
   pub nothing_else : (path : List ℕ) (finding : Finding) → finding_at path entries ≡ Some finding
       → IsListedPort roots entries path × IsSome (tree path)
@@ -101,8 +102,8 @@ pub record Lists (wide : Bool) (roots : ℕ) (tree : SpecTree) (entries : Entrie
 
 -- the listing is what is plugged in a world; each accepted device is reached and set as is listed,
 -- and the port of each refused one is disabled
-pub record Matches (wide : Bool) (w : World) (entries : Entries) : Type 0 where
-  pub lists : Lists wide (roots_of w) (tree_in w) entries
+pub record Matches (options : HostOptions) (w : World) (entries : Entries) : Type 0 where
+  pub lists : Lists options (roots_of w) (tree_in w) entries
   pub reached : (path : List ℕ) (device : Accepted) → accepted_device_at path entries ≡ Some device
       → reach w.roots path ≡ true
   pub set : (path : List ℕ) (device : Accepted) → accepted_device_at path entries ≡ Some device

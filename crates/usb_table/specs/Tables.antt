@@ -54,6 +54,13 @@ entered path finding said table = record {
   pipes = insert_entry path_cmp table.pipes path (new_pipes finding (is_below_hub path) said);
 }
 
+-- what was found is entered at a path, with the pipes to it
+abbrev pub with_entry : List ℕ → Finding → Pipes → Table → Table
+with_entry path finding pipes table = record {
+  entries = insert_entry path_cmp table.entries path finding;
+  pipes = insert_entry path_cmp table.pipes path pipes;
+}
+
 abbrev pub removed : List ℕ → Table → Table
 removed path table = record {
   entries = remove_entry (is_at (path_cmp path)) table.entries;

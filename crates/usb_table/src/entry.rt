@@ -1,11 +1,12 @@
 //! What is at a port, with the host's pipes to it.
-ghost use Rattle.std.specs.Prelude.{◌≡◌, Some, option_copied};
+ghost use Rattle.std.specs.Prelude.{◌≡◌, IfOk, Some, option_copied};
 ghost use Rattle.usb_table.specs.Findings.{IsSoundFinding};
 ghost use Rattle.usb_table.specs.TablePipes.{ArePipesOf, new_pipes};
 ghost use Rattle.usb_table.specs.Tables.{said_of};
 
 use crate::pipes::{Pipes, pipes_to};
 use arrayvec::ArrayVec;
+use std::alloc::{AllocError, Global};
 use usb_enum::Finding;
 
 /// What was found at a port, with the host's pipes to it.
@@ -28,6 +29,20 @@ impl Entry {
             Finding::Refused(_) => Pipes::Absent(said),
         };
         Entry { finding, pipes }
+    }
+
+    /// A second entry of the same value.
+    ///
+    /// # Errors
+    ///
+    /// Memory was refused.
+    pub fn try_clone(&self, alloc: Global) -> Result<Entry, AllocError>
+        ensures { IfOk result (λ entry. entry ≡ self.now) }
+    {
+        Ok(Entry {
+            finding: self.finding.try_clone(alloc)?,
+            pipes: self.pipes.duplicate(),
+        })
     }
 
     /// What was found at the port.

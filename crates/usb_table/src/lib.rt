@@ -16,6 +16,7 @@
 //!   *InterfaceSet*, `specs/InterfaceSettings.antt`).
 //! - What a refused device said of itself is kept as it was entered (`DeviceTable::said`). No call
 //!   through pipes changes it (*GoesThrough*, `specs/Tables.antt`).
+//! - A copy of a table is equal to it, with each pipe as far (`DeviceTable::try_clone`).
 //!
 //! A pipe is *level* if it is as far as the endpoint at its other end (8.6). `docs/PROVED.md` has
 //! the rest.

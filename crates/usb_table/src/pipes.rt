@@ -69,7 +69,30 @@ fn status_pipe(device: &Accepted, below_hub: bool) -> InterruptPipe
     }
 }
 
+/// A second vector of the same bytes.
+fn copy_of(said: &ArrayVec<u8, 18>) -> ArrayVec<u8, 18>
+    ensures { result ≡ said.now }
+{
+    match ArrayVec::try_from(said.as_slice()) {
+        Ok(copy) => copy,
+        // both have the same room
+        Err(_) => unreachable!(),
+    }
+}
+
 impl Pipes {
+    /// Second pipes, as far as these: each with its toggle and condition, and the marks of those that
+    /// are lost.
+    pub fn duplicate(&self) -> Pipes
+        ensures { result ≡ self.now }
+    {
+        match self {
+            Pipes::Hub(pipe) => Pipes::Hub(pipe.duplicate()),
+            Pipes::Function(pipes) => Pipes::Function(*pipes),
+            Pipes::Absent(said) => Pipes::Absent(copy_of(said)),
+        }
+    }
+
     /// What is kept of what a refused device said; nothing of any other.
     pub fn said(&self) -> &[u8]
         ensures { result.now ≡ said_in self.now }

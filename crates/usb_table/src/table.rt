@@ -1,5 +1,5 @@
 //! What is at each port.
-ghost use Rattle.std.specs.Prelude.{◌≡◌, ℕ, ◌≤◌, ◌*◌, List, length, false, true, option_copied};
+ghost use Rattle.std.specs.Prelude.{◌≡◌, ℕ, ◌≤◌, ◌*◌, List, None, length, false, true, option_copied};
 ghost use Rattle.std.specs.Prelude.{IfSome, IfNone, IfOk, IfErr, OnOk, OnErr};
 ghost use Rattle.std.specs.BTreeMap.{is_at};
 ghost use Rattle.std.specs.Map.{lookup};
@@ -15,7 +15,8 @@ ghost use Rattle.usb_table.specs.InterfaceSettings.{interface_target, pipes_set}
 ghost use Rattle.usb_table.specs.Findings.{accepted_device_at};
 ghost use Rattle.usb_table.specs.KnownPorts.{is_below_hub};
 ghost use Rattle.usb_table.specs.Tables.{ArePipesAt, GoesThrough, TakesOut};
-ghost use Rattle.usb_table.specs.Tables.{empty, entered, pipes_at, said_at};
+ghost use Rattle.usb_table.specs.Tables.{empty, entered, pipes_at, said_at, with_entry};
+ghost use Rattle.usb_table.specs.Keys.{IsPiped};
 ghost use Rattle.usb_table.specs.PipeRows.{asked_through, clears_miss, pipe_to, polls_miss};
 ghost use Rattle.usb_table.specs.PipeRows.{polls_through, receives_miss, receives_through};
 ghost use Rattle.usb_table.specs.PipeRows.{sends_miss, sends_through, through, unless_broken};
@@ -100,8 +101,23 @@ impl DeviceTable {
         ensures ok { OnOk result (self.new ≡ entered path finding said self.old) }
         ensures err { OnErr result (self.new ≡ self.old) }
     {
-        let address = address_number(&finding);
         let entry = Entry::new(finding, is_below_hub(&path), said);
+        self.put(path, entry)
+    }
+
+    /// Puts an entry at a path that has none.
+    ///
+    /// # Errors
+    ///
+    /// Memory was refused, and nothing changes.
+    fn put(&mut self, path: PortPath, entry: Entry) -> Result<(), AllocError>
+        requires away { lookup (is_at (path_cmp path)) self.old.entries ≡ None }
+        requires fits { IsPiped path entry }
+        requires address { HasNewAddress entry.finding self.old.entries }
+        ensures ok { OnOk result (self.new ≡ with_entry path entry.finding entry.pipes self.old) }
+        ensures err { OnErr result (self.new ≡ self.old) }
+    {
+        let address = address_number(entry.finding());
         self.entries.reserve(1)?;
         let key = self.entries.vacant_key();
         self.indexes.insert(path, address, key)?;
@@ -172,6 +188,24 @@ impl DeviceTable {
             entries.push((path.duplicate(), finding.try_clone(alloc)?))?;
         }
         Ok(entries)
+    }
+
+    /// A second table of the same value: what was found at each path, and the pipes to it, each as far
+    /// as it is here. It is for a second host (`Host::copied_onto`). Of two tables over one bus only one
+    /// may be used from here on.
+    ///
+    /// # Errors
+    ///
+    /// Memory was refused.
+    pub fn try_clone(&self, alloc: Global) -> Result<DeviceTable, AllocError>
+        ensures { IfOk result (λ table. table ≡ self.now) }
+    {
+        let mut table = DeviceTable::new(alloc);
+        'entries: for (path, key) in self.indexes.by_path.iter() {
+            let entry = self.entries[*key].try_clone(alloc)?;
+            table.put(path.duplicate(), entry)?;
+        }
+        Ok(table)
     }
 
     /// The port at a path, and what it gives; `None` where no accepted hub has it.

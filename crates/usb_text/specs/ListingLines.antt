@@ -6,7 +6,7 @@ use Rattle.hex.specs.Hex.{encode_upper}
 use Rattle.usb_packet.specs.{hex_text}
 use Rattle.usb_port.specs.{path_text}
 use Rattle.usb_enum.specs.{Cause, Silent, Busy, Stalled, BadDevice, TooDeep, BadConfiguration}
-use Rattle.usb_enum.specs.{NoPower, BadHub, Lost, NoAddress, Request, Accepted, Finding, HubFacts}
+use Rattle.usb_enum.specs.{TooLarge, NoPower, BadHub, Lost, NoAddress, Request, Accepted, Finding, HubFacts}
 use Rattle.usb_enum.specs.declared.cause.Request.TheVariants as request
 use Rattle.usb_enum.specs.declared.finding.Finding.TheVariants.{Device, Refused}
 
@@ -92,6 +92,7 @@ cause_word (Stalled r) = request_word r
 cause_word BadDevice = codes "bad device"
 cause_word TooDeep = codes "too deep"
 cause_word (BadConfiguration index) = codes "bad configuration "
+cause_word TooLarge = codes "too large"
 cause_word NoPower = codes "no power"
 cause_word BadHub = codes "bad hub"
 cause_word Lost = codes "lost"

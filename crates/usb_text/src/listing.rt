@@ -208,6 +208,7 @@ fn cause_word(cause: Cause) -> &'static str
         Cause::BadDevice => "bad device",
         Cause::TooDeep => "too deep",
         Cause::BadConfiguration(_) => "bad configuration ",
+        Cause::TooLarge => "too large",
         Cause::NoPower => "no power",
         Cause::BadHub => "bad hub",
         Cause::Lost => "lost",

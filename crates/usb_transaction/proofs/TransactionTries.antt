@@ -9,7 +9,8 @@ use Rattle.usb_world.specs.{FitsMaximum}
 use Rattle.usb_world.specs.declared.types.Outcome.TheVariants.{Nak, Stall}
 use Rattle.usb_world.proofs.Interface.{spends_none, spends_then, spends_wider}
 use Rattle.usb_bus.specs.{Attempts, Traced, still, attempted, StepRun}
-use Rattle.usb_transaction.specs.{HeardOutcome, Moved, NotReady, Repeat, Lost, Tries, TransFault}
+use Rattle.usb_transaction.specs.{HeardOutcome, Moved, NotReady, Refused, Repeat, Lost, Tries}
+use Rattle.usb_transaction.specs.{HearsAs, TransFault}
 use Rattle.usb_transaction.specs.{Stalled, Busy, NoAnswer, Bus, heard_as, polled_as, set_up_as}
 use Rattle.usb_transaction.specs.{acks, AttemptLog, start, next, errors_with, waits_with}
 use Rattle.usb_transaction.specs.{errors_running, waits_in, IsNoEnd, KeepsTrying, LastOutcome}
@@ -216,6 +217,76 @@ module _ {hear : Outcome → HeardOutcome} {a : Attempt} {t : Tries} {old mid : 
         in
         let counted = ap (λ n. n + 1) s.going.waited ∙ ap (λ x. x.waits) (sym is) ∙ full in
         ended (Err Busy) (one_wait ∙ counted)
+
+-- An outcome that is to be heard, of the last attempt of a loop of tries
+
+pub record Pending (hear : Outcome → HeardOutcome) (a : Attempt) (t : Tries) (o : Outcome)
+    (old : World) (first : Option (List ℕ)) (now : World) (text : Option (List ℕ)) : Type 0 where
+  pub mid : World
+  pub before : Option (List ℕ)
+  pub stands : TryStands hear a t old first mid before
+  pub made : Attempts a mid before (Ok o) now text
+
+pub pending_first : {hear : Outcome → HeardOutcome} {a : Attempt} {o : Outcome} {w v : World}
+    {before now : Option (List ℕ)} (t : Tries) → IsAttempt a → t ≡ record { errors = 0; waits = 0 }
+    → Attempts a w before (Ok o) v now → Pending hear a t o w before v now
+pending_first {w = w} {before = before} t fits is made = record {
+  mid = w;
+  before = before;
+  stands = stands_new t w fits is;
+  made = made;
+}
+
+-- one try more is one attempt more of those that the tries allow
+pub try_more : (h : HeardOutcome) (errors waits : ℕ) → IsNoEnd h → errors < 3
+    → 3 * waits + errors + 1 ≤ 3 * waits_with h waits + errors_with h errors
+try_more h errors waits on few = grind arith
+
+module _ {hear : Outcome → HeardOutcome} {a : Attempt} {t : Tries} {o : Outcome} {old now : World}
+    {first text : Option (List ℕ)} (p : Pending hear a t o old first now text) (u : Tries) where
+  -- it ends nothing
+  pub heard_on : HearsAs t (hear o) (Ok None) u → TryStands hear a u old first now text
+  heard_on (on, is, few, calm) =
+      let errors : errors_with (hear o) t.errors < 3 = subst (λ x. x.errors < 3) is few in
+      let waits : waits_with (hear o) t.waits < 256 = subst (λ x. x.waits < 256) is calm in
+      rw is (record {
+        few = errors;
+        calm = waits;
+        going = going_more (errors_with (hear o) t.errors) (waits_with (hear o) t.waits)
+            p.stands.going p.made on refl refl errors waits
+            (try_more (hear o) t.errors t.waits on p.stands.few);
+        traced = attempted a (Ok o) p.stands.going.fits p.stands.traced p.made;
+      })
+
+  pub heard_last : StepRun transaction_bound old first now text
+  heard_last = went_last p.stands p.stands.going.fits p.made
+
+  pub heard_packet : (bytes : ArrayVec ℕ) → HearsAs t (hear o) (Ok (Some bytes)) u
+      → Transacted hear a old (Ok bytes.items) now
+  heard_packet bytes x = told_moved p.stands p.made bytes x
+
+  pub heard_fault : (fault : TransFault) → (Refused ≡ hear o → o ≡ Stall)
+      → HearsAs t (hear o) (Err fault) u → Transacted hear a old (Err fault) now
+  unfolding waits_in errors_running
+  heard_fault Stalled stall x = told_stalled p.stands p.made (stall (sym x))
+  heard_fault Busy stall x =
+      ended p.stands p.made (Err Busy) (ap (λ n. waits_with (hear o) n) p.stands.going.waited ∙ x)
+  heard_fault NoAnswer stall x =
+      ended p.stands p.made (Err NoAnswer)
+      (ap (λ n. errors_with (hear o) n) p.stands.going.running ∙ x)
+  heard_fault (Bus fault) stall x = absurd x
+
+-- the bus gave up the first attempt
+module _ {a : Attempt} {w v : World} {before now : Option (List ℕ)} (fits : IsAttempt a) where
+  pub went_once : {b : Attempt} {r : Result Outcome BusFault} → IsAttempt b
+      → Attempts b w before r v now → StepRun transaction_bound w before v now
+  went_once sound x =
+      went_last (stands_new {hear = set_up_as} (record { errors = 0; waits = 0 }) w fits refl) sound
+      x
+
+  pub cut_at_once : {hear : Outcome → HeardOutcome} {fault : BusFault}
+      → Attempts a w before (Err fault) v now → Transacted hear a w (Err (Bus fault)) v
+  cut_at_once x = told_cut (stands_new (record { errors = 0; waits = 0 }) w fits refl) x
 
 -- a poll that a NAK ended
 pub told_waiting : {toggle : Toggle} {a : Attempt} {t : Tries} {o : Outcome} {old mid new : World}

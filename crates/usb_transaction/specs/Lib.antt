@@ -10,6 +10,8 @@ pub mod Answerers
 pub mod SparedDevices
 pub mod Calls
 pub mod Attempts
+pub mod HeardTries
+pub mod Rows
 -- the words of this crate, wherever one stands
 pub use HeardOutcomes.{acks, heard_as, heard_when_sent, polled, polled_as, set_up_as, toggle_after}
 pub use Transactions.{AttemptsMade, BusTold, Ends, IsTarget, SetupEnds, error_limit, in_attempt}
@@ -34,6 +36,9 @@ pub use SparedDevices.{EachSpared, IsSpared}
 pub use Calls.{AsksIn, InFailure, InLeaves, IsUnhindered, MeansOfIn, MeansOfOut, MeansOfSetup}
 pub use Calls.{OutFailure, OutLeaves, PollsIn, SendsOut, SetsUp}
 pub use Attempts.{GivenUp, IsOnly, TransactionAttempts}
+pub use HeardTries.{AfterFirst, HearsAs, further_bound, tried}
+pub use Rows.{AskedFull, AsksRow, CameInRow, RowCame, RowGone, RowKept, RowLost, RowSent, SendsRow}
+pub use Rows.{SentFull, none_asked, none_sent, one_asked, one_sent, row_bound, row_packets}
 pub use declared.fault.TransFault.{TransFault}
 pub use declared.fault.TransFault.TheVariants.{Bus, Busy, NoAnswer, Stalled}
 pub use declared.heard_outcome.HeardOutcome.{HeardOutcome}

@@ -51,7 +51,7 @@ pub(crate) fn attempt_of_out(target: Target, ep: u8, toggle: Toggle, bytes: &[u8
 }
 
 /// An endpoint of the target.
-fn destination(target: Target, ep: u8) -> Destination
+pub(crate) fn destination(target: Target, ep: u8) -> Destination
     requires { target.pre ≡ true → target.low ≡ true }
     ensures address { result.address ≡ target.addr }
     ensures number { result.number ≡ ep }

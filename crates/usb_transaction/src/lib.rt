@@ -29,6 +29,7 @@ mod heard_outcome;
 mod laws;
 mod poll;
 mod read;
+mod rows;
 mod set_up;
 mod target;
 mod tries;
@@ -42,6 +43,7 @@ pub use laws::{
 };
 pub use poll::poll_in;
 pub use read::data_in;
+pub use rows::{data_in_row, data_out_row};
 pub use set_up::setup;
 pub use target::Target;
 pub use usb_bus::{Bus, BusFault};

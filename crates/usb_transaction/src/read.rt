@@ -1,15 +1,17 @@
 //! IN.
 ghost use Rattle.std.specs.Prelude.{◌≡◌, ◌<◌, ◌≤◌, MatchResult, true, length, IfOk};
-ghost use Rattle.usb_bus.specs.Traces.{Spends, Steps};
-ghost use Rattle.usb_transaction.specs.Calls.{AsksIn};
+ghost use Rattle.usb_bus.specs.Traces.{Spends, StepRun, Steps};
 ghost use Rattle.usb_packet.specs.Toggles.{other};
-ghost use Rattle.usb_transaction.specs.Transactions.{BusTold, IsTarget, transaction_bound};
+ghost use Rattle.usb_transaction.specs.Calls.{AsksIn};
+ghost use Rattle.usb_transaction.specs.HeardTries.{AfterFirst, further_bound};
+ghost use Rattle.usb_transaction.specs.Transactions.{BusTold, IsTarget, in_attempt, transaction_bound};
+ghost use Rattle.usb_world.specs.Worlds.{FitsMaximum};
 
 use crate::attempt::attempt_of_in;
-use crate::heard_outcome::{HeardOutcome, heard_as};
+use crate::heard_outcome::heard_as;
 use crate::tries::Tries;
 use crate::{Done, Target, TransFault};
-use usb_bus::Bus;
+use usb_bus::{Bus, Outcome};
 use usb_packet::Toggle;
 
 /// Asks an endpoint, 0 to 15, for one data packet (8.5), until one of the awaited toggle comes.
@@ -41,19 +43,42 @@ pub fn data_in<B: Bus>(
         (λ _. toggle.new ≡ toggle.old) }
     ensures fits { IfOk result (λ bytes. length bytes ≤ target.max) }
 {
+    match bus.attempt(&attempt_of_in(target, ep)) {
+        Ok(first) => data_in_from(bus, target, ep, toggle, first),
+        Err(fault) => Err(TransFault::Bus(fault)),
+    }
+}
+
+/// Goes on with an IN whose first attempt had this outcome, as `data_in` does.
+pub(crate) fn data_in_from<B: Bus>(
+    bus: &mut B,
+    target: Target,
+    ep: u8,
+    toggle: &mut Toggle,
+    first: Outcome,
+) -> Result<Done, TransFault>
+    requires endpoint { IsTarget target × (ep < 16) }
+    requires fits { FitsMaximum target.max first }
+    ensures any_bus { Spends B.spent B.ports further_bound bus.old bus.new
+        × BusTold result (B.failed bus.new) }
+    ensures asks { B.modelled ≡ true → AfterFirst (in_attempt target ep) first
+        (B.world bus.old) (B.trace bus.old)
+        (λ old text. StepRun transaction_bound old text (B.world bus.new) (B.trace bus.new)
+        × AsksIn target ep toggle.old old result (B.world bus.new)) }
+    ensures toggle { MatchResult result (λ _. toggle.new ≡ other toggle.old)
+        (λ _. toggle.new ≡ toggle.old) }
+    ensures fits { IfOk result (λ bytes. length bytes ≤ target.max) }
+{
     let attempt = attempt_of_in(target, ep);
     let mut tries = Tries::new();
+    let mut outcome = first;
     'tries: loop {
+        if let Some(bytes) = tries.hear(heard_as(*toggle, outcome))? {
+            *toggle = toggle.other();
+            return Ok(Done::data(bytes));
+        }
         match bus.attempt(&attempt) {
-            Ok(outcome) => match heard_as(*toggle, outcome) {
-                HeardOutcome::Moved(bytes) => {
-                    *toggle = toggle.other();
-                    return Ok(Done::data(bytes));
-                }
-                HeardOutcome::NotReady | HeardOutcome::Repeat => tries.wait()?,
-                HeardOutcome::Refused => return Err(TransFault::Stalled),
-                HeardOutcome::Lost => tries.error()?,
-            },
+            Ok(next) => outcome = next,
             Err(fault) => return Err(TransFault::Bus(fault)),
         }
     }

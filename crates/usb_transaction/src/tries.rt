@@ -2,8 +2,11 @@
 ghost use Rattle.std.specs.Prelude.{◌≡◌, ◌+◌, ◌<◌, MatchResult};
 ghost use Rattle.usb_transaction.specs.declared.fault.TransFault.TheVariants.{Busy, NoAnswer};
 ghost use Rattle.usb_transaction.specs.Transactions.{error_limit, wait_limit};
+ghost use Rattle.usb_transaction.specs.HeardTries.{HearsAs};
 
 use crate::TransFault;
+use crate::heard_outcome::HeardOutcome;
+use arrayvec::ArrayVec;
 
 /// This number of errors in a row ends a transaction.
 pub(crate) const ERROR_LIMIT: u8 = 3;
@@ -25,6 +28,29 @@ impl Tries {
         Tries {
             errors: 0,
             waits: 0,
+        }
+    }
+
+    /// Hears what came of an attempt: the packet, or None where another attempt is to be made.
+    pub(crate) fn hear(
+        &mut self,
+        heard: HeardOutcome,
+    ) -> Result<Option<ArrayVec<u8, 64>>, TransFault>
+        requires errors { self.old.errors < error_limit }
+        requires waits { self.old.waits < wait_limit }
+        ensures { HearsAs self.old heard result self.new }
+    {
+        match heard {
+            HeardOutcome::Moved(bytes) => Ok(Some(bytes)),
+            HeardOutcome::NotReady | HeardOutcome::Repeat => {
+                self.wait()?;
+                Ok(None)
+            }
+            HeardOutcome::Refused => Err(TransFault::Stalled),
+            HeardOutcome::Lost => {
+                self.error()?;
+                Ok(None)
+            }
         }
     }
 

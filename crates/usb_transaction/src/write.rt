@@ -1,15 +1,16 @@
 //! OUT.
 ghost use Rattle.std.specs.Prelude.{◌≡◌, ◌≤◌, ◌<◌, length, MatchResult, true};
-ghost use Rattle.usb_bus.specs.Traces.{Spends, Steps};
-ghost use Rattle.usb_transaction.specs.Calls.{SendsOut};
+ghost use Rattle.usb_bus.specs.Traces.{Spends, StepRun, Steps};
 ghost use Rattle.usb_packet.specs.Toggles.{other};
-ghost use Rattle.usb_transaction.specs.Transactions.{BusTold, IsTarget, transaction_bound};
+ghost use Rattle.usb_transaction.specs.Calls.{SendsOut};
+ghost use Rattle.usb_transaction.specs.HeardTries.{AfterFirst, further_bound};
+ghost use Rattle.usb_transaction.specs.Transactions.{BusTold, IsTarget, out_attempt, transaction_bound};
 
 use crate::attempt::attempt_of_out;
-use crate::heard_outcome::{HeardOutcome, heard_when_sent};
+use crate::heard_outcome::heard_when_sent;
 use crate::tries::Tries;
 use crate::{Done, Target, TransFault};
-use usb_bus::Bus;
+use usb_bus::{Bus, Outcome};
 use usb_packet::Toggle;
 
 /// Sends one data packet of at most the target's maximum to an endpoint, 0 to 15 (8.5), again
@@ -44,19 +45,42 @@ pub fn data_out<B: Bus>(
     ensures toggle { MatchResult result (λ _. toggle.new ≡ other toggle.old)
         (λ _. toggle.new ≡ toggle.old) }
 {
+    match bus.attempt(&attempt_of_out(target, ep, *toggle, bytes)) {
+        Ok(first) => data_out_from(bus, target, ep, toggle, bytes, first),
+        Err(fault) => Err(TransFault::Bus(fault)),
+    }
+}
+
+/// Goes on with an OUT whose first attempt had this outcome, as `data_out` does.
+pub(crate) fn data_out_from<B: Bus>(
+    bus: &mut B,
+    target: Target,
+    ep: u8,
+    toggle: &mut Toggle,
+    bytes: &[u8],
+    first: Outcome,
+) -> Result<Done, TransFault>
+    requires endpoint { IsTarget target × (ep < 16) }
+    requires short { length bytes.now ≤ target.max }
+    ensures any_bus { Spends B.spent B.ports further_bound bus.old bus.new
+        × BusTold result (B.failed bus.new) }
+    ensures sends { B.modelled ≡ true → AfterFirst (out_attempt target ep toggle.old bytes.now)
+        first (B.world bus.old) (B.trace bus.old)
+        (λ old text. StepRun transaction_bound old text (B.world bus.new) (B.trace bus.new)
+        × SendsOut target ep toggle.old bytes.now old result (B.world bus.new)) }
+    ensures toggle { MatchResult result (λ _. toggle.new ≡ other toggle.old)
+        (λ _. toggle.new ≡ toggle.old) }
+{
     let attempt = attempt_of_out(target, ep, *toggle, bytes);
     let mut tries = Tries::new();
+    let mut outcome = first;
     'tries: loop {
+        if tries.hear(heard_when_sent(&outcome))?.is_some() {
+            *toggle = toggle.other();
+            return Ok(Done::nothing());
+        }
         match bus.attempt(&attempt) {
-            Ok(outcome) => match heard_when_sent(&outcome) {
-                HeardOutcome::Moved(_) => {
-                    *toggle = toggle.other();
-                    return Ok(Done::nothing());
-                }
-                HeardOutcome::NotReady | HeardOutcome::Repeat => tries.wait()?,
-                HeardOutcome::Refused => return Err(TransFault::Stalled),
-                HeardOutcome::Lost => tries.error()?,
-            },
+            Ok(next) => outcome = next,
             Err(fault) => return Err(TransFault::Bus(fault)),
         }
     }

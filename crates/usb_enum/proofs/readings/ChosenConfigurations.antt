@@ -14,7 +14,7 @@ use Rattle.usb_tree.proofs.Interface.{and_false, neither, same_equal}
 use Rattle.usb_enum.specs.{Cause, Silent, Busy, Stalled, BadDevice, TooDeep, BadHub, verdict}
 use Rattle.usb_enum.specs.{read_verdict, set_verdict, first_fault, texts_below, texts_of, text_read}
 use Rattle.usb_enum.specs.{is_good_text, is_good_hub, is_device, is_hub_device, choice_of, needs_of}
-use Rattle.usb_enum.specs.{any_has_value}
+use Rattle.usb_enum.specs.{any_has_value, HostOptions, left_of, said_below}
 use Rattle.usb_enum.specs.declared.cause.Request.TheVariants as request
 use Rattle.usb_enum.proofs.readings.SettingValues.{each_good, IsFresh, fresh_text, mapped_at}
 use Rattle.usb_enum.proofs.readings.SettingValues.{IsConfigurationRead, good_read, less_than}
@@ -22,13 +22,13 @@ use Rattle.usb_pipe.proofs.Interface.{is_some_byte}
 
 -- What is so of a description that is accepted
 
-pub record AcceptsChosen (spec : Spec) (wide : Bool) (supply chosen : ℕ) : Type 0 where
+pub record AcceptsChosen (spec : Spec) (options : HostOptions) (supply chosen : ℕ) : Type 0 where
   pub loud : spec.silent ≡ false
   pub free : spec.busy ≡ false
-  pub good : first_fault spec (configuration_count spec.descriptor) ≡ None
+  pub good : first_fault options.device_bytes spec (configuration_count spec.descriptor) ≡ None
   pub within : choice_of supply (texts_of spec) ≡ Some chosen
   pub hub : (is_hub_device spec.descriptor &&
-      not (is_good_hub wide spec (slice_index_or (texts_of spec) chosen []))) ≡ false
+      not (is_good_hub options.wide_hubs spec (slice_index_or (texts_of spec) chosen []))) ≡ false
 
 if_not : (b : Bool) (x : Cause) (r : Result ℕ Cause) (n : ℕ) → (if b then Err x else r) ≡ Ok n
     → (b ≡ false) × (r ≡ Ok n)
@@ -38,16 +38,18 @@ if_not false x r n e = (refl, e)
 same_ok : {E : Type 0} (a b : ℕ) → (let r : Result ℕ E = Ok a in r ≡ Ok b) → a ≡ b
 same_ok a b e = cc e
 
-module _ (spec : Spec) (wide : Bool) (supply chosen : ℕ) (loud : spec.silent ≡ false)
+module _ (spec : Spec) (options : HostOptions) (supply chosen : ℕ) (loud : spec.silent ≡ false)
     (free : spec.busy ≡ false)
   where
-    set_by : (o : Option ℕ) → first_fault spec (configuration_count spec.descriptor) ≡ None
-        → choice_of supply (texts_of spec) ≡ o → set_verdict wide spec (texts_of spec) o ≡ Ok chosen
-        → AcceptsChosen spec wide supply chosen
+    set_by : (o : Option ℕ)
+        → first_fault options.device_bytes spec (configuration_count spec.descriptor) ≡ None
+        → choice_of supply (texts_of spec) ≡ o
+        → set_verdict options.wide_hubs spec (texts_of spec) o ≡ Ok chosen
+        → AcceptsChosen spec options supply chosen
     set_by None good e v = absurd (cc v)
     set_by (Some k) good e v =
         let bad : Bool = is_hub_device spec.descriptor &&
-        not (is_good_hub wide spec (slice_index_or (texts_of spec) k [])) in
+        not (is_good_hub options.wide_hubs spec (slice_index_or (texts_of spec) k [])) in
         let a = if_not spec.stalls.set_config (Stalled request.SetConfig)
         (if bad then Err BadHub else Ok k) chosen v in
         let b = if_not bad BadHub (Ok k) chosen a.1 in
@@ -60,8 +62,10 @@ module _ (spec : Spec) (wide : Bool) (supply chosen : ℕ) (loud : spec.silent �
           hub = rw same at b.0;
         }
 
-    read_by : (o : Option Cause) → first_fault spec (configuration_count spec.descriptor) ≡ o
-        → read_verdict wide spec supply o ≡ Ok chosen → AcceptsChosen spec wide supply chosen
+    read_by : (o : Option Cause)
+        → first_fault options.device_bytes spec (configuration_count spec.descriptor) ≡ o
+        → read_verdict options.wide_hubs spec supply o ≡ Ok chosen
+        → AcceptsChosen spec options supply chosen
     read_by (Some cause) e v = absurd (cc v)
     read_by None e v = set_by (choice_of supply (texts_of spec)) e refl v
 
@@ -73,18 +77,19 @@ last_row : (a b c d f g h : Bool) (r : Result ℕ Cause) (n : ℕ)
 last_row false false false false false false false r n e = (refl, refl, e)
 last_row _ _ _ _ _ _ _ r n e = absurd (cc e)
 
-pub accepts : (spec : Spec) (wide : Bool) (tier supply chosen : ℕ)
-    → verdict spec wide tier supply ≡ Ok chosen → AcceptsChosen spec wide supply chosen
+pub accepts : (spec : Spec) (options : HostOptions) (tier supply chosen : ℕ)
+    → verdict spec options tier supply ≡ Ok chosen → AcceptsChosen spec options supply chosen
 unfolding verdict
-accepts spec wide tier supply chosen e =
+accepts spec options tier supply chosen e =
     let row =
     last_row spec.silent spec.busy spec.stalls.device
     (not (is_ok (device_head_of spec.low (take 8 spec.descriptor)))) spec.stalls.address
     (not (is_device spec.low (take 18 spec.descriptor))) (is_hub_device spec.descriptor &&
     tier == 7)
-    (read_verdict wide spec supply (first_fault spec (configuration_count spec.descriptor))) chosen
+    (read_verdict options.wide_hubs spec supply
+    (first_fault options.device_bytes spec (configuration_count spec.descriptor))) chosen
     e in
-    read_by spec wide supply chosen row.0 row.1 (first_fault spec
+    read_by spec options supply chosen row.0 row.1 (first_fault options.device_bytes spec
     (configuration_count spec.descriptor))
     refl row.2
 
@@ -128,15 +133,18 @@ chosen_below supply texts chosen e =
     subst (λ n. chosen < n) (length-map texts _)
     (position-Some (λ need. nat_le need supply) (needs_of texts) chosen 0 e).0
 
-pub has_chosen : {wide : Bool} (spec : Spec) (supply chosen : ℕ)
-    → AcceptsChosen spec wide supply chosen
+pub has_chosen : {options : HostOptions} (spec : Spec) (supply chosen : ℕ)
+    → AcceptsChosen spec options supply chosen
     → HasChosen spec chosen
-has_chosen spec supply chosen a =
+has_chosen {options} spec supply chosen a =
+    let budget = options.device_bytes in
     let count : ℕ = configuration_count spec.descriptor in
     let at = mapped_at text_read spec.configs count chosen
     (chosen_below supply (texts_of spec) chosen a.within) in
-    let fresh : IsFresh spec chosen at.text =
-    fresh_text spec chosen at.text at.stands (each_good spec count chosen at.below a.good) in
+    let room : ℕ → Option ℕ = λ i. left_of budget (said_below spec i) in
+    let fresh : IsFresh (room chosen) spec chosen at.text =
+    fresh_text (room chosen) spec chosen at.text at.stands
+    (each_good budget spec count chosen at.below a.good) in
     let read : IsConfigurationRead at.text = good_read at.text fresh.good in
     let within = at.below in
     record {
@@ -145,8 +153,8 @@ has_chosen spec supply chosen a =
       read = read;
       found =
           found_text spec.configs chosen (slice_index at.text 5) at.text at.stands
-          (λ i t less e. (fresh_text spec i t e
-          (each_good spec count i (omega (arith, less, within)) a.good)).good)
+          (λ i t less e. (fresh_text (room i) spec i t e
+          (each_good budget spec count i (omega (arith, less, within)) a.good)).good)
           (ap (λ v. any_has_value v (texts_below spec chosen)) (sym read.value) ∙ fresh.first)
           fresh.good refl;
     }

@@ -6,7 +6,7 @@ use Rattle.std.proofs.lemmas.Bool.{and_from}
 use Rattle.std.proofs.lemmas.Option.{same_Some}
 use Rattle.std.specs.Global.{Vec}
 use Rattle.usb_descriptor.specs.{config_head_of, config_of, configuration_value, total_in}
-use Rattle.usb_device.specs.{Spec, State}
+use Rattle.usb_device.specs.{said_length, Spec, State}
 use Rattle.usb_world.specs.{EachWas, World}
 use Rattle.usb_tree.proofs.Interface.{decided}
 use Rattle.usb_world.proofs.Interface.{each_joined, each_none, each_wider}
@@ -19,9 +19,11 @@ use Rattle.usb_hub.specs.{TextAsked, ConfigAsked}
 use Rattle.usb_hub.proofs.Interface.{stays-registers, stays-spec, stays_joined}
 use Rattle.usb_enum.specs.{Cause, text_read, is_good_text, texts_below, config_fault, first_fault}
 use Rattle.usb_enum.specs.{text_fault, Learned, DeviceFact, AtMaximum, HasTotal, HasConfiguration}
-use Rattle.usb_enum.specs.{HasConfigurations, answered_or, config_text_of, any_has_value}
+use Rattle.usb_enum.specs.{HasConfigurations, answered_or, config_text_of, any_has_value, is_over}
+use Rattle.usb_enum.specs.{left_of, texts_length}
 use Rattle.usb_enum.proofs.refusals.Refusals.{answered_ok}
 use Rattle.usb_enum.proofs.devices.SharedAddresses.{went_unshared}
+use Rattle.usb_enum.proofs.readings.TextBytes.{left_said}
 use Rattle.usb_enum.proofs.verdicts.VerdictRows.{first_none}
 
 -- where nothing went, what is so of every description
@@ -117,11 +119,12 @@ good_bytes bytes text is = elim (decided (is_ok (config_of bytes))) [
 ]
 
 -- what was read of a configuration is as long as its head says
-configuration_of_total : (index total : ℕ) (bytes text whole : List ℕ) (spec : Spec)
-    → HasTotal index total spec → config_given index spec ≡ Some whole → bytes ≡ take total whole
-    → Some text ≡ config_text_of bytes → HasConfiguration index text spec
-unfolding text_read
-configuration_of_total index total bytes text whole spec head given first good =
+configuration_of_total : (room : Option ℕ) (index total : ℕ) (bytes text whole : List ℕ)
+    (spec : Spec) → is_over room total ≡ false → HasTotal index total spec
+    → config_given index spec ≡ Some whole → bytes ≡ take total whole
+    → Some text ≡ config_text_of bytes → HasConfiguration room index text spec
+unfolding text_read said_length
+configuration_of_total room index total bytes text whole spec fits head given first good =
     let same = same_Some whole head.text (sym given ∙ head.given) in
     let of_bytes = good_bytes bytes text good in
     let read : bytes ≡ text_read head.text = first ∙ ap (take total) same
@@ -129,6 +132,7 @@ configuration_of_total index total bytes text whole spec head given first good =
     record {
       text = head.text;
       given = head.given;
+      fits = ap (λ r. is_over room (total_in r)) head.head ∙ fits;
       good = and_from (is_ok (config_head_of (take 9 head.text)))
           (is_ok (config_of (text_read head.text))) (ap is_ok head.head)
           (ap (λ b. is_ok (config_of b)) (sym read) ∙ of_bytes.0);
@@ -141,20 +145,20 @@ pub record HasBytes (index total : ℕ) (bytes : List ℕ) (spec : Spec) : Type 
   pub given : config_given index spec ≡ Some text
   pub first : bytes ≡ take total text
 
-pub configuration_learned : (t : Target) (stalled : Cause) (index total n : ℕ)
+pub configuration_learned : (room : Option ℕ) (t : Target) (stalled : Cause) (index total n : ℕ)
     (outcome : Result (Vec ℕ) PipeFault) (bytes : Vec ℕ) (text : List ℕ) (old mid new : World)
-    {r s : Option (List ℕ)}
+    {r s : Option (List ℕ)} → is_over room total ≡ false
     → Ok bytes ≡ answered_or stalled outcome → Some text ≡ config_text_of bytes.items
     → DeviceFact (AtMaximum t (HasTotal index total)) t old mid → StepRun n mid r new s
     → (new.shared ≡ false → EachWas (ConfigAsked t index total outcome) mid new)
-    → DeviceFact (AtMaximum t (HasConfiguration index text)) t old new
-configuration_learned t stalled index total n outcome bytes text old mid new answered good head went
-    what =
+    → DeviceFact (AtMaximum t (HasConfiguration room index text)) t old new
+configuration_learned room t stalled index total n outcome bytes text old mid new fits answered good
+    head went what =
     let Has : Spec → Type 0 = HasBytes index total bytes.items in
     learns_on (AtMaximum t (HasTotal index total)) (AtMaximum t Has)
-    (AtMaximum t (HasConfiguration index text)) t n old mid new
-    (λ spec h r max. configuration_of_total index total bytes.items text (r max).text spec (h max)
-    (r max).given (r max).first good) head went
+    (AtMaximum t (HasConfiguration room index text)) t n old mid new
+    (λ spec h r max. configuration_of_total room index total bytes.items text (r max).text spec fits
+    (h max) (r max).given (r max).first good) head went
     (text_learned (config_given index) Has t total outcome bytes mid new
     (answered_ok stalled outcome bytes answered)
     (λ spec whole given first. record { text = whole; given = given; first = first }) what)
@@ -166,20 +170,21 @@ pub given_allows : {X : Type 0} (refused : Bool) (given : Option X) (x : X)
 given_allows true given x is = absurd cc
 given_allows false given x is = (refl, is)
 
-text_faultless : (index : ℕ) (earlier : List (List ℕ)) (o : Option (List ℕ)) (text : List ℕ)
-    → o ≡ Some text → is_good_text text ≡ true
+text_faultless : (room : Option ℕ) (index : ℕ) (earlier : List (List ℕ)) (o : Option (List ℕ))
+    (text : List ℕ) → o ≡ Some text → is_over room (said_length text) ≡ false → is_good_text text ≡ true
     → any_has_value (configuration_value (text_read text)) earlier ≡ false
-    → text_fault index earlier o ≡ None
-text_faultless index earlier o text is good differs = rw (is, good, differs) refl
+    → text_fault room index earlier o ≡ None
+text_faultless room index earlier o text is fits good differs = rw (is, fits, good, differs) refl
 
-config_faultless : (spec : Spec) (index : ℕ) (text : List ℕ) → config_given index spec ≡ Some text
+config_faultless : (room : Option ℕ) (spec : Spec) (index : ℕ) (text : List ℕ)
+    → config_given index spec ≡ Some text → is_over room (said_length text) ≡ false
     → is_good_text text ≡ true → any_has_value (configuration_value (text_read text))
-    (texts_below spec index) ≡ false → config_fault spec index ≡ None
+    (texts_below spec index) ≡ false → config_fault room spec index ≡ None
 unfolding config_fault
-config_faultless spec index text given good differs =
+config_faultless room spec index text given fits good differs =
     let allowed = given_allows spec.stalls.config (slice_get spec.configs index) text given in
-    rw allowed.0 (text_faultless index (texts_below spec index) (slice_get spec.configs index) text
-    allowed.1 good differs)
+    rw allowed.0 (text_faultless room index (texts_below spec index) (slice_get spec.configs index)
+    text allowed.1 fits good differs)
 
 mapped_more : {X Y : Type 0} (f : X → Y) (xs : List X) (i : ℕ) (x : X) → slice_get xs i ≡ Some x
     → map f (take (suc i) xs) ≡ map f (take i xs) ++ f x ∷ []
@@ -187,35 +192,40 @@ mapped_more f [] i x is = absurd cc
 mapped_more f (y ∷ xs) zero x is = ap (λ z. f z ∷ []) (same_Some y x is)
 mapped_more f (y ∷ xs) (suc i) x is = ap (λ ys. f y ∷ ys) (mapped_more f xs i x is)
 
-pub configurations_none : (spec : Spec) → HasConfigurations 0 [] spec
+pub configurations_none : (budget : Option ℕ) (spec : Spec) → HasConfigurations budget 0 [] spec
 unfolding first_fault
-configurations_none spec = record { good = refl; read = refl }
+configurations_none budget spec = record { good = refl; read = refl }
 
-configurations_more : (count : ℕ) (texts : List (List ℕ)) (text : List ℕ) (spec : Spec)
-    → any_has_value (configuration_value text) texts ≡ false → HasConfigurations count texts spec
-    → HasConfiguration count text spec → HasConfigurations (count + 1) (texts ++ text ∷ []) spec
-configurations_more count texts text spec differs before now =
+configurations_more : (budget room : Option ℕ) (count : ℕ) (texts : List (List ℕ)) (text : List ℕ)
+    (spec : Spec) → room ≡ left_of budget (texts_length texts)
+    → any_has_value (configuration_value text) texts ≡ false
+    → HasConfigurations budget count texts spec → HasConfiguration room count text spec
+    → HasConfigurations budget (count + 1) (texts ++ text ∷ []) spec
+configurations_more budget room count texts text spec left differs before now =
     let given = given_allows spec.stalls.config (slice_get spec.configs count) now.text now.given in
     let one_more : count + 1 ≡ suc count = omega arith in
     record {
-      good = first_none spec count before.good
-          (config_faultless spec count now.text now.given now.good
-          (rw (before.read, now.read) at differs));
+      good = first_none budget spec count before.good
+          (subst (λ o. config_fault o spec count ≡ None)
+          (left_said budget room count texts spec left before)
+          (config_faultless room spec count now.text now.given now.fits now.good
+          (rw (before.read, now.read) at differs)));
       read = ap (λ x. texts ++ x ∷ []) now.read
           ∙ ap (λ xs. xs ++ text_read now.text ∷ []) before.read
           ∙ sym (ap (λ n. texts_below spec n) one_more
           ∙ mapped_more text_read spec.configs count now.text given.1);
     }
 
-pub configurations_learned : (t : Target) (count n : ℕ) (texts : List (List ℕ)) (text : List ℕ)
-    (old mid new : World) {r s : Option (List ℕ)} → any_has_value (configuration_value text) texts
-    ≡ false
-    → DeviceFact (AtMaximum t (HasConfigurations count texts)) t old mid → StepRun n mid r new s
-    → DeviceFact (AtMaximum t (HasConfiguration count text)) t mid new
-    → DeviceFact (AtMaximum t (HasConfigurations (count + 1) (texts ++ text ∷ []))) t old new
-configurations_learned t count n texts text old mid new differs before went now =
-    learns_on (AtMaximum t (HasConfigurations count texts))
-    (AtMaximum t (HasConfiguration count text))
-    (AtMaximum t (HasConfigurations (count + 1) (texts ++ text ∷ []))) t n old mid new
-    (λ spec b h max. configurations_more count texts text spec differs (b max) (h max)) before went
-    now
+pub configurations_learned : (budget room : Option ℕ) (t : Target) (count n : ℕ)
+    (texts : List (List ℕ)) (text : List ℕ) (old mid new : World) {r s : Option (List ℕ)}
+    → room ≡ left_of budget (texts_length texts)
+    → any_has_value (configuration_value text) texts ≡ false
+    → DeviceFact (AtMaximum t (HasConfigurations budget count texts)) t old mid
+    → StepRun n mid r new s → DeviceFact (AtMaximum t (HasConfiguration room count text)) t mid new
+    → DeviceFact (AtMaximum t (HasConfigurations budget (count + 1) (texts ++ text ∷ []))) t old new
+configurations_learned budget room t count n texts text old mid new left differs before went now =
+    learns_on (AtMaximum t (HasConfigurations budget count texts))
+    (AtMaximum t (HasConfiguration room count text))
+    (AtMaximum t (HasConfigurations budget (count + 1) (texts ++ text ∷ []))) t n old mid new
+    (λ spec b h max. configurations_more budget room count texts text spec left differs (b max)
+    (h max)) before went now

@@ -14,10 +14,11 @@ use Rattle.usb_descriptor.specs.{DescriptorFault, config_head_of, config_of, con
 use Rattle.usb_descriptor.specs.{total_in}
 use Rattle.usb_descriptor.proofs.Interface.{header_of}
 use Rattle.usb_device.specs.Bulk as device
-use Rattle.usb_device.specs.{is_value, Spec, total_of}
+use Rattle.usb_device.specs.{is_value, said_length, Spec, total_of}
 use Rattle.usb_tree.proofs.Interface.{or_left, or_right, same_equal}
-use Rattle.usb_enum.specs.{Cause, Stalled, BadConfiguration, text_read, is_good_text, texts_below}
-use Rattle.usb_enum.specs.{text_fault, config_fault, first_fault, HasConfigurations, any_has_value}
+use Rattle.usb_enum.specs.{Cause, Stalled, BadConfiguration, TooLarge, text_read, is_good_text}
+use Rattle.usb_enum.specs.{texts_below, text_fault, config_fault, first_fault, HasConfigurations}
+use Rattle.usb_enum.specs.{any_has_value, is_over, left_of, said_below}
 use Rattle.usb_enum.specs.declared.cause.Request.TheVariants as request
 
 -- Each of some configurations that are good
@@ -26,39 +27,45 @@ pub or_none : (o p : Option Cause) → option_or o p ≡ None → (o ≡ None) �
 or_none (Some cause) p h = absurd cc
 or_none None p h = (refl, h)
 
-pub each_good : (spec : Spec) (n i : ℕ) → i < n → first_fault spec n ≡ None
-    → config_fault spec i ≡ None
+pub each_good : (budget : Option ℕ) (spec : Spec) (n i : ℕ) → i < n
+    → first_fault budget spec n ≡ None
+    → config_fault (left_of budget (said_below spec i)) spec i ≡ None
 unfolding first_fault
-each_good spec zero i below h = absurd (omega (arith, below))
-each_good spec (suc n) i below h =
-    let parts = or_none (first_fault spec n) (config_fault spec n) h in
+each_good budget spec zero i below h = absurd (omega (arith, below))
+each_good budget spec (suc n) i below h =
+    let parts = or_none (first_fault budget spec n)
+    (config_fault (left_of budget (said_below spec n)) spec n) h in
     elim (cases_order i n) [
-      | inl e ↦ ap (config_fault spec) e ∙ parts.1
-      | inr (inl less) ↦ each_good spec n i less parts.0
+      | inl e ↦ ap (λ k. config_fault (left_of budget (said_below spec k)) spec k) e ∙ parts.1
+      | inr (inl less) ↦ each_good budget spec n i less parts.0
       | inr (inr more) ↦ absurd (omega (arith, below, more))
     ]
 
--- the text of an index is good, and no earlier one has its value
-pub record IsFresh (spec : Spec) (i : ℕ) (text : List ℕ) : Type 0 where
+-- the text of an index fits what is left and is good, and no earlier one has its value
+pub record IsFresh (room : Option ℕ) (spec : Spec) (i : ℕ) (text : List ℕ) : Type 0 where
+  pub fits : is_over room (said_length text) ≡ false
   pub good : is_good_text text ≡ true
   pub first : any_has_value (configuration_value (text_read text)) (texts_below spec i) ≡ false
 
-fresh_by : (refused good old : Bool) (i : ℕ) → (if refused then Some (Stalled request.Config)
-    else (if good && not old then None else Some (BadConfiguration i))) ≡ None → (good ≡ true)
-    × (old ≡ false)
-fresh_by false true false i h = (refl, refl)
-fresh_by _ _ _ i h = absurd cc
+fresh_by : (refused over good old : Bool) (i : ℕ)
+    → (if refused then Some (Stalled request.Config)
+    else (if over then Some TooLarge
+    else (if good && not old then None else Some (BadConfiguration i)))) ≡ None
+    → (over ≡ false) × (good ≡ true) × (old ≡ false)
+fresh_by false false true false i h = (refl, refl, refl)
+fresh_by _ _ _ _ i h = absurd cc
 
-pub fresh_text : (spec : Spec) (i : ℕ) (text : List ℕ) → slice_get spec.configs i ≡ Some text
-    → config_fault spec i ≡ None → IsFresh spec i text
+pub fresh_text : (room : Option ℕ) (spec : Spec) (i : ℕ) (text : List ℕ)
+    → slice_get spec.configs i ≡ Some text
+    → config_fault room spec i ≡ None → IsFresh room spec i text
 unfolding config_fault
-fresh_text spec i text stands h =
+fresh_text room spec i text stands h =
     let parts =
-    fresh_by spec.stalls.config (is_good_text text)
+    fresh_by spec.stalls.config (is_over room (said_length text)) (is_good_text text)
     (any_has_value (configuration_value (text_read text)) (texts_below spec i)) i
-    (sym (ap (λ o. if spec.stalls.config then Some (Stalled request.Config) else text_fault i
+    (sym (ap (λ o. if spec.stalls.config then Some (Stalled request.Config) else text_fault room i
     (texts_below spec i) o) stands) ∙ h) in
-    record { good = parts.0; first = parts.1 }
+    record { fits = parts.0; good = parts.1; first = parts.2 }
 
 -- The text of an index
 
@@ -101,7 +108,7 @@ less_than m n h = grind (arith, nat_tests, h)
 not_less : (m n : ℕ) → m ≤ n → nat_lt n m ≡ false
 not_less m n h = grind (arith, nat_tests, h)
 
-ok_total : (r : Result ℕ DescriptorFault) → is_ok r ≡ true → r ≡ Ok (total_in r)
+pub ok_total : (r : Result ℕ DescriptorFault) → is_ok r ≡ true → r ≡ Ok (total_in r)
 ok_total (Ok total) h = refl
 ok_total (Err fault) h = absurd cc
 
@@ -147,13 +154,13 @@ pub record IsGoodValue (spec : Spec) (value : ℕ) : Type 0 where
   pub some : value ≢ 0
   pub taken : is_value spec.configs value ≡ true
 
-pub chosen_value : (spec : Spec) (count i value : ℕ) (texts : List (List ℕ))
-    → HasConfigurations count texts spec → i < length texts
+pub chosen_value : (budget : Option ℕ) (spec : Spec) (count i value : ℕ) (texts : List (List ℕ))
+    → HasConfigurations budget count texts spec → i < length texts
     → value ≡ configuration_value (slice_index_or texts i []) → value < 256 → IsGoodValue spec value
-chosen_value spec count i value texts has inside is byte =
+chosen_value budget spec count i value texts has inside is byte =
     let at = mapped_at text_read spec.configs count i (subst (λ x. i < length x) has.read inside) in
-    let of_text = good_read at.text (fresh_text spec i at.text at.stands
-    (each_good spec count i at.below has.good)).good in
+    let of_text = good_read at.text (fresh_text (left_of budget (said_below spec i)) spec i at.text
+    at.stands (each_good budget spec count i at.below has.good)).good in
     let read : value ≡ configuration_value (text_read at.text) = is
     ∙ ap (λ x. configuration_value (slice_index_or x i [])) has.read
     ∙ ap configuration_value at.read in

@@ -12,7 +12,7 @@ use Rattle.usb_hub.specs.{ConfigurationAsked, IsFresh}
 use Rattle.usb_hub.proofs.Interface.{stays-registers, stays-spec}
 use Rattle.usb_enum.specs.{Accepted, StringIndexes, strings_by, string_indexes, configuration_of}
 use Rattle.usb_enum.specs.{Learned, DeviceFact, HasReadings, LearnedSet, LearnsSet, TellsPorts}
-use Rattle.usb_enum.specs.{AtMaximum, HasConfigurations}
+use Rattle.usb_enum.specs.{AtMaximum, HasConfigurations, HostOptions}
 use Rattle.usb_enum.proofs.devices.SharedAddresses.{went_unshared}
 
 -- where nothing changed but where its transfer stands
@@ -79,30 +79,30 @@ set_then A B t value m before set told a went b single =
     (b single)
 
 -- its configurations were read, it was configured, and its ports and its strings were read
-pub listed_learns : (wide : Bool) (t : Target) (bytes : List ℕ) (device : Accepted)
+pub listed_learns : (options : HostOptions) (t : Target) (bytes : List ℕ) (device : Accepted)
     (count value l m n : ℕ)
     (text : List ℕ) (indexes : StringIndexes) (outcome : Result (Unit {0}) PipeFault)
     {before given set told new : World} {b c d e : Option (List ℕ)}
     → count ≡ configuration_count bytes
-    → DeviceFact (AtMaximum t (HasConfigurations count device.configs)) t before given
+    → DeviceFact (AtMaximum t (HasConfigurations options.device_bytes count device.configs)) t before given
     → StepRun l given b set c → value ≡ configuration_value (configuration_of device)
     → outcome ≡ Ok tt → (set.shared ≡ false
     → EachWas (ConfigurationAsked t value outcome set) given set)
     → StepRun m set c told d → text ≡ configuration_of device
-    → DeviceFact (AtMaximum t (TellsPorts wide text device.hub)) t set told
+    → DeviceFact (AtMaximum t (TellsPorts options.wide_hubs text device.hub)) t set told
     → StepRun n told d new e → indexes ≡ string_indexes bytes
     → DeviceFact (AtMaximum t (λ spec. device.strings ≡ strings_by spec indexes)) t told new
-    → LearnsSet (AtMaximum t (HasReadings wide bytes device)) t
+    → LearnsSet (AtMaximum t (HasReadings options bytes device)) t
     (configuration_value (configuration_of device)) before new
-listed_learns wide t bytes device count value l m n text indexes outcome {before} {given} {set}
+listed_learns options t bytes device count value l m n text indexes outcome {before} {given} {set}
     {told}
     {new} same_count configs went_set same_value done asked went_told same_text ports went
     same_indexes strings single =
-    let Texts : Spec → Type 0 = AtMaximum t (HasConfigurations count device.configs) in
-    let Ports : Spec → Type 0 = AtMaximum t (TellsPorts wide text device.hub) in
+    let Texts : Spec → Type 0 = AtMaximum t (HasConfigurations options.device_bytes count device.configs) in
+    let Ports : Spec → Type 0 = AtMaximum t (TellsPorts options.wide_hubs text device.hub) in
     let Named : Spec → Type 0 = AtMaximum t (λ spec. device.strings ≡ strings_by spec indexes) in
     each_wider (LearnedSet (λ x. (Allowed Texts x × Ports x) × Named x) t value)
-    (LearnedSet (AtMaximum t (HasReadings wide bytes device)) t
+    (LearnedSet (AtMaximum t (HasReadings options bytes device)) t
     (configuration_value (configuration_of device)))
     (λ j s v x. record {
       spec = x.spec;
@@ -110,10 +110,10 @@ listed_learns wide t bytes device count value l m n text indexes outcome {before
       so = λ at.
           let so = x.so at in (
             (λ most. record {
-              configs = subst (λ k. HasConfigurations k device.configs s.spec) same_count
+              configs = subst (λ k. HasConfigurations options.device_bytes k device.configs s.spec) same_count
                   (so.0.0.0.0 most);
               allowed = so.0.0.0.1;
-              ports = subst (λ y. TellsPorts wide y device.hub s.spec) same_text (so.0.0.1 most);
+              ports = subst (λ y. TellsPorts options.wide_hubs y device.hub s.spec) same_text (so.0.0.1 most);
               strings = so.0.1 most ∙ ap (strings_by s.spec) same_indexes;
             }),
             so.1 ∙ same_value,

@@ -20,7 +20,7 @@ use Rattle.usb_enum.specs.{facts_of, texts_below, first_fault, strings_by, IsAs,
 use Rattle.usb_enum.specs.{is_hub_device, needs_pre, string_indexes, configuration_of, HasFacts}
 use Rattle.usb_enum.specs.{OnlySets, IsAccepted, IsListed, IsOwn, IsWhole, Finds, HasTaken}
 use Rattle.usb_enum.specs.{IsAddressed, HasReadings, LearnedSet, TellsPorts, AtMaximum, IsGoodHub}
-use Rattle.usb_enum.specs.{choice_of}
+use Rattle.usb_enum.specs.{choice_of, HostOptions}
 use Rattle.usb_enum.proofs.courses.Courses.{went_in_order, went_regular}
 use Rattle.usb_enum.proofs.devices.Enumerations.{within-keeps_addresses, takes_then}
 use Rattle.usb_enum.proofs.readings.Heads.{head_packet}
@@ -82,16 +82,17 @@ facts_told wide spec bytes text None ruled same has tells = record {
 
 -- The finding
 
-own_finding : (wide : Bool) (tier supply : ℕ) (addressed : Addressed) (device : Accepted)
+own_finding : (options : HostOptions) (tier supply : ℕ) (addressed : Addressed) (device : Accepted)
     (s : State) {old new : World} → IsSpec s.spec → IsAddressed addressed s
-    → IsListed addressed wide tier old new device → IsWhole wide supply device
-    → HasReadings wide addressed.bytes device s.spec
-    → (verdict s.spec wide tier supply ≡ Ok device.chosen) × IsAs s.spec device
-own_finding wide tier supply addressed device s ruled found is whole read =
+    → IsListed addressed options tier old new device → IsWhole options supply device
+    → HasReadings options addressed.bytes device s.spec
+    → (verdict s.spec options tier supply ≡ Ok device.chosen) × IsAs s.spec device
+own_finding options tier supply addressed device s ruled found is whole read =
     let spec = s.spec in
     let hub_same = ap is_hub_device found.bytes ∙ front_hub spec.descriptor in
     let count_same = ap configuration_count found.bytes ∙ front_count spec.descriptor in
     let texts_same = read.configs.read ∙ ap (texts_below spec) count_same in
+    let wide = options.wide_hubs in
     let gave : GaveDevice spec tier = record {
       first = gave_head addressed.target.low addressed.target.max spec found.low found.head;
       address = found.allowed;
@@ -102,9 +103,9 @@ own_finding wide tier supply addressed device s ruled found is whole read =
     } in
     let hub = facts_told wide spec device.bytes (configuration_of device) device.hub ruled
     (ap is_hub_device is.bytes ∙ hub_same) whole.hub read.ports in (
-      row_accepted spec wide tier supply device.chosen (record {
+      row_accepted spec options tier supply device.chosen (record {
         device = gave;
-        good = ap (first_fault spec) (sym count_same) ∙ read.configs.good;
+        good = ap (first_fault options.device_bytes spec) (sym count_same) ∙ read.configs.good;
         within = ap (choice_of supply) (sym texts_same) ∙ whole.chosen;
       }) read.allowed (ap (λ texts. is_hub_device spec.descriptor &&
           not (is_good_hub wide spec (slice_index_or texts device.chosen []))) (sym texts_same)
@@ -120,19 +121,19 @@ own_finding wide tier supply addressed device s ruled found is whole read =
     )
 
 -- it is set as it says, where its address is the target's and its configuration the chosen one's
-accepted_own_device : (wide : Bool) (tier supply : ℕ) (addressed : Addressed) (device : Accepted)
-    (j : Location) (s v : State) {old new : World} → IsWhole wide supply device
-    → IsListed addressed wide tier old new device
-    → LearnedSet (AtMaximum addressed.target (HasReadings wide addressed.bytes device))
+accepted_own_device : (options : HostOptions) (tier supply : ℕ) (addressed : Addressed) (device : Accepted)
+    (j : Location) (s v : State) {old new : World} → IsWhole options supply device
+    → IsListed addressed options tier old new device
+    → LearnedSet (AtMaximum addressed.target (HasReadings options addressed.bytes device))
     addressed.target (configuration_value (configuration_of device)) j s v → IsAddressed addressed s
-    → IsSpec s.spec → IsOwn wide tier supply device v
-accepted_own_device wide tier supply addressed device j s v whole is learned found ruled =
+    → IsSpec s.spec → IsOwn options tier supply device v
+accepted_own_device options tier supply addressed device j s v whole is learned found ruled =
     let target = addressed.target in
     let learned_of = learned.so (eq-eqb (address_of s) target.addr found.address) in
-    let read : HasReadings wide addressed.bytes device s.spec =
+    let read : HasReadings options addressed.bytes device s.spec =
     learned_of.0 (head_packet s.spec target.low target.max found.low found.head) in (
-      subst (λ x. (verdict x wide tier supply ≡ Ok device.chosen) × IsAs x device)
-          (sym learned.spec) (own_finding wide tier supply addressed device s ruled found is whole
+      subst (λ x. (verdict x options tier supply ≡ Ok device.chosen) × IsAs x device)
+          (sym learned.spec) (own_finding options tier supply addressed device s ruled found is whole
           read),
       record {
         address = learned.address ∙ found.address ∙ sym is.address;
@@ -147,19 +148,19 @@ ruled_there k (suc i ∷ p) s sane there = sane_spec k i p s sane there
 ruled_there k _ s sane there = absurd cc
 
 -- the device at the port, where it was read and configured after it took the address
-own_found : (port : HubPort) (address : ℕ) (wide : Bool) (tier supply n : ℕ)
+own_found : (port : HubPort) (address : ℕ) (options : HostOptions) (tier supply n : ℕ)
     (addressed : Addressed) (device : Accepted) {old mid new : World} {a b : Option (List ℕ)}
     → StepRun n old a mid b
     → Within port address old mid → HasTaken port address old mid addressed
-    → KeepsAddresses mid new → IsWhole wide supply device
-    → IsListed addressed wide tier mid new device
-    → Finds (IsOwn wide tier supply device) port address old new
-own_found port address wide tier supply n addressed device {old} {mid} {new} went within taken keeps
+    → KeepsAddresses mid new → IsWhole options supply device
+    → IsListed addressed options tier mid new device
+    → Finds (IsOwn options tier supply device) port address old new
+own_found port address options tier supply n addressed device {old} {mid} {new} went within taken keeps
     whole is =
-    finds_on (LearnedSet (AtMaximum addressed.target (HasReadings wide addressed.bytes device))
+    finds_on (LearnedSet (AtMaximum addressed.target (HasReadings options addressed.bytes device))
     addressed.target (configuration_value (configuration_of device)))
-    (λ s. IsAddressed addressed s × IsSpec s.spec) (IsOwn wide tier supply device) port address
-    (λ j s v learned found. accepted_own_device wide tier supply addressed device j s v whole is
+    (λ s. IsAddressed addressed s × IsSpec s.spec) (IsOwn options tier supply device) port address
+    (λ j s v learned found. accepted_own_device options tier supply addressed device j s v whole is
     learned found.0 found.1) is.learned (within-keeps_addresses port address old mid new within
     keeps)
     (record {
@@ -179,19 +180,19 @@ target_is : (t : Target) (address : ℕ) (low pre : Bool) → address ≡ t.addr
     }
 target_is t address low pre at slow before = rw (at, slow, ← before) refl
 
-pub accepted : (port : HubPort) (address : ℕ) (wide : Bool) (tier supply n m : ℕ)
+pub accepted : (port : HubPort) (address : ℕ) (options : HostOptions) (tier supply n m : ℕ)
     (addressed : Addressed) (result : Result Accepted Stop) {old mid new : World}
     {a b c d : Option (List ℕ)}
     → StepRun n old a mid b → Within port address old mid → HasTaken port address old mid addressed
     → OnlySets address mid new → StepRun m mid c new d
-    → IfOk result (λ device. IsWhole wide supply device)
-    → IfOk result (IsListed addressed wide tier mid new)
-    → IfOk result (IsAccepted port address wide tier supply old new)
-accepted port address wide tier supply n m addressed (Ok device) {old} {mid} {new} went within taken
+    → IfOk result (λ device. IsWhole options supply device)
+    → IfOk result (IsListed addressed options tier mid new)
+    → IfOk result (IsAccepted port address options tier supply old new)
+accepted port address options tier supply n m addressed (Ok device) {old} {mid} {new} went within taken
     sets later whole is = record {
       served = is.served;
       takes = takes_then port address old mid new taken.takes sets.addresses;
-      own = own_found port address wide tier supply n addressed device went within taken
+      own = own_found port address options tier supply n addressed device went within taken
           sets.addresses whole is;
       reaches = reaches_set port address m later taken.takes sets taken.reaches;
       below = λ f p spare t order.
@@ -212,5 +213,5 @@ accepted port address wide tier supply n m addressed (Ok device) {old} {mid} {ne
             };
       };
     }
-accepted port address wide tier supply n m addressed (Err why) went within taken sets later whole
+accepted port address options tier supply n m addressed (Err why) went within taken sets later whole
     is = tt

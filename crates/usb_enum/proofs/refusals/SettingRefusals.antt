@@ -21,7 +21,7 @@ use Rattle.usb_enum.specs.{is_hub_device, fits_tier, DeviceFact, Hears, HearsSet
 use Rattle.usb_enum.specs.{FailureReason, ExplainsSet, LearnedSet, LearnsSet, AtMaximum}
 use Rattle.usb_enum.specs.{HasConfigurations, IsResponsive, IsRefusedFor, Refuses, no_fault}
 use Rattle.usb_enum.specs.{setting_fault, start_fault, chosen_fault, configured_fault, stop_of}
-use Rattle.usb_enum.specs.{answered_or, choice_of}
+use Rattle.usb_enum.specs.{answered_or, choice_of, HostOptions}
 use Rattle.usb_enum.specs.declared.cause.Request.TheVariants as request
 use Rattle.usb_enum.specs.declared.stop.Stop.TheVariants.{Refused, Fault}
 use Rattle.usb_enum.proofs.courses.Damages.{went_three}
@@ -34,34 +34,40 @@ use Rattle.usb_enum.proofs.devices.SharedAddresses.{went_unshared}
 
 -- What is wrong with a description, row by row
 
-module _ (wide : Bool) (tier supply : ℕ) (bytes : List ℕ) (spec : Spec) where
+module _ (options : HostOptions) (tier supply : ℕ) (bytes : List ℕ) (spec : Spec) where
+  abbrev takes : Bool
+  takes = options.wide_hubs
+
+  abbrev budget : Option ℕ
+  budget = options.device_bytes
+
   refused_deep : (stop : Stop) → fits_tier tier bytes ≡ Err stop
-      → IsRefusedFor (configured_fault wide tier supply bytes) stop spec
+      → IsRefusedFor (configured_fault options tier supply bytes) stop spec
   unfolding configured_fault
   refused_deep stop is = let deep = deep_is tier bytes stop is in rw (deep.0, deep.1) refl
 
   -- where it is not too deep
   module _ (shallow : (is_hub_device bytes && tier == 7) ≡ false) where
-    pub fault_read : (cause : Cause) → first_fault spec (configuration_count bytes) ≡ Some cause
-        → configured_fault wide tier supply bytes spec ≡ Some cause
+    pub fault_read : (cause : Cause)
+        → first_fault budget spec (configuration_count bytes) ≡ Some cause
+        → configured_fault options tier supply bytes spec ≡ Some cause
     unfolding configured_fault
     fault_read cause first = rw (shallow, first) refl
 
     pub fault_chosen : (texts : List (List ℕ))
-        → HasConfigurations (configuration_count bytes) texts spec
-        → configured_fault wide tier supply bytes spec ≡ chosen_fault wide (is_hub_device bytes)
-        texts
-        (choice_of supply texts) spec
+        → HasConfigurations budget (configuration_count bytes) texts spec
+        → configured_fault options tier supply bytes spec
+        ≡ chosen_fault takes (is_hub_device bytes) texts (choice_of supply texts) spec
     unfolding configured_fault
     fault_chosen texts has =
         let hub = is_hub_device bytes in
         let count = configuration_count bytes in
-        ap (λ b. if b then Some TooDeep else option_or (first_fault spec count)
-        (chosen_fault wide hub (texts_below spec count) (choice_of supply (texts_below spec count))
+        ap (λ b. if b then Some TooDeep else option_or (first_fault budget spec count)
+        (chosen_fault takes hub (texts_below spec count) (choice_of supply (texts_below spec count))
         spec)) shallow
-        ∙ ap (λ o. option_or o (chosen_fault wide hub (texts_below spec count)
+        ∙ ap (λ o. option_or o (chosen_fault takes hub (texts_below spec count)
         (choice_of supply (texts_below spec count)) spec)) has.good
-        ∙ ap (λ x. chosen_fault wide hub x (choice_of supply x) spec) (sym has.read)
+        ∙ ap (λ x. chosen_fault takes hub x (choice_of supply x) spec) (sym has.read)
 
 -- SET_CONFIGURATION
 
@@ -159,15 +165,21 @@ explains_after A B C t value m n old mid new f a first next b three single =
 
 -- A device that is read and configured
 
-module _ (t : Target) (wide : Bool) (tier supply : ℕ) (bytes : List ℕ) where
+module _ (t : Target) (options : HostOptions) (tier supply : ℕ) (bytes : List ℕ) where
+  abbrev wide : Bool
+  wide = options.wide_hubs
+
+  abbrev most : Option ℕ
+  most = options.device_bytes
+
   abbrev wrong : Spec → Option Cause
-  wrong = configured_fault wide tier supply bytes
+  wrong = configured_fault options tier supply bytes
 
   -- it is too deep
   pub deep_refused : (stop : Stop) (w : World) → fits_tier tier bytes ≡ Err stop
       → FailureReason (Refuses t wrong stop) t w w
   deep_refused stop w is = explained_none Hears (Refuses t wrong stop) t w
-      (λ spec r. refused_deep wide tier supply bytes spec stop is)
+      (λ spec r. refused_deep options tier supply bytes spec stop is)
 
   module _ (fits : fits_tier tier bytes ≡ Ok tt) where
     shallow : (is_hub_device bytes && tier == 7) ≡ false
@@ -176,34 +188,34 @@ module _ (t : Target) (wide : Bool) (tier supply : ℕ) (bytes : List ℕ) where
     -- a configuration is bad
     pub read_refused : (count : ℕ) (stop : Stop) (old new : World)
         → count ≡ configuration_count bytes
-        → FailureReason (Refuses t (λ spec. first_fault spec count) stop) t old new
+        → FailureReason (Refuses t (λ spec. first_fault most spec count) stop) t old new
         → FailureReason (Refuses t wrong stop) t old new
     read_refused count stop old new same =
-        explained_wider Hears Hears (Refuses t (λ spec. first_fault spec count) stop)
+        explained_wider Hears Hears (Refuses t (λ spec. first_fault most spec count) stop)
         (Refuses t wrong stop) t old new (λ j s h. h) (so stop)
       where
-        so : (stop : Stop) (spec : Spec) → Refuses t (λ spec. first_fault spec count) stop spec
+        so : (stop : Stop) (spec : Spec) → Refuses t (λ spec. first_fault most spec count) stop spec
             → Refuses t wrong stop spec
-        so (Refused cause) spec refused r = fault_read wide tier supply bytes spec shallow cause
-            (ap (first_fault spec) (sym same) ∙ refused r)
+        so (Refused cause) spec refused r = fault_read options tier supply bytes spec shallow cause
+            (ap (first_fault most spec) (sym same) ∙ refused r)
         so (Fault fault) spec refused r = tt
 
     module _ (texts : List (List ℕ)) where
       abbrev Read : Spec → Type 0
-      Read = AtMaximum t (HasConfigurations (configuration_count bytes) texts)
+      Read = AtMaximum t (HasConfigurations most (configuration_count bytes) texts)
 
       -- none is within the supply
       pub power_refused : (old new : World) → choice_of supply texts ≡ None
           → DeviceFact Read t old new → FailureReason (Refuses t wrong (Refused NoPower)) t old new
       power_refused old new none =
           learned_explains Read (Refuses t wrong (Refused NoPower)) t old new
-          (λ spec has r. fault_chosen wide tier supply bytes spec shallow texts (has r.max)
+          (λ spec has r. fault_chosen options tier supply bytes spec shallow texts (has r.max)
           ∙ ap (λ o. chosen_fault wide (is_hub_device bytes) texts o spec) none)
 
       module _ (chosen : ℕ) (within : choice_of supply texts ≡ Some chosen) where
-        fault_set : (spec : Spec) → HasConfigurations (configuration_count bytes) texts spec
+        fault_set : (spec : Spec) → HasConfigurations most (configuration_count bytes) texts spec
             → wrong spec ≡ chosen_fault wide (is_hub_device bytes) texts (Some chosen) spec
-        fault_set spec has = fault_chosen wide tier supply bytes spec shallow texts has
+        fault_set spec has = fault_chosen options tier supply bytes spec shallow texts has
             ∙ ap (λ o. chosen_fault wide (is_hub_device bytes) texts o spec) within
 
         -- it is not set to the one that was chosen
@@ -211,8 +223,8 @@ module _ (t : Target) (wide : Bool) (tier supply : ℕ) (bytes : List ℕ) where
             → value ≡ configuration_value (slice_index_or texts chosen []) → value < 256 → Read spec
             → RefusesValue t value stop spec → Refuses t wrong stop spec
         set_refused_for value (Refused cause) spec inside is byte has refused r =
-            let good = chosen_value spec (configuration_count bytes) chosen value texts (has r.max)
-            inside is byte in
+            let good = chosen_value most spec (configuration_count bytes) chosen value texts
+            (has r.max) inside is byte in
             fault_set spec (has r.max)
             ∙ ap (λ o. option_or o (if is_hub_device bytes then start_fault wide
             (slice_index_or texts chosen []) spec else None)) (refused good.taken r)
@@ -240,7 +252,7 @@ module _ (t : Target) (wide : Bool) (tier supply : ℕ) (bytes : List ℕ) where
             → Refuses t (start_fault wide (slice_index_or texts chosen [])) stop spec)
             → Refuses t wrong stop spec
         hub_refused_for value (Refused cause) spec hub inside is byte has refused r =
-            let good = chosen_value spec (configuration_count bytes) chosen value texts
+            let good = chosen_value most spec (configuration_count bytes) chosen value texts
             (has.0 r.max) inside is byte in
             fault_set spec (has.0 r.max)
             ∙ ap (λ b. option_or (if b then Some (Stalled request.SetConfig) else None)

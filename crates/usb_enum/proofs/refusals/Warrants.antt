@@ -14,7 +14,7 @@ use Rattle.usb_enum.specs.{Addressed, Cause, Silent, Busy, Stalled, BadDevice, N
 use Rattle.usb_enum.specs.{AtPort, verdict, gives_head, IsRight, is_device, StopsFairly, OnlySets}
 use Rattle.usb_enum.specs.{FailureReason, Awaits, HasTaken, Refuses, head_fault, early_fault}
 use Rattle.usb_enum.specs.{device_fault, addressed_fault, unaddressed_fault, cause_in, whole_fault}
-use Rattle.usb_enum.specs.{configured_fault, CauseAllowedOfDevice}
+use Rattle.usb_enum.specs.{configured_fault, CauseAllowedOfDevice, HostOptions}
 use Rattle.usb_enum.specs.declared.cause.Request.TheVariants as request
 use Rattle.usb_enum.specs.declared.finding.Finding.TheVariants.{Refused as RefusedFinding}
 use Rattle.usb_enum.specs.declared.stop.Stop.TheVariants.{Refused, Fault}
@@ -45,10 +45,10 @@ addressed_rows : (silent busy stalls good address whole : Bool) (rest : Result �
 addressed_rows false false false true false true rest cause h = absurd cc
 addressed_rows _ _ _ _ _ _ rest cause h = h
 
-pub addressed_verdict : (wide : Bool) (tier supply : ℕ) (spec : Spec) (cause : Cause)
-    → addressed_fault spec ≡ Some cause → whole_fault wide tier supply spec ≡ Some cause
+pub addressed_verdict : (options : HostOptions) (tier supply : ℕ) (spec : Spec) (cause : Cause)
+    → addressed_fault spec ≡ Some cause → whole_fault options tier supply spec ≡ Some cause
 unfolding addressed_fault head_fault device_fault verdict
-addressed_verdict wide tier supply spec cause h =
+addressed_verdict options tier supply spec cause h =
     addressed_rows spec.silent spec.busy spec.stalls.device
     (is_ok (device_head_of spec.low (take 8 spec.descriptor))) spec.stalls.address
     (is_device spec.low (take 18 spec.descriptor)) _ cause h
@@ -69,23 +69,23 @@ caused : (r : Result ℕ Cause) (cause : Cause) → cause_in r ≡ Some cause �
 caused (Ok chosen) cause h = absurd cc
 caused (Err why) cause h = ap (λ c. Err c) (same_Some why cause h)
 
-pub whole_right : (full : Type 0) (wide : Bool) (tier supply : ℕ) (spec : Spec) (cause : Cause)
-    → whole_fault wide tier supply spec ≡ Some cause
-    → IsRight full spec wide tier supply (RefusedFinding cause)
-whole_right full wide tier supply spec cause h =
-    inl (caused (verdict spec wide tier supply) cause h)
+pub whole_right : (full : Type 0) (options : HostOptions) (tier supply : ℕ) (spec : Spec) (cause : Cause)
+    → whole_fault options tier supply spec ≡ Some cause
+    → IsRight full spec options tier supply (RefusedFinding cause)
+whole_right full options tier supply spec cause h =
+    inl (caused (verdict spec options tier supply) cause h)
 
 -- where no address is free
-pub unaddressed_right : (full : Type 0) → full → (wide : Bool) (tier supply : ℕ) (spec : Spec)
+pub unaddressed_right : (full : Type 0) → full → (options : HostOptions) (tier supply : ℕ) (spec : Spec)
     (cause : Cause) → unaddressed_fault spec ≡ Some cause
-    → IsRight full spec wide tier supply (RefusedFinding cause)
-unaddressed_right full none wide tier supply spec cause h = split (early_fault spec) refl
+    → IsRight full spec options tier supply (RefusedFinding cause)
+unaddressed_right full none options tier supply spec cause h = split (early_fault spec) refl
   where
     split : (o : Option Cause) → early_fault spec ≡ o
-        → IsRight full spec wide tier supply (RefusedFinding cause)
+        → IsRight full spec options tier supply (RefusedFinding cause)
     split (Some why) e =
-        whole_right full wide tier supply spec cause
-        (addressed_verdict wide tier supply spec cause
+        whole_right full options tier supply spec cause
+        (addressed_verdict options tier supply spec cause
         (addressed_early spec cause (e ∙ sym (ap (λ o. option_or o (Some NoAddress)) e) ∙ h)))
     split None e =
         inr (record {
@@ -119,17 +119,17 @@ record Described (device : Addressed) (spec : Spec) : Type 0 where
   granted : Granted device.target.low device.target.max spec
   bytes : device.bytes ≡ take 18 spec.descriptor
 
-module _ (port : HubPort) (address : ℕ) (wide : Bool) (tier supply m n : ℕ) (device : Addressed)
+module _ (port : HubPort) (address : ℕ) (options : HostOptions) (tier supply m n : ℕ) (device : Addressed)
     {old mid new : World}
     {a b c d : Option (List ℕ)} (first : StepRun m old a mid b) (second : StepRun n mid c new d)
     (at : AtPort port address old mid)
     (taken : HasTaken port address old mid device) (sets : OnlySets address mid new)
     (whole : is_device device.target.low device.bytes ≡ true) where
   abbrev wrong : Spec → Option Cause
-  wrong = configured_fault wide tier supply device.bytes
+  wrong = configured_fault options tier supply device.bytes
 
   is_whole : (spec : Spec) (cause : Cause) → Refuses device.target wrong (Refused cause) spec
-      × Described device spec → whole_fault wide tier supply spec ≡ Some cause
+      × Described device spec → whole_fault options tier supply spec ≡ Some cause
   is_whole spec cause so =
       let g = so.1.granted in
       let fault = so.0 (record {
@@ -139,13 +139,13 @@ module _ (port : HubPort) (address : ℕ) (wide : Bool) (tier supply m n : ℕ) 
       }) in
       let front = ap (λ x. is_device x (take 18 spec.descriptor)) g.speed
       ∙ ap (is_device device.target.low) (sym so.1.bytes) ∙ whole in
-      ap cause_in (verdict_refused spec wide tier supply device.bytes cause
+      ap cause_in (verdict_refused spec options tier supply device.bytes cause
       (gave_head device.target.low device.target.max spec g.speed g.head) g.allowed front
       so.1.bytes fault)
 
   pub configured_stops : (stop : Stop) → CauseAllowedOfDevice tier stop new
       → FailureReason (Refuses device.target wrong stop) device.target mid new
-      → StopsFairly (whole_fault wide tier supply) port address stop old new
+      → StopsFairly (whole_fault options tier supply) port address stop old new
   configured_stops (Fault why) told explains =
       record { why = λ f p fair. faults_for_told p why new told }
   configured_stops (Refused cause) told explains = record {
@@ -153,7 +153,7 @@ module _ (port : HubPort) (address : ℕ) (wide : Bool) (tier supply m n : ℕ) 
         let here = fair_then f port p address m n first second fair at in
         let single = (sets.addresses.kept (after_taking f p address)
         (taken.takes.took f p fair.spare fair.held)).single in
-        pends_reached (λ spec. whole_fault wide tier supply spec ≡ Some cause) p new
+        pends_reached (λ spec. whole_fault options tier supply spec ≡ Some cause) p new
         ((reaches_set port address n second taken.takes sets taken.reaches).reached f p fair.spare
         fair.held fair.order fair.occupied fair.working)
         (λ s on there. is_whole s.spec cause

@@ -1,5 +1,5 @@
 use Rattle.usb_enum.specs.{Cause, EnumFault, Accepted, Finding, Stop, IsSpare, Within, TakesAddress}
-use Rattle.usb_enum.specs.{EnumWorks}
+use Rattle.usb_enum.specs.{EnumWorks, HostOptions}
 use Rattle.usb_enum.specs.{OnlyCalls, AtPort, EndsOwned, EndsEnumeration, KeepsEnumerated, IsRight}
 use Rattle.usb_enum.specs.{FaultsFor, HubPends, IsFairAt, StopsFairly, StopsFor, OnlyAt}
 use Rattle.usb_enum.specs.{unaddressed_bound, Closes, Disables, GivesUp, IsFair, IsLeft, IsOwn}
@@ -170,13 +170,13 @@ module _ (port : HubPort) (addresses : Addresses) (address : ℕ) (zero_is : IsT
     named = named_calls old new calls;
   }
 
-  pub found_true : (wide : Bool) (tier supply : ℕ) (old new : World) (device : Accepted)
-      → Finds (IsOwn wide tier supply device) port address old new
-      → FindingIsTrue port addresses wide tier supply old (Ok (Device device)) new
-  found_true wide tier supply old new device finds = record {
+  pub found_true : (options : HostOptions) (tier supply : ℕ) (old new : World) (device : Accepted)
+      → Finds (IsOwn options tier supply device) port address old new
+      → FindingIsTrue port addresses options tier supply old (Ok (Device device)) new
+  found_true options tier supply old new device finds = record {
     truth = λ f p at bare claimed t order other e.
         let is = spare f p at bare claimed in
-        subst (λ x. AtPath (IsOwn wide tier supply x) p new)
+        subst (λ x. AtPath (IsOwn options tier supply x) p new)
         (let same : device ≡ other = cc in same)
         (finds.found f p is (first f p old is t) order);
   }
@@ -255,14 +255,14 @@ module _ (port : HubPort) (addresses : Addresses) (address : ℕ) (zero_is : IsT
       till_weaker (MapHolds f) (Enumerating f p 0) old
       (enumerating_begins f p 0 old is.free is.none) fair.begins.owned
 
-  pub device_warranted : (wide : Bool) (tier supply : ℕ) (old new : World) (device : Accepted)
-      → JustifiesRefusal port addresses wide tier supply old (Ok (Device device)) new
-  device_warranted wide tier supply old new device = record {
+  pub device_warranted : (options : HostOptions) (tier supply : ℕ) (old new : World) (device : Accepted)
+      → JustifiesRefusal port addresses options tier supply old (Ok (Device device)) new
+  device_warranted options tier supply old new device = record {
     cause = λ f p fair cause s e. absurd cc;
     parent = λ f p fair e. absurd cc;
   }
 
-  module _ (wrong : Spec → Option Cause) (wide : Bool) (tier supply m n : ℕ) (last : Stop)
+  module _ (wrong : Spec → Option Cause) (options : HostOptions) (tier supply m n : ℕ) (last : Stop)
       (old mid new : World)
       (result : Result Finding EnumFault) {a b c d : Option (List ℕ)}
       (sooner : StepRun m old a mid b) (later : StepRun n mid c new d)
@@ -270,7 +270,7 @@ module _ (port : HubPort) (addresses : Addresses) (address : ℕ) (zero_is : IsT
       (closes : Closes port address last mid result new)
       (gives : GivesUp port last mid result new)
       (right : (spec : Spec) (cause : Cause) → wrong spec ≡ Some cause
-      → IsRight (IsFull addresses) spec wide tier supply (Refused cause)) where
+      → IsRight (IsFull addresses) spec options tier supply (Refused cause)) where
     module _ (f : AddressMap) (p : List ℕ) (fair : IsFair f port p addresses old new) where
       whole : IsFairAt f port p address old new
       whole = fair_begun f p old new fair
@@ -283,7 +283,7 @@ module _ (port : HubPort) (addresses : Addresses) (address : ℕ) (zero_is : IsT
 
       caused : (why : Cause) → StopsFor wrong f p old (stop.Refused why) mid → (s : State)
           → state_there new.roots p ≡ Some s → (pending new.roots p ≡ true)
-          ⊎ IsRight (IsFull addresses) s.spec wide tier supply (Refused why)
+          ⊎ IsRight (IsFull addresses) s.spec options tier supply (Refused why)
       caused why so s there = elim (pends_on (λ spec. wrong spec ≡ Some why) p
           (closes.only.at f p here.spare here.held here.working).spares here.occupied
           (so (zero_begun f p old new fair))) [
@@ -294,7 +294,7 @@ module _ (port : HubPort) (addresses : Addresses) (address : ℕ) (zero_is : IsT
     cause_of : (x : Stop) → last ≡ x → (f : AddressMap) (p : List ℕ)
         → IsFair f port p addresses old new → (cause : Cause) (s : State)
         → result ≡ Ok (Refused cause) → state_there new.roots p ≡ Some s
-        → (pending new.roots p ≡ true) ⊎ IsRight (IsFull addresses) s.spec wide tier supply
+        → (pending new.roots p ≡ true) ⊎ IsRight (IsFull addresses) s.spec options tier supply
         (Refused cause)
     cause_of (stop.Fault why) is f p fair cause s e there =
         let g = subst (λ x. GivesUp port x mid result new) is gives in
@@ -303,7 +303,7 @@ module _ (port : HubPort) (addresses : Addresses) (address : ℕ) (zero_is : IsT
         let g = subst (λ r. GivesUp port (stop.Refused why) mid r new) e
         (subst (λ x. GivesUp port x mid result new) is gives) in
         subst (λ y. (pending new.roots p ≡ true)
-        ⊎ IsRight (IsFull addresses) s.spec wide tier supply y)
+        ⊎ IsRight (IsFull addresses) s.spec options tier supply y)
         (sym g.0) (caused f p fair why (subst (λ x. StopsFor wrong f p old x mid) is
         (why_stopped f p fair)) s there)
 
@@ -319,9 +319,9 @@ module _ (port : HubPort) (addresses : Addresses) (address : ℕ) (zero_is : IsT
         (closes.lost why fault.ParentLost is e).why f p (here f p fair)
 
     -- all that is so in the end
-    pub stopped_ends : EndsFor port addresses wide tier supply old result new
+    pub stopped_ends : EndsFor port addresses options tier supply old result new
         → FewAttempts port addresses old new → EnumWorks result old new
-        → Enumerates port addresses wide tier supply old result new
+        → Enumerates port addresses options tier supply old result new
     stopped_ends ended few works = record {
       addresses = given_up old mid new result at.within closes.ends
           (calls_then port address n old mid new at later closes.only);

@@ -7,7 +7,7 @@ use Rattle.usb_pipe.specs.{PipeFault}
 use Rattle.usb_pipe.specs.declared.fault.PipeFault.TheVariants as pipe
 use Rattle.usb_tree.proofs.Interface.{both, decided, equal_same}
 use Rattle.usb_enum.specs.{Accepted, Cause, EnumFault, Finding, Stop, LAST_TIER, device_bytes}
-use Rattle.usb_enum.specs.{fits_tier}
+use Rattle.usb_enum.specs.{fits_tier, HostOptions}
 use Rattle.usb_enum.specs.{is_device, is_hub_device, HandsOn, IsFound, FitsStop, IsHubStop, IsPlain}
 use Rattle.usb_enum.specs.{IsEarly, IsEarlyStop, IsPlainStop, IsSaidAt, IsSaidWhole}
 use Rattle.usb_enum.specs.{IsStopWithout, answered_or, stop_of}
@@ -135,12 +135,12 @@ handed_none (Err e) P why same = tt
 
 -- Of an enumeration that is given up
 
-module _ (addresses : Addresses) (wide : Bool) (tier supply : ℕ) where
+module _ (addresses : Addresses) (options : HostOptions) (tier supply : ℕ) where
   same_cause : (a b : Cause) → finding.Refused a ≡ finding.Refused b → b ≡ a
   same_cause a b e = cc
 
   pub fits_found : (stop : Stop) (result : Result Finding EnumFault) → HandsOn stop result
-      → FitsStop tier stop → IfOk result (IsFound addresses wide tier supply)
+      → FitsStop tier stop → IfOk result (IsFound addresses options tier supply)
   fits_found (Refused why) (Ok (finding.Refused other)) hands fits =
       inr (subst (λ c. FitsStop tier (Refused c)) (same_cause other why hands) fits)
   fits_found (Refused why) (Err fault) hands fits = tt
@@ -148,7 +148,7 @@ module _ (addresses : Addresses) (wide : Bool) (tier supply : ℕ) where
   fits_found _ _ hands fits = absurd cc
 
   pub without_found : (stop : Stop) (result : Result Finding EnumFault) → IsFull addresses
-      → HandsOn stop result → IsStopWithout stop → IfOk result (IsFound addresses wide tier supply)
+      → HandsOn stop result → IsStopWithout stop → IfOk result (IsFound addresses options tier supply)
   without_found (Refused why) (Ok (finding.Refused other)) full hands (inl none) =
       inl (sym (same_cause other why hands) ∙ none, full)
   without_found (Refused why) (Ok (finding.Refused other)) full hands (inr early) =

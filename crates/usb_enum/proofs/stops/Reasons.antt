@@ -19,7 +19,8 @@ use Rattle.usb_enum.specs.{no_power, CauseAllowedOfHub, CauseAllowedAtStart, Por
 use Rattle.usb_enum.specs.{IsSpokenTo, RefusedEarly, answered, not_enabled, CauseAllowedAt}
 use Rattle.usb_enum.specs.{NoAnswerTold, CanFail, FaultAllowedAt, FaultAllowed, IsPlain, StopFaults}
 use Rattle.usb_enum.specs.{CauseAllowedIn, CauseAllowedWithout, answered_or, at_port, fault_at_port}
-use Rattle.usb_enum.specs.{stop_of}
+use Rattle.usb_enum.specs.{stop_of, left_of, texts_length, CauseAllowedOfText, CauseAllowedOfTexts}
+use Rattle.usb_enum.specs.{TextsAsked, TooLong}
 use Rattle.usb_enum.specs.declared.cause.Cause.TheVariants as cause
 use Rattle.usb_enum.specs.declared.fault.EnumFault.TheVariants as fault
 use Rattle.usb_enum.specs.declared.stop.Stop.TheVariants.{Refused, Fault}
@@ -266,6 +267,33 @@ pub told_after : (stop : Stop) (t : Target) (old mid new : World) → Leads old 
     → CauseAllowed t stop mid new → CauseAllowed t stop old new
 told_after (Refused why) t old mid new led told = because_after why t old mid new led told
 told_after (Fault why) t old mid new led told = told
+
+-- Of the texts of configurations
+
+pub text_told : (room : Option ℕ) (t : Target) (index : ℕ) (stop : Stop) (old new : World)
+    → CauseAllowed t stop old new → CauseAllowedOfText room t index stop old new
+text_told room t index (Refused why) old new told = inr told
+text_told room t index (Fault why) old new told = told
+
+-- after those that were read
+pub texts_told : (budget room : Option ℕ) (t : Target) (texts : List (List ℕ)) (index : ℕ)
+    (stop : Stop) (old mid new : World) → room ≡ left_of budget (texts_length texts)
+    → length texts ≡ index → TextsAsked t old texts mid → Leads old mid
+    → CauseAllowedOfText room t index stop mid new → CauseAllowedOfTexts budget t stop old new
+texts_told budget room t texts index (Refused why) old mid new left count asked led (inl long) =
+    inl (
+      long.0,
+      record {
+        texts = texts;
+        mid = mid;
+        asked = asked;
+        long = subst (λ r. TooLong r t (length texts) mid new) left
+            (subst (λ i. TooLong room t i mid new) (sym count) long.1);
+      },
+    )
+texts_told budget room t texts index (Refused why) old mid new left count asked led (inr told) =
+    inr (because_after why t old mid new led told)
+texts_told budget room t texts index (Fault why) old mid new left count asked led told = told
 
 -- Of a hub, after other steps
 

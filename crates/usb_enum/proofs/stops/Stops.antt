@@ -12,7 +12,8 @@ use Rattle.usb_enum.specs.{Leads, DescriptorRead, CauseAllowed, CauseAllowedAtSt
 use Rattle.usb_enum.specs.{RefusedAs, by_answer, too_deep, bad_hub, StoppedAs, StopsDevice, FaultBy}
 use Rattle.usb_enum.specs.{IsSpokenTo, CauseAllowedAt, early, late, StopsAtPort, StoppedFor}
 use Rattle.usb_enum.specs.{StoppedWithout, HasReason, refused_for, refused_early, none_free}
-use Rattle.usb_enum.specs.{EndsFor, FaultAllowedAt, CauseAllowedWithout, choice_of}
+use Rattle.usb_enum.specs.{CauseAllowedOfTexts, EndsFor, FaultAllowedAt, CauseAllowedWithout}
+use Rattle.usb_enum.specs.{FitsTier, HostOptions, choice_of, too_large}
 use Rattle.usb_enum.specs.declared.cause.Cause.TheVariants as cause
 use Rattle.usb_enum.specs.declared.finding.Finding.TheVariants as finding
 use Rattle.usb_enum.specs.declared.stop.Stop.TheVariants.{Refused, Fault}
@@ -24,21 +25,34 @@ use Rattle.usb_enum.proofs.stops.ToldFailures.{fault_at, plain_fits}
 
 -- By an answer
 
-pub stops_by : (t : Target) (bytes : List ℕ) (wide : Bool) (tier supply : ℕ) (stop : Stop)
+pub stops_by : (t : Target) (bytes : List ℕ) (options : HostOptions) (tier supply : ℕ) (stop : Stop)
     (old new : World)
-    → CauseAllowed t stop old new → StopsDevice t bytes wide tier supply old new stop
-stops_by t bytes wide tier supply (Refused why) old new told = record {
+    → CauseAllowed t stop old new → StopsDevice t bytes options tier supply old new stop
+stops_by t bytes options tier supply (Refused why) old new told = record {
   fits = plain_fits tier why (because_plain why t old new told);
   because = by_answer told;
 }
-stops_by t bytes wide tier supply (Fault why) old new told = record { fits = told; because = told }
+stops_by t bytes options tier supply (Fault why) old new told = record { fits = told; because = told }
+
+-- by the texts of its configurations
+pub texts_stops : (t : Target) (bytes : List ℕ) (options : HostOptions) (tier supply : ℕ)
+    (stop : Stop) (old new : World) → CauseAllowedOfTexts options.device_bytes t stop old new
+    → StopsDevice t bytes options tier supply old new stop
+texts_stops t bytes options tier supply (Refused why) old new (inl large) = record {
+  fits = subst (FitsTier tier) (sym large.0) tt;
+  because = subst (RefusedAs t bytes options tier supply old new) (sym large.0) (too_large large.1);
+}
+texts_stops t bytes options tier supply (Refused why) old new (inr told) =
+    stops_by t bytes options tier supply (Refused why) old new told
+texts_stops t bytes options tier supply (Fault why) old new told =
+    record { fits = told; because = told }
 
 -- In the last tier
 
-pub fits_stop : (t : Target) (bytes : List ℕ) (wide : Bool) (tier supply : ℕ) (stop : Stop)
+pub fits_stop : (t : Target) (bytes : List ℕ) (options : HostOptions) (tier supply : ℕ) (stop : Stop)
     (w : World)
-    → fits_tier tier bytes ≡ Err stop → StopsDevice t bytes wide tier supply w w stop
-fits_stop t bytes wide tier supply stop w is =
+    → fits_tier tier bytes ≡ Err stop → StopsDevice t bytes options tier supply w w stop
+fits_stop t bytes options tier supply stop w is =
     let deep = deep_is tier bytes stop is in
     let parts = both (is_hub_device bytes) (tier == LAST_TIER) deep.1 in
     let last = equal_same tier LAST_TIER parts.1 in
@@ -46,14 +60,14 @@ fits_stop t bytes wide tier supply stop w is =
 
 -- As a hub
 
-module _ (t : Target) (bytes : List ℕ) (wide : Bool) (tier supply : ℕ) where
+module _ (t : Target) (bytes : List ℕ) (options : HostOptions) (tier supply : ℕ) where
   hub_as : (stop : Stop) (old read set new : World) → is_hub_device bytes ≡ true
       → (texts : List (List ℕ)) → AllTexts t bytes texts old read → (chosen : ℕ)
       → choice_of supply texts ≡ Some chosen → Leads old read → Leads read set
-      → CauseAllowedAtStart wide t (slice_index_or texts chosen []) stop set new
-      → StoppedAs t bytes wide tier supply stop old new
+      → CauseAllowedAtStart options.wide_hubs t (slice_index_or texts chosen []) stop set new
+      → StoppedAs t bytes options tier supply stop old new
   hub_as (Refused why) old read set new hub texts all chosen choice first led (inl bad) =
-      subst (RefusedAs t bytes wide tier supply old new) (sym bad.0)
+      subst (RefusedAs t bytes options tier supply old new) (sym bad.0)
       (bad_hub (record {
         hub = hub;
         texts = texts;
@@ -73,55 +87,55 @@ module _ (t : Target) (bytes : List ℕ) (wide : Bool) (tier supply : ℕ) where
       → is_hub_device bytes ≡ true → (texts : List (List ℕ)) → AllTexts t bytes texts old read
       → (chosen : ℕ) → choice_of supply texts ≡ Some chosen
       → Leads old read → Leads read set
-      → CauseAllowedAtStart wide t (slice_index_or texts chosen []) stop set new
-      → StopsDevice t bytes wide tier supply old new stop
+      → CauseAllowedAtStart options.wide_hubs t (slice_index_or texts chosen []) stop set new
+      → StopsDevice t bytes options tier supply old new stop
   hub_stops stop old read set new fits hub texts all chosen choice first led told = record {
-    fits = told_of_hub wide tier bytes stop t (slice_index_or texts chosen []) set new fits hub
+    fits = told_of_hub options.wide_hubs tier bytes stop t (slice_index_or texts chosen []) set new fits hub
         told;
     because = hub_as stop old read set new hub texts all chosen choice first led told;
   }
 
 -- At the port
 
-pub device_stops : (port : HubPort) (address : ℕ) (wide : Bool) (tier supply : ℕ) (t : Target)
+pub device_stops : (port : HubPort) (address : ℕ) (options : HostOptions) (tier supply : ℕ) (t : Target)
     (bytes : List ℕ) (stop : Stop) (old mid new : World) → IsSpokenTo port address t
     → DescriptorRead t bytes old mid
-    → StopsDevice t bytes wide tier supply mid new stop
-    → StopsAtPort port address wide tier supply old new stop
-device_stops port address wide tier supply t bytes (Refused why) old mid new is read told =
+    → StopsDevice t bytes options tier supply mid new stop
+    → StopsAtPort port address options tier supply old new stop
+device_stops port address options tier supply t bytes (Refused why) old mid new is read told =
     record { fits = told.fits; because = late t bytes mid is read told.because }
-device_stops port address wide tier supply t bytes (Fault why) old mid new is read told = record {
+device_stops port address options tier supply t bytes (Fault why) old mid new is read told = record {
   fits = fault_at port why new told.fits;
   because = fault_told_by port why old new told.because;
 }
 
-pub early_stops : (port : HubPort) (address : ℕ) (wide : Bool) (tier supply : ℕ) (stop : Stop)
+pub early_stops : (port : HubPort) (address : ℕ) (options : HostOptions) (tier supply : ℕ) (stop : Stop)
     (old new : World) → CauseAllowedAt port address stop old new
-    → StopsAtPort port address wide tier supply old new stop
-early_stops port address wide tier supply (Refused why) old new told = record {
+    → StopsAtPort port address options tier supply old new stop
+early_stops port address options tier supply (Refused why) old new told = record {
   fits = told_in tier (Refused why) port address old new told;
   because = early told;
 }
-early_stops port address wide tier supply (Fault why) old new told =
+early_stops port address options tier supply (Fault why) old new told =
     record { fits = told_in tier (Fault why) port address old new told; because = told }
 
 -- The whole
 
-module _ (port : HubPort) (addresses : Addresses) (wide : Bool) (tier supply : ℕ) where
+module _ (port : HubPort) (addresses : Addresses) (options : HostOptions) (tier supply : ℕ) where
   -- what a stop tells, at the moment when it came
   abbrev Reasoned : Stop → World → World → Type 0
-  Reasoned (Refused why) old new = HasReason port addresses wide tier supply old new why
+  Reasoned (Refused why) old new = HasReason port addresses options tier supply old new why
   Reasoned (Fault why) old new = FaultBy port why old new
 
   pub stopped_reasoned : (address : ℕ) (stop : Stop) (old new : World) → IsFree addresses address
-      → StoppedFor port address wide tier supply stop old new → Reasoned stop old new
+      → StoppedFor port address options tier supply stop old new → Reasoned stop old new
   stopped_reasoned address (Refused why) old new free told = refused_for address free told
   stopped_reasoned address (Fault why) old new free told = told
 
   pub without_reasoned : (stop : Stop) (old new : World) → IsFull addresses
       → StoppedWithout port stop old new → Reasoned stop old new
   without_reasoned (Refused why) old new full (inl e) =
-      subst (HasReason port addresses wide tier supply old new)
+      subst (HasReason port addresses options tier supply old new)
       (let same : cause.NoAddress ≡ why = cc in same) (none_free full)
   without_reasoned (Refused why) old new full (inr told) = refused_early full told
   without_reasoned (Fault why) old new full (inl e) = absurd cc
@@ -130,19 +144,19 @@ module _ (port : HubPort) (addresses : Addresses) (wide : Bool) (tier supply : �
   -- the port is disabled then, and that may fail
   pub gives_reason : (stop : Stop) (old mid new : World) (result : Result Finding EnumFault)
       → Leads old mid → Leads mid new → Reasoned stop old mid → GivesUp port stop mid result new
-      → EndsFor port addresses wide tier supply old result new
+      → EndsFor port addresses options tier supply old result new
   gives_reason (Refused why) old mid new (Ok (finding.Device device)) first led reason gives = tt
   gives_reason (Refused why) old mid new (Ok (finding.Refused other)) first led reason gives =
       record {
         moment = mid;
-        reason = subst (HasReason port addresses wide tier supply old mid)
+        reason = subst (HasReason port addresses options tier supply old mid)
             (let same : why ≡ other = cc gives.0 in same) reason;
         led = led;
       }
   gives_reason (Refused why) old mid new (Err fault) first led reason gives =
       fault_after port fault old mid new first gives
   gives_reason (Fault why) old mid new result first led reason gives =
-      subst (λ r. EndsFor port addresses wide tier supply old r new) (sym gives.0)
+      subst (λ r. EndsFor port addresses options tier supply old r new) (sym gives.0)
       (subst (λ w. FaultBy port why old w) (sym gives.1) reason)
 
 -- where no address was free

@@ -10,7 +10,7 @@ use Rattle.usb_device.specs.{Spec}
 use Rattle.usb_tree.proofs.Interface.{decided}
 use Rattle.usb_enum.specs.{Cause, Stalled, TooDeep, NoPower, BadHub, verdict, is_good_hub}
 use Rattle.usb_enum.specs.{texts_below, texts_of, first_fault, read_verdict, set_verdict, is_device}
-use Rattle.usb_enum.specs.{is_hub_device, chosen_fault, configured_fault, choice_of}
+use Rattle.usb_enum.specs.{is_hub_device, chosen_fault, configured_fault, choice_of, HostOptions}
 use Rattle.usb_enum.specs.declared.cause.Request.TheVariants as request
 use Rattle.usb_enum.proofs.readings.Truths.{front_count, front_hub}
 use Rattle.usb_enum.proofs.verdicts.VerdictRows.{GaveHead, rows_after, row_too_deep}
@@ -40,20 +40,26 @@ read_is wide spec supply (Some bad) cause h = ap (λ c. Err c) (same_Some bad ca
 read_is wide spec supply None cause h =
     set_is wide spec (texts_of spec) (choice_of supply (texts_of spec)) cause h
 
-module _ (spec : Spec) (wide : Bool) (tier supply : ℕ) where
+module _ (spec : Spec) (options : HostOptions) (tier supply : ℕ) where
+  abbrev wide : Bool
+  wide = options.wide_hubs
+
+  abbrev first_of : ℕ → Option Cause
+  first_of count = first_fault options.device_bytes spec count
+
   -- by its class, and the number of its configurations
   abbrev Row : Bool → ℕ → Option Cause
-  Row hub count = if hub && tier == 7 then Some TooDeep else option_or (first_fault spec count)
+  Row hub count = if hub && tier == 7 then Some TooDeep else option_or (first_of count)
       (chosen_fault wide hub (texts_below spec count) (choice_of supply (texts_below spec count))
       spec)
 
-  row_is : (bytes : List ℕ) → configured_fault wide tier supply bytes spec
+  row_is : (bytes : List ℕ) → configured_fault options tier supply bytes spec
       ≡ Row (is_hub_device bytes) (configuration_count bytes)
   unfolding configured_fault
   row_is bytes = refl
 
   row_front : (bytes : List ℕ) → bytes ≡ take 18 spec.descriptor
-      → configured_fault wide tier supply bytes spec ≡ Row (is_hub_device spec.descriptor)
+      → configured_fault options tier supply bytes spec ≡ Row (is_hub_device spec.descriptor)
       (configuration_count spec.descriptor)
   row_front bytes front =
       row_is bytes
@@ -65,22 +71,21 @@ module _ (spec : Spec) (wide : Bool) (tier supply : ℕ) where
   pub verdict_refused : (bytes : List ℕ) (cause : Cause) → GaveHead spec
       → spec.stalls.address ≡ false → is_device spec.low (take 18 spec.descriptor) ≡ true
       → bytes ≡ take 18 spec.descriptor
-      → configured_fault wide tier supply bytes spec ≡ Some cause
-      → verdict spec wide tier supply ≡ Err cause
+      → configured_fault options tier supply bytes spec ≡ Some cause
+      → verdict spec options tier supply ≡ Err cause
   verdict_refused bytes cause head address whole front fault =
       elim (decided (is_hub_device spec.descriptor && tier == 7)) [
-        | inl deep ↦ row_too_deep spec wide tier supply head address whole deep
+        | inl deep ↦ row_too_deep spec options tier supply head address whole deep
             ∙ ap (λ c. Err c) (same_Some TooDeep cause
             (sym (ap (λ b. if b then Some TooDeep else rest) deep) ∙ is))
-        | inr shallow ↦ rows_after spec wide tier supply
+        | inr shallow ↦ rows_after spec options tier supply
             (record { first = head; address = address; whole = whole; shallow = shallow })
-            ∙ read_is wide spec supply (first_fault spec (configuration_count spec.descriptor))
-            cause
+            ∙ read_is wide spec supply (first_of (configuration_count spec.descriptor)) cause
             (sym (ap (λ b. if b then Some TooDeep else rest) shallow) ∙ is)
       ]
     where
       rest : Option Cause
-      rest = option_or (first_fault spec (configuration_count spec.descriptor))
+      rest = option_or (first_of (configuration_count spec.descriptor))
           (chosen_fault wide (is_hub_device spec.descriptor) (texts_of spec)
           (choice_of supply (texts_of spec)) spec)
 

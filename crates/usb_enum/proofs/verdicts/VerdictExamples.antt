@@ -8,8 +8,10 @@ use Rattle.usb_descriptor.specs.Item as item
 use Rattle.usb_descriptor.specs.Text as string
 use Rattle.usb_descriptor.specs.Words as words
 use Rattle.usb_device.specs.{Spec, function, usual_hub, no_stalls}
+use Rattle.usb_device.specs.SaidLengths as lengths
 use Rattle.usb_enum.specs.{Silent, Busy, Stalled, BadDevice, TooDeep, BadConfiguration, NoPower}
-use Rattle.usb_enum.specs.{BadHub, verdict, first_fault, config_fault, text_read, string_at}
+use Rattle.usb_enum.specs.{BadHub, TooLarge, HostOptions, usual_options, verdict, first_fault}
+use Rattle.usb_enum.specs.{config_fault, text_read, string_at}
 use Rattle.usb_enum.specs.declared.cause.Request.TheVariants as request
 use Rattle.usb_enum.specs.Text as text
 
@@ -69,40 +71,54 @@ missing = function [] (device_bytes 0 0 2) (config_bytes 1 50 ∷ [])
 abbrev unconfigured : Spec
 unconfigured = function [] (device_bytes 0 0 0) (config_bytes 1 50 ∷ [])
 
--- what a host finds in them that takes wide hubs or not, in a tier and at a port of so many mA
+-- the head of its configuration is malformed
+abbrev no_head : Spec
+no_head = function [] (device_bytes 0 0 1) ((9 ∷ 4 ∷ 18 ∷ 0 ∷ 1 ∷ 1 ∷ 0 ∷ 128 ∷ 50 ∷ []) ∷ [])
+
+-- a host that takes so many bytes of configurations
+abbrev at_most : ℕ → HostOptions
+at_most bytes = record { wide_hubs = false; device_bytes = Some bytes }
+
+-- what a host finds in them that takes wide hubs or not, or so many bytes, in a tier and at a port of
+-- so many mA
 pub record Examples : Type 0 where
-  pub silent : verdict (record small { silent = true; busy = true }) false 2 500 ≡ Err Silent
-  pub busy : verdict (record small { busy = true }) false 2 500 ≡ Err Busy
-  pub stalled_device : verdict (record small { stalls = record no_stalls { device = true } }) false
+  pub silent : verdict (record small { silent = true; busy = true }) (usual_options false) 2 500 ≡ Err Silent
+  pub busy : verdict (record small { busy = true }) (usual_options false) 2 500 ≡ Err Busy
+  pub stalled_device : verdict (record small { stalls = record no_stalls { device = true } }) (usual_options false)
       2 500 ≡ Err (Stalled request.Device)
-  pub bad_head : verdict (record small { descriptor = 18 ∷ 1 ∷ [] }) false 2 500 ≡ Err BadDevice
+  pub bad_head : verdict (record small { descriptor = 18 ∷ 1 ∷ [] }) (usual_options false) 2 500 ≡ Err BadDevice
   pub stalled_address : verdict (record unconfigured {
     stalls = record no_stalls { address = true };
-  }) false 2 500 ≡ Err (Stalled request.Address)
-  pub bad_device : verdict unconfigured false 2 500 ≡ Err BadDevice
-  pub too_deep : verdict two_ports false 7 500 ≡ Err TooDeep
-  pub stalled_config : verdict (record small { stalls = record no_stalls { config = true } }) false
+  }) (usual_options false) 2 500 ≡ Err (Stalled request.Address)
+  pub bad_device : verdict unconfigured (usual_options false) 2 500 ≡ Err BadDevice
+  pub too_deep : verdict two_ports (usual_options false) 7 500 ≡ Err TooDeep
+  pub stalled_config : verdict (record small { stalls = record no_stalls { config = true } }) (usual_options false)
       2 500 ≡ Err (Stalled request.Config)
-  pub no_text : verdict missing false 2 500 ≡ Err (Stalled request.Config)
-  pub bad_item : verdict no_item false 2 500 ≡ Err (BadConfiguration 0)
-  pub bad_length : verdict cut_device false 2 500 ≡ Err (BadConfiguration 0)
-  pub bad_value : verdict twice_configured false 2 500 ≡ Err (BadConfiguration 1)
-  pub no_power : verdict large false 3 100 ≡ Err NoPower
-  pub stalled_set : verdict (record small { stalls = record no_stalls { set_config = true } }) false
+  pub no_text : verdict missing (usual_options false) 2 500 ≡ Err (Stalled request.Config)
+  pub bad_item : verdict no_item (usual_options false) 2 500 ≡ Err (BadConfiguration 0)
+  pub bad_length : verdict cut_device (usual_options false) 2 500 ≡ Err (BadConfiguration 0)
+  pub bad_value : verdict twice_configured (usual_options false) 2 500 ≡ Err (BadConfiguration 1)
+  pub no_power : verdict large (usual_options false) 3 100 ≡ Err NoPower
+  pub stalled_set : verdict (record small { stalls = record no_stalls { set_config = true } }) (usual_options false)
       2 500 ≡ Err (Stalled request.SetConfig)
-  pub bad_hub : verdict (record two_ports { hub = None }) false 2 500 ≡ Err BadHub
-  pub accepted : verdict small false 2 500 ≡ Ok 0
-  pub first : verdict two false 3 500 ≡ Ok 0
-  pub second : verdict two false 3 100 ≡ Ok 1
-  pub hub : verdict two_ports false 2 500 ≡ Ok 0
-  pub narrow : verdict (hub_of 10 129 2) false 2 500 ≡ Err BadHub
-  pub wide : verdict (hub_of 10 129 2) true 2 500 ≡ Ok 0
-  pub small_endpoint : verdict (hub_of 10 129 1) true 2 500 ≡ Err BadHub
-  pub one_endpoint : verdict (hub_of 2 130 1) false 2 500 ≡ Err BadHub
-  pub any_endpoint : verdict (hub_of 2 130 1) true 2 500 ≡ Ok 0
+  pub bad_hub : verdict (record two_ports { hub = None }) (usual_options false) 2 500 ≡ Err BadHub
+  pub accepted : verdict small (usual_options false) 2 500 ≡ Ok 0
+  pub first : verdict two (usual_options false) 3 500 ≡ Ok 0
+  pub second : verdict two (usual_options false) 3 100 ≡ Ok 1
+  pub hub : verdict two_ports (usual_options false) 2 500 ≡ Ok 0
+  pub narrow : verdict (hub_of 10 129 2) (usual_options false) 2 500 ≡ Err BadHub
+  pub wide : verdict (hub_of 10 129 2) (usual_options true) 2 500 ≡ Ok 0
+  pub small_endpoint : verdict (hub_of 10 129 1) (usual_options true) 2 500 ≡ Err BadHub
+  pub one_endpoint : verdict (hub_of 2 130 1) (usual_options false) 2 500 ≡ Err BadHub
+  pub any_endpoint : verdict (hub_of 2 130 1) (usual_options true) 2 500 ≡ Ok 0
+  pub within : verdict two (at_most 36) 3 500 ≡ Ok 0
+  pub over : verdict two (at_most 35) 3 500 ≡ Err TooLarge
+  pub over_first : verdict two (at_most 17) 3 500 ≡ Err TooLarge
+  pub over_before : verdict twice_configured (at_most 35) 2 500 ≡ Err TooLarge
+  pub bad_before : verdict no_head (at_most 0) 2 500 ≡ Err (BadConfiguration 0)
 
 pub examples : Examples
-unfolding verdict first_fault config_fault text_read text.needs_of device.device_head_of
+unfolding verdict first_fault config_fault text_read lengths.said_length text.needs_of device.device_head_of
     device.device_spelled config.config_head_of config.config_of config.items_fault config.pieces_of
     hub.hub_spelled choice.status_endpoint_of choice.first_counting choice.status_at
     choice.interrupt_in_at choice.interrupt_described item.items_in item.items_of
@@ -132,6 +148,11 @@ examples =
       small_endpoint = refl;
       one_endpoint = refl;
       any_endpoint = refl;
+      within = refl;
+      over = refl;
+      over_first = refl;
+      over_before = refl;
+      bad_before = refl;
     }
 
 -- string 0 names a language, and string 1 is read; without string 0 it is not

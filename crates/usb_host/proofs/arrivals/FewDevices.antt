@@ -123,6 +123,6 @@ room_left k pool accounts range rise none p arrived =
     absurd (cc (reported_here p i d.1 k.reported rise (rw (← same) at), arrived.unreported)))) in
     omega (arith, short, length-keys_of k.reported)
 
-pub host_room : (h : HostState) → Agrees h.wide h.entries h.addresses → ReportedRise h.reported
+pub host_room : (h : HostState) → Agrees h.options h.entries h.addresses → ReportedRise h.reported
     → NoneLeft (known_in h) → (p : List ℕ) → HasArrived (known_in h) p → length h.reported < 128
 host_room h agrees = room_left (known_in h) h.addresses agrees.accounts agrees.range

@@ -8,6 +8,7 @@ use Rattle.std.specs.Map.{lookup}
 use Rattle.usb_port.specs.{path_cmp}
 use Rattle.usb_resources.specs.{Addresses, IsTaken}
 use Rattle.usb_enum.specs.{Accepted, Cause, Finding, TakesFor}
+use Rattle.usb_enum.specs.{HostOptions}
 use Rattle.usb_enum.specs.declared.finding.Finding.TheVariants.{Device, Refused}
 use Rattle.usb_table.specs.{Entries, accepted_device_at, accepted_device_of, address_in}
 use Rattle.usb_table.specs.{is_at_or_below, without}
@@ -24,7 +25,7 @@ keeps_none a = record {
   rising = omega arith;
   each = λ p d at. inl at;
   reported = refl;
-  wide = refl;
+  options = refl;
 }
 
 pub keeps_same : {a b : Known} → b ≡ a → KeepsKnown a b
@@ -35,7 +36,7 @@ keeps_then {a} {b} {c} x y = record {
   rising = omega (arith, x.rising, y.rising);
   each = λ p d at. by p d (y.each p d at);
   reported = y.reported ∙ x.reported;
-  wide = y.wide ∙ x.wide;
+  options = y.options ∙ x.options;
 }
   where
     by : (p : List ℕ) (d : KnownDevice)
@@ -46,7 +47,7 @@ keeps_then {a} {b} {c} x y = record {
 
 -- what a driver may know does not change at first
 pub keeps_from : {a b c : Known} → KeepsKnown b c → b.entries ≡ a.entries
-    → b.numbers ≡ a.numbers → b.reported ≡ a.reported → b.wide ≡ a.wide → KeepsKnown a c
+    → b.numbers ≡ a.numbers → b.reported ≡ a.reported → b.options ≡ a.options → KeepsKnown a c
 keeps_from {a} {b} {c} x e n r v = record {
   rising = let next = ap (λ (m : DeviceNumbers). m.next) n in omega (arith, x.rising, next);
   each = λ p d at. subst (λ (m : DeviceNumbers). (known_device (accepted_device_at p a.entries) m
@@ -54,11 +55,11 @@ keeps_from {a} {b} {c} x e n r v = record {
       (accepted_device_at p es) b.numbers ≡ Some d) ⊎ (b.numbers.next ≤ d.number)) e
       (x.each p d at));
   reported = x.reported ∙ r;
-  wide = x.wide ∙ v;
+  options = x.options ∙ v;
 }
 
 pub keeps_by : {a b : Known} → b.entries ≡ a.entries → b.numbers ≡ a.numbers
-    → b.reported ≡ a.reported → b.wide ≡ a.wide → KeepsKnown a b
+    → b.reported ≡ a.reported → b.options ≡ a.options → KeepsKnown a b
 keeps_by {a} {b} e n r v = keeps_from (keeps_none b) e n r v
 
 pub keeps_rests : (a : HostState) {b : HostState} → OnlyBusSteps a b → KeepsNumbers a b
@@ -89,7 +90,7 @@ keeps_forgets {path} {a} {b} f =
       each = λ p d at. inl (left_device p path a.entries a.numbers d
           (not (is_at_or_below p path)) refl (rw (f.rest, numbers) at at));
       reported = ap (λ (h : HostState). h.reported) f.others;
-      wide = ap (λ (h : HostState). h.wide) f.others;
+      options = ap (λ (h : HostState). h.options) f.others;
     }
 
 -- A finding is entered
@@ -107,13 +108,13 @@ module _ (path : List ℕ) (es : Entries) where
 
   pub keeps_refused : (cause : Cause) {a b : Known} → a.entries ≡ es
       → b.entries ≡ insert_entry path_cmp es path (Refused cause) → b.numbers ≡ a.numbers
-      → b.reported ≡ a.reported → b.wide ≡ a.wide → KeepsKnown a b
-  keeps_refused cause {a} {b} before entered numbers reported wide = record {
+      → b.reported ≡ a.reported → b.options ≡ a.options → KeepsKnown a b
+  keeps_refused cause {a} {b} before entered numbers reported options = record {
     rising = let next = ap (λ (m : DeviceNumbers). m.next) numbers in omega arith;
     each = λ p d at. inl (rw before (refused_device cause a.numbers p d (is_at (path_cmp p) path)
         refl (rw (entered, numbers) at at)));
     reported = reported;
-    wide = wide;
+    options = options;
   }
 
   -- a device that is listed elsewhere has another address
@@ -147,7 +148,7 @@ module _ (path : List ℕ) (es : Entries) where
       (rw (lookup-insert_entry_elsewhere p path (Device device) es apart) at at))
 
   pub keeps_entered : (finding : Finding) {pool : Addresses} (after : Addresses)
-      (numbers : DeviceNumbers) {reported : List (List ℕ × ℕ)} {wide : Bool}
+      (numbers : DeviceNumbers) {reported : List (List ℕ × ℕ)} {options : HostOptions}
       → length numbers.of ≡ 128 → Accounts
       es pool
       → TakesFor (Ok finding) pool after
@@ -155,13 +156,13 @@ module _ (path : List ℕ) (es : Entries) where
         entries = es;
         numbers = numbers;
         reported = reported;
-        wide = wide;
+        options = options;
       })
       (record {
         entries = insert_entry path_cmp es path finding;
         numbers = with_number finding numbers;
         reported = reported;
-        wide = wide;
+        options = options;
       })
   keeps_entered (Refused cause) after numbers long accounts takes =
       keeps_refused cause refl refl refl refl refl
@@ -170,7 +171,7 @@ module _ (path : List ℕ) (es : Entries) where
     each = λ p d at. accepted_device device numbers (omega (arith, long, takes.free.0.1)) free p d
         (is_at (path_cmp p) path) refl at;
     reported = refl;
-    wide = refl;
+    options = refl;
   }
     where
       taken : (p : List ℕ) (e : Accepted) (o : Option Finding)

@@ -23,6 +23,7 @@ use Rattle.usb_transaction.specs.{Target}
 use Rattle.usb_resources.specs.{IsFull}
 use Rattle.usb_enum.specs.{Lost, EnumFault, ParentLost, Memory, Finding, IsRight, HasServer}
 use Rattle.usb_enum.specs.{ServesAt, Enumerates, IsFair, IsKnownAs, FaultAllowedAt}
+use Rattle.usb_enum.specs.{HostOptions}
 use Rattle.usb_enum.specs.declared.finding.Finding.TheVariants.{Refused}
 use Rattle.usb_enum.proofs.Interface.{pends_there, went_sound}
 use Rattle.usb_table.specs.{KnownPort, Entries, has_at, without, Table, entered, pipes_at}
@@ -59,15 +60,15 @@ use Rattle.usb_host.proofs.knowledge.KnowledgeKept.{cause_stands}
 
 -- Causes elsewhere
 
-causes_above : (wide : Bool) (path below : List ℕ) (w : World) (es : Entries)
-    → is_way path below ≡ true → CausesBut wide below w es → CausesBut wide path w es
-causes_above wide path below w es on caused x away = caused x (way_apart path below x on away)
+causes_above : (options : HostOptions) (path below : List ℕ) (w : World) (es : Entries)
+    → is_way path below ≡ true → CausesBut options below w es → CausesBut options path w es
+causes_above options path below w es on caused x away = caused x (way_apart path below x on away)
 
-causes_gone : (wide : Bool) (path : List ℕ) (w : World) (es : Entries) → has_at path es ≡ false
-    → CausesBut wide path w es → RefusalsJustified wide w es
-causes_gone wide path w es gone caused x = pick (decided (is_way path x))
+causes_gone : (options : HostOptions) (path : List ℕ) (w : World) (es : Entries) → has_at path es ≡ false
+    → CausesBut options path w es → RefusalsJustified options w es
+causes_gone options path w es gone caused x = pick (decided (is_way path x))
   where
-    pick : (is_way path x ≡ true) ⊎ (is_way path x ≡ false) → IsJustifiedAt wide w es x
+    pick : (is_way path x ≡ true) ⊎ (is_way path x ≡ false) → IsJustifiedAt options w es x
     pick (inl way) = λ cause s at there. absurd (cc (finding-none path x es gone way, at))
     pick (inr away) = caused x away
 
@@ -110,40 +111,40 @@ module _ {path : List ℕ} {port : KnownPort} {h : HostState} (s : StandsAt path
 
   pub lost_caused : (fault : EnumFault) → FaultAllowedAt port.port fault h.world
       → (fault ≡ ParentLost → IsLost port.port path h.world)
-      → (fault ≡ ParentLost → CausesBut h.wide path h.world h.entries)
+      → (fault ≡ ParentLost → CausesBut h.options path h.world h.entries)
       → PortCaused path (Err fault) h
   lost_caused ParentLost told lost caused = by_parent (parent_of path) refl
     where
       by_parent : (o : Option (List ℕ)) → parent_of path ≡ o
           → IsSomeAnd o (λ hub. (pending h.world.roots hub ≡ true)
-          × CausesBut h.wide hub h.world h.entries)
+          × CausesBut h.options hub h.world h.entries)
       by_parent None above = absurd (cc (lost_above path h.entries h.world told None above
           (rw above at s.known)))
       by_parent (Some hub) above = (
         hub_pends hub above told (lost refl),
-        causes_above h.wide hub path h.world h.entries (way_parent path hub above) (caused refl),
+        causes_above h.options hub path h.world h.entries (way_parent path hub above) (caused refl),
       )
   lost_caused _ told lost caused = tt
 
 -- The world alone goes on
 
 module _ {n : ℕ} (a : HostState) {b : HostState} (r : OnlyBusSteps a b) (went : HostSteps n a b)
-    (agrees : Agrees a.wide a.entries a.addresses) (still : b.world.fault ≡ None) where
+    (agrees : Agrees a.options a.entries a.addresses) (still : b.world.fault ≡ None) where
   before : a.world.fault ≡ None
   before = went_sound n a.world b.world went still
 
   pub causes_rests : TouchesNoPort a.world b.world → HostInvariant a
-      → RefusalsJustified a.wide a.world a.entries → RefusalsJustified b.wide b.world b.entries
+      → RefusalsJustified a.options a.world a.entries → RefusalsJustified b.options b.world b.entries
   causes_rests rests i caused =
-      rw (ap (λ (h : HostState). h.wide) r, ap (λ (h : HostState). h.entries) r)
+      rw (ap (λ (h : HostState). h.options) r, ap (λ (h : HostState). h.entries) r)
       (causes_stay a.world b.world
       (accounted a agrees i.rooted) (i.known before)
       (λ path port. course_wider (λ s u x. x.spares) (rests path)) caused)
 
   pub causes_rests_but : {path : List ℕ} → RestElsewhere path a.world b.world → IsSoundBut path a
-      → CausesBut a.wide path a.world a.entries → CausesBut b.wide path b.world b.entries
+      → CausesBut a.options path a.world a.entries → CausesBut b.options path b.world b.entries
   causes_rests_but {path = path} rests i caused =
-      rw (ap (λ (h : HostState). h.wide) r, ap (λ (h : HostState). h.entries) r)
+      rw (ap (λ (h : HostState). h.options) r, ap (λ (h : HostState). h.entries) r)
       (causes_but_stay path a.world b.world
       (accounted a agrees i.rooted) (i.known before)
       (λ x away. course_wider (λ s u y. y.spares) (rests x away)) caused)
@@ -151,11 +152,11 @@ module _ {n : ℕ} (a : HostState) {b : HostState} (r : OnlyBusSteps a b) (went 
   -- a port is tidied
   pub causes_tidied : (path : List ℕ) → RestElsewhere path a.world b.world
       → ((x : List ℕ) → is_way path x ≡ true → HoldsAt x a.world b.world) → HostInvariant a
-      → RefusalsJustified a.wide a.world a.entries → RefusalsJustified b.wide b.world b.entries
+      → RefusalsJustified a.options a.world a.entries → RefusalsJustified b.options b.world b.entries
   causes_tidied path rests holds i caused =
-      rw (ap (λ (h : HostState). h.wide) r, ap (λ (h : HostState). h.entries) r) each
+      rw (ap (λ (h : HostState). h.options) r, ap (λ (h : HostState). h.entries) r) each
     where
-      each : RefusalsJustified a.wide b.world a.entries
+      each : RefusalsJustified a.options b.world a.entries
       each x cause s at there = pick (decided (is_way path x)) cause s at there
         where
           known : IsKnownAs a.world x (finding_at x a.entries)
@@ -163,10 +164,10 @@ module _ {n : ℕ} (a : HostState) {b : HostState} (r : OnlyBusSteps a b) (went 
               (Refused cause) at)
 
           pick : (is_way path x ≡ true) ⊎ (is_way path x ≡ false)
-              → IsJustifiedAt a.wide b.world a.entries x
+              → IsJustifiedAt a.options b.world a.entries x
           pick (inl way) = let k = holds x way in
-              cause_stands a.wide x a.entries a.world b.world k.pends k.stands known (caused x)
-          pick (inr away) = cause_stays a.wide x a.entries
+              cause_stands a.options x a.entries a.world b.world k.pends k.stands known (caused x)
+          pick (inr away) = cause_stays a.options x a.entries
               (course_wider (λ s u y. y.spares) (rests x away)) known (caused x)
 
 -- At a port
@@ -186,7 +187,7 @@ module _ {n : ℕ} {path : List ℕ} {port : KnownPort} {a b : HostState} (s : S
   -- its status was not told
   pub watched_caused : (fault : EnumFault) → Watches port.port a.world (Err fault) b.world
       → FaultAllowedAt port.port fault b.world → HostInvariant a → IsFairTo a.world b.world
-      → RefusalsJustified a.wide a.world a.entries → PortCaused path (Err fault) b
+      → RefusalsJustified a.options a.world a.entries → PortCaused path (Err fault) b
   watched_caused ParentLost w told i fair caused =
       let known = i.known (went_sound n a.world b.world went fair.still) in
       let sound = sound_rests a r went w.addresses w.devices (w.rests tt) i in
@@ -199,7 +200,7 @@ module _ {n : ℕ} {path : List ℕ} {port : KnownPort} {a b : HostState} (s : S
   pub tidied_caused : (result : Result (Unit {0}) EnumFault)
       → Tidies port.port a.world result b.world
       → IfErr result (λ fault. FaultAllowedAt port.port fault b.world) → HostInvariant a
-      → IsFairTo a.world b.world → RefusalsJustified a.wide a.world a.entries
+      → IsFairTo a.world b.world → RefusalsJustified a.options a.world a.entries
       → PortCaused path result b
   tidied_caused (Ok tt) t told i fair caused =
       causes_tidied a r went s.agrees fair.still path
@@ -218,7 +219,7 @@ module _ {n : ℕ} {path : List ℕ} {port : KnownPort} {a b : HostState} (s : S
   -- its change was not cleared
   pub cleared_caused : (fault : EnumFault) → ClearsChange port.port a.world (Err fault) b.world
       → FaultAllowedAt port.port fault b.world → HostInvariant a → IsFairTo a.world b.world
-      → RefusalsJustified a.wide a.world a.entries → PortCaused path (Err fault) b
+      → RefusalsJustified a.options a.world a.entries → PortCaused path (Err fault) b
   cleared_caused ParentLost x told i fair caused =
       let rests = x.others (claims a.entries) path (stands_at-claim s) i.owned tt in
       let known = i.known (went_sound n a.world b.world went fair.still) in
@@ -235,24 +236,24 @@ module _ {n : ℕ} {path : List ℕ} {port : KnownPort} {a b : HostState} (s : S
       → ClearsChange port.port a.world (Ok status) b.world
       → c ≡ record b { entries = c.entries; pipes = c.pipes; addresses = c.addresses }
       → c.entries ≡ without path b.entries → HostInvariant a → b.world.fault ≡ None
-      → RefusalsJustified a.wide a.world a.entries → RefusalsJustified c.wide c.world c.entries
+      → RefusalsJustified a.options a.world a.entries → RefusalsJustified c.options c.world c.entries
   forgot_caused c x others rest i still caused =
       let rests = x.others (claims a.entries) path (stands_at-claim s) i.owned tt in
       let there = causes_rests_but a r went s.agrees still rests (but_of_sound path i)
       (λ x away. caused x) in
-      rw (ap (λ (h : HostState). h.wide) others, ap (λ (h : HostState). h.world) others) (rw rest
-      (causes_dropped b.wide path b.world b.entries there))
+      rw (ap (λ (h : HostState). h.options) others, ap (λ (h : HostState). h.world) others) (rw rest
+      (causes_dropped b.options path b.world b.entries there))
 
 -- What is found there
 
-right_free : (full : Type 0) (spec : Spec) (wide : Bool) (tier supply : ℕ) (f : Finding)
-    → IsRight full spec wide tier supply f → IsRight ⊤ spec wide tier supply f
-right_free full spec wide tier supply f (inl x) = inl x
-right_free full spec wide tier supply f (inr x) =
+right_free : (full : Type 0) (spec : Spec) (options : HostOptions) (tier supply : ℕ) (f : Finding)
+    → IsRight full spec options tier supply f → IsRight ⊤ spec options tier supply f
+right_free full spec options tier supply f (inl x) = inl x
+right_free full spec options tier supply f (inr x) =
     inr (record { none = tt; head = x.head; refused = x.refused })
 
 module _ (n : ℕ) {path : List ℕ} {port : KnownPort} (a b : HostState) (s : StandsAt path port a)
-    (width : b.wide ≡ a.wide) (gone : has_at path a.entries ≡ false) (accounts : Accounts a.entries
+    (width : b.options ≡ a.options) (gone : has_at path a.entries ≡ false) (accounts : Accounts a.entries
     a.addresses)
     (went : HostSteps n a b) (o : IsOpen path a) (fair : IsFairTo a.world b.world) where
   sound_before : a.world.fault ≡ None
@@ -269,8 +270,8 @@ module _ (n : ℕ) {path : List ℕ} {port : KnownPort} (a b : HostState) (s : S
   }
 
   found_causes : {result : Result Finding EnumFault}
-      → Enumerates port.port a.addresses b.wide (tier_of path) port.supply a.world result b.world
-      → CausesBut a.wide path a.world a.entries → CausesBut b.wide path b.world a.entries
+      → Enumerates port.port a.addresses b.options (tier_of path) port.supply a.world result b.world
+      → CausesBut a.options path a.world a.entries → CausesBut b.options path b.world a.entries
   found_causes e caused =
       let only = found_only n path port a.addresses a b s width gone accounts went o e
       fair.still in
@@ -278,15 +279,15 @@ module _ (n : ℕ) {path : List ℕ} {port : KnownPort} (a b : HostState) (s : S
       (o.but.known sound_before) (λ x away. course_wider (λ s u y. y.spares) (only.others x away))
       caused)
 
-  pub entered_caused : (f : Finding) → Enumerates port.port a.addresses b.wide (tier_of path)
+  pub entered_caused : (f : Finding) → Enumerates port.port a.addresses b.options (tier_of path)
       port.supply
       a.world (Ok f) b.world → b.entries ≡ insert_entry path_cmp a.entries path f
-      → CausesBut a.wide path a.world a.entries → PortCaused path (Ok tt) b
+      → CausesBut a.options path a.world a.entries → PortCaused path (Ok tt) b
   entered_caused f e is caused =
-      rw is (causes_found path f a.entries s.is.0 gone b.wide b.world
-      (causes_gone b.wide path b.world a.entries gone (found_causes e caused)) here)
+      rw is (causes_found path f a.entries s.is.0 gone b.options b.world
+      (causes_gone b.options path b.world a.entries gone (found_causes e caused)) here)
     where
-      here : IsJustifiedAt b.wide b.world (insert_entry path_cmp a.entries path f) path
+      here : IsJustifiedAt b.options b.world (insert_entry path_cmp a.entries path f) path
       here cause t at there = pick (e.warrants.cause (claims a.entries) path is_fair cause t
           (ap Ok found) there)
         where
@@ -294,42 +295,42 @@ module _ (n : ℕ) {path : List ℕ} {port : KnownPort} (a b : HostState) (s : S
           found = cc (sym (lookup-insert_entry_here path f a.entries) ∙ at)
 
           pick : (pending b.world.roots path ≡ true)
-              ⊎ IsRight (IsFull a.addresses) t.spec b.wide (tier_of path) port.supply (Refused
+              ⊎ IsRight (IsFull a.addresses) t.spec b.options (tier_of path) port.supply (Refused
               cause)
               → (pending b.world.roots path ≡ true)
-              ⊎ IsRight ⊤ t.spec b.wide (tier_of path)
+              ⊎ IsRight ⊤ t.spec b.options (tier_of path)
               (known_supply path (insert_entry path_cmp a.entries path f)) (Refused cause)
           pick (inl x) = inl x
           pick (inr x) = inr (rw (supply_found path f a.entries s.known)
-              (right_free (IsFull a.addresses) t.spec b.wide (tier_of path) port.supply (Refused
+              (right_free (IsFull a.addresses) t.spec b.options (tier_of path) port.supply (Refused
               cause) x))
 
   pub unfound_caused : (fault : EnumFault)
-      → Enumerates port.port a.addresses b.wide (tier_of path) port.supply a.world (Err fault)
+      → Enumerates port.port a.addresses b.options (tier_of path) port.supply a.world (Err fault)
       b.world
       → b.entries ≡ a.entries → FaultAllowedAt port.port fault b.world
-      → CausesBut a.wide path a.world a.entries → PortCaused path (Err fault) b
+      → CausesBut a.options path a.world a.entries → PortCaused path (Err fault) b
   unfound_caused ParentLost e same told caused = by_parent (parent_of path) refl
     where
       by_parent : (p : Option (List ℕ)) → parent_of path ≡ p
           → IsSomeAnd p (λ hub. (pending b.world.roots hub ≡ true)
-          × CausesBut b.wide hub b.world b.entries)
+          × CausesBut b.options hub b.world b.entries)
       by_parent None above = absurd (cc (lost_above path a.entries b.world told None above
           (rw above at s.known)))
       by_parent (Some hub) above = (
         rw above at (e.warrants.parent (claims a.entries) path is_fair refl),
-        subst (CausesBut b.wide hub b.world) (sym same)
-            (causes_above b.wide hub path b.world a.entries (way_parent path hub above)
+        subst (CausesBut b.options hub b.world) (sym same)
+            (causes_above b.options hub path b.world a.entries (way_parent path hub above)
             (found_causes e caused)),
       )
   unfound_caused _ e same told caused = tt
 
 -- what was found at a port is entered, or its hub is lost
 module _ {n : ℕ} {path : List ℕ} {port : KnownPort} {a b : HostState} (s : StandsAt path port a)
-    (width : b.wide ≡ a.wide) (gone : has_at path a.entries ≡ false) (accounts : Accounts a.entries
+    (width : b.options ≡ a.options) (gone : has_at path a.entries ≡ false) (accounts : Accounts a.entries
     a.addresses)
     (went : HostSteps n a b) where
-  pub entered_finds : (f : Finding) → Enumerates port.port a.addresses b.wide (tier_of path)
+  pub entered_finds : (f : Finding) → Enumerates port.port a.addresses b.options (tier_of path)
       port.supply
       a.world (Ok f) b.world → (said : ArrayVec ℕ) → table_in b ≡ entered path f said (table_in a)
       → KeepsPort path a (Ok tt) b → FindsSound path a (Ok tt) b
@@ -349,7 +350,7 @@ module _ {n : ℕ} {path : List ℕ} {port : KnownPort} {a b : HostState} (s : S
   }
 
   -- there was no memory to enter it
-  pub unentered_finds : (f : Finding) → Enumerates port.port a.addresses b.wide (tier_of path)
+  pub unentered_finds : (f : Finding) → Enumerates port.port a.addresses b.options (tier_of path)
       port.supply
       a.world (Ok f) b.world → b.entries ≡ a.entries → b.pipes ≡ a.pipes
       → FindsSound path a (Err Memory) b
@@ -366,7 +367,7 @@ module _ {n : ℕ} {path : List ℕ} {port : KnownPort} {a b : HostState} (s : S
   }
 
   pub unfound_finds : (fault : EnumFault)
-      → Enumerates port.port a.addresses b.wide (tier_of path) port.supply a.world (Err fault)
+      → Enumerates port.port a.addresses b.options (tier_of path) port.supply a.world (Err fault)
       b.world
       → b.entries ≡ a.entries → b.pipes ≡ a.pipes → b.addresses ≡ a.addresses
       → FaultAllowedAt port.port fault b.world → KeepsPort path a (Err fault) b
@@ -403,7 +404,7 @@ module _ (n : ℕ) {path : List ℕ} {port : KnownPort} (a b : HostState) (s : S
       sound
 
   pub told_caused : CommandsPort port.port (clear_call PORT_ENABLE) a.world (Ok tt) b.world
-      → pending a.world.roots path ≡ true → CausesBut a.wide path a.world a.entries
+      → pending a.world.roots path ≡ true → CausesBut a.options path a.world a.entries
       → Disabled true path b
   told_caused calls pends caused = (
     pends_there path ClearEnable a.world b.world refl
@@ -416,7 +417,7 @@ module _ (n : ℕ) {path : List ℕ} {port : KnownPort} (a b : HostState) (s : S
   pub untold_caused : {fault : PipeFault} → CommandsPort port.port (clear_call PORT_ENABLE) a.world
       (Err fault) b.world → FaultAfter 1 a.world fault b.world
       → PortCleared port.port PORT_ENABLE a.world (Err fault) b.world
-      → CausesBut a.wide path a.world a.entries → Disabled false path b
+      → CausesBut a.options path a.world a.entries → Disabled false path b
   untold_caused {fault = fault} calls told cleared caused = by_parent (parent_of path) refl
     where
       rests : RestElsewhere path a.world b.world
@@ -443,12 +444,12 @@ module _ (n : ℕ) {path : List ℕ} {port : KnownPort} (a b : HostState) (s : S
 
       by_parent : (o : Option (List ℕ)) → parent_of path ≡ o
           → IsSomeAnd o (λ hub. (pending b.world.roots hub ≡ true)
-          × CausesBut b.wide hub b.world b.entries)
+          × CausesBut b.options hub b.world b.entries)
       by_parent None above = absurd (root_done path a.entries PORT_ENABLE a.world b.world fault None
           above refl (rw above at s.known) cleared)
       by_parent (Some hub) above = (
         hub_pends (rests_stands s r went) but fair.still hub above (by_port port.port cleared) lost,
-        causes_above b.wide hub path b.world b.entries (way_parent path hub above)
+        causes_above b.options hub path b.world b.entries (way_parent path hub above)
             (causes_rests_but a r went s.agrees fair.still rests d.but caused),
       )
 
@@ -457,7 +458,7 @@ module _ (lost : List ℕ) (b c d : HostState) (least : 1 ≤ length lost)
     (rest : c.entries ≡ without lost b.entries)
     (pipes : (y : List ℕ) → is_way lost y ≡ false
     → pipes_at y (table_in c) ≡ pipes_at y (table_in b)) (gone : has_at lost c.entries
-    ≡ false) (same : d.world ≡ c.world) (wide : d.wide ≡ c.wide) (said : ArrayVec ℕ)
+    ≡ false) (same : d.world ≡ c.world) (options : d.options ≡ c.options) (said : ArrayVec ℕ)
     (table : table_in d ≡ entered lost (Refused Lost) said (table_in c)) where
   is : d.entries ≡ insert_entry path_cmp c.entries lost (Refused Lost)
   is = ap (λ (t : Table). t.entries) table
@@ -465,13 +466,13 @@ module _ (lost : List ℕ) (b c d : HostState) (least : 1 ≤ length lost)
   world_same : d.world ≡ b.world
   world_same = same ∙ ap (λ (h : HostState). h.world) others
 
-  lost_causes : pending b.world.roots lost ≡ true → CausesBut b.wide lost b.world b.entries
-      → RefusalsJustified d.wide d.world d.entries
+  lost_causes : pending b.world.roots lost ≡ true → CausesBut b.options lost b.world b.entries
+      → RefusalsJustified d.options d.world d.entries
   lost_causes pends caused =
-      rw (wide ∙ ap (λ (h : HostState). h.wide) others, world_same)
-      (rw is (causes_found lost (Refused Lost) c.entries least gone b.wide b.world
-      (subst (RefusalsJustified b.wide b.world) (sym rest)
-      (causes_dropped b.wide lost b.world b.entries caused))
+      rw (options ∙ ap (λ (h : HostState). h.options) others, world_same)
+      (rw is (causes_found lost (Refused Lost) c.entries least gone b.options b.world
+      (subst (RefusalsJustified b.options b.world) (sym rest)
+      (causes_dropped b.options lost b.world b.entries caused))
       (λ cause s at there. inl pends)))
 
   -- no pipe to a function but those of what is dropped has changed
@@ -488,7 +489,7 @@ module _ (lost : List ℕ) (b c d : HostState) (least : 1 ≤ length lost)
       → Climbs hub a (Ok lost) b → DropsHub hub a (Ok tt) d → DropsSound hub a (Ok tt) d
   lost_drops hub a r onward climbs drops = record {
     sound = λ p. lost_sound_there hub lost a b c d least (climbs.sound p) others rest pipes gone
-        same wide said table p drops;
+        same options said table p drops;
     bulk = λ p still.
         bulk_stays a d (lost_stay a r climbs.devices (drops.ends p.but.owned).single)
         (subst (MovesNoBulk a.world) (sym world_same)

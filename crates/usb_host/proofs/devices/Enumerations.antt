@@ -12,13 +12,13 @@ askable_wide (Root number) h = tt
 askable_wide (External hub port) h = h.wide
 
 pub enumeration_goes : (port : HubPort) (a b : HostState) → IsAskable port
-    → HostSteps (enumeration_bound port) a b → b.stopped ≡ a.stopped → b.wide ≡ a.wide
+    → HostSteps (enumeration_bound port) a b → b.stopped ≡ a.stopped → b.options ≡ a.options
     → HostRuns widest_enumeration a b
 enumeration_goes port a b askable w e f = goes_by a b w
     (enumeration_most port (askable_wide port askable)) e f
 
 pub status_read_goes : (port : HubPort) (a b : HostState) → IsAskable port
-    → HostSteps (status_bound port) a b → b.stopped ≡ a.stopped → b.wide ≡ a.wide
+    → HostSteps (status_bound port) a b → b.stopped ≡ a.stopped → b.options ≡ a.options
     → HostRuns (read_bound 4) a b
 status_read_goes port a b askable w e f =
     goes_by a b w (status_most port (askable_wide port askable)) e f

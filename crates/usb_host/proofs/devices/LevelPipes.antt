@@ -13,6 +13,7 @@ use Rattle.usb_world.proofs.Interface.{at_or_below_way}
 use Rattle.usb_tree.proofs.Interface.{decided, false_true}
 use Rattle.usb_hub.specs.{StaysAs, EachElsewhere, KeepsDevices}
 use Rattle.usb_enum.specs.{Cause, Accepted, Finding, IsOwn}
+use Rattle.usb_enum.specs.{HostOptions, usual_options}
 use Rattle.usb_enum.specs.declared.finding.Finding.TheVariants.{Device, Refused}
 use Rattle.usb_enum.proofs.Interface.{ruled_there}
 use Rattle.usb_table.specs.{Pipes, no_pipes, Entries, has_at, is_at_or_below, without}
@@ -117,18 +118,18 @@ level_came path f said t w is here others x =
 pub level_refused : (path : List ℕ) (cause : Cause) (said : ArrayVec ℕ) (t : Table) {u : Table}
     (w : World) → u ≡ entered path (Refused cause) said t → AllInSync t w → AllInSync u w
 level_refused path cause said t w is others =
-    level_came path (Refused cause) said t w is (level_entered path (Refused cause) said t w true 0
-    0
+    level_came path (Refused cause) said t w is (level_entered path (Refused cause) said t w
+    (usual_options true) 0 0
     (λ device s found. absurd (cc found))) others
 
 -- those to a device whose finding is its own are new, as its endpoints are
-pub level_found : (path : List ℕ) (f : Finding) (said : ArrayVec ℕ) (wide : Bool) (tier supply : ℕ)
+pub level_found : (path : List ℕ) (f : Finding) (said : ArrayVec ℕ) (options : HostOptions) (tier supply : ℕ)
     (t : Table) {u : Table} (w : World) → u ≡ entered path f said t → Consistent w.roots
     → ((device : Accepted) (s : State) → f ≡ Device device → reach w.roots path ≡ true
-    → state_there w.roots path ≡ Some s → IsOwn wide tier supply device s) → AllInSync t w
+    → state_there w.roots path ≡ Some s → IsOwn options tier supply device s) → AllInSync t w
     → AllInSync u w
-level_found path f said wide tier supply t w is sane own others =
-    level_came path f said t w is (level_entered path f said t w wide tier supply
+level_found path f said options tier supply t w is sane own others =
+    level_came path f said t w is (level_entered path f said t w options tier supply
     (λ device s found on stands. (
       ruled_there w.roots path s sane stands,
       own device s found on stands,

@@ -232,7 +232,7 @@ device_there _ e = absurd (cc e)
 
 -- at a path of its own for each address, and at one that has none
 full_plugged : (events : List Event) (path : List ℕ) (h : HostState) → HasPlugs events h
-    → Agrees h.wide h.entries h.addresses → IsFull h.addresses → finding_at path h.entries ≡ None
+    → Agrees h.options h.entries h.addresses → IsFull h.addresses → finding_at path h.entries ≡ None
     → WasPlugged events h.world.taken path → 128 ≤ plug_events events
 full_plugged events path h plugs agrees full none was =
     rw (length-plug_addresses h.entries events) at (le-length_from_below
@@ -352,7 +352,7 @@ plugs_lost a b onward lost plan is paths course =
 
 -- one finding is entered at a path at which a device was plugged
 plugs_entered : (events : List Event) (path : List ℕ) (a b : HostState)
-    → Agrees a.wide a.entries a.addresses → has_at path a.entries ≡ false → EntersOne path a b
+    → Agrees a.options a.entries a.addresses → has_at path a.entries ≡ false → EntersOne path a b
     → a.world.taken ≤ b.world.taken → WasPlugged events a.world.taken path → HasPlugs events a
     → HasPlugs events b
 plugs_entered events path a b agrees gone enters onward was plugs = record {
@@ -428,7 +428,7 @@ pub plugs_found : {m : ℕ} (n : ℕ) (path : List ℕ) (status : PortStatus) (a
     → HostSteps m a c → HostSteps n c d → OnlyBusSteps a b
     → c ≡ record b { entries = c.entries; pipes = c.pipes; addresses = c.addresses }
     → c.entries ≡ without path b.entries → has_at path c.entries ≡ false
-    → Agrees c.wide c.entries c.addresses → ClearsAndReads path status a.world b.world
+    → Agrees c.options c.entries c.addresses → ClearsAndReads path status a.world b.world
     → IsOrderly a.world
     → status.connected ≡ true → EntersOne path c d → KeepsPlugs a d
 plugs_found n path status a b c d first second r others rest gone agrees x order on enters plan is

@@ -11,6 +11,7 @@ use Rattle.usb_world.proofs.Interface.{way_rest}
 use Rattle.usb_tree.proofs.Interface.{false_true}
 use Rattle.usb_hub.specs.{Root, IsPort}
 use Rattle.usb_enum.specs.{NoAddress, Finding}
+use Rattle.usb_enum.specs.{HostOptions}
 use Rattle.usb_enum.specs.declared.finding.Finding.TheVariants.{Refused}
 use Rattle.usb_table.specs.{KnownPort, Entries, without, is_at_or_below, known_port, root_port}
 use Rattle.usb_table.specs.{port_below, is_below_hub, finding_at}
@@ -112,9 +113,9 @@ waits_somewhere path h s w r =
 
 -- A host
 
-pub rooted_opening : (wide : Bool) (w : World) (t : Option (List ℕ))
-    → IsRooted (opening_host wide w t)
-rooted_opening wide w t path some = false_true some
+pub rooted_opening : (options : HostOptions) (w : World) (t : Option (List ℕ))
+    → IsRooted (opening_host options w t)
+rooted_opening options w t path some = false_true some
 
 port_by : {es : Entries} (roots : ℕ) (path : List ℕ) → Nested es → root_of path ≤ roots
     → parent_of path ≡ None → (o : Option Finding) → finding_at path es ≡ o → IsSome o
@@ -124,8 +125,8 @@ port_by roots path n fits none (Some f) at some =
     rw (ap root_of (root_alone path (n.path path f at).0 none)) at fits
 
 -- what a host's invariant says, and that entries stand below the ports of the root
-pub accounted : (h : HostState) → Agrees h.wide h.entries h.addresses → IsRooted h
-    → Accounted h.wide (roots_of h.world) h.entries h.addresses
+pub accounted : (h : HostState) → Agrees h.options h.entries h.addresses → IsRooted h
+    → Accounted h.options (roots_of h.world) h.entries h.addresses
 accounted h agrees rooted = record {
   agrees = agrees;
   root = λ path some none. port_by (roots_of h.world) path agrees.nested (rooted path some) none

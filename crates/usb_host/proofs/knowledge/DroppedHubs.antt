@@ -122,7 +122,7 @@ module _ (hub lost : List ℕ) (a b c d : HostState) (least : 1 ≤ length lost)
       addresses = c.addresses;
     }) (rest : c.entries ≡ without lost b.entries) (pipes : (y : List ℕ) → is_way lost y ≡ false
     → pipes_at y (table_in c) ≡ pipes_at y (table_in b)) (gone : has_at lost c.entries ≡ false)
-    (same : d.world ≡ c.world) (wide : d.wide ≡ c.wide) (said : ArrayVec ℕ)
+    (same : d.world ≡ c.world) (options : d.options ≡ c.options) (said : ArrayVec ℕ)
     (table : table_in d ≡ entered lost (Refused Lost) said (table_in c)) where
   is : d.entries ≡ insert_entry path_cmp c.entries lost (Refused Lost)
   is = ap (λ (t : Table). t.entries) table
@@ -130,8 +130,8 @@ module _ (hub lost : List ℕ) (a b c d : HostState) (least : 1 ≤ length lost)
   world_is : d.world ≡ b.world
   world_is = same ∙ ap (λ (h : HostState). h.world) others
 
-  width : d.wide ≡ b.wide
-  width = wide ∙ ap (λ (h : HostState). h.wide) others
+  width : d.options ≡ b.options
+  width = options ∙ ap (λ (h : HostState). h.options) others
 
   still_there : d.world.fault ≡ None → b.world.fault ≡ None
   still_there still = ap (λ (w : World). w.fault) (sym world_is) ∙ still
@@ -143,9 +143,9 @@ module _ (hub lost : List ℕ) (a b c d : HostState) (least : 1 ≤ length lost)
       rw world_is (rw is (known_found lost (Refused Lost) c.entries least gone b.world dropped
       (x.there (still_there still)) (λ m has. absurd has)))
 
-  lost_truthful : d.world.fault ≡ None → DevicesAccurate d.wide d.world d.entries
+  lost_truthful : d.world.fault ≡ None → DevicesAccurate d.options d.world d.entries
   lost_truthful still =
-      let dropped : DevicesAccurate b.wide b.world c.entries =
+      let dropped : DevicesAccurate b.options b.world c.entries =
       rw rest (truthful_dropped lost b.world b.entries (x.but.truthful (still_there still))) in
       rw (width, world_is) (rw is (truthful_found lost (Refused Lost) c.entries least gone b.world
       dropped
@@ -193,7 +193,7 @@ module _ {m n : ℕ} {path : List ℕ} where
       {first : World} {t : Option (List ℕ)} → StepRun m first t a.world a.trace → HostSteps n a b
       → DisablesOnWay path a result b → result ≡ Ok flag → IsDroppable path a
       → IsFairTo first b.world → (IsFairTo first a.world → (pending a.world.roots path ≡ true)
-      × CausesBut a.wide path a.world a.entries) → Disabled flag path b
+      × CausesBut a.options path a.world a.entries) → Disabled flag path b
   done_caused_by flag b before went x done d fair so_far =
       let so = so_far (fair_before went fair) in
       rw done at (x.caused d (fair_after before fair) so.0 so.1)
@@ -202,8 +202,8 @@ pub done_caused : {m n : ℕ} {path : List ℕ} (a : HostState) {result : Result
     (b : HostState) {first : World} {t : Option (List ℕ)} → StepRun m first t a.world a.trace
     → HostSteps n a b → DisablesOnWay path a result b → result ≡ Ok true → IsDroppable path a
     → IsFairTo first b.world → (IsFairTo first a.world → (pending a.world.roots path ≡ true)
-    × CausesBut a.wide path a.world a.entries) → (pending b.world.roots path ≡ true)
-    × CausesBut b.wide path b.world b.entries
+    × CausesBut a.options path a.world a.entries) → (pending b.world.roots path ≡ true)
+    × CausesBut b.options path b.world b.entries
 done_caused a b before went x done d fair so_far =
     done_caused_by true b before went x done d fair so_far
 
@@ -212,7 +212,7 @@ pub climb_caused : {m n : ℕ} {path above : List ℕ} (a : HostState) {result :
     → HostSteps n a b → parent_of path ≡ Some above → DisablesOnWay path a result b
     → result ≡ Ok false → IsDroppable path a → IsFairTo first b.world
     → (IsFairTo first a.world → (pending a.world.roots path ≡ true)
-    × CausesBut a.wide path a.world a.entries) → (pending b.world.roots above ≡ true)
-    × CausesBut b.wide above b.world b.entries
+    × CausesBut a.options path a.world a.entries) → (pending b.world.roots above ≡ true)
+    × CausesBut b.options above b.world b.entries
 climb_caused a b before went is x failed d fair so_far =
     rw is at (done_caused_by false b before went x failed d fair so_far)

@@ -16,13 +16,13 @@ lets_go_on_done _ ends = tt
 
 pub finished_sound : {path : List ℕ} (m : ℕ) {n : ℕ} (served : Result (Unit {0}) EnumFault)
     (result : Result (Unit {0}) HostFault) (a b c : HostState) → HostSteps m a b → HostSteps n b c
-    → c.wide ≡ a.wide → EndsAs served result → ServesSound path a served b
+    → c.options ≡ a.options → EndsAs served result → ServesSound path a served b
     → DropsLost path served b result c
     → PartKeepsInvariant a result c
-finished_sound m served (Err fault) a b c first second wide ends x y = tt
-finished_sound m {n = n} served (Ok tt) a b c first second wide ends x y = record {
+finished_sound m served (Err fault) a b c first second options ends x y = tt
+finished_sound m {n = n} served (Ok tt) a b c first second options ends x y = record {
   sound = record {
-    wide = wide;
+    options = options;
     sound = λ s. y.sound (x.sound s);
     caused = λ s fair k.
         y.caused (x.sound s) (fair_after first fair) (x.caused s (fair_before second fair) k);

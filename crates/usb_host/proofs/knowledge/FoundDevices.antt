@@ -13,6 +13,7 @@ use Rattle.usb_tree.proofs.Interface.{decided}
 use Rattle.usb_resources.specs.{Addresses, IsTaken}
 use Rattle.usb_enum.specs.{EnumFault, ParentLost, Accepted, Finding, HubFacts, Begins}
 use Rattle.usb_enum.specs.{Enumerates, IsOwn, OnlyAt, IsPlaced, FaultAllowedAt}
+use Rattle.usb_enum.specs.{HostOptions}
 use Rattle.usb_enum.specs.declared.finding.Finding.TheVariants.{Device, Refused}
 use Rattle.usb_enum.proofs.Interface.{regular_order, went_in_order, went_sound}
 use Rattle.usb_table.specs.{KnownPort, Entries, has_at, accepted_device_of, known_port}
@@ -32,11 +33,11 @@ use Rattle.usb_host.proofs.PortLocations.{stands_at-claim}
 use Rattle.usb_host.proofs.knowledge.KnowledgeKept.{known_but_each, truthful_but_stays}
 
 -- nothing is known of what is not listed
-truthful_gone : {wide : Bool} (path : List ℕ) (w : World) (es : Entries) → has_at path es ≡ false
-    → TruthfulBut wide path w es → DevicesAccurate wide w es
-truthful_gone {wide = wide} path w es gone told x = pick (decided (is_way path x))
+truthful_gone : {options : HostOptions} (path : List ℕ) (w : World) (es : Entries) → has_at path es ≡ false
+    → TruthfulBut options path w es → DevicesAccurate options w es
+truthful_gone {options = options} path w es gone told x = pick (decided (is_way path x))
   where
-    pick : (is_way path x ≡ true) ⊎ (is_way path x ≡ false) → IsAccurateAt wide w es x
+    pick : (is_way path x ≡ true) ⊎ (is_way path x ≡ false) → IsAccurateAt options w es x
     pick (inl way) = λ device s at on stands. absurd
         (cc (ap accepted_device_of (finding-none path x es gone way), at))
     pick (inr away) = told x away
@@ -61,7 +62,7 @@ hub_device (Device device) n h = pick device.hub refl h
     pick (Some facts) e h = (device, facts, refl, e, h.0, h.1)
 
 module _ (n : ℕ) (path : List ℕ) (port : KnownPort) (pool : Addresses) (a b : HostState)
-    (s : StandsAt path port a) (width : b.wide ≡ a.wide) (gone : has_at path a.entries ≡ false)
+    (s : StandsAt path port a) (width : b.options ≡ a.options) (gone : has_at path a.entries ≡ false)
     (accounts : Accounts a.entries pool) (went : HostSteps n a b) (o : IsOpen path a) where
   taken_by : (x : List ℕ) (address : ℕ) → claims a.entries x ≡ Some address → IsTaken pool address
   taken_by = claims_taken accounts
@@ -76,7 +77,7 @@ module _ (n : ℕ) (path : List ℕ) (port : KnownPort) (pool : Addresses) (a b 
   }
 
   pub found_only : {result : Result Finding EnumFault}
-      → Enumerates port.port pool b.wide (tier_of path) port.supply a.world result b.world
+      → Enumerates port.port pool b.options (tier_of path) port.supply a.world result b.world
       → b.world.fault ≡ None → OnlyAt path a.world b.world
   found_only e still = e.addresses.only (claims a.entries) path begins.at begins.free begins.taken
       begins.owned still
@@ -88,13 +89,13 @@ module _ (n : ℕ) (path : List ℕ) (port : KnownPort) (pool : Addresses) (a b 
       (o.but.known (went_sound n a.world b.world went still)))
 
   only_truthful : {es : Entries} → es ≡ a.entries → b.world.fault ≡ None
-      → OnlyAt path a.world b.world → TruthfulBut b.wide path b.world es
+      → OnlyAt path a.world b.world → TruthfulBut b.options path b.world es
   only_truthful same still only =
       rw (width, same) (truthful_but_stays path a.world b.world a.entries
       (elsewhere_still path a.world b.world only.devices)
       (o.but.truthful (went_sound n a.world b.world went still)))
 
-  module _ (f : Finding) (e : Enumerates port.port pool b.wide (tier_of path) port.supply a.world
+  module _ (f : Finding) (e : Enumerates port.port pool b.options (tier_of path) port.supply a.world
       (Ok f)
       b.world) (said : ArrayVec ℕ) (table : table_in b ≡ entered path f said (table_in a)) where
     is : b.entries ≡ insert_entry path_cmp a.entries path f
@@ -112,18 +113,18 @@ module _ (n : ℕ) (path : List ℕ) (port : KnownPort) (pool : Addresses) (a b 
         (λ number has. let d : _ = hub_device f number has in
         here.below d.0 d.2 d.1 number d.3 d.4 d.5))
 
-    told_here : b.world.fault ≡ None → IsAccurateAt b.wide b.world (insert_entry path_cmp a.entries
+    told_here : b.world.fault ≡ None → IsAccurateAt b.options b.world (insert_entry path_cmp a.entries
         path f)
         path
     told_here still device t at on stands =
         let found : f ≡ Device device = accepted_device_of-some f
         (sym (ap accepted_device_of (lookup-insert_entry_here path f a.entries)) ∙ at) in
-        let own : IsOwn b.wide (tier_of path) port.supply device t =
+        let own : IsOwn b.options (tier_of path) port.supply device t =
         e.own.truth (claims a.entries) path begins.at begins.free begins.taken begins.owned
         (regular_order begins.order) device (ap Ok found) t on stands in
         record { found = rw (supply_found path f a.entries s.known) own.0; set = own.1 }
 
-    entered_truthful : b.world.fault ≡ None → DevicesAccurate b.wide b.world b.entries
+    entered_truthful : b.world.fault ≡ None → DevicesAccurate b.options b.world b.entries
     entered_truthful still =
         rw is (truthful_found path f a.entries s.is.0 gone b.world
         (truthful_gone path b.world a.entries gone
@@ -133,7 +134,7 @@ module _ (n : ℕ) (path : List ℕ) (port : KnownPort) (pool : Addresses) (a b 
     entered_level still =
         let order : WorldInvariant b.world =
         (went_in_order n a.world b.world went o.but.order still) in
-        level_found path f said b.wide (tier_of path) port.supply (table_in a) b.world table
+        level_found path f said b.options (tier_of path) port.supply (table_in a) b.world table
         order.sane
         (λ device t found on stands. e.own.truth (claims a.entries) path begins.at begins.free
         begins.taken begins.owned (regular_order begins.order) device (ap Ok found) t on stands)
@@ -148,7 +149,7 @@ module _ (n : ℕ) (path : List ℕ) (port : KnownPort) (pool : Addresses) (a b 
         (found_only e still).control
         (o.owned.so (went_sound n a.world b.world went still))
         (λ device found x t is on stands.
-        let own : IsOwn b.wide (tier_of path) port.supply device t =
+        let own : IsOwn b.options (tier_of path) port.supply device t =
         e.own.truth (claims a.entries) path begins.at begins.free begins.taken begins.owned
         (regular_order begins.order) device (ap Ok found) t (ap (reach b.world.roots) is ∙ on)
         (ap (state_there b.world.roots) is ∙ stands) in
@@ -166,13 +167,13 @@ module _ (n : ℕ) (path : List ℕ) (port : KnownPort) (pool : Addresses) (a b 
 
   -- nothing is entered
   pub unfound_where : {result : Result Finding EnumFault}
-      → Enumerates port.port pool b.wide (tier_of path) port.supply a.world result b.world
+      → Enumerates port.port pool b.options (tier_of path) port.supply a.world result b.world
       → b.entries ≡ a.entries → b.pipes ≡ a.pipes → StaysWhere (b.world.fault ≡ None) a b
   unfound_where e same pipes_same = where_unfound path a b same pipes_same gone
       (λ still. (found_only e still).devices) (e.addresses.named (claims a.entries) path begins.at
       begins.free begins.taken begins.owned)
 
-  pub unfound_bulk : {fault : EnumFault} → Enumerates port.port pool b.wide (tier_of path)
+  pub unfound_bulk : {fault : EnumFault} → Enumerates port.port pool b.options (tier_of path)
       port.supply
       a.world (Err fault) b.world → b.entries ≡ a.entries → b.pipes ≡ a.pipes → b.world.fault ≡ None
       → KeepsBulk a b
@@ -182,7 +183,7 @@ module _ (n : ℕ) (path : List ℕ) (port : KnownPort) (pool : Addresses) (a b 
 
   -- nothing is entered: the hub is lost
   pub unfound_sound : (fault : EnumFault)
-      → Enumerates port.port pool b.wide (tier_of path) port.supply a.world (Err fault) b.world
+      → Enumerates port.port pool b.options (tier_of path) port.supply a.world (Err fault) b.world
       → b.entries ≡ a.entries → b.pipes ≡ a.pipes → b.addresses ≡ a.addresses
       → FaultAllowedAt port.port fault b.world → KeepsPort path a (Err fault) b
       → InvariantAfterPort path (Err fault) b

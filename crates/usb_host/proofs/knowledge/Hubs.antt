@@ -24,7 +24,7 @@ below_due hub n es port w least e =
 -- a port of the root
 pub root_stands : {modelled : Bool} (number : ℕ) (h : HostState)
     → (modelled ≡ true → IsRootPort h.world number) → IsPortNumber number
-    → Agrees h.wide h.entries h.addresses
+    → Agrees h.options h.entries h.addresses
     → IsPortAt modelled (number ∷ []) (record { port = Root number; supply = supply_of true false })
     h
 unfolding parent_of port_on_hub

@@ -12,6 +12,7 @@ use Rattle.usb_world.proofs.Interface.{course_wider, pending_persists, rests_or_
 use Rattle.usb_world.proofs.Interface.{stands_or_pends}
 use Rattle.usb_tree.proofs.Interface.{false_true}
 use Rattle.usb_enum.specs.{Cause, Accepted, Finding, IsRight, IsThere, IsKnownAs}
+use Rattle.usb_enum.specs.{HostOptions}
 use Rattle.usb_enum.specs.declared.finding.Finding.TheVariants.{Device, Refused}
 use Rattle.usb_table.specs.{Entries, finding_at, IsListedPort, tier_of, SameDevice}
 use Rattle.usb_enum.proofs.Interface.{some_of}
@@ -63,10 +64,10 @@ known_but_each first w v entries roots calm known path away port =
 
 -- Accepted devices
 
-tells_still : {wide : Bool} {entries : Entries} {path : List ℕ} {device : Accepted} (j : Location)
+tells_still : {options : HostOptions} {entries : Entries} {path : List ℕ} {device : Accepted} (j : Location)
     {s : State}
     (v : State)
-    → SameDevice j s v → IsTruthOf wide entries path device s → IsTruthOf wide entries path device v
+    → SameDevice j s v → IsTruthOf options entries path device s → IsTruthOf options entries path device v
 tells_still j v still t = record {
   found = rw still.spec t.found;
   set = record {
@@ -75,24 +76,24 @@ tells_still j v still t = record {
   };
 }
 
-is_told_at-stays : {wide : Bool} (j : Location) (w v : World) (entries : Entries)
+is_told_at-stays : {options : HostOptions} (j : Location) (w v : World) (entries : Entries)
     → ((s : State) → reach_on v.roots j ≡ true → state_on v.roots j ≡ Some s
-    → Was SameDevice w j s) → IsAccurateAt wide w entries (path_to j)
-    → IsAccurateAt wide v entries (path_to j)
+    → Was SameDevice w j s) → IsAccurateAt options w entries (path_to j)
+    → IsAccurateAt options v entries (path_to j)
 is_told_at-stays j w v entries was told device s at on stands =
     let x : Was SameDevice w j s = was s on stands in
     tells_still j s x.so (told device x.before at x.on x.stands)
 
-pub truthful_stays : {wide : Bool} (w v : World) (entries : Entries) → EachStill w v
-    → DevicesAccurate wide w entries
-    → DevicesAccurate wide v entries
+pub truthful_stays : {options : HostOptions} (w v : World) (entries : Entries) → EachStill w v
+    → DevicesAccurate options w entries
+    → DevicesAccurate options v entries
 truthful_stays w v entries each told (suc j ∷ p) = is_told_at-stays (record { row = j; rest = p }) w
     v entries (each (record { row = j; rest = p })) (told (suc j ∷ p))
 truthful_stays w v entries each told _ = λ device s at on stands. false_true on
 
-pub truthful_but_stays : {wide : Bool} (first : List ℕ) (w v : World) (entries : Entries)
+pub truthful_but_stays : {options : HostOptions} (first : List ℕ) (w v : World) (entries : Entries)
     → EachStillBut first w v
-    → TruthfulBut wide first w entries → TruthfulBut wide first v entries
+    → TruthfulBut options first w entries → TruthfulBut options first v entries
 truthful_but_stays first w v entries each told [] away = λ device s at on stands. false_true on
 truthful_but_stays first w v entries each told (zero ∷ p) away =
     λ device s at on stands. false_true on
@@ -102,74 +103,74 @@ truthful_but_stays first w v entries each told (suc j ∷ p) away =
 
 -- Refused devices
 
-is_caused_at-kept : (wide : Bool) (path : List ℕ) (entries : Entries) (w v : World) (cause : Cause)
+is_caused_at-kept : (options : HostOptions) (path : List ℕ) (entries : Entries) (w v : World) (cause : Cause)
     (s : State)
     → (pending w.roots path ≡ true → pending v.roots path ≡ true)
-    → IsJustifiedAt wide w entries path
+    → IsJustifiedAt options w entries path
     → finding_at path entries ≡ Some (Refused cause) → (o : Option State)
     → state_there w.roots path ≡ o → option_map spec_of (Some s)
     ≡ option_map spec_of o
-    → (pending v.roots path ≡ true) ⊎ IsRight ⊤ s.spec wide (tier_of path) (known_supply path
+    → (pending v.roots path ≡ true) ⊎ IsRight ⊤ s.spec options (tier_of path) (known_supply path
     entries)
     (Refused cause)
-is_caused_at-kept wide path entries w v cause s pends caused at None is same = absurd (cc same)
-is_caused_at-kept wide path entries w v cause s pends caused at (Some t) is same =
+is_caused_at-kept options path entries w v cause s pends caused at None is same = absurd (cc same)
+is_caused_at-kept options path entries w v cause s pends caused at (Some t) is same =
     pick (caused cause t at is)
   where
     pick : (pending w.roots path ≡ true)
-        ⊎ IsRight ⊤ t.spec wide (tier_of path) (known_supply path entries) (Refused cause)
-        → (pending v.roots path ≡ true) ⊎ IsRight ⊤ s.spec wide (tier_of path)
+        ⊎ IsRight ⊤ t.spec options (tier_of path) (known_supply path entries) (Refused cause)
+        → (pending v.roots path ≡ true) ⊎ IsRight ⊤ s.spec options (tier_of path)
         (known_supply path entries) (Refused cause)
     pick (inl x) = inl (pends x)
     pick (inr right) = let alike : t.spec ≡ s.spec = cc same in
         inr (rw alike at right)
 
 -- a cause stays so where what pends pends, and the port stands as it stood, or a change is pending
-pub cause_stands : (wide : Bool) (path : List ℕ) (entries : Entries) (w v : World)
+pub cause_stands : (options : HostOptions) (path : List ℕ) (entries : Entries) (w v : World)
     → (pending w.roots path ≡ true → pending v.roots path ≡ true)
     → (has_power w.roots path ≡ true → SameDeviceOrPending w v path)
-    → IsKnownAs w path (finding_at path entries) → IsJustifiedAt wide w entries path
-    → IsJustifiedAt wide v entries path
-cause_stands wide path entries w v pends stands known caused cause s at there = pick known
+    → IsKnownAs w path (finding_at path entries) → IsJustifiedAt options w entries path
+    → IsJustifiedAt options v entries path
+cause_stands options path entries w v pends stands known caused cause s at there = pick known
   where
     stood : SameDeviceOrPending w v path → (pending v.roots path ≡ true)
-        ⊎ IsRight ⊤ s.spec wide (tier_of path) (known_supply path entries) (Refused cause)
-    stood (inl x) = is_caused_at-kept wide path entries w v cause s pends caused at
+        ⊎ IsRight ⊤ s.spec options (tier_of path) (known_supply path entries) (Refused cause)
+    stood (inl x) = is_caused_at-kept options path entries w v cause s pends caused at
         (state_there w.roots path) refl (sym (ap (option_map spec_of) there) ∙ x.1)
     stood (inr x) = inl x
 
     pick : IsKnownAs w path (finding_at path entries) → (pending v.roots path ≡ true)
-        ⊎ IsRight ⊤ s.spec wide (tier_of path) (known_supply path entries) (Refused cause)
+        ⊎ IsRight ⊤ s.spec options (tier_of path) (known_supply path entries) (Refused cause)
     pick (inl x) = inl (pends x)
     pick (inr here) = stood (stands here.0)
 
 -- a cause stays so over a course that clears nothing that is pending there
-pub cause_stays : (wide : Bool) (path : List ℕ) (entries : Entries) {w v : World}
+pub cause_stays : (options : HostOptions) (path : List ℕ) (entries : Entries) {w v : World}
     → Course (KeepsPendingAt path) w v → IsKnownAs w path (finding_at path entries)
-    → IsJustifiedAt wide w entries path → IsJustifiedAt wide v entries path
-cause_stays wide path entries {w = w} {v = v} c = cause_stands wide path entries w v
+    → IsJustifiedAt options w entries path → IsJustifiedAt options v entries path
+cause_stays options path entries {w = w} {v = v} c = cause_stands options path entries w v
     (pending_persists path c)
     (stands_or_pends path c)
 
 -- each refused device stands at a port that is known
-pub causes_stay : {wide : Bool} (w v : World) {entries : Entries} {addresses : Addresses}
-    → Accounted wide (roots_of w) entries addresses → PortsListed w entries
+pub causes_stay : {options : HostOptions} (w v : World) {entries : Entries} {addresses : Addresses}
+    → Accounted options (roots_of w) entries addresses → PortsListed w entries
     → ((path : List ℕ) → IsListedPort (roots_of w) entries path → Course (KeepsPendingAt path) w v)
-    → RefusalsJustified wide w entries → RefusalsJustified wide v entries
-causes_stay {wide = wide} w v {entries = entries} accounted known spares caused path cause s at
+    → RefusalsJustified options w entries → RefusalsJustified options v entries
+causes_stay {options = options} w v {entries = entries} accounted known spares caused path cause s at
     stands =
     let port = listed_port w accounted path (Refused cause) at in
-    cause_stays wide path entries (spares path port) (known path port) (caused path) cause s at
+    cause_stays options path entries (spares path port) (known path port) (caused path) cause s at
     stands
 
-pub causes_but_stay : {wide : Bool} (first : List ℕ) (w v : World) {entries : Entries} {addresses :
+pub causes_but_stay : {options : HostOptions} (first : List ℕ) (w v : World) {entries : Entries} {addresses :
     Addresses}
-    → Accounted wide (roots_of w) entries addresses → KnownBut first w entries
-    → Elsewhere first (λ path. Course (KeepsPendingAt path) w v) → CausesBut wide first w entries
-    → CausesBut wide first v entries
-causes_but_stay {wide = wide} first w v {entries = entries} accounted known spares caused path away
+    → Accounted options (roots_of w) entries addresses → KnownBut first w entries
+    → Elsewhere first (λ path. Course (KeepsPendingAt path) w v) → CausesBut options first w entries
+    → CausesBut options first v entries
+causes_but_stay {options = options} first w v {entries = entries} accounted known spares caused path away
     cause s at
     stands =
     let port = listed_port w accounted path (Refused cause) at in
-    cause_stays wide path entries (spares path away) (known path away port) (caused path away) cause
+    cause_stays options path entries (spares path away) (known path away port) (caused path away) cause
     s at stands

@@ -13,6 +13,7 @@ use Rattle.usb_world.specs.{World, roots_of}
 use Rattle.usb_world.proofs.Interface.{at_or_below_way, way_itself, way_parent, way_rest, way_trans}
 use Rattle.usb_tree.proofs.Interface.{and_of, both, decided, false_true}
 use Rattle.usb_enum.specs.{Finding, IsRight, IsKnownAs}
+use Rattle.usb_enum.specs.{HostOptions}
 use Rattle.usb_enum.specs.declared.finding.Finding.TheVariants.{Refused}
 use Rattle.usb_table.specs.{KnownPort, Entries, has_at, without, accepted_device_of, finding_at}
 use Rattle.usb_table.specs.{hub_facts_in, IsPortBelow, IsListedPort, tier_of}
@@ -161,24 +162,24 @@ known_vacant first w es some gone known here =
     (λ path hub is way port. absurd (none_below es path hub is (finding-none first hub es gone way)
     port))
 
-is_told_at-same : {wide : Bool} (w : World) (es fs : Entries) (path : List ℕ)
+is_told_at-same : {options : HostOptions} (w : World) (es fs : Entries) (path : List ℕ)
     → finding_at path fs ≡ finding_at path es → known_supply path fs ≡ known_supply path es
-    → IsAccurateAt wide w es path → IsAccurateAt wide w fs path
+    → IsAccurateAt options w es path → IsAccurateAt options w fs path
 is_told_at-same w es fs path same supply told device s at on stands =
     let t = told device s (ap accepted_device_of (sym same) ∙ at) on stands in
     record { found = rw supply t.found; set = t.set }
 
-caused_as : (wide : Bool) (w : World) (es fs : Entries) (path : List ℕ)
+caused_as : (options : HostOptions) (w : World) (es fs : Entries) (path : List ℕ)
     → finding_at path fs ≡ finding_at path es
-    → known_supply path fs ≡ known_supply path es → IsJustifiedAt wide w es path
-    → IsJustifiedAt wide w fs path
-caused_as wide w es fs path same supply caused cause s at stands =
+    → known_supply path fs ≡ known_supply path es → IsJustifiedAt options w es path
+    → IsJustifiedAt options w fs path
+caused_as options w es fs path same supply caused cause s at stands =
     pick (caused cause s (sym same ∙ at) stands)
   where
-    pick : (pending w.roots path ≡ true) ⊎ IsRight ⊤ s.spec wide (tier_of path) (known_supply path
+    pick : (pending w.roots path ≡ true) ⊎ IsRight ⊤ s.spec options (tier_of path) (known_supply path
         es)
         (Refused cause) → (pending w.roots path ≡ true)
-        ⊎ IsRight ⊤ s.spec wide (tier_of path) (known_supply path fs) (Refused cause)
+        ⊎ IsRight ⊤ s.spec options (tier_of path) (known_supply path fs) (Refused cause)
     pick (inl pends) = inl pends
     pick (inr right) = inr (rw supply right)
 
@@ -193,27 +194,27 @@ supply-kept : (first path : List ℕ) (es : Entries) → is_way first path ≡ f
 supply-kept first path es away = supply_known path
     (known_away path first es (at_or_below_way path first ∙ away))
 
-pub truthful_dropped : {wide : Bool} (first : List ℕ) (w : World) (es : Entries)
-    → TruthfulBut wide first w es
-    → DevicesAccurate wide w (without first es)
-truthful_dropped {wide = wide} first w es told path = pick (decided (is_way first path))
+pub truthful_dropped : {options : HostOptions} (first : List ℕ) (w : World) (es : Entries)
+    → TruthfulBut options first w es
+    → DevicesAccurate options w (without first es)
+truthful_dropped {options = options} first w es told path = pick (decided (is_way first path))
   where
     pick : (is_way first path ≡ true) ⊎ (is_way first path ≡ false)
-        → IsAccurateAt wide w (without first es) path
+        → IsAccurateAt options w (without first es) path
     pick (inl way) = λ device s at on stands. absurd
         (cc (ap accepted_device_of (finding-dropped first path es way), at))
     pick (inr away) = is_told_at-same w es (without first es) path (finding-kept first path es away)
         (supply-kept first path es away) (told path away)
 
-pub causes_dropped : (wide : Bool) (first : List ℕ) (w : World) (es : Entries)
-    → CausesBut wide first w es
-    → RefusalsJustified wide w (without first es)
-causes_dropped wide first w es caused path = pick (decided (is_way first path))
+pub causes_dropped : (options : HostOptions) (first : List ℕ) (w : World) (es : Entries)
+    → CausesBut options first w es
+    → RefusalsJustified options w (without first es)
+causes_dropped options first w es caused path = pick (decided (is_way first path))
   where
     pick : (is_way first path ≡ true) ⊎ (is_way first path ≡ false)
-        → IsJustifiedAt wide w (without first es) path
+        → IsJustifiedAt options w (without first es) path
     pick (inl way) = λ cause s at stands. absurd (cc (finding-dropped first path es way, at))
-    pick (inr away) = caused_as wide w es (without first es) path (finding-kept first path es away)
+    pick (inr away) = caused_as options w es (without first es) path (finding-kept first path es away)
         (supply-kept first path es away) (caused path away)
 
 -- An entry comes, where none is at its path or below it
@@ -285,14 +286,14 @@ module _ (first : List ℕ) (f : Finding) (es : Entries) (some : 1 ≤ length fi
           absurd (none_below entered path hub is (finding-entered hub apart ∙ finding-none first hub
           es gone way) port)
 
-  pub truthful_found : {wide : Bool} (w : World) → DevicesAccurate wide w es
-      → IsAccurateAt wide w entered first
-      → DevicesAccurate wide w entered
-  truthful_found {wide = wide} w told here path = pick (is_at (path_cmp path) first) refl
+  pub truthful_found : {options : HostOptions} (w : World) → DevicesAccurate options w es
+      → IsAccurateAt options w entered first
+      → DevicesAccurate options w entered
+  truthful_found {options = options} w told here path = pick (is_at (path_cmp path) first) refl
       (decided (is_way first path))
     where
       pick : (b : Bool) → is_at (path_cmp path) first ≡ b → (is_way first path ≡ true)
-          ⊎ (is_way first path ≡ false) → IsAccurateAt wide w entered path
+          ⊎ (is_way first path ≡ false) → IsAccurateAt options w entered path
       pick true tie on = rw (path_tied path first tie) here
       pick false apart (inl way) = λ device s at on stands. absurd (cc (
         ap accepted_device_of (finding-entered path apart ∙ finding-none first path es gone way),
@@ -301,16 +302,16 @@ module _ (first : List ℕ) (f : Finding) (es : Entries) (some : 1 ≤ length fi
       pick false apart (inr away) = is_told_at-same w es entered path (finding-entered path apart)
           (supply-entered path away) (told path)
 
-  pub causes_found : (wide : Bool) (w : World) → RefusalsJustified wide w es
-      → IsJustifiedAt wide w entered first
-      → RefusalsJustified wide w entered
-  causes_found wide w caused here path = pick (is_at (path_cmp path) first) refl
+  pub causes_found : (options : HostOptions) (w : World) → RefusalsJustified options w es
+      → IsJustifiedAt options w entered first
+      → RefusalsJustified options w entered
+  causes_found options w caused here path = pick (is_at (path_cmp path) first) refl
       (decided (is_way first path))
     where
       pick : (b : Bool) → is_at (path_cmp path) first ≡ b → (is_way first path ≡ true)
-          ⊎ (is_way first path ≡ false) → IsJustifiedAt wide w entered path
+          ⊎ (is_way first path ≡ false) → IsJustifiedAt options w entered path
       pick true tie on = rw (path_tied path first tie) here
       pick false apart (inl way) = λ cause s at stands. absurd
           (cc (finding-entered path apart ∙ finding-none first path es gone way, at))
-      pick false apart (inr away) = caused_as wide w es entered path (finding-entered path apart)
+      pick false apart (inr away) = caused_as options w es entered path (finding-entered path apart)
           (supply-entered path away) (caused path)

@@ -85,8 +85,8 @@ module _ {n : ℕ} (a : HostState) {b : HostState} (r : OnlyBusSteps a b) (went 
   same_entries : b.entries ≡ a.entries
   same_entries = ap (λ (h : HostState). h.entries) r
 
-  same_wide : b.wide ≡ a.wide
-  same_wide = ap (λ (h : HostState). h.wide) r
+  same_wide : b.options ≡ a.options
+  same_wide = ap (λ (h : HostState). h.options) r
 
   pub sound_rests : KeepsDevices a.world b.world → TouchesNoPort a.world b.world → HostInvariant a
       → HostInvariant b
@@ -99,7 +99,7 @@ module _ {n : ℕ} (a : HostState) {b : HostState} (r : OnlyBusSteps a b) (went 
         known = λ still. subst (PortsListed b.world) (sym same_entries)
             (known_each a.world b.world a.entries went.spends.roots (λ path port. rests path)
             (s.known (went_sound n a.world b.world went still)));
-        truthful = λ still. rw same_wide (subst (DevicesAccurate a.wide b.world) (sym same_entries)
+        truthful = λ still. rw same_wide (subst (DevicesAccurate a.options b.world) (sym same_entries)
             (truthful_stays a.world b.world a.entries (kept_each_still devices owned.single)
             (s.truthful (went_sound n a.world b.world went still))));
         level = λ still x. level_rests a b r devices owned.single x
@@ -119,7 +119,7 @@ module _ {n : ℕ} (a : HostState) {b : HostState} (r : OnlyBusSteps a b) (went 
             (known_but_each path a.world b.world a.entries went.spends.roots (rests still)
             (s.known (went_sound n a.world b.world went still)));
         truthful = λ still. rw same_wide
-            (subst (TruthfulBut a.wide path b.world) (sym same_entries)
+            (subst (TruthfulBut a.options path b.world) (sym same_entries)
             (truthful_but_stays path a.world b.world a.entries
             (each_still_but path devices owned.single)
             (s.truthful (went_sound n a.world b.world went still))));
@@ -144,7 +144,7 @@ occupied_by w path (Refused cause) (inr x) = inr (x.0, x.1.0)
 -- the hub of a port that is known may be dropped, where what is known elsewhere than at the port is
 -- so
 pub droppable_above : (path hub : List ℕ) (h : HostState) → parent_of path ≡ Some hub
-    → IsSome (known_port path h.entries) → Agrees h.wide h.entries h.addresses → IsSoundBut path h
+    → IsSome (known_port path h.entries) → Agrees h.options h.entries h.addresses → IsSoundBut path h
     → IsDroppable hub h
 droppable_above path hub h above known agrees s = record {
   listed = rw found.1 refl;
@@ -172,7 +172,7 @@ droppable_above path hub h above known agrees s = record {
 
 pub lost_sound : {path : List ℕ} {port : KnownPort} {a : HostState} (b : HostState)
     (fault : EnumFault) → StandsAt path port a → FaultAllowedAt port.port fault b.world
-    → IsSome (known_port path b.entries) → Agrees b.wide b.entries b.addresses
+    → IsSome (known_port path b.entries) → Agrees b.options b.entries b.addresses
     → (LetsGoOn {A = Unit {0}} (Err fault) → IsSoundBut path b)
     → InvariantAfterPort path (Err fault) b
 lost_sound {path = path} {a = a} b ParentLost s told known agrees but = by_parent (parent_of path)

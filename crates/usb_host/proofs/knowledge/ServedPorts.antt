@@ -65,7 +65,7 @@ rests_known {path = path} r s = rw (ap (λ (h : HostState). known_port path h.en
     refl
 
 pub rests_agrees : {path : List ℕ} {port : KnownPort} {a b : HostState} → OnlyBusSteps a b
-    → StandsAt path port a → Agrees b.wide b.entries b.addresses
+    → StandsAt path port a → Agrees b.options b.entries b.addresses
 rests_agrees r s = rw r s.agrees
 
 -- Tidied
@@ -99,8 +99,8 @@ module _ {n : ℕ} {path : List ℕ} {port : KnownPort} {a b : HostState} (s : S
         rooted = rooted_kept a b same went.spends.roots i.rooted;
         order = went_in_order n a.world b.world went i.order;
         known = tidied_known t i;
-        truthful = λ still. rw (ap (λ (h : HostState). h.wide) r)
-            (subst (DevicesAccurate a.wide b.world) (sym same)
+        truthful = λ still. rw (ap (λ (h : HostState). h.options) r)
+            (subst (DevicesAccurate a.options b.world) (sym same)
             (truthful_stays a.world b.world a.entries (kept_each_still t.devices owned.single)
             (i.truthful (went_sound n a.world b.world went still))));
         level = λ still x. level_rests a b r t.devices owned.single x
@@ -175,8 +175,8 @@ module _ {n : ℕ} {path : List ℕ} {port : KnownPort} {a b c : HostState} {sta
   world_is : c.world ≡ b.world
   world_is = ap (λ (h : HostState). h.world) f.others
 
-  width : c.wide ≡ a.wide
-  width = ap (λ (h : HostState). h.wide) f.others ∙ ap (λ (h : HostState). h.wide) r
+  width : c.options ≡ a.options
+  width = ap (λ (h : HostState). h.options) f.others ∙ ap (λ (h : HostState). h.options) r
 
   left : c.entries ≡ without path a.entries
   left = f.rest ∙ ap (λ (h : HostState). without path h.entries) r
@@ -195,7 +195,7 @@ module _ {n : ℕ} {path : List ℕ} {port : KnownPort} {a b c : HostState} {sta
       (λ y away. i.known (still_before still) y) in
       rw world_is (rw left (known_dropped path b.world a.entries known))
 
-  forgot_truthful : c.world.fault ≡ None → DevicesAccurate c.wide c.world c.entries
+  forgot_truthful : c.world.fault ≡ None → DevicesAccurate c.options c.world c.entries
   forgot_truthful still =
       let single = ap (λ (w : World). w.shared) (sym world_is) ∙ (stays.stays i.owned).single in
       let told = truthful_but_stays path a.world b.world a.entries

@@ -15,6 +15,7 @@ use Rattle.usb_tree.proofs.Interface.{and_of, false_true}
 use Rattle.usb_hub.specs.{External}
 use Rattle.usb_enum.specs.{Accepted, HubFacts, facts_of, is_hub_device, target_of, configuration_of}
 use Rattle.usb_enum.specs.{HasServer, ServesAt, IsKnownAs}
+use Rattle.usb_enum.specs.{HostOptions}
 use Rattle.usb_enum.specs.declared.finding.Finding.TheVariants.{Device}
 use Rattle.usb_table.specs.{KnownPort, Entries, accepted_device_of, address_in, root_port}
 use Rattle.usb_table.specs.{port_below, is_below_hub, finding_at, tier_of}
@@ -67,7 +68,7 @@ module _ {w : World} (entries : Entries) (device : Accepted) {facts : HubFacts} 
     (told : device.hub ≡ Some facts) (least : 1 ≤ n) (most : n ≤ facts.ports)
     (address : IsAddress device.address) (between : WorldInvariant w) where
   hub_serves : (hub : List ℕ) → finding_at hub entries ≡ Some (Device device)
-      → reach w.roots hub ≡ true → {takes : Bool} → IsAccurateAt takes w entries hub
+      → reach w.roots hub ≡ true → {takes : HostOptions} → IsAccurateAt takes w entries hub
       → 8 ≤ (target_of device (is_below_hub hub)).max
       → ServesAt (target_of device (is_below_hub hub)) n hub w
   hub_serves (suc j ∷ p) at on {takes = takes} knows wide =

@@ -15,6 +15,7 @@ use Rattle.usb_world.proofs.Interface.{same_is}
 use Rattle.usb_tree.proofs.Interface.{both, false_true}
 use Rattle.usb_enum.specs.{Cause, Accepted, Finding, HubFacts, facts_of, IsRight, is_hub_device}
 use Rattle.usb_enum.specs.{IsThere, IsKnownAs}
+use Rattle.usb_enum.specs.{HostOptions}
 use Rattle.usb_enum.specs.declared.finding.Finding.TheVariants.{Device, Refused}
 use Rattle.usb_table.specs.{KnownPort, Entries, accepted_device_of, port_below, port_found}
 use Rattle.usb_table.specs.{port_of_hub, is_below_hub, tree_in, finding_at, entry_address}
@@ -66,8 +67,8 @@ port_below_hub roots entries n None least most h = (least, most refl)
 port_below_hub roots entries n (Some hub) least most h =
     port_found-facts (finding_at hub entries) (is_below_hub hub) n least h
 
-module _ {wide : Bool} (w : World) {entries : Entries} {addresses : Addresses}
-    (accounted : Accounted wide (roots_of w) entries addresses) where
+module _ {options : HostOptions} (w : World) {entries : Entries} {addresses : Addresses}
+    (accounted : Accounted options (roots_of w) entries addresses) where
   pub listed_port : (path : List ℕ) (f : Finding) → finding_at path entries ≡ Some f
       → IsListedPort (roots_of w) entries path
   listed_port path f at =
@@ -144,13 +145,13 @@ facts_supply spec facts h = pick (is_hub_device spec.descriptor) h
 
 -- The listing
 
-right_moved : (full : Type 0) (wide : Bool) {a : Spec} (b : Spec) (tier : ℕ) {m n : ℕ}
-    (f : Finding) → a ≡ b → m ≡ n → IsRight full a wide tier m f → IsRight full b wide tier n f
-right_moved full wide b tier {n = n} f e g x = rw (← g) (rw e at x)
+right_moved : (full : Type 0) (options : HostOptions) {a : Spec} (b : Spec) (tier : ℕ) {m n : ℕ}
+    (f : Finding) → a ≡ b → m ≡ n → IsRight full a options tier m f → IsRight full b options tier n f
+right_moved full options b tier {n = n} f e g x = rw (← g) (rw e at x)
 
-module _ (wide : Bool) (w : World) (entries : Entries) (addresses : Addresses)
-    (accounted : Accounted wide (roots_of w) entries addresses) (known : PortsListed w entries)
-    (truthful : DevicesAccurate wide w entries) (causes : RefusalsJustified wide w entries)
+module _ (options : HostOptions) (w : World) (entries : Entries) (addresses : Addresses)
+    (accounted : Accounted options (roots_of w) entries addresses) (known : PortsListed w entries)
+    (truthful : DevicesAccurate options w entries) (causes : RefusalsJustified options w entries)
     (rest : IsAtRest w entries) where
   there_at : {path : List ℕ} → IsListedPort (roots_of w) entries path
       → IsThere w path (finding_at path entries)
@@ -164,7 +165,7 @@ module _ (wide : Bool) (w : World) (entries : Entries) (addresses : Addresses)
 
   -- an accepted device stands, and what is known of it is so
   told : (path : List ℕ) (device : Accepted) → finding_at path entries ≡ Some (Device device)
-      → (s : State) × (state_there w.roots path ≡ Some s) × IsTruthOf wide entries path device s
+      → (s : State) × (state_there w.roots path ≡ Some s) × IsTruthOf options entries path device s
   told path device at =
       let on = reached path device at in
       let s : _ = reached_there w.roots path on in
@@ -185,13 +186,13 @@ module _ (wide : Bool) (w : World) (entries : Entries) (addresses : Addresses)
   -- a refused device's cause, where it does not wait for an address that is free
   right_cause : (path : List ℕ) (cause : Cause) (s : State)
       → finding_at path entries ≡ Some (Refused cause) → state_there w.roots path ≡ Some s
-      → IsRight (ListsEach entries) s.spec wide (tier_of path) (known_supply path entries)
+      → IsRight (ListsEach entries) s.spec options (tier_of path) (known_supply path entries)
       (Refused cause)
   right_cause path cause s at stands = pick (causes path cause s at stands)
     where
       pick : (pending w.roots path ≡ true)
-          ⊎ IsRight ⊤ s.spec wide (tier_of path) (known_supply path entries) (Refused cause)
-          → IsRight (ListsEach entries) s.spec wide (tier_of path) (known_supply path entries)
+          ⊎ IsRight ⊤ s.spec options (tier_of path) (known_supply path entries) (Refused cause)
+          → IsRight (ListsEach entries) s.spec options (tier_of path) (known_supply path entries)
           (Refused cause)
       pick (inl pends) = false_true (sym (rest.none_pending path (listed_port w accounted path
           (Refused cause) at)) ∙ pends)
@@ -204,20 +205,20 @@ module _ (wide : Bool) (w : World) (entries : Entries) (addresses : Addresses)
 
   right_there : (path : List ℕ) (spec : Spec) → IsListedPort (roots_of w) entries path
       → tree_in w path ≡ Some spec
-      → IsSomeAnd (finding_at path entries) (IsRight (ListsEach entries) spec wide (tier_of path)
+      → IsSomeAnd (finding_at path entries) (IsRight (ListsEach entries) spec options (tier_of path)
       (supply_at (tree_in w) path))
   right_there path spec port is = pick (finding_at path entries) refl
     where
       moved : (s : State) (f : Finding) → state_there w.roots path ≡ Some s
-          → IsRight (ListsEach entries) s.spec wide (tier_of path) (known_supply path entries) f
-          → IsRight (ListsEach entries) spec wide (tier_of path) (supply_at (tree_in w) path) f
+          → IsRight (ListsEach entries) s.spec options (tier_of path) (known_supply path entries) f
+          → IsRight (ListsEach entries) spec options (tier_of path) (supply_at (tree_in w) path) f
       moved s f stands right =
           let same : s.spec ≡ spec = cc (tree_in-spec w path stands, is) in
-          right_moved (ListsEach entries) wide spec (tier_of path)
+          right_moved (ListsEach entries) options spec (tier_of path)
           f same (supply_known (parent_of path) (port_on_hub path) port.port) right
 
       pick : (o : Option Finding) → finding_at path entries ≡ o
-          → IsSomeAnd o (IsRight (ListsEach entries) spec wide (tier_of path)
+          → IsSomeAnd o (IsRight (ListsEach entries) spec options (tier_of path)
           (supply_at (tree_in w) path))
       pick None at =
           let none : state_there w.roots path ≡ None =
@@ -229,7 +230,7 @@ module _ (wide : Bool) (w : World) (entries : Entries) (addresses : Addresses)
           (subst (IsThere w path) at (there_at port)).0
         where
           stood : (o : Option State) → state_there w.roots path ≡ o → IsSome o
-              → IsRight (ListsEach entries) spec wide (tier_of path) (supply_at (tree_in w) path)
+              → IsRight (ListsEach entries) spec options (tier_of path) (supply_at (tree_in w) path)
               (Refused cause)
           stood None e h = absurd cc
           stood (Some s) e h = moved s (Refused cause) e (right_cause path cause s at e)
@@ -245,7 +246,7 @@ module _ (wide : Bool) (w : World) (entries : Entries) (addresses : Addresses)
       stood None h = h
       stood (Some s) h = refl
 
-  pub settled_matches : Matches wide w entries
+  pub settled_matches : Matches options w entries
   settled_matches =
       record {
         lists = record {

@@ -35,7 +35,7 @@ use Rattle.usb_host.proofs.knowledge.RestedWorlds.{occupied_by}
 -- One part after another
 
 pub sound_none : (h : HostState) → KeepsInvariant h h
-sound_none h = record { wide = refl; sound = λ s. s; caused = λ s fair caused. caused }
+sound_none h = record { options = refl; sound = λ s. s; caused = λ s fair caused. caused }
 
 -- a transfer that did nothing
 pub transfer_none : (h : HostState) → TransferKeeps h h
@@ -53,7 +53,7 @@ pub part_then : (m : ℕ) {n : ℕ} (a b c : HostState) → HostSteps m a b → 
     → PartStays a b → PartStays b c → PartStays a c
 part_then m {n = n} a b c first second x y = record {
   sound = record {
-    wide = y.sound.wide ∙ x.sound.wide;
+    options = y.sound.options ∙ x.sound.options;
     sound = λ s. y.sound.sound (x.sound.sound s);
     caused = λ s fair caused.
         y.sound.caused (x.sound.sound s) (fair_after first fair)
@@ -67,7 +67,7 @@ part_then m {n = n} a b c first second x y = record {
 
 -- A device that was found stands at its port, or a change is pending there
 
-occupied_at : (path : List ℕ) (h : HostState) → Accounted h.wide (roots_of h.world) h.entries
+occupied_at : (path : List ℕ) (h : HostState) → Accounted h.options (roots_of h.world) h.entries
     h.addresses
     → PortsListed h.world h.entries → (o : Option Finding) → finding_at path h.entries ≡ o
     → IsSome o → IsOccupied h.world path
@@ -89,8 +89,8 @@ is_way-apart path other away = pick (is_at (path_cmp path) other) refl
 -- each device but for the settings of its interfaces
 
 module _ (n : ℕ) (path : List ℕ) (ends : Type 0) (a b : HostState)
-    (agrees : Agrees a.wide a.entries a.addresses) (same : b.entries ≡ a.entries)
-    (width : b.wide ≡ a.wide) (went : HostSteps n a b)
+    (agrees : Agrees a.options a.entries a.addresses) (same : b.entries ≡ a.entries)
+    (width : b.options ≡ a.options) (went : HostSteps n a b)
     (k : KeepsLevels OnlySets path ends (table_in a) a.world (table_in b) b.world) where
   before : b.world.fault ≡ None → a.world.fault ≡ None
   before still = went_sound n a.world b.world went still
@@ -106,14 +106,14 @@ module _ (n : ℕ) (path : List ℕ) (ends : Type 0) (a b : HostState)
       (λ path port. k.worlds.rests still path) (s.known (before still)))
 
   pub truthful_under : HostInvariant a → b.world.fault ≡ None
-      → DevicesAccurate b.wide b.world b.entries
+      → DevicesAccurate b.options b.world b.entries
   truthful_under s still = rw (width, same) (truthful_stays a.world b.world a.entries
       (k.worlds.devices (owned.stays s.owned).single) (s.truthful (before still)))
 
   -- each cause stays so, wherever it ends
   pub caused_under : HostInvariant a → IsFairTo a.world b.world
-      → RefusalsJustified a.wide a.world a.entries
-      → RefusalsJustified b.wide b.world b.entries
+      → RefusalsJustified a.options a.world a.entries
+      → RefusalsJustified b.options b.world b.entries
   caused_under s fair causes =
       rw (width, same) (causes_stay a.world b.world (accounted a agrees s.rooted)
       (s.known (before fair.still))
@@ -122,7 +122,7 @@ module _ (n : ℕ) (path : List ℕ) (ends : Type 0) (a b : HostState)
   -- where it ends well
   pub sound_under : (b.world.fault ≡ None → ends) → KeepsInvariant a b
   sound_under well = record {
-    wide = width;
+    options = width;
     sound = λ s. record {
       owned = owned.stays s.owned;
       rooted = owned.rooted s.rooted;
@@ -155,7 +155,7 @@ module _ (n : ℕ) (path : List ℕ) (ends : Type 0) (a b : HostState)
   }
 
   pub occupied_under : HostInvariant a → IsSome (finding_at path b.entries) → b.world.fault ≡ None
-      → Agrees b.wide b.entries b.addresses → IsOccupied b.world path
+      → Agrees b.options b.entries b.addresses → IsOccupied b.world path
   occupied_under s listed still agrees_on =
       occupied_at path b (accounted b agrees_on (owned.rooted s.rooted)) (known_under s still)
       (finding_at path b.entries) refl listed
@@ -187,19 +187,19 @@ in_sync-sets k = record {
 }
 
 module _ (n : ℕ) (path : List ℕ) (ends : Type 0) (a b : HostState)
-    (agrees : Agrees a.wide a.entries a.addresses) (same : b.entries ≡ a.entries)
-    (width : b.wide ≡ a.wide) (went : HostSteps n a b)
+    (agrees : Agrees a.options a.entries a.addresses) (same : b.entries ≡ a.entries)
+    (width : b.options ≡ a.options) (went : HostSteps n a b)
     (k : KeepsInSync path ends (table_in a) a.world (table_in b) b.world) where
   pub known_kept : HostInvariant a → b.world.fault ≡ None → PortsListed b.world b.entries
   known_kept = known_under n path ends a b agrees same width went (in_sync-sets k)
 
   pub truthful_kept : HostInvariant a → b.world.fault ≡ None
-      → DevicesAccurate b.wide b.world b.entries
+      → DevicesAccurate b.options b.world b.entries
   truthful_kept = truthful_under n path ends a b agrees same width went (in_sync-sets k)
 
   pub caused_kept : HostInvariant a → IsFairTo a.world b.world
-      → RefusalsJustified a.wide a.world a.entries
-      → RefusalsJustified b.wide b.world b.entries
+      → RefusalsJustified a.options a.world a.entries
+      → RefusalsJustified b.options b.world b.entries
   caused_kept = caused_under n path ends a b agrees same width went (in_sync-sets k)
 
   pub sound_kept : (b.world.fault ≡ None → ends) → KeepsInvariant a b
@@ -212,7 +212,7 @@ module _ (n : ℕ) (path : List ℕ) (ends : Type 0) (a b : HostState)
   but_kept = but_under n path ends a b agrees same width went (in_sync-sets k)
 
   pub occupied_kept : HostInvariant a → IsSome (finding_at path b.entries) → b.world.fault ≡ None
-      → Agrees b.wide b.entries b.addresses → IsOccupied b.world path
+      → Agrees b.options b.entries b.addresses → IsOccupied b.world path
   occupied_kept = occupied_under n path ends a b agrees same width went (in_sync-sets k)
 
 -- A hub is dropped
@@ -220,14 +220,14 @@ module _ (n : ℕ) (path : List ℕ) (ends : Type 0) (a b : HostState)
 -- where a change was pending at it, as it did not answer
 pub sound_dropped : (result : Result (Unit {0}) HostFault) {hub : List ℕ} (m : ℕ) {n : ℕ}
     (a b c : HostState) → HostRuns m a b → HostRuns n b c → (HostInvariant a → IsDroppable hub b)
-    → (HostInvariant a → IsFairTo a.world b.world → RefusalsJustified a.wide a.world a.entries
-    → RefusalsJustified b.wide b.world b.entries)
+    → (HostInvariant a → IsFairTo a.world b.world → RefusalsJustified a.options a.world a.entries
+    → RefusalsJustified b.options b.world b.entries)
     → (HostInvariant a → b.world.fault ≡ None → KeepsBulk a b) → KeepsPlugs a b
     → DropsSound hub b result c → (HostInvariant a → b.world.fault ≡ None → NoThreeDamaged a.world
     → pending b.world.roots hub ≡ true) → PartKeepsInvariant a result c
 sound_dropped (Ok done) m {n = n} a b c p q drops causes bulk plugs d pends = record {
   sound = record {
-    wide = q.wide ∙ p.wide;
+    options = q.options ∙ p.options;
     sound = λ s. d.sound (drops s);
     caused = λ s fair caused.
         let before : IsFairTo a.world b.world = fair_before q.went fair in
@@ -250,12 +250,12 @@ event_sound : (w : World) → (after event w).fault ≡ None → w.fault ≡ Non
 unfolding after
 event_sound w sound = sym (taken_sound w.fault w refl) ∙ sound
 
-pub sound_event : (a b : HostState) → Agrees a.wide a.entries a.addresses → b.entries ≡ a.entries
-    → b.wide ≡ a.wide → b.pipes ≡ a.pipes → b.world ≡ after event a.world
+pub sound_event : (a b : HostState) → Agrees a.options a.entries a.addresses → b.entries ≡ a.entries
+    → b.options ≡ a.options → b.pipes ≡ a.pipes → b.world ≡ after event a.world
     → KeepsAddresses a.world b.world
     → KeepsInvariant a b
 sound_event a b agrees same width pipes is k = record {
-  wide = width;
+  options = width;
   sound = sound;
   caused = caused;
 }
@@ -284,15 +284,15 @@ sound_event a b agrees same width pipes is k = record {
       order = rw is (ordered s.order);
       known = λ still. subst (PortsListed b.world) (sym same)
           (rw is (known_event a.world a.entries (s.known (before still))));
-      truthful = λ still. rw width (subst (DevicesAccurate a.wide b.world) (sym same)
+      truthful = λ still. rw width (subst (DevicesAccurate a.options b.world) (sym same)
           (rw is (truthful_event a.world a.entries (s.truthful (before still)))));
       level = λ still.
           subst (λ (t : Table). AllInSync t b.world) (sym table)
           (rw is (level_event (table_in a) a.world (s.level (before still))));
     }
 
-    caused : HostInvariant a → IsFairTo a.world b.world → RefusalsJustified a.wide a.world a.entries
-        → RefusalsJustified b.wide b.world b.entries
+    caused : HostInvariant a → IsFairTo a.world b.world → RefusalsJustified a.options a.world a.entries
+        → RefusalsJustified b.options b.world b.entries
     caused s fair causes =
         rw (width, same) (rw is (causes_event a.world (accounted a agrees s.rooted)
         (s.known (before fair.still)) causes))
@@ -316,7 +316,7 @@ rounds_stopped (Ok round) a b stopped x =
     record {
       keeps = record {
         sound = record {
-          wide = x.keeps.sound.wide;
+          options = x.keeps.sound.options;
           sound = λ s. sound_stopped b stopped (x.keeps.sound.sound s);
           caused = x.keeps.sound.caused;
         };

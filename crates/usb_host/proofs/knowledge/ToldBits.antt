@@ -20,6 +20,7 @@ use Rattle.usb_hub.proofs.Interface.{port_of_place, sane_there, state_of_place}
 use Rattle.usb_descriptor.specs.{device_head_of, configuration_count}
 use Rattle.usb_enum.specs.{Cause, Silent, Busy, Stalled, BadDevice, TooDeep, is_device}
 use Rattle.usb_enum.specs.{is_hub_device, facts_of, first_fault, read_verdict, verdict, HubFacts}
+use Rattle.usb_enum.specs.{HostOptions}
 use Rattle.usb_enum.specs.declared.cause.Request.TheVariants as request
 use Rattle.usb_enum.specs.declared.finding.Finding.TheVariants.{Device}
 use Rattle.usb_enum.proofs.Interface.{orderly_on}
@@ -57,15 +58,16 @@ facts_of-hub spec facts is = pick (is_hub_device spec.descriptor) refl is
     pick true hub e = refl
     pick false hub e = let none : facts_of spec ≡ None = rw hub refl in absurd (cc (none, e))
 
-verdict-not_deep : (spec : Spec) (wide : Bool) (tier supply : ℕ) {chosen : ℕ} (facts : HubFacts)
-    → verdict spec wide tier supply ≡ Ok chosen → facts_of spec ≡ Some facts → tier ≡ 7 → ⊥
+verdict-not_deep : (spec : Spec) (options : HostOptions) (tier supply : ℕ) {chosen : ℕ} (facts : HubFacts)
+    → verdict spec options tier supply ≡ Ok chosen → facts_of spec ≡ Some facts → tier ≡ 7 → ⊥
 unfolding verdict
-verdict-not_deep spec wide tier supply facts e hub last =
+verdict-not_deep spec options tier supply facts e hub last =
     let row : (is_hub_device spec.descriptor && tier == 7) ≡ false =
     deep_row spec.silent spec.busy spec.stalls.device
     (not (is_ok (device_head_of spec.low (take 8 spec.descriptor)))) spec.stalls.address
     (not (is_device spec.low (take 18 spec.descriptor))) (is_hub_device spec.descriptor && tier
-    == 7) (read_verdict wide spec supply (first_fault spec (configuration_count spec.descriptor))) e
+    == 7) (read_verdict options.wide_hubs spec supply
+    (first_fault options.device_bytes spec (configuration_count spec.descriptor))) e
     in
     let on : (is_hub_device spec.descriptor && tier == 7) ≡ true =
     rw (facts_of-hub spec facts hub, eq-eqb tier 7 last) refl in
@@ -101,7 +103,7 @@ up_on k (m ∷ p) hub some way on = reach_on_way k m p hub way on
 
 -- each port of which it told
 
-module _ (hub : List ℕ) (a b : HostState) (agrees : Agrees b.wide b.entries b.addresses)
+module _ (hub : List ℕ) (a b : HostState) (agrees : Agrees b.options b.entries b.addresses)
     (s : HostInvariant a) (t : HostInvariant b) (before : a.world.fault ≡ None)
     (still : b.world.fault ≡ None) (facts : HubFacts) (there : HubThere hub b.entries facts)
     (reached : reach b.world.roots hub ≡ true) (bits : ℕ)
@@ -112,7 +114,7 @@ module _ (hub : List ℕ) (a b : HostState) (agrees : Agrees b.wide b.entries b.
   stood_at : state_there b.world.roots hub ≡ Some device_at
   stood_at = (reached_there b.world.roots hub reached).1
 
-  truth : IsTruthOf b.wide b.entries hub there.device device_at
+  truth : IsTruthOf b.options b.entries hub there.device device_at
   truth = t.truthful still hub there.device device_at (ap accepted_device_of there.found) reached
       stood_at
 
@@ -140,9 +142,9 @@ module _ (hub : List ℕ) (a b : HostState) (agrees : Agrees b.wide b.entries b.
       let on : reach b.world.roots up ≡ true =
       up_on b.world.roots up hub shorter.1 (way_parent hub up is) reached in
       let st : _ = reached_there b.world.roots up on in
-      let told : IsTruthOf b.wide b.entries up f.device st.0 =
+      let told : IsTruthOf b.options b.entries up f.device st.0 =
       t.truthful still up f.device st.0 (ap accepted_device_of f.stands) on st.1 in
-      verdict-not_deep st.0.spec b.wide (tier_of up) (known_supply up b.entries) f.facts
+      verdict-not_deep st.0.spec b.options (tier_of up) (known_supply up b.entries) f.facts
       told.found.0 (sym told.found.1.hub ∙ f.told) (omega (arith, shorter.0))
 
   -- no hub stands in the last tier

@@ -11,12 +11,12 @@ use Rattle.usb_host.proofs.knowledge.Soundness.{sound_event}
 
 -- what it knew is so as before, where the event came or none was left
 pub sound_came : (old new : HostState) (due : Option (Option Ask))
-    → Agrees old.wide old.entries old.addresses → TakesEvent old.world old.trace (Ok due) new.world
+    → Agrees old.options old.entries old.addresses → TakesEvent old.world old.trace (Ok due) new.world
     new.trace
     → OnlyBusSteps old new → KeepsInvariant old new
 sound_came old new due agrees takes rests =
     sound_event old new agrees (ap (λ (h : HostState). h.entries) rests)
-    (ap (λ (h : HostState). h.wide) rests) (ap (λ (h : HostState). h.pipes) rests) takes.exact
+    (ap (λ (h : HostState). h.options) rests) (ap (λ (h : HostState). h.pipes) rests) takes.exact
     (event_keeps old.world (Ok due) new.world takes.took takes.exact takes.kept takes.cut
     (λ reached none. cc (ap is_some none, takes.limit reached)))
 

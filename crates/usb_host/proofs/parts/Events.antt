@@ -9,6 +9,7 @@ use Rattle.usb_enum.proofs.Interface.{course_later}
 use Rattle.usb_table.specs.{Entries, AllInSync, Table, SameDevice}
 use Rattle.usb_host.specs.{PortsListed, DevicesAccurate, RefusalsJustified, Accounted}
 use Rattle.usb_host.proofs.knowledge.KnowledgeKept.{known_each, truthful_stays, causes_stay}
+use Rattle.usb_enum.specs.{HostOptions}
 
 -- an event asks nothing of any port
 pub event_calm : (path : List ℕ) (w : World) → Course (LeavesPortAlone path) w (after event w)
@@ -39,8 +40,8 @@ pub known_event : (w : World) (entries : Entries) → PortsListed w entries
 known_event w entries known = known_each w (after event w) entries
     (course_later (event_calm [] w)).roots (λ path port. event_calm path w) known
 
-pub truthful_event : {wide : Bool} (w : World) (entries : Entries) → DevicesAccurate wide w entries
-    → DevicesAccurate wide (after event w) entries
+pub truthful_event : {options : HostOptions} (w : World) (entries : Entries) → DevicesAccurate options w entries
+    → DevicesAccurate options (after event w) entries
 truthful_event w entries told = truthful_stays w (after event w) entries
     (each_wider (λ x s v. v ≡ s) SameDevice
     (λ j s v e. record {
@@ -50,10 +51,10 @@ truthful_event w entries told = truthful_stays w (after event w) entries
     }) w (after event w)
     (event_same w)) told
 
-pub causes_event : {wide : Bool} (w : World) {entries : Entries} {addresses : Addresses}
-    → Accounted wide (roots_of w) entries addresses → PortsListed w entries
-    → RefusalsJustified wide w entries
-    → RefusalsJustified wide (after event w) entries
+pub causes_event : {options : HostOptions} (w : World) {entries : Entries} {addresses : Addresses}
+    → Accounted options (roots_of w) entries addresses → PortsListed w entries
+    → RefusalsJustified options w entries
+    → RefusalsJustified options (after event w) entries
 causes_event w accounted known caused =
     causes_stay w (after event w) accounted known
     (λ path port. course_wider (λ s u x. x.spares) (event_calm path w)) caused

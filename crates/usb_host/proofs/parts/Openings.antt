@@ -1,6 +1,7 @@
 -- A host that was just made.
 use Rattle.usb_bus.specs.{Traced}
 use Rattle.usb_enum.specs.{IsInOrder}
+use Rattle.usb_enum.specs.{HostOptions}
 use Rattle.usb_enum.proofs.Interface.{traced_in_order}
 use Rattle.std.proofs.Common.{◌≡◌, ◌⊎◌, ◌∙◌, ◌<◌, inl, inr, refl, sym, ap, arith, zero, suc, ℕ}
 use Rattle.std.proofs.Common.{List, Option, None, ◌∷◌, Bool, true, []}
@@ -22,8 +23,8 @@ use Rattle.usb_host.specs.{HostInvariant, PortsListed}
 use Rattle.usb_host.proofs.entries.Roots.{rooted_opening}
 
 abbrev going : World → Option (List ℕ) → BusCounts → Table → Addresses → DeviceNumbers
-    → ReportedDevices → Bool → HostState
-going w t counts table addresses numbers reported wide = record {
+    → ReportedDevices → HostOptions → HostState
+going w t counts table addresses numbers reported options = record {
   world = w;
   trace = t;
   counts = counts;
@@ -32,7 +33,7 @@ going w t counts table addresses numbers reported wide = record {
   addresses = addresses;
   numbers = numbers;
   reported = reported;
-  wide = wide;
+  options = options;
   stopped = false;
 }
 
@@ -42,19 +43,19 @@ world_powered w = record w { roots = repowered w.roots }
 -- power is taken and given in silence
 pub powered_is_opening : (w0 w : World) (t0 t : Option (List ℕ)) (counts : BusCounts)
     (table : Table) (addresses : Addresses) (numbers : DeviceNumbers) (reported : ReportedDevices)
-    (wide : Bool) → w ≡ world_powered w0 → t ≡ t0 → counts ≡ no_counts → table ≡ empty
+    (options : HostOptions) → w ≡ world_powered w0 → t ≡ t0 → counts ≡ no_counts → table ≡ empty
     → addresses ≡ set.empty
     → numbers ≡ first_numbers → reported ≡ []
-    → going w t counts table addresses numbers reported wide ≡ opening_host wide w0 t0
-powered_is_opening w0 w t0 t counts table addresses numbers reported wide e silent none f h n r =
+    → going w t counts table addresses numbers reported options ≡ opening_host options w0 t0
+powered_is_opening w0 w t0 t counts table addresses numbers reported options e silent none f h n r =
     let new = going (world_powered w0) in
-    ap (λ v. going v t counts table addresses numbers reported wide) e
-    ∙ ap (λ s. new s counts table addresses numbers reported wide) silent
-    ∙ ap (λ s. new t0 s table addresses numbers reported wide) none
-    ∙ ap (λ x. new t0 no_counts x addresses numbers reported wide) f
-    ∙ ap (λ s. new t0 no_counts empty s numbers reported wide) h
-    ∙ ap (λ m. new t0 no_counts empty set.empty m reported wide) n
-    ∙ ap (λ s. new t0 no_counts empty set.empty first_numbers s wide) r
+    ap (λ v. going v t counts table addresses numbers reported options) e
+    ∙ ap (λ s. new s counts table addresses numbers reported options) silent
+    ∙ ap (λ s. new t0 s table addresses numbers reported options) none
+    ∙ ap (λ x. new t0 no_counts x addresses numbers reported options) f
+    ∙ ap (λ s. new t0 no_counts empty s numbers reported options) h
+    ∙ ap (λ m. new t0 no_counts empty set.empty m reported options) n
+    ∙ ap (λ s. new t0 no_counts empty set.empty first_numbers s options) r
 
 -- A port that lost power is disabled, so no device is reached
 
@@ -77,9 +78,9 @@ forgotten-repowered (vacant b k) = ap (vacant (powered_on (powered_off b))) (for
 forgotten-repowered (taken b s a k) = ap (taken (powered_on (powered_off b)) (forgotten s)
     (all_forgotten a)) (forgotten-repowered k)
 
-pub owning_opening : (wide : Bool) (w : World) (t : Option (List ℕ)) → IsSettled w.roots
-    → w.shared ≡ false → HostMapHolds (opening_host wide w t)
-owning_opening wide w t settled single = record {
+pub owning_opening : (options : HostOptions) (w : World) (t : Option (List ℕ)) → IsSettled w.roots
+    → w.shared ≡ false → HostMapHolds (opening_host options w t)
+owning_opening options w t settled single = record {
   single = single;
   owned = λ going. record {
     so = λ none. record {
@@ -122,12 +123,12 @@ known_opening w sane (n ∷ m ∷ rest) port =
     let wrong = rw long at port.port in
     absurd wrong
 
-pub sound_opening : (wide : Bool) (w : World) (t : Option (List ℕ))
-    → Traced w t (opening_host wide w t).world (opening_host wide w t).trace → IsSettled w.roots
-    → IsInOrder w → w.shared ≡ false → HostInvariant (opening_host wide w t)
-sound_opening wide w t traced settled order single = record {
-  owned = (owning_opening wide w t settled single).owned refl;
-  rooted = rooted_opening wide w t;
+pub sound_opening : (options : HostOptions) (w : World) (t : Option (List ℕ))
+    → Traced w t (opening_host options w t).world (opening_host options w t).trace → IsSettled w.roots
+    → IsInOrder w → w.shared ≡ false → HostInvariant (opening_host options w t)
+sound_opening options w t traced settled order single = record {
+  owned = (owning_opening options w t settled single).owned refl;
+  rooted = rooted_opening options w t;
   order = traced_in_order traced order;
   known = λ still. known_opening w (order still).sane;
   truthful = λ still path device s at on stands. absurd (cc at);

@@ -90,10 +90,10 @@ drop_paid_fails hub a d first second other e = record {
   pays = λ c plan w still. is_err-if_ok other (λ y. HubPaid hub c y a d) e;
 }
 
-module _ (hub : List ℕ) (a b : HostState) (agrees : Agrees a.wide a.entries a.addresses)
+module _ (hub : List ℕ) (a b : HostState) (agrees : Agrees a.options a.entries a.addresses)
     (same : b.entries ≡ a.entries) (pool : b.addresses ≡ a.addresses)
-    (width : b.wide ≡ a.wide) (went : HostSteps 768 a b) where
-  agrees_on : Agrees b.wide b.entries b.addresses
+    (width : b.options ≡ a.options) (went : HostSteps 768 a b) where
+  agrees_on : Agrees b.options b.entries b.addresses
   agrees_on = rw (width, same) (rw pool agrees)
 
   poll_stop : (c : Weights) (n : ℕ) → 768 ≤ n → StopsWithin c n a b
@@ -198,7 +198,7 @@ module _ (hub : List ℕ) (a b : HostState) (agrees : Agrees a.wide a.entries a.
   }
 
 -- the ports of which it told show their changes, or an event came
-module _ (hub : List ℕ) (a b : HostState) (agrees : Agrees a.wide a.entries a.addresses)
+module _ (hub : List ℕ) (a b : HostState) (agrees : Agrees a.options a.entries a.addresses)
     (same : b.entries ≡ a.entries) (pool : b.addresses ≡ a.addresses)
     (rest : LeavesRest a b) (went : HostSteps 768 a b)
     (listed : IsSome (hub_facts_at hub a.entries)) (got : Option (ArrayVec ℕ))
@@ -215,7 +215,7 @@ module _ (hub : List ℕ) (a b : HostState) (agrees : Agrees a.wide a.entries a.
       rw is at tells.tells in
       let facts : _ = some_facts (hub_facts_at hub b.entries) (rw same listed) in
       rw (read ∙ told.is) (poll_shows hub a b
-      (agrees_on hub a b agrees same pool (ap (λ (h : HostState). h.wide) rest) went) s t
+      (agrees_on hub a b agrees same pool (ap (λ (h : HostState). h.options) rest) went) s t
       (went_sound 768 a.world b.world went still)
       still facts.0 (hub_there hub b.entries facts.0 facts.1) tells.reached told.bits told.so
       told.so.came told.some)

@@ -16,6 +16,7 @@ use Rattle.usb_resources.specs.{Addresses, supply_of}
 use Rattle.usb_pipe.specs.{Interrupt}
 use Rattle.usb_enum.specs.{Accepted, Finding, HubFacts, facts_of, is_hub_device}
 use Rattle.usb_enum.specs.{IsKnownAs}
+use Rattle.usb_enum.specs.{HostOptions}
 use Rattle.usb_enum.specs.declared.finding.Finding.TheVariants.{Device}
 use Rattle.usb_table.specs.{Pipes, Hub as HubPipe, Function, Absent, Entries, accepted_device_of}
 use Rattle.usb_table.specs.{accepted_device_at, is_below_hub, IsListening, finding_at, hub_facts_in}
@@ -82,16 +83,16 @@ change_by None h = tt
 change_by (Some b) h = change_none b h
 
 -- the device that is reached at a path
-record ReachedAt (wide : Bool) (w : World) (entries : Entries) (j : Location) (device : Accepted)
+record ReachedAt (options : HostOptions) (w : World) (entries : Entries) (j : Location) (device : Accepted)
     : Type 0 where
   state : State
   on : reach_on w.roots j ≡ true
   stands : state_on w.roots j ≡ Some state
-  tells : IsTruthOf wide entries (path_to j) device state
+  tells : IsTruthOf options entries (path_to j) device state
 
-module _ {wide : Bool} (w : World) {entries : Entries} {addresses : Addresses}
-    (fits : Accounted wide (roots_of w) entries addresses) (known : PortsListed w entries)
-    (truthful : DevicesAccurate wide w entries) where
+module _ {options : HostOptions} (w : World) {entries : Entries} {addresses : Addresses}
+    (fits : Accounted options (roots_of w) entries addresses) (known : PortsListed w entries)
+    (truthful : DevicesAccurate options w entries) where
   pub reached_at : (path : List ℕ) {device : Accepted}
       → finding_at path entries ≡ Some (Device device) → pending w.roots path ≡ false
       → reach w.roots path ≡ true
@@ -101,7 +102,7 @@ module _ {wide : Bool} (w : World) {entries : Entries} {addresses : Addresses}
       elim here [ inl pends ↦ false_true (sym none ∙ pends) | inr there ↦ there.1 ]
 
   stands_at : (j : Location) {device : Accepted} → finding_at (path_to j) entries
-      ≡ Some (Device device) → reach w.roots (path_to j) ≡ true → ReachedAt wide w entries j device
+      ≡ Some (Device device) → reach w.roots (path_to j) ≡ true → ReachedAt options w entries j device
   stands_at j {device = device} found on =
       let there : _ = reached_there w.roots (path_to j) on in
       record {
@@ -111,7 +112,7 @@ module _ {wide : Bool} (w : World) {entries : Entries} {addresses : Addresses}
         tells = truthful (path_to j) device there.0 (ap accepted_device_of found) on there.1;
       }
 
-  heard_by : {j : Location} (device : Accepted) → ReachedAt wide w entries j device
+  heard_by : {j : Location} (device : Accepted) → ReachedAt options w entries j device
       → IsListening (path_to j) device w
   heard_by {j = j} device r = record {
     spot = j;
@@ -121,7 +122,7 @@ module _ {wide : Bool} (w : World) {entries : Entries} {addresses : Addresses}
     stands = r.stands;
     listens = record {
       at = eq-eqb (address_of r.state) device.address r.tells.set.address;
-      loud = (accepts r.state.spec wide (tier_of (path_to j)) (known_supply (path_to j) entries)
+      loud = (accepts r.state.spec options (tier_of (path_to j)) (known_supply (path_to j) entries)
           device.chosen r.tells.found.0).loud;
       hears = server_hears device.low (deep_at false j.rest)
           (device.low && is_below_hub (path_to j)) r.tells.found.1.low
@@ -138,13 +139,13 @@ module _ {wide : Bool} (w : World) {entries : Entries} {addresses : Addresses}
   heard_at (suc j ∷ p) {device = device} found on = heard_by device
       (stands_at (record { row = j; rest = p }) found on)
 
-module _ (h : HostState) (agrees : Agrees h.wide h.entries h.addresses) (s : HostInvariant h)
+module _ (h : HostState) (agrees : Agrees h.options h.entries h.addresses) (s : HostInvariant h)
     (still : h.world.fault ≡ None) where
   module _ {facts : HubFacts} (number : ℕ) (least : 1 ≤ number) (most : number ≤ facts.ports) where
     clear_by : (pipe : Interrupt) (old : World) {j : Location} (device : Accepted) {below : Bool}
         → device.hub ≡ Some facts → IsStatusPipe device below pipe → IsSettled old.roots
         → Waiting pipe.toggle (in_attempt pipe.target pipe.ep) old h.world
-        → (r : ReachedAt h.wide h.world h.entries j device) → {rest : Interrupt}
+        → (r : ReachedAt h.options h.world h.entries j device) → {rest : Interrupt}
         → rest.ep ≡ pipe.ep → StatusPipeInSync rest r.state
         → IfSome (port_there h.world.roots (path_to j ++ (number ∷ [])))
         (λ b. b.connection_changed ≡ false)

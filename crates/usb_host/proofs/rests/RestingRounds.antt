@@ -18,6 +18,7 @@ use Rattle.usb_hub.specs.{TouchesNoPort}
 use Rattle.usb_hub.proofs.Interface.{row_port}
 use Rattle.usb_enum.proofs.Interface.{went_sound}
 use Rattle.usb_enum.specs.{NoAddress, Finding, HubFacts}
+use Rattle.usb_enum.specs.{HostOptions}
 use Rattle.usb_enum.specs.declared.finding.Finding.TheVariants.{Device, Refused}
 use Rattle.usb_table.specs.{Entries, is_hub, is_waiting, hub_facts_in, hub_facts_at, IsListedPort}
 use Rattle.usb_table.specs.{IsPortBelow, ListsEach, ComesAfter, Stands, IsNext, IsLast}
@@ -206,7 +207,7 @@ root_clear w zero least none = absurd (omega arith)
 root_clear w (suc i) least none = none_told (row_port w.roots i)
     (changes_clear (row_of w.roots) i none)
 
-module _ (a c : HostState) (agrees : Agrees c.wide c.entries c.addresses) (rooted : IsRooted c)
+module _ (a c : HostState) (agrees : Agrees c.options c.entries c.addresses) (rooted : IsRooted c)
     (rests : TouchesNoPort a.world c.world) (taken : c.world.taken ≡ a.world.taken)
     (none : changes (root_row a.world) ≡ 0) (silent : (hub : List ℕ)
     → pending c.world.roots hub ≡ false → IsSilent hub c) where
@@ -257,12 +258,12 @@ pub none_right : {A : Type 0} (P Q : Type 0) (o : Option A) → IfNone o Q → I
 none_right P Q None q = inr q
 none_right P Q (Some x) q = tt
 
-pub full_lists : {wide : Bool} {es : Entries} {addresses : Addresses} → Agrees wide es addresses
+pub full_lists : {options : HostOptions} {es : Entries} {addresses : Addresses} → Agrees options es addresses
     → IsFull addresses → ListsEach es
 full_lists agrees full address is =
     accounts_listed agrees.rises agrees.accounts address (full address is)
 
-pub none_waits : {wide : Bool} {es : Entries} {addresses : Addresses} → Agrees wide es addresses
+pub none_waits : {options : HostOptions} {es : Entries} {addresses : Addresses} → Agrees options es addresses
     → (IsFull addresses ⊎ IsLast is_waiting None es) → NoneWaiting es
 none_waits agrees (inl full) path at = full_lists agrees full
 none_waits agrees (inr none) path at =

@@ -44,7 +44,7 @@ LeavesRest a b =
     b ≡ record b {
       numbers = a.numbers;
       reported = a.reported;
-      wide = a.wide;
+      options = a.options;
       stopped = a.stopped;
     }
 

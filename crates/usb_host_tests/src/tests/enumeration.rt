@@ -3,7 +3,7 @@ use arrayvec::ArrayVec;
 use std::alloc::{AllocError, Global};
 use std::test::Fail;
 use usb_bus::Bus;
-use usb_enum::{Accepted, Cause, Finding, Place, Request, enumerate};
+use usb_enum::{Accepted, Cause, Finding, HostOptions, Place, Request, enumerate};
 use usb_hub::{HubPort, port_status, set_port};
 use usb_request::feature::PORT_POWER;
 use usb_resources::AddressPool;
@@ -34,6 +34,8 @@ struct Row {
     supply: u16,
     /// Whether the host takes wide hubs.
     wide: bool,
+    /// How many bytes of configurations it takes of a device.
+    device_bytes: Option<usize>,
     told: &'static str,
 }
 
@@ -46,6 +48,7 @@ configs = [\"0902120001010080FA0904000000FF000000\", \"0902120001020080320904000
         powered: true,
         supply: 100,
         wide: false,
+        device_bytes: None,
         told: "1 full 120100020000004034127856000100010002, 0902120001010080FA0904000000FF000000, chosen 0902120001020080320904000000FF000000, no product; said 120100020000004034127856000100010002; 24 attempts, enabled: true, next address 2",
     },
     Row {
@@ -56,6 +59,7 @@ configs = [\"0902120001010080320904000000FF000000\", \"0902120001010080190904000
         powered: true,
         supply: 500,
         wide: false,
+        device_bytes: None,
         told: "refused bad configuration 1; said 120100020000004034127856000100010002; 20 attempts, enabled: false, next address 1",
     },
     Row {
@@ -66,6 +70,7 @@ configs = [\"0902120001010080330904000000FF000000\"]
         powered: true,
         supply: 100,
         wide: false,
+        device_bytes: None,
         told: "refused no power; said 120100020000004034127856000100000001; 14 attempts, enabled: false, next address 1",
     },
     Row {
@@ -76,6 +81,7 @@ configs = [\"0902120001010080320904000000FF000000\"]
         powered: true,
         supply: 500,
         wide: false,
+        device_bytes: None,
         told: "refused stalled config; said 120100020000004034127856000100010002; 16 attempts, enabled: false, next address 1",
     },
     Row {
@@ -86,6 +92,7 @@ configs = [\"0902120001010080320904000000FF000000\"]
         powered: true,
         supply: 500,
         wide: false,
+        device_bytes: None,
         told: "refused bad device; said 120100020000004034127856000100000000; 8 attempts, enabled: false, next address 1",
     },
     Row {
@@ -96,6 +103,7 @@ configs = []
         powered: false,
         supply: 500,
         wide: false,
+        device_bytes: None,
         told: "refused lost; said nothing; 0 attempts, enabled: false, next address 1",
     },
     Row {
@@ -106,6 +114,7 @@ configs = []
         powered: true,
         supply: 500,
         wide: false,
+        device_bytes: None,
         told: "refused bad device; said 1201000200000041; 3 attempts, enabled: false, next address 1",
     },
     Row {
@@ -117,6 +126,7 @@ ports = 10
         powered: true,
         supply: 500,
         wide: false,
+        device_bytes: None,
         told: "refused bad hub; said 120100020900004001000200000100000001; 19 attempts, enabled: false, next address 1",
     },
     Row {
@@ -128,6 +138,7 @@ ports = 10
         powered: true,
         supply: 500,
         wide: true,
+        device_bytes: None,
         told: "1 full 120100020900004001000200000100000001, chosen 09021900010100C000090400000109000000070581030200FF, no product; said 120100020900004001000200000100000001; 42 attempts, enabled: true, next address 2",
     },
     Row {
@@ -139,6 +150,7 @@ ports = 10
         powered: true,
         supply: 500,
         wide: true,
+        device_bytes: None,
         told: "refused bad hub; said 120100020900004001000200000100000001; 19 attempts, enabled: false, next address 1",
     },
     Row {
@@ -150,6 +162,7 @@ ports = 2
         powered: true,
         supply: 500,
         wide: false,
+        device_bytes: None,
         told: "refused bad hub; said 120100020900004001000200000100000001; 16 attempts, enabled: false, next address 1",
     },
     Row {
@@ -161,7 +174,41 @@ ports = 2
         powered: true,
         supply: 500,
         wide: true,
+        device_bytes: None,
         told: "1 full 120100020900004001000200000100000001, chosen 09021900010100C000090400000109000000070582030100FF, no product; said 120100020900004001000200000100000001; 26 attempts, enabled: true, next address 2",
+    },
+    Row {
+        about: "two configurations of 18 bytes, by a host that takes 36",
+        device: "descriptor = \"120100020000004034127856000100010002\"
+configs = [\"0902120001010080FA0904000000FF000000\", \"0902120001020080320904000000FF000000\"]
+",
+        powered: true,
+        supply: 100,
+        wide: false,
+        device_bytes: Some(36),
+        told: "1 full 120100020000004034127856000100010002, 0902120001010080FA0904000000FF000000, chosen 0902120001020080320904000000FF000000, no product; said 120100020000004034127856000100010002; 24 attempts, enabled: true, next address 2",
+    },
+    Row {
+        about: "the same, by a host that takes 35",
+        device: "descriptor = \"120100020000004034127856000100010002\"
+configs = [\"0902120001010080FA0904000000FF000000\", \"0902120001020080320904000000FF000000\"]
+",
+        powered: true,
+        supply: 100,
+        wide: false,
+        device_bytes: Some(35),
+        told: "refused too large; said 120100020000004034127856000100010002; 17 attempts, enabled: false, next address 1",
+    },
+    Row {
+        about: "the same, by a host that takes 17",
+        device: "descriptor = \"120100020000004034127856000100010002\"
+configs = [\"0902120001010080FA0904000000FF000000\", \"0902120001020080320904000000FF000000\"]
+",
+        powered: true,
+        supply: 100,
+        wide: false,
+        device_bytes: Some(17),
+        told: "refused too large; said 120100020000004034127856000100010002; 11 attempts, enabled: false, next address 1",
     },
 ];
 
@@ -228,7 +275,7 @@ fn found(
     alloc: Global,
     bus: &mut SimBus<Tracer<Vec<u8>>>,
     supply: u16,
-    wide: bool,
+    options: HostOptions,
 ) -> Result<String, Fail> {
     let mut pool = AddressPool::new();
     let roots = bus.root_ports();
@@ -236,7 +283,7 @@ fn found(
     let place = Place {
         tier: 2,
         supply,
-        wide,
+        options,
     };
     let mut said = ArrayVec::new();
     let finding = enumerate(alloc, bus, &mut pool, PORT, place, &mut said)?;
@@ -255,7 +302,11 @@ fn found_for(alloc: Global, bus: &mut SimBus<Tracer<Vec<u8>>>, row: &Row) -> Res
     if row.powered {
         power(bus)?;
     }
-    found(alloc, bus, row.supply, row.wide)
+    let options = HostOptions {
+        wide_hubs: row.wide,
+        device_bytes: row.device_bytes,
+    };
+    found(alloc, bus, row.supply, options)
 }
 
 fn told(alloc: Global, row: &Row) -> Result<String, Fail> {
@@ -274,9 +325,10 @@ fn findings_at_a_root_port(rt: HostRuntime) -> Result<(), Fail> {
 }
 
 /// A cause, and its words.
-const WORDS: [(Cause, &str); 2] = [
+const WORDS: [(Cause, &str); 3] = [
     (Cause::Stalled(Request::SetConfig), "stalled set config"),
     (Cause::BadConfiguration(3), "bad configuration 3"),
+    (Cause::TooLarge, "too large"),
 ];
 
 #[test]

@@ -53,7 +53,7 @@ fair_from w v on fair = record {
 pub stays_sound_then : (a b c : HostState) → RunsOnward a.world b.world → RunsOnward b.world c.world
     → KeepsInvariant a b → KeepsInvariant b c → KeepsInvariant a c
 stays_sound_then a b c m n x y = record {
-  wide = y.wide ∙ x.wide;
+  options = y.options ∙ x.options;
   sound = λ s. y.sound (x.sound s);
   caused = λ s fair causes.
       let early = fair_before a.world b.world c.world n fair in
@@ -94,14 +94,14 @@ settles_rest settles s still = settles.last.keeps.sound.rest ((rounds_stays sett
     (ap Ok settles.ends.quiet) settles.ends.none still
 
 -- a host that knows its ports and has nothing left to do has settled
-settled_at : (h : HostState) → h.stopped ≡ false → Agrees h.wide h.entries h.addresses → Knows h
+settled_at : (h : HostState) → h.stopped ≡ false → Agrees h.options h.entries h.addresses → Knows h
     → (h.world.fault ≡ None → IsAtRest h.world h.entries) → Settled h
 settled_at h running agrees knows rest = record {
   running = running;
   knows = knows;
   rest = rest;
   matches = λ fair.
-      settled_matches h.wide h.world h.entries h.addresses (accounted h agrees knows.sound.rooted)
+      settled_matches h.options h.world h.entries h.addresses (accounted h agrees knows.sound.rooted)
       (knows.sound.known fair.still) (knows.sound.truthful fair.still) (knows.causes fair)
       (rest fair.still);
 }
@@ -125,7 +125,7 @@ pub arrival_sound : (h k : HostState) (due : Option (Option Ask)) → Comes h (O
 arrival_sound h k due comes =
     let takes = comes.takes in
     sound_event h k comes.agrees (ap (λ (x : HostState). x.entries) comes.rests)
-    (ap (λ (x : HostState). x.wide) comes.rests) (ap (λ (x : HostState). x.pipes) comes.rests)
+    (ap (λ (x : HostState). x.options) comes.rests) (ap (λ (x : HostState). x.pipes) comes.rests)
     takes.exact
     (event_keeps h.world (Ok due) k.world takes.took takes.exact takes.kept takes.cut
     (λ reached none. cc (ap is_some none, takes.limit reached)))
@@ -157,11 +157,11 @@ pub arrival_settled : (h k : HostState) (due : Option (Option Ask)) → Comes h 
 arrival_settled h k due comes calm settled =
     let entries : k.entries ≡ h.entries = ap (λ (x : HostState). x.entries) comes.rests in
     let addresses : k.addresses ≡ h.addresses = ap (λ (x : HostState). x.addresses) comes.rests in
-    let wide : k.wide ≡ h.wide = ap (λ (x : HostState). x.wide) comes.rests in
+    let same_options : k.options ≡ h.options = ap (λ (x : HostState). x.options) comes.rests in
     settled_at k (came_running h k due comes ∙ settled.running)
-    (subst (λ x. Agrees x k.entries k.addresses) (sym wide)
-    (subst (λ x. Agrees h.wide x k.addresses) (sym entries)
-    (subst (λ x. Agrees h.wide h.entries x) (sym addresses) comes.agrees)))
+    (subst (λ x. Agrees x k.entries k.addresses) (sym same_options)
+    (subst (λ x. Agrees h.options x k.addresses) (sym entries)
+    (subst (λ x. Agrees h.options h.entries x) (sym addresses) comes.agrees)))
     (arrival_knows h k due comes settled.knows)
     (λ still. subst (IsAtRest k.world) (sym entries)
     (rest_moved h.world k.world h.entries calm
@@ -190,20 +190,20 @@ pub reaches_still : {a b : HostState} {due : Option (Option Ask)} → Reaches a 
 reaches_still {b = b} {due = due} reaches =
     came_still due reaches.arrives.mid.world b.world reaches.arrives.comes.takes.took.ends
 
--- A host stays as wide as it is
+-- A host's options stay
 
-arrives_wide : {a b : HostState} {result : Result (Option (Option Ask)) BusFault}
-    → Arrives a result b → b.wide ≡ a.wide
-arrives_wide arrives = ap (λ (x : HostState). x.wide) arrives.comes.rests
-    ∙ (settles_stays arrives.settles).wide
+arrives_options : {a b : HostState} {result : Result (Option (Option Ask)) BusFault}
+    → Arrives a result b → b.options ≡ a.options
+arrives_options arrives = ap (λ (x : HostState). x.options) arrives.comes.rests
+    ∙ (settles_stays arrives.settles).options
 
-ran_wide : {a b : HostState} → Ran a b → b.wide ≡ a.wide
-ran_wide idle = refl
-ran_wide (silent due before arrives is) = arrives_wide arrives ∙ ran_wide before
+ran_options : {a b : HostState} → Ran a b → b.options ≡ a.options
+ran_options idle = refl
+ran_options (silent due before arrives is) = arrives_options arrives ∙ ran_options before
 
-reaches_wide : {a b : HostState} {result : Result (Option (Option Ask)) BusFault}
-    → Reaches a result b → b.wide ≡ a.wide
-reaches_wide reaches = arrives_wide reaches.arrives ∙ ran_wide reaches.ran
+reaches_options : {a b : HostState} {result : Result (Option (Option Ask)) BusFault}
+    → Reaches a result b → b.options ≡ a.options
+reaches_options reaches = arrives_options reaches.arrives ∙ ran_options reaches.ran
 
 -- An item
 
@@ -214,7 +214,7 @@ transfer_keeps_sound tells = tells.keeps.sound
 
 reported_stays : (a b : HostState) → OnlyReported a b → KeepsInvariant a b
 reported_stays a b only = subst (KeepsInvariant a) (sym only.1) (record {
-  wide = refl;
+  options = refl;
   sound = λ s. record {
     owned = s.owned;
     rooted = s.rooted;
@@ -261,19 +261,19 @@ makes_knows (asked {item} {mid} {new} due reaches is right) =
     item_knows due (Some item) mid new is (reaches_knows reaches)
 makes_knows (last reaches settled) = settled.knows
 
-pub makes_wide : {a b : HostState} {item : Item} {over : Bool} → Makes a item over b
-    → b.wide ≡ a.wide
-makes_wide (asked {item} {mid} {new} due reaches is right) =
-    (item_keeps_sound due (Some item) mid new is).wide ∙ reaches_wide reaches
-makes_wide (last reaches settled) = reaches_wide reaches
+pub makes_options : {a b : HostState} {item : Item} {over : Bool} → Makes a item over b
+    → b.options ≡ a.options
+makes_options (asked {item} {mid} {new} due reaches is right) =
+    (item_keeps_sound due (Some item) mid new is).options ∙ reaches_options reaches
+makes_options (last reaches settled) = reaches_options reaches
 
 -- a run up to its last item
-pub transcript_wide : {mode : Mode} {was : Bool} {old : HostState} {items : List Item}
+pub transcript_options : {mode : Mode} {was : Bool} {old : HostState} {items : List Item}
     {over : Bool} {new : HostState} → Transcript mode was old items over new
-    → new.wide ≡ old.wide
-transcript_wide run_begun = refl
-transcript_wide (run_told t makes puts) = ap (λ (x : HostState). x.wide) puts.rest
-    ∙ (makes_wide makes ∙ transcript_wide t)
+    → new.options ≡ old.options
+transcript_options run_begun = refl
+transcript_options (run_told t makes puts) = ap (λ (x : HostState). x.options) puts.rest
+    ∙ (makes_options makes ∙ transcript_options t)
 
 pub puts_knows : {h k : HostState} {text : List ℕ} → AppendsText text h k → Knows h → Knows k
 puts_knows {h} {k} puts s = subst Knows (sym puts.rest) so

@@ -149,7 +149,7 @@ ran_silent {a} {b} {c} due d before arrives is =
 -- an event behind settling, of a bus that stands for the host's world
 pub arrives_taken : (old mid new : HostState) (result : Result (Option (Option Ask)) BusFault)
     {w : World} {t : Option (List ℕ)} → Settles old mid → Settled mid
-    → Agrees mid.wide mid.entries mid.addresses → OnlyBusSteps mid new
+    → Agrees mid.options mid.entries mid.addresses → OnlyBusSteps mid new
     → w ≡ mid.world → t ≡ mid.trace → TakesEvent w t result new.world new.trace
     → Arrives old result new
 arrives_taken old mid new result {w} {t} settles settled agrees rests same trace takes =

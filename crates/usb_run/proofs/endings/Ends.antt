@@ -3,6 +3,7 @@ use Rattle.std.proofs.Common.{◌≡◌, ◌∙◌, refl, sym, ap, ap₂, subst,
 use Rattle.std.proofs.Common.{Option, Result, Err, false, IfErr}
 use Rattle.usb_world.specs.{PlanData, IsPlan, AtPorts, opening, BusFault, Limit, Memory}
 use Rattle.usb_world.specs.{Failed, World, HasFault}
+use Rattle.usb_enum.specs.{usual_options}
 use Rattle.usb_host.specs.{HostState, opening_host as host_opening, HostInvariant}
 use Rattle.usb_host.specs.{RefusalsJustified, HostFault, RoundFaultAllowed}
 use Rattle.usb_host.specs.{TransferFaultAllowed, is_final, RoundTells, Round}
@@ -95,7 +96,7 @@ answered_caused {A} (Err host.Memory) f w told e =
 
 pub opens_with : (plan : PlanData) (w : World) (t : Option (List ℕ)) (h : HostState)
     {before : Option (List ℕ)} → w ≡ opening plan → t ≡ before
-    → h ≡ host_opening plan.wide w t
+    → h ≡ host_opening (usual_options plan.wide) w t
     → Traced w t h.world h.trace
     → (w.shared ≡ false → HostInvariant h) → IsPlan plan → AtPorts plan.events
     → Opens plan before h
@@ -103,7 +104,7 @@ opens_with plan w t h {before} same silent opens traced sound rules paths =
     let P : World → Type 0 = λ x. Traced x t h.world h.trace in
     let Q : Option (List ℕ) → Type 0 = λ x. Traced (opening plan) x h.world h.trace in
     record {
-      is = opens ∙ ap₂ (host_opening plan.wide) same silent;
+      is = opens ∙ ap₂ (host_opening (usual_options plan.wide)) same silent;
       traced = subst Q silent (subst P same traced);
       sound = sound (ap (λ (x : World). x.shared) same);
       rules = rules;
@@ -112,15 +113,15 @@ opens_with plan w t h {before} same silent opens traced sound rules paths =
 
 -- it has refused none
 opened_causes : (plan : PlanData) (h : HostState) {before : Option (List ℕ)} → Opens plan before h
-    → RefusalsJustified h.wide h.world h.entries
-opened_causes plan h opens = subst (RefusalsJustified h.wide h.world)
+    → RefusalsJustified h.options h.world h.entries
+opened_causes plan h opens = subst (RefusalsJustified h.options h.world)
     (sym (ap (λ (k : HostState). k.entries) opens.is))
     (λ path cause state at stands. absurd (cc at))
 
 -- takes the hubs that the plan says
-pub wide_opened : (plan : PlanData) (h : HostState) {before : Option (List ℕ)}
-    → Opens plan before h → h.wide ≡ plan.wide
-wide_opened plan h opens = ap (λ (k : HostState). k.wide) opens.is
+pub options_opened : (plan : PlanData) (h : HostState) {before : Option (List ℕ)}
+    → Opens plan before h → h.options ≡ usual_options plan.wide
+options_opened plan h opens = ap (λ (k : HostState). k.options) opens.is
 
 -- and has the plan's limit
 pub limit_opened : (plan : PlanData) (h : HostState) {before : Option (List ℕ)}

@@ -15,7 +15,7 @@ use Rattle.usb_bus.specs.{next_due}
 use Rattle.usb_world.specs.{AreOfDamages, Damage}
 use Rattle.usb_world.proofs.Interface.{no_losses_yet}
 use Rattle.usb_address.proofs.Interface.{opening_settled}
-use Rattle.usb_enum.specs.{FewLosses}
+use Rattle.usb_enum.specs.{FewLosses, usual_options}
 use Rattle.usb_enum.proofs.Interface.{IsWorse, course_later}
 use Rattle.usb_table.specs.{Delivered, EndpointChoice, FirstBulk, At, Matches, TransferFault}
 use Rattle.usb_table.proofs.Interface.{lists_of_plan}
@@ -29,14 +29,14 @@ use Rattle.usb_run.specs.Transfers.{Transfers}
 use Rattle.usb_run.proofs.AskedCalls.{AskAnswered, silent, listed, sent, received, cleared, read}
 use Rattle.usb_run.proofs.AskedCalls.{written, looked, news, answered}
 use Rattle.usb_run.proofs.AskedCalls.{sent_to, received_from, polled, cleared_of, interface_set}
-use Rattle.usb_run.proofs.courses.KnowledgeKept.{arrival_settled, item_knows, makes_wide}
+use Rattle.usb_run.proofs.courses.KnowledgeKept.{arrival_settled, item_knows, makes_options}
 use Rattle.usb_run.proofs.courses.KnowledgeKept.{reaches_knows, reaches_running, reaches_still}
-use Rattle.usb_run.proofs.courses.KnowledgeKept.{transcript_wide}
+use Rattle.usb_run.proofs.courses.KnowledgeKept.{transcript_options}
 use Rattle.usb_run.proofs.courses.RunCourses.{RunsOnward, onward_runs, onward_then, over_cuts}
 use Rattle.usb_run.proofs.courses.RunCourses.{over_makes, over_puts, over_stops, over_transcript}
 use Rattle.usb_run.proofs.courses.DamagedLosses.{damages_runs}
 use Rattle.usb_run.proofs.courses.RunCourses.{over_run, traced_runs_onward, worse_runs}
-use Rattle.usb_run.proofs.endings.Ends.{wide_opened}
+use Rattle.usb_run.proofs.endings.Ends.{options_opened}
 use Rattle.usb_run.proofs.items.ToldTransfers.{told_sent, told_received, told_cleared, told_read}
 use Rattle.usb_run.proofs.items.ToldTransfers.{told_look, told_written, told_reported}
 use Rattle.usb_run.proofs.items.ToldTransfers.{told_cleared_of, told_interface, count_done}
@@ -159,123 +159,123 @@ item_right due made h mid k reaches is = right (answered due (Some made) mid k i
 module _ (plan : PlanData) (rules : IsPlan plan) (paths : AtPorts plan.events) (end : World)
     (two : AtMostTwoRunning plan.damages) (few : FewLosses end) where
   -- a host that has settled on the way lists it
-  listing_right : (said : Bool) (h : HostState) → h.wide ≡ plan.wide
+  listing_right : (said : Bool) (h : HostState) → h.options ≡ usual_options plan.wide
       → RunsOnward (opening plan) h.world → h.world.fault ≡ None
       → IsWorse h.world end → Settled h → IsListingOf plan (listing_of said h)
-  listing_right said h wide before still on settled =
+  listing_right said h kept before still on settled =
       let here : IsFairTo h.world h.world = record {
         still = still;
         few = subst AtMostTwoRunning (sym (course_later (before still).course).damages) two;
         kept = omega (arith, on, few);
       } in
-      lists_of_plan plan rules paths h.world (before still).course plan.wide h.entries
-      (subst (λ x. Matches x h.world h.entries) wide (settled.matches here))
+      lists_of_plan plan rules paths h.world (before still).course (usual_options plan.wide) h.entries
+      (subst (λ x. Matches x h.world h.entries) kept (settled.matches here))
 
-  due_right : {due : Option Ask} (made : Item) (mid k : HostState) → k.wide ≡ plan.wide
+  due_right : {due : Option Ask} (made : Item) (mid k : HostState) → k.options ≡ usual_options plan.wide
       → RunsOnward (opening plan) k.world → mid.world.fault ≡ None → IsWorse k.world end
       → AskAnswered due (Some made) mid k → TellsRight due made mid k → IsListingOf plan made
-  due_right made mid k wide before still on (silent nothing same) right = absurd (cc nothing)
-  due_right made mid k wide before still on (listed said asks e same) right =
+  due_right made mid k kept before still on (silent nothing same) right = absurd (cc nothing)
+  due_right made mid k kept before still on (listed said asks e same) right =
       let is : made ≡ listing_of said k = cc e in
       let settled = subst (λ d. TellsRight d made mid k) asks right in
       let works = ap (λ (h : HostState). h.world.fault) same ∙ still in
-      subst (IsListingOf plan) (sym is) (listing_right said k wide before works on settled)
-  due_right made mid k wide before still on (sent path bytes answer asks e came) right =
+      subst (IsListingOf plan) (sym is) (listing_right said k kept before works on settled)
+  due_right made mid k kept before still on (sent path bytes answer asks e came) right =
       let is : made ≡ item.Sent path (sent_count (length bytes) answer) = cc e in
       subst (IsListingOf plan) (sym is) tt
-  due_right made mid k wide before still on (received path packets answer asks e came) right =
+  due_right made mid k kept before still on (received path packets answer asks e came) right =
       let is : made ≡ item.Received path answer = cc e in
       subst (IsListingOf plan) (sym is) tt
-  due_right made mid k wide before still on (cleared path answer asks e came) right =
+  due_right made mid k kept before still on (cleared path answer asks e came) right =
       let is : made ≡ item.Cleared path answer = cc e in
       subst (IsListingOf plan) (sym is) tt
-  due_right made mid k wide before still on (sent_to path endpoint bytes answer asks e came) right =
+  due_right made mid k kept before still on (sent_to path endpoint bytes answer asks e came) right =
       let is : made ≡ item.SentTo path endpoint (sent_count (length bytes) answer) = cc e in
       subst (IsListingOf plan) (sym is) tt
-  due_right made mid k wide before still on (received_from path endpoint packets answer asks e came)
+  due_right made mid k kept before still on (received_from path endpoint packets answer asks e came)
       right =
       let is : made ≡ item.ReceivedFrom path endpoint answer = cc e in
       subst (IsListingOf plan) (sym is) tt
-  due_right made mid k wide before still on (polled path endpoint answer asks e came) right =
+  due_right made mid k kept before still on (polled path endpoint answer asks e came) right =
       let is : made ≡ item.Polled path endpoint answer = cc e in
       subst (IsListingOf plan) (sym is) tt
-  due_right made mid k wide before still on (cleared_of path endpoint answer asks e came) right =
+  due_right made mid k kept before still on (cleared_of path endpoint answer asks e came) right =
       let is : made ≡ item.ClearedOf path endpoint answer = cc e in
       subst (IsListingOf plan) (sym is) tt
-  due_right made mid k wide before still on (interface_set path interface setting answer asks e came)
+  due_right made mid k kept before still on (interface_set path interface setting answer asks e came)
       right =
       let is : made ≡ item.InterfaceSet path interface setting answer = cc e in
       subst (IsListingOf plan) (sym is) tt
-  due_right made mid k wide before still on (read path request answer host asks e came) right =
+  due_right made mid k kept before still on (read path request answer host asks e came) right =
       let is : made ≡ item.Read path answer = cc e in
       subst (IsListingOf plan) (sym is) tt
-  due_right made mid k wide before still on (written path write answer fits asks e came) right =
+  due_right made mid k kept before still on (written path write answer fits asks e came) right =
       let is : made ≡ item.Written path (sent_count (length write.bytes) answer) = cc e in
       subst (IsListingOf plan) (sym is) tt
-  due_right made mid k wide before still on (looked path answer asks e came) right =
+  due_right made mid k kept before still on (looked path answer asks e came) right =
       let is : made ≡ item.Looked path answer = cc e in
       subst (IsListingOf plan) (sym is) tt
-  due_right made mid k wide before still on (news answer asks e all) right =
+  due_right made mid k kept before still on (news answer asks e all) right =
       let is : made ≡ item.News answer = cc e in
       subst (IsListingOf plan) (sym is) tt
 
-  made_right : {h k : HostState} {made : Item} {over : Bool} → h.wide ≡ plan.wide
+  made_right : {h k : HostState} {made : Item} {over : Bool} → h.options ≡ usual_options plan.wide
       → RunsOnward (opening plan) h.world
       → Makes h made over k → IsWorse k.world end → IsListingOf plan made
-  made_right {h} {k} {made} wide before (asked {mid = mid} due reaches is right) on =
+  made_right {h} {k} {made} kept before (asked {mid = mid} due reaches is right) on =
       due_right made mid k
-      (makes_wide (asked {item = made} {mid = mid} {new = k} due reaches is right) ∙ wide)
+      (makes_options (asked {item = made} {mid = mid} {new = k} due reaches is right) ∙ kept)
       (onward_then (opening plan) h.world k.world before (over_makes
       onward_runs (asked {item = made} {mid = mid} {new = k} due reaches is right)))
       (reaches_still reaches) on (answered due (Some made) mid k is) right
-  made_right {h} {k} wide before (last reaches settled) on =
-      listing_right false k (makes_wide (last {new = k} reaches settled) ∙ wide)
+  made_right {h} {k} kept before (last reaches settled) on =
+      listing_right false k (makes_options (last {new = k} reaches settled) ∙ kept)
       (onward_then (opening plan) h.world k.world before
       (over_makes onward_runs (last {new = k} reaches settled))) (reaches_still reaches) on settled
 
   items_right : {mode : Mode} {was : Bool} {old : HostState} {items : List Item} {over : Bool}
-      {new : HostState} → old.wide ≡ plan.wide → RunsOnward (opening plan) old.world
+      {new : HostState} → old.options ≡ usual_options plan.wide → RunsOnward (opening plan) old.world
       → Transcript mode was old items over new → IsWorse new.world end
       → AllByRecursion (IsListingOf plan) items
-  items_right wide before begun on = tt
-  items_right {old = old} wide before (told {h = h} {k = k} {new = new} t makes puts) on =
+  items_right kept before begun on = tt
+  items_right {old = old} kept before (told {h = h} {k = k} {new = new} t makes puts) on =
       let here = onward_then (opening plan) old.world h.world before
       (over_transcript onward_runs t) in
       let later = worse_runs.joined k.world new.world end (over_puts worse_runs puts) on in (
-        made_right (transcript_wide t ∙ wide) here makes later,
-        items_right wide before t
+        made_right (transcript_options t ∙ kept) here makes later,
+        items_right kept before t
             (worse_runs.joined h.world k.world end (over_makes worse_runs makes) later),
       )
 
   stopped_right : {mode : Mode} {IsOf : RunFault → Type 0} {IsCut : Type 0} {was : Bool}
-      {old : HostState} {items : List Item} {new : HostState} → old.wide ≡ plan.wide
+      {old : HostState} {items : List Item} {new : HostState} → old.options ≡ usual_options plan.wide
       → RunsOnward (opening plan) old.world → StoppedRun mode IsOf IsCut was old items new
       → IsWorse new.world end → AllByRecursion (IsListingOf plan) items
-  stopped_right wide before (on_the_way {h = h} {new = new} of t stops) on =
-      items_right wide before t
+  stopped_right kept before (on_the_way {h = h} {new = new} of t stops) on =
+      items_right kept before t
       (worse_runs.joined h.world new.world end (over_stops worse_runs stops) on)
-  stopped_right wide before (unwritten {h = h} {new = new} whole t makes) on =
-      items_right wide before t
+  stopped_right kept before (unwritten {h = h} {new = new} whole t makes) on =
+      items_right kept before t
       (worse_runs.joined h.world new.world end (over_makes worse_runs makes) on)
-  stopped_right wide before (behind whole t) on = items_right wide before t on
-  stopped_right {old = old} wide before (in_text {h = h} {k = k} {new = new} cut t makes cuts) on =
+  stopped_right kept before (behind whole t) on = items_right kept before t on
+  stopped_right {old = old} kept before (in_text {h = h} {k = k} {new = new} cut t makes cuts) on =
       let here = onward_then (opening plan) old.world h.world before
       (over_transcript onward_runs t) in
       let later = worse_runs.joined k.world new.world end (over_cuts worse_runs cuts) on in (
-        made_right (transcript_wide t ∙ wide) here makes later,
-        items_right wide before t
+        made_right (transcript_options t ∙ kept) here makes later,
+        items_right kept before t
             (worse_runs.joined h.world k.world end (over_makes worse_runs makes) later),
       )
 
   run_right : {A E : Type 0} (mode : Mode) (words : RunFault → E) (CutsAt : E → Type 0) (was : Bool)
       (old : HostState) (items : List Item) (new : HostState) (result : Result A E)
-      → old.wide ≡ plan.wide → RunsOnward (opening plan) old.world
+      → old.options ≡ usual_options plan.wide → RunsOnward (opening plan) old.world
       → RunsTo mode words CutsAt was old items result new → IsWorse new.world end
       → AllByRecursion (IsListingOf plan) items
-  run_right mode words CutsAt was old items new (Ok done) wide before t on =
-      items_right wide before t on
-  run_right mode words CutsAt was old items new (Err fault) wide before t on =
-      stopped_right wide before t on
+  run_right mode words CutsAt was old items new (Ok done) kept before t on =
+      items_right kept before t on
+  run_right mode words CutsAt was old items new (Err fault) kept before t on =
+      stopped_right kept before t on
 
 -- each listing of a run is right
 pub run_lists_right : {A E : Type 0} (plan : PlanData) (mode : Mode) (words : RunFault → E)
@@ -293,6 +293,6 @@ run_lists_right plan mode words CutsAt was old items new result opens t =
       losses = subst (λ (ds : List Damage). AreOfDamages new.world.attempts ds new.world.losses)
           lost.same lost.lost;
       right = λ two few. run_right plan opens.rules opens.paths new.world two few mode words CutsAt
-          was old items new result (wide_opened plan old opens)
+          was old items new result (options_opened plan old opens)
           (traced_runs_onward opens.traced) t (worse_runs.same new.world);
     }

@@ -18,6 +18,7 @@ use Rattle.usb_bus.specs.{next_due, Traced}
 use Rattle.usb_transaction.specs.{transaction_bound}
 use Rattle.usb_pipe.specs.{write_bound}
 use Rattle.usb_table.specs.{control_most}
+use Rattle.usb_enum.specs.{usual_options}
 use Rattle.usb_host.specs.{HostFault, Round, Worked, Quiet, hubs, clear_bound, Affords, Costs}
 use Rattle.usb_host.specs.{Look, LookCosts, LookTells, handling_bound, is_final, look_cost}
 use Rattle.usb_host.specs.{PaysRound, RoundPaid, Weights, debt, event_weight, hub_weight}
@@ -538,7 +539,7 @@ module _ (c : Weights) (plan : PlanData) where
 
 module _ (plan : PlanData) (few : plug_events plan.events ≤ 127) (before : Option (List ℕ)) where
   abbrev first : HostState
-  first = host_opening plan.wide (opening plan) before
+  first = host_opening (usual_options plan.wide) (opening plan) before
 
   first_affords : HostInvariant first → IsPlan plan → AtPorts plan.events
       → Course AnyStep (opening plan) first.world → Affords (weights plan) plan first

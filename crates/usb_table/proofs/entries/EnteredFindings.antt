@@ -11,7 +11,7 @@ use Rattle.arrayvec.specs.ArrayVec.{ArrayVec}
 use Rattle.usb_port.specs.{path_cmp}
 use Rattle.usb_device.specs.{State, IsSpec, reach, state_there}
 use Rattle.usb_world.specs.{World}
-use Rattle.usb_enum.specs.{Accepted, Cause, Finding, IsOwn}
+use Rattle.usb_enum.specs.{Accepted, Cause, Finding, HostOptions, IsOwn}
 use Rattle.usb_enum.specs.declared.finding.Finding.TheVariants.{Device, Refused}
 use Rattle.usb_table.specs.{Pipes, no_pipes, accepted_device_of, accepted_device_at, is_below_hub}
 use Rattle.usb_table.specs.{PipesInSync, InSyncAt, new_pipes, Table, pipes_at, entered}
@@ -101,11 +101,11 @@ said_at-entered_elsewhere path finding said table x apart =
 
 module _ (path : List ℕ) (finding : Finding) (said : ArrayVec ℕ) (table : Table) (w : World) where
   -- to a device whose finding is its own, where it is reachable
-  pub level_entered : (wide : Bool) (tier supply : ℕ) → ((device : Accepted) (s : State)
+  pub level_entered : (options : HostOptions) (tier supply : ℕ) → ((device : Accepted) (s : State)
       → finding ≡ Device device → reach w.roots path ≡ true → state_there w.roots path ≡ Some s
-      → IsSpec s.spec × IsOwn wide tier supply device s)
+      → IsSpec s.spec × IsOwn options tier supply device s)
       → InSyncAt path (entered path finding said table) w
-  level_entered wide tier supply own = record { level = by_finding finding refl }
+  level_entered options tier supply own = record { level = by_finding finding refl }
     where
       by_finding : (f : Finding) → finding ≡ f → (device : Accepted) (s : State)
           → accepted_device_at path (entered path finding said table).entries ≡ Some device
@@ -122,7 +122,7 @@ module _ (path : List ℕ) (finding : Finding) (said : ArrayVec ℕ) (table : Ta
           (subst (λ (q : Pipes). PipesInSync d q s)
           (sym (pipes_at-entered path finding said table
           ∙ ap (λ f. new_pipes f (is_below_hub path) said) is))
-          (new_level wide tier supply d (is_below_hub path) said s so.0 so.1))
+          (new_level options tier supply d (is_below_hub path) said s so.0 so.1))
       by_finding (Refused cause) is device s e on there =
           absurd (cc (sym (ap accepted_device_of (lookup-inserted path finding table.entries
           ∙ ap Some is)) ∙ e))

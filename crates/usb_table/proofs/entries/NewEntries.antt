@@ -1,10 +1,10 @@
 -- An entry that is to come has no key yet, and so has its address.
 use Rattle.std.proofs.Common.{◌≡◌, ◌∙◌, refl, sym, ap, subst, inl, inr, true, false, Bool, ℕ, ◌+◌}
 use Rattle.std.proofs.Common.{cond, List, [], ◌∷◌, Option, Some, None, arith, nat_eq, IfSome}
-use Rattle.std.proofs.Common.{is_some}
+use Rattle.std.proofs.Common.{is_some, option_map}
 use Rattle.std.specs.Map.{lookup}
 use Rattle.std.specs.BTreeMap.{is_at}
-use Rattle.std.specs.List.{list_any, count_by}
+use Rattle.std.specs.List.{count_by}
 use Rattle.std.specs.Cmp.Lexicographic.{pointwise, texts_ties}
 use Rattle.std.proofs.lemmas.Bool.{eq-eqb, false_from_ne_true}
 use Rattle.std.proofs.lemmas.List.Sums.{sum_by-cons}
@@ -14,8 +14,8 @@ use Rattle.usb_enum.specs.declared.finding.Finding.TheVariants.{Device, Refused}
 use Rattle.usb_tree.proofs.Interface.{neither}
 use Rattle.usb_table.specs.{Entries, has_at, is_at_or_below, address_found, has_address}
 use Rattle.usb_table.specs.{HasNewAddress, Slots, PathKeys, AddressKeys, key_of_path}
-use Rattle.usb_table.specs.{key_of_address, entries_of, address_in, AreIndexes}
-use Rattle.usb_table.proofs.entries.Keys.{entries_of-key, entries-has_at, none_or}
+use Rattle.usb_table.specs.{key_of_address, entries_of, address_in, AreIndexes, finding_under}
+use Rattle.usb_table.proofs.entries.Keys.{entries_of-key, entries-lookup, none_or}
 use Rattle.usb_table.proofs.entries.Paths.{path_tied, path_itself}
 
 -- What is told of the entries, as the keys have it
@@ -27,18 +27,24 @@ is_at-not_way path q apart = false_from_ne_true _ (λ tie.
     (path_itself q) in
     cc (yes, (neither (pointwise nat_eq q path) (is_below q path) apart).0))
 
-no_key : (path : List ℕ) (paths : PathKeys) → list_any (λ e. is_at_or_below e.0 path) paths ≡ false
-    → key_of_path paths path ≡ None
-no_key path [] none = refl
-no_key path (e ∷ es) none =
-    let parts = neither (is_at_or_below e.0 path) (list_any (λ d. is_at_or_below d.0 path) es)
-    none in
-    ap (λ b. cond b (Some e.1) (key_of_path es path))
-    (is_at-not_way path e.0 parts.0) ∙ no_key path es parts.1
+pub none_at : (path : List ℕ) (es : Entries) → has_at path es ≡ false
+    → lookup (is_at (path_cmp path)) es ≡ None
+none_at path [] none = refl
+none_at path (e ∷ es) none =
+    let parts = neither (is_at_or_below e.0 path) (has_at path es) none in
+    ap (λ b. cond b (Some e.1) (lookup (is_at (path_cmp path)) es))
+    (is_at-not_way path e.0 parts.0) ∙ none_at path es parts.1
+
+none_shown : (f : ℕ → Finding) (key : Option ℕ) → option_map f key ≡ None → key ≡ None
+none_shown f None none = refl
+none_shown f (Some key) none = absurd cc
 
 pub away_key : (found : Slots) (path : List ℕ) (paths : PathKeys)
-    → has_at path (entries_of found paths) ≡ false → key_of_path paths path ≡ None
-away_key found path paths none = no_key path paths (sym (entries-has_at found path paths) ∙ none)
+    → lookup (is_at (path_cmp path)) (entries_of found paths) ≡ None
+    → key_of_path paths path ≡ None
+away_key found path paths none =
+    none_shown (finding_under found) (key_of_path paths path)
+    (sym (entries-lookup found path paths) ∙ none)
 
 count_by-found : (a : ℕ) (path : List ℕ) (es : Entries) (f : Finding)
     → lookup (is_at (path_cmp path)) es ≡ Some f → has_address a f ≡ true

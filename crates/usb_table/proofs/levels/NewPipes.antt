@@ -26,7 +26,7 @@ use Rattle.usb_transaction.specs.{Target}
 use Rattle.usb_pipe.specs.{PipeState}
 use Rattle.usb_hub.specs.{IsFresh}
 use Rattle.usb_enum.specs.{Accepted, HubFacts, IsAs, texts_of, is_good_hub, gives_hub, target_of}
-use Rattle.usb_enum.specs.{configuration_of, holds_changes, is_hub_device, IsOwn}
+use Rattle.usb_enum.specs.{configuration_of, holds_changes, is_hub_device, HostOptions, IsOwn}
 use Rattle.usb_enum.specs.declared.finding.Finding.TheVariants.{Device}
 use Rattle.usb_table.specs.{Function, FitsOut, FitsIn, PipesInSync, new_status, pipe_at}
 use Rattle.usb_table.specs.{IsPlace, lost_at, none_lost}
@@ -122,17 +122,20 @@ new_function_fits device below_hub function = record {
 abbrev cut_text : List ℕ → List ℕ
 cut_text text = take (min (total_of text) (length text)) text
 
-module _ (wide : Bool) (tier supply : ℕ) (device : Accepted) (below_hub : Bool)
+module _ (options : HostOptions) (tier supply : ℕ) (device : Accepted) (below_hub : Bool)
     (said : ArrayVec ℕ) (s : State)
-    (ruled : IsSpec s.spec) (own : IsOwn wide tier supply device s) where
+    (ruled : IsSpec s.spec) (own : IsOwn options tier supply device s) where
   listed : IsAs s.spec device
   listed = own.0.1
 
   fresh : IsFresh s
   fresh = own.2
 
-  accepted : AcceptsChosen s.spec wide supply device.chosen
-  accepted = accepts s.spec wide tier supply device.chosen own.0.0
+  abbrev wide : Bool
+  wide = options.wide_hubs
+
+  accepted : AcceptsChosen s.spec options supply device.chosen
+  accepted = accepts s.spec options tier supply device.chosen own.0.0
 
   chosen : HasChosen s.spec device.chosen
   chosen = has_chosen s.spec supply device.chosen accepted

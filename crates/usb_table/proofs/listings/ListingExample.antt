@@ -8,6 +8,7 @@ use Rattle.usb_port.specs.{path_cmp, parent_of, port_on_hub}
 use Rattle.usb_resources.specs.{IsAddress, supply_of}
 use Rattle.usb_device.specs.{Spec}
 use Rattle.usb_enum.specs.{Silent, Accepted, Finding, texts_of, strings_of, facts_of, IsRight}
+use Rattle.usb_enum.specs.{usual_options}
 use Rattle.usb_enum.specs.declared.finding.Finding.TheVariants.{Device, Refused}
 use Rattle.usb_enum.proofs.Interface.{examples, row_silent, small, two_ports}
 use Rattle.usb_table.specs.{Entries, Rises, SpecTree, finding_at, entry_address, IsListedPort}
@@ -51,13 +52,13 @@ by_path P first second none path = pick (is_at (path_cmp path) (1 ∷ []))
 
 abbrev IsFoundAt : List ℕ → Type 0
 IsFoundAt path = (spec : Spec) → tree path ≡ Some spec → IsSomeAnd (finding_at path example_entries)
-    (IsRight (ListsEach example_entries) spec false (tier_of path) (supply_at tree path))
+    (IsRight (ListsEach example_entries) spec (usual_options false) (tier_of path) (supply_at tree path))
 
 found_first : IsFoundAt (1 ∷ [])
 unfolding parent_of supply_of
 found_first spec at =
     let same : two_ports ≡ spec = cc at in
-    subst (λ s. IsRight (ListsEach example_entries) s false 2 500 (Device listed_hub)) same
+    subst (λ s. IsRight (ListsEach example_entries) s (usual_options false) 2 500 (Device listed_hub)) same
     (inl (
       examples.hub,
       record { low = refl; bytes = refl; configs = refl; strings = refl; hub = refl },
@@ -67,8 +68,8 @@ found_second : IsFoundAt (1 ∷ 2 ∷ [])
 unfolding parent_of supply_of
 found_second spec at =
     let same : silent_function ≡ spec = cc at in
-    subst (λ s. IsRight (ListsEach example_entries) s false 3 500 (Refused Silent)) same
-    (inl (row_silent silent_function false 3 500 refl))
+    subst (λ s. IsRight (ListsEach example_entries) s (usual_options false) 3 500 (Refused Silent)) same
+    (inl (row_silent silent_function (usual_options false) 3 500 refl))
 
 example_elsewhere : (path : List ℕ) → is_at (path_cmp path) (1 ∷ []) ≡ false
     → is_at (path_cmp path) (1 ∷ 2 ∷ []) ≡ false → IsFoundAt path
@@ -112,7 +113,7 @@ rising : Rises example_entries
 unfolding IsStrictlySortedBy
 rising = ((refl, tt), (tt, tt))
 
-pub listed : Lists false 1 tree example_entries
+pub listed : Lists (usual_options false) 1 tree example_entries
 listed =
     record {
       rises = rising;

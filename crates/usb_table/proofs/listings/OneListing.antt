@@ -3,16 +3,16 @@ use Rattle.std.proofs.Common.{◌≡◌, inl, inr, ◌≤◌, ◌<◌, ◌+◌, 
 use Rattle.std.proofs.Common.{Option, None, Some, refl, ap, sym, subst, ◌∙◌, arith, IsSome, IsSomeAnd}
 use Rattle.usb_port.specs.{parent_of, port_on_hub}
 use Rattle.usb_device.specs.{Spec}
-use Rattle.usb_enum.specs.{Finding, HubFacts, IsFindingOf, IsRight}
+use Rattle.usb_enum.specs.{Finding, HostOptions, HubFacts, IsFindingOf, IsRight}
 use Rattle.usb_enum.specs.declared.finding.Finding.TheVariants.{Device, Refused}
 use Rattle.usb_table.specs.{Entries, SpecTree, finding_at, hub_facts_in, hub_facts_at, IsPortBelow}
 use Rattle.usb_table.specs.{IsListedPort, tier_of, supply_at, ListsEach, Lists, NoneWaits}
 use Rattle.usb_table.specs.{IsFoundLike, ListsLike}
 use Rattle.usb_table.proofs.entries.Ports.{parent_shorter}
 
-found_like : (spec : Spec) (wide : Bool) (tier supply : ℕ) (f g : Finding)
-    → IsFindingOf spec wide tier supply f → IsFindingOf spec wide tier supply g → IsFoundLike f g
-found_like spec wide tier supply (Device d) (Device e) x y =
+found_like : (spec : Spec) (options : HostOptions) (tier supply : ℕ) (f g : Finding)
+    → IsFindingOf spec options tier supply f → IsFindingOf spec options tier supply g → IsFoundLike f g
+found_like spec options tier supply (Device d) (Device e) x y =
     let same : d.chosen ≡ e.chosen = cc (x.0, y.0) in
     record {
       low = x.1.low ∙ sym y.1.low;
@@ -22,33 +22,33 @@ found_like spec wide tier supply (Device d) (Device e) x y =
       strings = x.1.strings ∙ sym y.1.strings;
       hub = x.1.hub ∙ sym y.1.hub;
     }
-found_like spec wide tier supply (Device d) (Refused c) x y = absurd (cc (x.0, y))
-found_like spec wide tier supply (Refused c) (Device d) x y = absurd (cc (x, y.0))
-found_like spec wide tier supply (Refused c) (Refused b) x y = cc (x, y)
+found_like spec options tier supply (Device d) (Refused c) x y = absurd (cc (x.0, y))
+found_like spec options tier supply (Refused c) (Device d) x y = absurd (cc (x, y.0))
+found_like spec options tier supply (Refused c) (Refused b) x y = cc (x, y)
 
 -- none waits: it is found by its description
 by_description : (entries : Entries) → NoneWaits entries
-    → (path : List ℕ) (spec : Spec) (f : Finding) (wide : Bool) (tier supply : ℕ)
+    → (path : List ℕ) (spec : Spec) (f : Finding) (options : HostOptions) (tier supply : ℕ)
     → finding_at path entries ≡ Some f
-    → IsRight (ListsEach entries) spec wide tier supply f → IsFindingOf spec wide tier supply f
-by_description entries none path spec f wide tier supply at (inl x) = x
-by_description entries none path spec f wide tier supply at (inr x) =
+    → IsRight (ListsEach entries) spec options tier supply f → IsFindingOf spec options tier supply f
+by_description entries none path spec f options tier supply at (inl x) = x
+by_description entries none path spec f options tier supply at (inr x) =
     absurd (none path (at ∙ ap (λ x. Some x) x.refused))
 
 -- the finding at a listed port where a device is plugged
-listed_finding : (wide : Bool) (roots : ℕ) (tree : SpecTree) (entries : Entries)
-    → Lists wide roots tree entries → NoneWaits entries → (path : List ℕ) (spec : Spec)
+listed_finding : (options : HostOptions) (roots : ℕ) (tree : SpecTree) (entries : Entries)
+    → Lists options roots tree entries → NoneWaits entries → (path : List ℕ) (spec : Spec)
     → IsListedPort roots entries path → tree path ≡ Some spec
     → IsSomeAnd (finding_at path entries)
-    (IsFindingOf spec wide (tier_of path) (supply_at tree path))
-listed_finding wide roots tree entries l none path spec port t =
+    (IsFindingOf spec options (tier_of path) (supply_at tree path))
+listed_finding options roots tree entries l none path spec port t =
     pick (finding_at path entries) refl (l.there path spec port t)
   where
     pick : (o : Option Finding) → finding_at path entries ≡ o
-        → IsSomeAnd o (IsRight (ListsEach entries) spec wide (tier_of path) (supply_at tree path))
-        → IsSomeAnd o (IsFindingOf spec wide (tier_of path) (supply_at tree path))
+        → IsSomeAnd o (IsRight (ListsEach entries) spec options (tier_of path) (supply_at tree path))
+        → IsSomeAnd o (IsFindingOf spec options (tier_of path) (supply_at tree path))
     pick None at h = h
-    pick (Some f) at h = by_description entries none path spec f wide (tier_of path)
+    pick (Some f) at h = by_description entries none path spec f options (tier_of path)
         (supply_at tree path) at h
 
 -- Ports
@@ -92,44 +92,44 @@ port_moved roots a b path like h = record {
         (λ facts. (1 ≤ port_on_hub path) × (port_on_hub path ≤ facts.ports))
         (λ hub at. same_hub a b p hub (like p (parent_shorter path p e)) at) h
 
-same_here : (wide : Bool) (roots : ℕ) (tree : SpecTree) (a b : Entries)
-    → Lists wide roots tree a → Lists wide roots tree b
+same_here : (options : HostOptions) (roots : ℕ) (tree : SpecTree) (a b : Entries)
+    → Lists options roots tree a → Lists options roots tree b
     → NoneWaits a → NoneWaits b → (path : List ℕ) (f : Finding) → finding_at path a ≡ Some f
     → (IsListedPort roots a path → IsListedPort roots b path)
     → IsSomeAnd (finding_at path b) (IsFoundLike f)
-same_here wide roots tree a b x y m n path f at move =
+same_here options roots tree a b x y m n path f at move =
     pick (tree path) refl (x.nothing_else path f at).1
   where
     port : IsListedPort roots a path
     port = (x.nothing_else path f at).0
 
     both : (spec : Spec) (u : Option Finding)
-        → IsSomeAnd (Some f) (IsFindingOf spec wide (tier_of path) (supply_at tree path))
-        → IsSomeAnd u (IsFindingOf spec wide (tier_of path) (supply_at tree path))
+        → IsSomeAnd (Some f) (IsFindingOf spec options (tier_of path) (supply_at tree path))
+        → IsSomeAnd u (IsFindingOf spec options (tier_of path) (supply_at tree path))
         → IsSomeAnd u (IsFoundLike f)
     both spec None g h = h
-    both spec (Some e) g h = found_like spec wide (tier_of path) (supply_at tree path) f e g h
+    both spec (Some e) g h = found_like spec options (tier_of path) (supply_at tree path) f e g h
 
     pick : (o : Option Spec) → tree path ≡ o → IsSome o
         → IsSomeAnd (finding_at path b) (IsFoundLike f)
     pick None t some = absurd cc
     pick (Some spec) t some =
         both spec (finding_at path b)
-        (subst (λ o. IsSomeAnd o (IsFindingOf spec wide (tier_of path) (supply_at tree path))) at
-        (listed_finding wide roots tree a x m path spec port t))
-        (listed_finding wide roots tree b y n path spec (move port) t)
+        (subst (λ o. IsSomeAnd o (IsFindingOf spec options (tier_of path) (supply_at tree path))) at
+        (listed_finding options roots tree a x m path spec port t))
+        (listed_finding options roots tree b y n path spec (move port) t)
 
-listed_alike : (wide : Bool) (roots : ℕ) (tree : SpecTree) (a b : Entries) → Lists wide roots tree a
-    → Lists wide roots tree b → NoneWaits a → NoneWaits b
+listed_alike : (options : HostOptions) (roots : ℕ) (tree : SpecTree) (a b : Entries) → Lists options roots tree a
+    → Lists options roots tree b → NoneWaits a → NoneWaits b
     → (n : ℕ) (path : List ℕ) → length path < n → (f : Finding) → finding_at path a ≡ Some f
     → IsSomeAnd (finding_at path b) (IsFoundLike f)
-listed_alike wide roots tree a b x y m n zero path l f at = absurd (omega (arith, l))
-listed_alike wide roots tree a b x y m n (suc k) path l f at =
-    same_here wide roots tree a b x y m n path f at
-    (port_moved roots a b path (λ p q. listed_alike wide roots tree a b x y m n k p
+listed_alike options roots tree a b x y m n zero path l f at = absurd (omega (arith, l))
+listed_alike options roots tree a b x y m n (suc k) path l f at =
+    same_here options roots tree a b x y m n path f at
+    (port_moved roots a b path (λ p q. listed_alike options roots tree a b x y m n k p
     (omega (arith, l, q))))
 
-pub one_listing : (wide : Bool) (roots : ℕ) (tree : SpecTree) (a b : Entries)
-    → Lists wide roots tree a → Lists wide roots tree b → NoneWaits a → NoneWaits b → ListsLike a b
-one_listing wide roots tree a b x y m n path f at =
-    listed_alike wide roots tree a b x y m n (length path + 1) path (omega arith) f at
+pub one_listing : (options : HostOptions) (roots : ℕ) (tree : SpecTree) (a b : Entries)
+    → Lists options roots tree a → Lists options roots tree b → NoneWaits a → NoneWaits b → ListsLike a b
+one_listing options roots tree a b x y m n path f at =
+    listed_alike options roots tree a b x y m n (length path + 1) path (omega arith) f at

@@ -1,8 +1,9 @@
-use Rattle.std.proofs.Common.{◌≡◌, ◌*◌, length, true}
+use Rattle.std.proofs.Common.{◌≡◌, ◌*◌, length, false, true}
 use Rattle.usb_bus.specs.{Spends}
 use Rattle.usb_hub.specs.{StillWorks}
 use Rattle.usb_enum.specs.{configuration_bound, OnlyAsks, DeviceFact, KeepingSteps, AtMaximum}
-use Rattle.usb_enum.specs.{HasConfigurations, ValuesDiffer, TextsAsked}
+use Rattle.usb_enum.specs.{HasConfigurations, ValuesDiffer, TextsAsked, is_over, left_of}
+use Rattle.usb_enum.specs.{texts_length}
 use Rattle.usb_enum.proofs.readings.TextLengths.{TextsRead}
 use Rattle.usb_enum.proofs.configurations.read_configurations.Given as goal
 
@@ -14,12 +15,14 @@ invariant-loop-index g l = record {
       (g.B.Bus.world l.bus) (g.B.Bus.trace l.bus);
   read : length l.texts ≡ l.index;
   differ : ValuesDiffer l.texts;
+  left : l.room ≡ left_of l.fn.budget (texts_length l.texts);
+  within : is_over l.fn.budget (texts_length l.texts) ≡ false;
   asked : g.B.Bus.modelled ≡ true
       → TextsAsked l.target (g.B.Bus.world l.initial.bus) l.texts (g.B.Bus.world l.bus);
   counted : g.B.Bus.modelled ≡ true
       → TextsRead l.target l.index (g.B.Bus.world l.initial.bus) (g.B.Bus.world l.bus);
   learned : g.B.Bus.modelled ≡ true
-      → DeviceFact (AtMaximum l.target (HasConfigurations l.index l.texts)) l.target
+      → DeviceFact (AtMaximum l.target (HasConfigurations l.fn.budget l.index l.texts)) l.target
       (g.B.Bus.world l.initial.bus) (g.B.Bus.world l.bus);
   works : g.B.Bus.modelled ≡ true
       → StillWorks (g.B.Bus.world l.initial.bus) (g.B.Bus.world l.bus);

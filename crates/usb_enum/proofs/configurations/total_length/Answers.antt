@@ -16,26 +16,35 @@ use Rattle.usb_enum.proofs.courses.Counts.{read_spends}
 use Rattle.usb_enum.proofs.configurations.total_length.Goals as goal
 
 pub returns-in-Ok-clause-read : goal.returns-in-Ok-clause-read
-returns-in-Ok-clause-read g c known =
+returns-in-Ok-clause-read g c known room =
     let old = g.B.Bus.world c.args.bus.now in
     let new = g.B.Bus.world c.get_config.new.bus in
     let answer = c.get_config.ensures in
     let asked = answer.asked known in
     let what = answer.what known in
+    let bytes = c.in_ok-head.head in
+    let good = ap config_head_of (sym c.as_slice.ensures.value) ∙ sym c.config_head.ensures.answer
+    ∙ c.in-Ok.is in
     record {
       steps = steps_asked (config_given c.args.index) 9 c.requires.max (answer.uses.steps known)
           asked what (answer.keeps known);
       ends = record {
-        told = config_there _ _ c.args.index 9 c.get_config.result _ old new c.in_ok-head.ensures
-            asked what;
-        so = total_learned _ _ c.args.index c.in-Ok.total c.get_config.result _ old new
-            c.in_ok-head.ensures (ap config_head_of (sym c.as_slice.ensures.value)
-            ∙ sym c.config_head.ensures.answer ∙ c.in-Ok.is) what;
+        told = (
+          record {
+            bytes = bytes.items;
+            read = was_read (Stalled Config) bytes c.in_ok-head.ensures asked;
+            head = good;
+          },
+          config_there _ _ c.args.index 9 c.get_config.result bytes old new c.in_ok-head.ensures
+              asked what,
+        );
+        so = total_learned _ _ c.args.index c.in-Ok.total c.get_config.result bytes old new
+            c.in_ok-head.ensures good what;
       };
     }
 
 pub returns-in_err-head-clause-read : goal.returns-in_err-head-clause-read
-returns-in_err-head-clause-read g c known =
+returns-in_err-head-clause-read g c known room =
     let old = g.B.Bus.world c.args.bus.now in
     let new = g.B.Bus.world c.get_config.new.bus in
     let answer = c.get_config.ensures in
@@ -45,12 +54,12 @@ returns-in_err-head-clause-read g c known =
     (config_given c.args.index) 9 c.requires.max (answer.uses.steps known) asked what
     (answer.keeps known)) (record {
       told = read_stop_told Config _ (c.args.index, (9, refl)) c.in_err-head.ensures asked;
-      so = config_refused c.args.target c.args.index 9 c.get_config.result _ old new
+      so = config_refused room c.args.target c.args.index 9 c.get_config.result _ old new
           c.in_err-head.ensures c.requires.max what (answer.why known);
     })
 
 pub returns-clause-read : goal.returns-clause-read
-returns-clause-read g c known =
+returns-clause-read g c known room =
     let old = g.B.Bus.world c.args.bus.now in
     let new = g.B.Bus.world c.get_config.new.bus in
     let answer = c.get_config.ensures in
@@ -65,7 +74,7 @@ returns-clause-read g c known =
       ends = record {
         told = bad_total bytes.items c.in-Err.field-0 (was_read (Stalled Config) bytes
             c.in_ok-head.ensures asked) bad;
-        so = total_refused c.args.target _ c.args.index c.get_config.result bytes c.in-Err.field-0
+        so = total_refused room c.args.target _ c.args.index c.get_config.result bytes c.in-Err.field-0
             old new c.in_ok-head.ensures bad what;
       };
     }
@@ -79,5 +88,5 @@ pub returns-in_err-head-clause-any_bus : goal.returns-in_err-head-clause-any_bus
 returns-in_err-head-clause-any_bus g c = (
   read_spends c.args.target.max 9 c.requires.max c.get_config.ensures.uses,
   handed_on _ _ _ c.from_residual.ensures.1 (answered_reported _ (Stalled Config) _ _
-      c.get_config.ensures.uses.told c.in_err-head.ensures),
+      c.get_config.ensures.uses.told.told c.in_err-head.ensures),
 )

@@ -17,7 +17,7 @@ use Rattle.usb_enum.proofs.ports.Powers.{empties_ports}
 use Rattle.usb_enum.proofs.readings.TextLengths.{few_then, few_wider}
 use Rattle.usb_enum.specs.declared.cause.Request.TheVariants.{SetConfig}
 use Rattle.usb_enum.proofs.stops.Reasons.{told_after, write_stop_told}
-use Rattle.usb_enum.proofs.stops.Stops.{fits_stop, hub_stops, stops_by}
+use Rattle.usb_enum.proofs.stops.Stops.{fits_stop, hub_stops, stops_by, texts_stops}
 use Rattle.usb_enum.proofs.courses.LastRequests.{leads_went}
 use Rattle.usb_enum.proofs.stops.ReportedFaults.{answered_reported, deep_reported}
 use Rattle.usb_enum.proofs.stops.ToldFailures.{handed_on}
@@ -30,7 +30,7 @@ returns-in_err-fits_tier-clause-part g c known =
     part_fails _ _ c.from_residual.ensures.1 (steps_none _ _ (setting _))
     (record {
       told = fits_stop _ _ _ _ _ _ _ deep;
-      so = deep_refused device.target c.args.place.wide c.args.place.tier c.args.place.supply
+      so = deep_refused device.target c.args.place.options c.args.place.tier c.args.place.supply
           device.bytes
           c.in_err-fits_tier.field-0.0 (g.B.Bus.world c.args.bus.now) deep;
     })
@@ -42,8 +42,8 @@ returns-in_err-configs-clause-part g c known =
     part_fails _ _ c.from_residual-in_err-configs.ensures.1
     (steps_wider (steps_as (sets_asked _) read.steps) (omega arith))
     (record {
-      told = stops_by _ _ _ _ _ _ _ _ read.ends.told;
-      so = read_refused device.target c.args.place.wide c.args.place.tier c.args.place.supply
+      told = texts_stops _ _ _ _ _ _ _ _ read.ends.told;
+      so = read_refused device.target c.args.place.options c.args.place.tier c.args.place.supply
           device.bytes (sym
           c.in_ok-fits_tier.ensures) _ c.in_err-configs.field-0.0 (g.B.Bus.world c.args.bus.now)
           (g.B.Bus.world c.read_configurations.new.bus) c.configurations.ensures read.ends.so;
@@ -56,7 +56,7 @@ returns-in_err-chosen-clause-part g c known =
     part_fails _ _ c.from_residual-in_err-chosen.ensures.1
     (steps_wider (steps_as (sets_asked _) read.steps) (omega arith)) (record {
       told = record { fits = tt; because = tt };
-      so = fault_explains _ device.target (configured_fault c.args.place.wide c.args.place.tier
+      so = fault_explains _ device.target (configured_fault c.args.place.options c.args.place.tier
           c.args.place.supply device.bytes)
           Memory (g.B.Bus.world c.args.bus.now) (g.B.Bus.world c.read_configurations.new.bus)
           read.ends.so;
@@ -80,7 +80,7 @@ returns-in_default-clause-part g c known =
             all = c.in_ok-configs.ensures.all.0 ∙ c.configurations.ensures;
           }) none;
         };
-        so = power_refused t c.args.place.wide c.args.place.tier c.args.place.supply device.bytes
+        so = power_refused t c.args.place.options c.args.place.tier c.args.place.supply device.bytes
             (sym c.in_ok-fits_tier.ensures) _ old mid none
             (rw c.configurations.ensures at read.ends.so);
       };
@@ -101,7 +101,7 @@ returns-in_err-answered_or-clause-part g c known =
       told = stops_by _ _ _ _ _ _ _ _ (told_after _ t _ _ _ (leads_went read.steps.went)
           (write_stop_told SetConfig _ (c.value-value.result, refl) c.in_err-answered_or.ensures
           (set.ordered known)));
-      so = set_refused t c.args.place.wide c.args.place.tier c.args.place.supply device.bytes
+      so = set_refused t c.args.place.options c.args.place.tier c.args.place.supply device.bytes
           (sym c.in_ok-fits_tier.ensures) _ c.in-Some.chosen
           (sym c.in_ok-chosen.ensures.chosen ∙ c.in-Some.is) c.value-value.result _ _
           c.set_configuration.result _ _ _ _ (λ z. omega (arith, z, c.requires)) inside
@@ -134,16 +134,16 @@ returns-in_err-hub-clause-part g c known =
     part_fails _ _ c.from_residual-in_err-hub.ensures.1 (steps_as
     (sets_at c.requires) (steps_then (setting t.addr) steps (steps_as (sets_told _) hub.steps)
     (omega arith))) (record {
-      told = hub_stops t device.bytes c.args.place.wide c.args.place.tier c.args.place.supply stop
+      told = hub_stops t device.bytes c.args.place.options c.args.place.tier c.args.place.supply stop
           old mid before asked fits
           is_hub configs (record {
             asked = read.ends.told;
             all = c.in_ok-configs.ensures.all.0 ∙ c.configurations.ensures;
           }) c.in-Some.chosen choice (leads_went read.steps.went)
           (leads_went (set.uses.steps known)) (subst
-          (λ text. CauseAllowedAtStart c.args.place.wide t text stop before asked)
+          (λ text. CauseAllowedAtStart c.args.place.options.wide_hubs t text stop before asked)
           same_text hub.ends.told);
-      so = hub_refused t c.args.place.wide c.args.place.tier c.args.place.supply device.bytes fits
+      so = hub_refused t c.args.place.options c.args.place.tier c.args.place.supply device.bytes fits
           configs c.in-Some.chosen choice
           c.value-value.result _ _ _ stop old before asked (λ z. omega (arith, z, c.requires))
           is_hub inside (c.value-value.ensures ∙ ap configuration_value chosen) (omega arith)
@@ -176,7 +176,7 @@ returns-in_err-strings-clause-part g c known =
     (steps_as (sets_asked _) strings.steps) (omega arith))) (record {
       told = stops_by _ _ _ _ _ _ _ _
           (told_after _ t _ _ _ (leads_went steps.went) strings.ends.told);
-      so = strings_refused t c.args.place.wide c.args.place.tier c.args.place.supply device.bytes _
+      so = strings_refused t c.args.place.options c.args.place.tier c.args.place.supply device.bytes _
           c.value-value.result _ _ _
           _ _ _ (set_then _ _ t c.value-value.result _ old before asked learned
           hub.steps.went hub.ends.learned) steps.went strings.steps.went strings.ends.so;

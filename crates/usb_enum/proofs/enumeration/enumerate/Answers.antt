@@ -171,13 +171,13 @@ returns-in-Err-clause-told g c known =
 
 pub returns-in_default-clause-found : goal.returns-in_default-clause-found
 returns-in_default-clause-found g c =
-    without_found c.args.pool.now c.args.place.wide c.args.place.tier c.args.place.supply
+    without_found c.args.pool.now c.args.place.options c.args.place.tier c.args.place.supply
     c.without_address-stop.result
     c.give_up.result c.in_default.ensures.none.0 c.give_up.ensures.hands
     c.without_address-stop.ensures.without
 
 pub returns-in-Err-clause-found : goal.returns-in-Err-clause-found
 returns-in-Err-clause-found g c =
-    fits_found c.args.pool.now c.args.place.wide c.args.place.tier c.args.place.supply
+    fits_found c.args.pool.now c.args.place.options c.args.place.tier c.args.place.supply
     c.in-Err.stop c.give_up-finding.result
     c.give_up-finding.ensures.hands c.in-Err.ensures.whole.0

@@ -30,7 +30,7 @@ pub returns-clause-part : goal.returns-clause-part
 returns-clause-part g c known =
     let port = c.args.port in
     let a = c.args.address in
-    let wide = c.args.place.wide in
+    let options = c.args.place.options in
     let tier = c.args.place.tier in
     let supply = c.args.place.supply in
     let device = c.in_ok-device.device in
@@ -46,13 +46,13 @@ returns-clause-part g c known =
         went = went_on_more _ _ _ _ _ _ went set.steps.went (omega arith);
         keeps = at_configured _ _ _ _ _ _ at taken.takes set.steps.went sets;
       };
-      ends = matched result _ (StopsExamining port a wide tier supply _ _) (accepted _ _ _ _ _ _ _ _
+      ends = matched result _ (StopsExamining port a options tier supply _ _) (accepted _ _ _ _ _ _ _ _
           result went at.within taken sets set.steps.went (whole_only result _ _ _
           (matched_ok result _ _ c.configure.ensures.whole)) (matched_ok result _ _ set.ends))
-          (by_error result (StopsExamining port a wide tier supply _ _) (λ stop is.
+          (by_error result (StopsExamining port a options tier supply _ _) (λ stop is.
           let stopped = (rw is at set).ends in
           record {
-            told = device_stops port a wide tier supply device.target device.bytes stop _ _ _
+            told = device_stops port a options tier supply device.target device.bytes stop _ _ _
                 (record { at = inr taken.address; pre = taken.pre }) pass.ends.told stopped.told;
             so = configured_stops _ _ _ _ _ _ _ device went set.steps.went at taken sets
                 device.device

@@ -1,6 +1,7 @@
 use Rattle.std.proofs.Common.{◌≡◌}
+use Rattle.usb_enum.specs.{usual_options}
 use Rattle.usb_live.proofs.host.run.Given as goal
 
--- the host takes the hubs that it is to take
+-- the host has the options that it is to have
 abbrev pub invariant-turns : goal.invariant-turns
-invariant-turns g l = l.host.wide ≡ g.B.Begun.host.wide
+invariant-turns g l = l.host.options ≡ usual_options g.B.Begun.host.wide

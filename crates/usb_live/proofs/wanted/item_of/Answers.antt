@@ -1,5 +1,5 @@
 use Rattle.std.proofs.Common.{refl}
-use Rattle.usb_live.proofs.KeptWide.{all_wide, news_wide}
+use Rattle.usb_live.proofs.KeptOptions.{all_options, news_options}
 use Rattle.usb_live.proofs.wanted.item_of.Goals as goal
 
 pub returns-in-Ok-clause-shown : goal.returns-in-Ok-clause-shown
@@ -10,8 +10,8 @@ pub returns-in_ok-all_news-in-News-clause-does : goal.returns-in_ok-all_news-in-
 returns-in_ok-all_news-in-News-clause-does g c = λ _. rw c.in-News.is
     (c.in_ok-all_news-in-News.field-0, refl, c.in_ok-all_news-in-News.ensures.all)
 
-pub returns-in_ok-all_news-in-News-clause-wide : goal.returns-in_ok-all_news-in-News-clause-wide
-returns-in_ok-all_news-in-News-clause-wide g c = all_wide _ _ _ c.in_ok-all_news-in-News.ensures.all
+pub returns-in_ok-all_news-in-News-clause-options : goal.returns-in_ok-all_news-in-News-clause-options
+returns-in_ok-all_news-in-News-clause-options g c = all_options _ _ _ c.in_ok-all_news-in-News.ensures.all
 
-pub returns-in_err-all_news-in-News-clause-wide : goal.returns-in_err-all_news-in-News-clause-wide
-returns-in_err-all_news-in-News-clause-wide g c = news_wide _ _ c.in_err-all_news-in-News.ensures.cut
+pub returns-in_err-all_news-in-News-clause-options : goal.returns-in_err-all_news-in-News-clause-options
+returns-in_err-all_news-in-News-clause-options g c = news_options _ _ c.in_err-all_news-in-News.ensures.cut

@@ -1,103 +1,17 @@
-use Rattle.std.proofs.Common.{Ok, Err, refl, sym, rules}
-use Rattle.std.proofs.lemmas.Result.{err_from_is_err_and}
-use Rattle.usb_transaction.specs.{Stalled, Busy, NoAnswer, Bus}
+use Rattle.std.proofs.Common.{Err, refl}
+use Rattle.usb_transaction.specs.{Bus}
 use Rattle.usb_transaction.proofs.Calls.{asks_in}
-use Rattle.usb_transaction.proofs.LastOutcomes.{heard_stall}
-use Rattle.usb_transaction.proofs.TransactionTries.{read_fits, stands_error, stands_new}
-use Rattle.usb_transaction.proofs.TransactionTries.{stands_waited, told_busy, told_cut, told_moved}
-use Rattle.usb_transaction.proofs.TransactionTries.{told_silent, told_stalled, went_last}
+use Rattle.usb_transaction.proofs.TransactionTries.{cut_at_once, went_once}
 use Rattle.usb_transaction.proofs.read.data_in.Goals as goal
 
-pub tries-init : goal.tries-init
-tries-init g c = (
-  refl,
-  (search rules, search rules),
-  λ known. stands_new c.new-tries.result _ (rw c.attempt_of_in-attempt.ensures.value at
-      c.attempt_of_in-attempt.ensures.fits) c.new-tries.ensures,
-  search rules,
-)
-
-pub tries-preserved-in-Continue-1 : goal.tries-preserved-in-Continue-1
-tries-preserved-in-Continue-1 g c = (
-  c.tries.invariant.0,
-  (search rules, search rules),
-  λ known. stands_waited (c.tries.invariant.2 known) (rw c.attempt_of_in-attempt.ensures.value at
-      (c.in-Ok.ensures.attempts known)) c.heard_as.result _ c.heard_as.ensures c.in-NotReady.is
-      c.wait.ensures.count c.in_ok-wait-in-NotReady.ensures.end,
-  search rules,
-)
-
-pub tries-preserved : goal.tries-preserved
-tries-preserved g c = (
-  c.tries.invariant.0,
-  (search rules, search rules),
-  λ known. stands_error (c.tries.invariant.2 known) (rw c.attempt_of_in-attempt.ensures.value at
-      (c.in-Ok.ensures.attempts known)) _ c.in-Lost.ensures c.error.ensures.count
-      c.in_ok-error-in-Lost.ensures.end,
-  search rules,
-)
-
-pub returns-in-Moved-clause-asks : goal.returns-in-Moved-clause-asks
-returns-in-Moved-clause-asks g c known =
-    let made = rw c.attempt_of_in-attempt.ensures.value at (c.in-Ok.ensures.attempts known) in
-    rw c.data.ensures (asks_in c.args.target c.args.ep c.args.toggle.now _ _ (g.met.B.Bus.settled
-    known c.args.bus.now) c.tries.invariant.0 (Ok c.in-Moved.bytes.items) (told_moved
-    (c.tries.invariant.2 known) made c.in-Moved.bytes (sym c.in-Moved.ensures)) (read_fits
-    c.tries.toggle _ c.in-Moved.bytes c.in-Moved.ensures made))
-
-pub returns-in_err-wait-in-NotReady-clause-asks : goal.returns-in_err-wait-in-NotReady-clause-asks
-returns-in_err-wait-in-NotReady-clause-asks g c known =
-    let end = c.in_err-wait-in-NotReady.ensures.end in
-    let told = err_from_is_err_and c.from_residual.result c.from_residual.ensures.1 in
-    rw (told.1, told.2, end.0) (asks_in c.args.target c.args.ep c.args.toggle.now _ _
-    (g.met.B.Bus.settled known c.args.bus.now) c.tries.invariant.0 (Err Busy) (told_busy
-    (c.tries.invariant.2 known) (rw c.attempt_of_in-attempt.ensures.value at
-    (c.in-Ok.ensures.attempts known)) c.heard_as.result _ c.heard_as.ensures c.in-NotReady.is
-    c.wait.ensures.count end.1) tt)
-
-pub returns-in-Refused-clause-asks : goal.returns-in-Refused-clause-asks
-returns-in-Refused-clause-asks g c known = asks_in c.args.target c.args.ep c.args.toggle.now _ _
-    (g.met.B.Bus.settled known c.args.bus.now) c.tries.invariant.0 (Err Stalled) (told_stalled
-    (c.tries.invariant.2 known) (rw c.attempt_of_in-attempt.ensures.value at
-    (c.in-Ok.ensures.attempts known)) (heard_stall _ _ c.in-Refused.ensures)) tt
-
-pub returns-in_err-error-in-Lost-clause-asks : goal.returns-in_err-error-in-Lost-clause-asks
-returns-in_err-error-in-Lost-clause-asks g c known =
-    let end = c.in_err-error-in-Lost.ensures.end in
-    let told = err_from_is_err_and c.from_residual-in_err-error-in-Lost.result
-    c.from_residual-in_err-error-in-Lost.ensures.1 in
-    rw (told.1, told.2, end.0) (asks_in c.args.target c.args.ep c.args.toggle.now _ _
-    (g.met.B.Bus.settled known c.args.bus.now) c.tries.invariant.0 (Err NoAnswer) (told_silent
-    (c.tries.invariant.2 known) (rw c.attempt_of_in-attempt.ensures.value at
-    (c.in-Ok.ensures.attempts known)) _ c.in-Lost.ensures c.error.ensures.count end.1) tt)
+pub returns-in-Err-clause-steps : goal.returns-in-Err-clause-steps
+returns-in-Err-clause-steps g c known =
+    went_once c.attempt_of_in.ensures.fits c.attempt_of_in.ensures.fits
+    (c.in-Err.ensures.attempts known)
 
 pub returns-in-Err-clause-asks : goal.returns-in-Err-clause-asks
 returns-in-Err-clause-asks g c known =
     asks_in c.args.target c.args.ep c.args.toggle.now _ _ (g.met.B.Bus.settled known c.args.bus.now)
-    c.tries.invariant.0 (Err (Bus c.in-Err.fault)) (told_cut (c.tries.invariant.2 known) (rw
-    c.attempt_of_in-attempt.ensures.value at (c.in-Err.ensures.attempts known))) tt
-
-pub returns-in-Moved-clause-steps : goal.returns-in-Moved-clause-steps
-returns-in-Moved-clause-steps g c known =
-    went_last (c.tries.invariant.2 known) c.attempt_of_in-attempt.ensures.fits
-    (c.in-Ok.ensures.attempts known)
-
-pub returns-in_err-wait-in-NotReady-clause-steps : goal.returns-in_err-wait-in-NotReady-clause-steps
-returns-in_err-wait-in-NotReady-clause-steps g c known =
-    went_last (c.tries.invariant.2 known) c.attempt_of_in-attempt.ensures.fits
-    (c.in-Ok.ensures.attempts known)
-
-pub returns-in-Refused-clause-steps : goal.returns-in-Refused-clause-steps
-returns-in-Refused-clause-steps g c known =
-    went_last (c.tries.invariant.2 known) c.attempt_of_in-attempt.ensures.fits
-    (c.in-Ok.ensures.attempts known)
-
-pub returns-in_err-error-in-Lost-clause-steps : goal.returns-in_err-error-in-Lost-clause-steps
-returns-in_err-error-in-Lost-clause-steps g c known =
-    went_last (c.tries.invariant.2 known) c.attempt_of_in-attempt.ensures.fits
-    (c.in-Ok.ensures.attempts known)
-
-pub returns-in-Err-clause-steps : goal.returns-in-Err-clause-steps
-returns-in-Err-clause-steps g c known =
-    went_last (c.tries.invariant.2 known) c.attempt_of_in-attempt.ensures.fits
-    (c.in-Err.ensures.attempts known)
+    refl (Err (Bus c.in-Err.fault)) (cut_at_once
+    (rw c.attempt_of_in.ensures.value at c.attempt_of_in.ensures.fits)
+    (rw c.attempt_of_in.ensures.value at (c.in-Err.ensures.attempts known))) tt

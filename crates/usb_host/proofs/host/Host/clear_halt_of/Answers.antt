@@ -67,7 +67,7 @@ returns-clause-any_bus g c = record {
         addresses = c.self.inside.pool;
         numbers = c.self.inside.numbers;
         reported = c.self.inside.reported;
-        wide = c.self.inside.wide;
+        options = c.self.inside.options;
         stopped = c.self.inside.stopped;
       }) c.self.inside.bus c.clear_halt_of.new.bus c.clear_halt_of.ensures.through
       c.clear_halt_of.result

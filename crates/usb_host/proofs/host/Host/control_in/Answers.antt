@@ -70,7 +70,7 @@ returns-clause-any_bus g c = record {
         addresses = c.self.inside.pool;
         numbers = c.self.inside.numbers;
         reported = c.self.inside.reported;
-        wide = c.self.inside.wide;
+        options = c.self.inside.options;
         stopped = stopped;
       }) c.self.inside.bus c.control_in.new.bus c.control_in.result c.as_host_fault-read.result
       c.self.inside.stopped c.is_final-self-inside.result c.control_in.ensures.any_bus.2

@@ -49,7 +49,7 @@ returns-clause-disables g c known =
       addresses = c.self.inside.pool;
       numbers = c.self.inside.numbers;
       reported = c.self.inside.reported;
-      wide = c.self.inside.wide;
+      options = c.self.inside.options;
       stopped = c.self.inside.stopped;
     } in
     let went = c.clear_port.ensures.uses.steps known in

@@ -31,7 +31,7 @@ invariant_of-self-2 g c =
           c.self.invariant.nested;
       found = found_entered path finding away (λ port at.
           let same : c.args.port ≡ port = same_Some c.args.port port (sym known ∙ at) in
-          subst (λ (p : KnownPort). IsFoundAt c.self.inside.wide path p finding) same
+          subst (λ (p : KnownPort). IsFoundAt c.self.inside.options path p finding) same
           (c.self.inside.pool, rw c.tier.ensures at c.in_ok-finding.ensures.found))
           c.self.invariant.found;
     })

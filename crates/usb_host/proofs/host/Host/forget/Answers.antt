@@ -10,11 +10,12 @@ use Rattle.usb_host.proofs.entries.Agreements.{nested_without}
 use Rattle.usb_host.proofs.entries.RisingEntries.{rises_without}
 use Rattle.usb_host.proofs.entries.FoundEntries.{found_without}
 use Rattle.usb_host.proofs.host.Host.forget.Goals as goal
+use Rattle.usb_enum.specs.{HostOptions}
 
 -- what is left agrees with the addresses that are left
-agrees_left : {wide : Bool} (path : List ℕ) {old : Entries} {before : Addresses} {new : Entries}
-    {after : Addresses} → Agrees wide old before → new ≡ without path old → Accounts new after
-    → HasAddresses after → Agrees wide new after
+agrees_left : {options : HostOptions} (path : List ℕ) {old : Entries} {before : Addresses} {new : Entries}
+    {after : Addresses} → Agrees options old before → new ≡ without path old → Accounts new after
+    → HasAddresses after → Agrees options new after
 agrees_left path {old = old} agrees left accounts range = record {
   rises = rw left (rises_without path old agrees.rises);
   range = range;

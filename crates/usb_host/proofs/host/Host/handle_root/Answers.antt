@@ -7,7 +7,7 @@ pub service_port-requires : goal.service_port-requires
 service_port-requires g c =
     rw (c.root_path.ensures, c.supply.ensures)
     (root_stands c.args.number c.args.self.now c.requires.port c.requires.number
-    (subst (λ (h : HostState). Agrees h.wide h.entries h.addresses) c.self.view_is
+    (subst (λ (h : HostState). Agrees h.options h.entries h.addresses) c.self.view_is
     c.self.invariant))
 
 pub returns-clause-handles : goal.returns-clause-handles

@@ -31,7 +31,7 @@ returns-in-Some-clause-numbers g c =
 pub enter-requires-clause-room : goal.enter-requires-clause-room
 enter-requires-clause-room g c =
     rw (ap (λ (h : HostState). h.reported) c.self.view_is) (host_room c.args.self.now
-    (subst (λ (h : HostState). Agrees h.wide h.entries h.addresses) c.self.view_is c.self.invariant)
+    (subst (λ (h : HostState). Agrees h.options h.entries h.addresses) c.self.view_is c.self.invariant)
     c.first_left.ensures.rises c.in_default.ensures.none c.in-Some-next_unreported.path
     c.in-Some-next_unreported.ensures.some.arrived.is)
 
@@ -84,6 +84,6 @@ returns-in-Some-next_unreported-clause-fewer g c =
     let same = ap (λ (h : HostState). length h.reported) c.self.view_is in
     fewer_arrived (returns-in-Some-next_unreported-clause-reports g c) c.in_default.ensures.none
     (c.enter.ensures.len ∙ ap (λ (n : ℕ). n + 1) same)
-    (host_room c.args.self.now (subst (λ (h : HostState). Agrees h.wide h.entries h.addresses)
+    (host_room c.args.self.now (subst (λ (h : HostState). Agrees h.options h.entries h.addresses)
     c.self.view_is c.self.invariant) c.first_left.ensures.rises c.in_default.ensures.none
     c.in-Some-next_unreported.path c.in-Some-next_unreported.ensures.some.arrived.is)

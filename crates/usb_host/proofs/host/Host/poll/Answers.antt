@@ -65,7 +65,7 @@ returns-clause-any_bus g c = record {
         addresses = c.self.inside.pool;
         numbers = c.self.inside.numbers;
         reported = c.self.inside.reported;
-        wide = c.self.inside.wide;
+        options = c.self.inside.options;
         stopped = c.self.inside.stopped;
       }) c.self.inside.bus c.poll_of.new.bus c.poll_of.ensures.through c.poll_of.result
       c.as_host_fault-polled.ensures c.if-self.false c.is_final-self-inside.ensures

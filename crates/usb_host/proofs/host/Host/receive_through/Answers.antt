@@ -66,7 +66,7 @@ returns-clause-any_bus g c = record {
         addresses = c.self.inside.pool;
         numbers = c.self.inside.numbers;
         reported = c.self.inside.reported;
-        wide = c.self.inside.wide;
+        options = c.self.inside.options;
         stopped = c.self.inside.stopped;
       }) c.self.inside.bus c.receive.new.bus c.receive.ensures.through c.receive.result
       c.as_host_fault-received.ensures c.if-self.false c.is_final-self-inside.ensures

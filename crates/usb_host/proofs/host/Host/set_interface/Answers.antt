@@ -72,7 +72,7 @@ returns-clause-any_bus g c = record {
         addresses = c.self.inside.pool;
         numbers = c.self.inside.numbers;
         reported = c.self.inside.reported;
-        wide = c.self.inside.wide;
+        options = c.self.inside.options;
         stopped = c.self.inside.stopped;
       }) c.self.inside.bus c.set_interface.new.bus c.set_interface.ensures.through
       c.set_interface.result c.as_host_fault-set.ensures c.if-self.false

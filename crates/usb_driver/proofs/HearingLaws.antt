@@ -1,0 +1,143 @@
+-- How a call goes over what was heard.
+use Rattle.std.proofs.Common.{◌≡◌, ℕ, ◌+◌, ◌≤◌, inl, inr, List, length, Option, Some}
+use Rattle.std.proofs.Common.{None}
+use Rattle.std.proofs.Common.{slice_get, option_map, Ok, Err, refl, sym, subst, ap, arith}
+use Rattle.std.proofs.Common.{◌∙◌}
+use Rattle.std.proofs.lemmas.Option.{slice_get_cases, slice_get_within}
+use Rattle.usb_world.specs.{Outcome}
+use Rattle.usb_world.specs.declared.types.BusFault.TheVariants as bus
+use Rattle.usb_driver.specs.Hearing.{Hears, IsQuestion, answer_for, asked_on, attempts_in, begun_at}
+use Rattle.usb_driver.specs.Hearing.{failed_by, next_answer, outcome_by, pending, spent_in, waits}
+use Rattle.usb_driver.specs.Hearing.{with_answer, within}
+use Rattle.usb_driver.specs.declared.answer.Answer.{Answer}
+use Rattle.usb_driver.specs.declared.progress.Progress.{Progress}
+use Rattle.usb_driver.specs.declared.question.Question.{Question}
+use Rattle.usb_driver.specs.declared.question.Question.TheVariants.{Attempt, Set, Clear, Restart}
+
+-- no answer is used that there is not; and if a question waits, all were used
+pub record Within (answers : List Answer) (p : Progress) : Type 0 where
+  pub few : p.used ≤ length answers
+  pub counted : p.attempts ≤ p.used
+  pub all : (q : Question) → p.asked ≡ Some q → p.used ≡ length answers
+
+one_attempt : (q : Question) → attempts_in q ≤ 1
+one_attempt (Attempt a) = omega arith
+one_attempt (Set port feature) = omega arith
+one_attempt (Clear port feature) = omega arith
+one_attempt (Restart address endpoint) = omega arith
+
+abbrev progress : ℕ → List (List ℕ) → ℕ → Option Question → Progress
+progress used statuses attempts asked =
+    record { used = used; statuses = statuses; attempts = attempts; asked = asked }
+
+answered : (answers : List Answer) (used : ℕ) (statuses : List (List ℕ)) (attempts : ℕ)
+    (q : Question) → used ≤ length answers → attempts ≤ used → (o : Option Answer)
+    → slice_get answers used ≡ o
+    → Within answers (with_answer o q (progress used statuses attempts None))
+answered answers used statuses attempts q few counted (Some a) e =
+    let less = slice_get_within answers used a e in
+    let one = one_attempt q in
+    record {
+      few = omega (arith, less);
+      counted = omega (arith, one);
+      all = λ r h. cc;
+    }
+answered answers used statuses attempts q few counted None e =
+    let cases = slice_get_cases answers used in
+    let past : length answers ≤ used = elim (cases.1) as (λ x. length answers ≤ used) [
+      | inl there ↦ let h = there.2 in cc
+      | inr past ↦ past.0
+    ] in
+    record { few = few; counted = counted; all = λ r h. omega arith }
+
+asked_within : (answers : List Answer) (used : ℕ) (statuses : List (List ℕ)) (attempts : ℕ)
+    (asked : Option Question) (q : Question)
+    → Within answers (progress used statuses attempts asked)
+    → Within answers (asked_on answers (progress used statuses attempts asked) q)
+asked_within answers used statuses attempts (Some r) q w = w
+asked_within answers used statuses attempts None q w =
+    answered answers used statuses attempts q w.few w.counted (slice_get answers used) refl
+
+pub within_heard : {roots : ℕ} {begun : List (List ℕ)} {answers : List Answer} {p : Progress}
+    → Hears roots begun answers p → Within answers p
+within_heard Hears.begins = record { few = omega arith; counted = omega arith; all = λ q h. cc }
+within_heard {answers = answers} (Hears.asks {p} q h is) =
+    asked_within answers p.used p.statuses p.attempts p.asked q (within_heard h)
+
+-- ---- one question
+
+same_Some : {A : Type 0} (x y : A) → Some x ≡ Some y → x ≡ y
+same_Some x y e = cc
+
+with_counted : (o : Option Answer) (q : Question) (p : Progress) → p.attempts ≤ p.used
+    → (with_answer o q p).attempts ≤ (with_answer o q p).used
+with_counted (Some a) q p h = let one = one_attempt q in omega (arith, one, h)
+with_counted None q p h = h
+
+pub counted_on : (answers : List Answer) (p : Progress) (q : Question) → p.attempts ≤ p.used
+    → (asked_on answers p q).attempts ≤ (asked_on answers p q).used
+counted_on answers p q h = with_counted (next_answer p.asked answers p.used) q p h
+
+-- a question goes on with a call
+pub heard_on : (roots : ℕ) (begun : List (List ℕ)) (answers heard : List Answer)
+    (old new : Progress) (q : Question) → heard ≡ answers
+    → new ≡ asked_on heard old q → IsQuestion roots q
+    → Hears roots begun answers old → Hears roots begun answers new
+heard_on roots begun answers heard old new q same e is h =
+    let all : new ≡ asked_on answers old q = e ∙ ap (λ (x : List Answer). asked_on x old q) same in
+    subst (Hears roots begun answers) (sym all) (Hears.asks q h is)
+
+spent_by : (answers : List Answer) (used : ℕ) (statuses : List (List ℕ)) (attempts : ℕ)
+    (asked : Option Question) (q : Question)
+    → spent_in (asked_on answers (progress used statuses attempts asked) q)
+    ≤ attempts + pending asked + attempts_in q
+spent_by answers used statuses attempts (Some r) q = omega arith
+spent_by answers used statuses attempts None q =
+    elim (slice_get answers used) as (λ o. spent_in (with_answer o q
+    (progress used statuses attempts None)) ≤ attempts + 0 + attempts_in q) [
+      | Some a ↦ omega arith
+      | None ↦ omega arith
+    ]
+
+-- it is at most the attempts that it is
+pub spent_on : (answers : List Answer) (p : Progress) (q : Question)
+    → spent_in (asked_on answers p q) ≤ spent_in p + attempts_in q
+spent_on answers p q = spent_by answers p.used p.statuses p.attempts p.asked q
+
+pub outcome_by-some : (most : ℕ) (o : Option Answer) (x : Outcome)
+    → Some x ≡ option_map (λ (a : Answer). a.outcome) o → Ok (within most x) ≡ outcome_by most o
+outcome_by-some most (Some a) x e =
+    ap (λ (y : Outcome). Ok (within most y)) (same_Some x a.outcome e)
+outcome_by-some most None x e = cc
+
+pub outcome_by-none : (most : ℕ) (o : Option Answer)
+    → None ≡ option_map (λ (a : Answer). a.outcome) o → Err bus.Failed ≡ outcome_by most o
+outcome_by-none most (Some a) e = cc
+outcome_by-none most None e = refl
+
+failed_after : (o : Option Answer) (q : Question) (p : Progress) → p.asked ≡ None
+    → None ≡ option_map (λ (a : Answer). a.outcome) o
+    → failed_by (with_answer o q p).asked ≡ Some bus.Failed
+failed_after (Some a) q p none e = cc
+failed_after None q p none e = ap (λ (x : Option Question). failed_by (waits x q)) none
+
+failed_with : (answers : List Answer) (used : ℕ) (statuses : List (List ℕ)) (attempts : ℕ)
+    (asked : Option Question) (q : Question)
+    → None ≡ option_map (λ (a : Answer). a.outcome) (next_answer asked answers used)
+    → failed_by (asked_on answers (progress used statuses attempts asked) q).asked ≡ Some bus.Failed
+failed_with answers used statuses attempts (Some r) q e = refl
+failed_with answers used statuses attempts None q e =
+    failed_after (slice_get answers used) q (progress used statuses attempts None) refl e
+
+pub failed_on : (answers : List Answer) (p : Progress) (q : Question)
+    → None ≡ option_map (λ (a : Answer). a.outcome) (answer_for answers p)
+    → failed_by (asked_on answers p q).asked ≡ Some bus.Failed
+failed_on answers p q e = failed_with answers p.used p.statuses p.attempts p.asked q e
+
+-- a call begins
+pub begun_on : (roots : ℕ) (begun : List (List ℕ)) (answers : List Answer)
+    (statuses : List (List ℕ)) (p : Progress) → p ≡ begun_at statuses
+    → statuses ≡ begun → Hears roots begun answers p
+begun_on roots begun answers statuses p e same =
+    let all : p ≡ begun_at begun = e ∙ ap (λ (s : List (List ℕ)). begun_at s) same in
+    subst (Hears roots begun answers) (sym all) Hears.begins

@@ -1,0 +1,5 @@
+pub mod StatusLaws
+pub mod AnswerLaws
+pub mod WantLaws
+pub mod HearingLaws
+pub mod DriverLaws

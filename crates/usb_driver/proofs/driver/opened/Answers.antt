@@ -1,0 +1,12 @@
+use Rattle.std.proofs.Common.{Ok, refl}
+use Rattle.usb_driver.specs.Drivers.{Call}
+use Rattle.usb_driver.specs.declared.call.Done.TheVariants as done
+use Rattle.usb_driver.proofs.DriverLaws.{calls_on}
+use Rattle.usb_driver.proofs.driver.opened.Goals as goal
+
+pub returns-clause-step : goal.returns-clause-step
+returns-clause-step g c =
+    calls_on c.finished.result.0 c.args.roots g.B.Begun.roots c.args.statuses g.B.Begun.statuses
+    c.args.heard.items g.B.Begun.answers c.host_over-host.result (done.Moved (Ok tt))
+    (Call.opens c.args.is_wide) c.requires.roots c.requires.statuses c.requires.heard
+    (c.host_over-host.ensures, refl) c.finished.ensures.step

@@ -1,0 +1,532 @@
+-- Rows of packets: each that one attempt moved is a transaction, and so is the one that went on.
+use Rattle.std.proofs.Common.{◌≡◌, ◌≢◌, ◌∙◌, refl, sym, ap, subst, ℕ, zero, suc, ◌+◌, ◌*◌, ◌%◌, ◌<◌}
+use Rattle.std.proofs.Common.{◌≤◌, List, [], ◌++◌, length, take, drop, Option, Result, Ok, Err}
+use Rattle.std.proofs.Common.{arith, add-one, append-nil, length-append, length-take, false}
+use Rattle.std.proofs.Common.{lt_of_mul-lt-mul_right, mul-le-mul_right}
+use Rattle.std.proofs.Math.Seq.{drop-append-add}
+use Rattle.std.specs.Int.{div_ceil}
+use Rattle.std.proofs.lemmas.Grind.{div_ceil_times}
+use Rattle.std.proofs.lemmas.List.{take_all}
+use Rattle.arrayvec.specs.ArrayVec.{ArrayVec}
+use Rattle.usb_packet.specs.{Toggle, flips, other, speed_has_pre, speed_is_low}
+use Rattle.usb_packet.specs.declared.Toggle.TheVariants.{Zero, One}
+use Rattle.usb_world.specs.{Attempt, BusFault, Destination, IsAttempt, Outcome, World}
+use Rattle.usb_world.specs.declared.types.Outcome.TheVariants.{Payload, Ack}
+use Rattle.usb_tree.specs.{IsSettled}
+use Rattle.usb_bus.specs.{AllTaken, Answered, Attempts, Faulted, FullCame, InsMade, OutsMade}
+use Rattle.usb_bus.specs.{RowCounts, RowDone, RowEnd, RowEnds, StepRun, Whole, attempted, in_packet}
+use Rattle.usb_bus.specs.{is_full, none_came, none_taken, one_came, one_taken, out_packet, still}
+use Rattle.usb_bus.proofs.Interface.{went_none, went_then, went_wider}
+use Rattle.usb_transaction.specs.{AfterFirst, AskedFull, AsksIn, Bus, HeardOutcome, IsTarget, Moved}
+use Rattle.usb_transaction.specs.{RowCame, RowGone, RowKept, RowLost, RowSent, SendsOut, SentFull}
+use Rattle.usb_transaction.specs.{Target, TransFault, Transacted, heard_as}
+use Rattle.usb_transaction.specs.{in_attempt, none_asked, none_sent, one_asked, one_sent}
+use Rattle.usb_transaction.specs.{out_attempt, packed, transaction_bound}
+use Rattle.usb_transaction.proofs.Calls.{asks_in, sends_out}
+use Rattle.usb_transaction.proofs.Trails.{trail_settled}
+use Rattle.usb_transaction.proofs.TransactionTries.{cut_at_once, stands_new, told_moved}
+
+-- Toggles
+
+other_twice : (t : Toggle) → other (other t) ≡ t
+other_twice Zero = refl
+other_twice One = refl
+
+pub flips_even : (n : ℕ) (t : Toggle) → n % 2 ≡ 0 → flips n t ≡ t
+unfolding flips
+flips_even zero t e = refl
+flips_even (suc zero) t e = absurd (omega (arith, e))
+flips_even (suc (suc n)) t e = other_twice (flips n t) ∙ flips_even n t (omega (arith, e))
+
+pub flips_odd : (n : ℕ) (t : Toggle) → n % 2 ≢ 0 → flips n t ≡ other t
+unfolding flips
+flips_odd zero t e = absurd (omega (arith, e))
+flips_odd (suc n) t e = ap other (flips_even n t (omega (arith, e)))
+
+pub flips_more : (n : ℕ) (first toggle next : Toggle) → toggle ≡ flips n first → next ≡ other toggle
+    → next ≡ flips (n + 1) first
+unfolding flips
+flips_more n first toggle next e f = rw (add-one n) (f ∙ ap other e)
+
+-- The first attempt of a transaction moved its packet
+
+first_moved : {hear : Outcome → HeardOutcome} {a : Attempt} {o : Outcome} {w v : World}
+    {before now : Option (List ℕ)} → IsAttempt a → Attempts a w before (Ok o) v now
+    → (bytes : ArrayVec ℕ) → hear o ≡ Moved bytes → Transacted hear a w (Ok bytes.items) v
+first_moved {w = w} fits made bytes is = told_moved (stands_new _ w fits refl) made bytes is
+
+one_went : {a : Attempt} {o : Outcome} {w v : World} {before now : Option (List ℕ)} → IsAttempt a
+    → Attempts a w before (Ok o) v now → StepRun 1 w before v now
+one_went {a} {o} fits made = record {
+  spends = made.counts.spends;
+  traced = attempted a (Ok o) fits still made;
+}
+
+due_heard : (toggle : Toggle) (bytes : ArrayVec ℕ) → heard_as toggle (Payload toggle bytes) ≡ Moved bytes
+due_heard Zero bytes = refl
+due_heard One bytes = refl
+
+-- INs
+
+record FullRun (t : Target) (ep : ℕ) (first : Toggle) (old : World) (before : Option (List ℕ)) (n : ℕ)
+    (got : List ℕ) (now : World) (text : Option (List ℕ)) : Type 0 where
+  asked : AskedFull t ep first old n got now
+  went : StepRun n old before now text
+  settled : IsSettled now.roots
+
+module _ (t : Target) (ep : ℕ) (to : Destination) (is : in_packet to ≡ in_attempt t ep)
+    (fits : IsAttempt (in_attempt t ep)) (first : Toggle) {old : World}
+    {before : Option (List ℕ)} (settled : IsSettled old.roots) where
+  full_run : {n : ℕ} {got : List ℕ} {now : World} {text : Option (List ℕ)}
+      → FullCame to first old before n got now text
+      → FullRun t ep first old before n got now text
+  full_run none_came = record { asked = none_asked; went = went_none; settled = settled }
+  full_run (one_came {n} {got} {w} {v} bytes c made long) =
+      let r = full_run c in
+      let max : to.max ≡ t.max = ap (λ a. a.max) is in
+      let made = rw is at made in
+      let x = asks_in t ep (flips n first) w v r.settled refl (Ok bytes)
+      (first_moved fits made (packed bytes) (due_heard (flips n first) (packed bytes)))
+      (omega (arith, long, max)) in
+      record {
+        asked = one_asked bytes r.asked x (long ∙ max);
+        went = went_then n 1 r.went (one_went fits made);
+        settled = trail_settled x.heard.trail r.settled;
+      }
+
+  pub run_went : {n : ℕ} {got : List ℕ} {now : World} {text : Option (List ℕ)}
+      → FullCame to first old before n got now text → StepRun n old before now text
+  run_went c = (full_run c).went
+
+  pub run_settled : {n : ℕ} {got : List ℕ} {now : World} {text : Option (List ℕ)}
+      → FullCame to first old before n got now text → IsSettled now.roots
+  run_settled c = (full_run c).settled
+
+  -- all that were asked for
+  pub row_whole : {n most : ℕ} {got : List ℕ} {toggle : Toggle} {now : World}
+      {text : Option (List ℕ)} → FullCame to first old before n got now text → n ≡ most → 1 ≤ most
+      → toggle ≡ flips n first → RowCame t ep first most old n got toggle now
+  row_whole {n} {most} {got} {toggle} {now} c all some turned = by_last (full_run c).asked all turned
+    where
+      by_last : {n : ℕ} {got : List ℕ} {now : World} → AskedFull t ep first old n got now → n ≡ most
+          → toggle ≡ flips n first → RowCame t ep first most old n got toggle now
+      by_last none_asked all turned = absurd (omega (arith, all, some))
+      by_last (one_asked {n} {got} {mid} bytes before x long) all turned = record {
+        full = n;
+        few = omega (arith, all);
+        got = got;
+        mid = mid;
+        before = before;
+        last = bytes;
+        came = x;
+        kept = refl;
+        count = refl;
+        turned = turned;
+      }
+
+  module _ {n most : ℕ} {got : List ℕ} {toggle : Toggle} {mid new : World} {text : Option (List ℕ)}
+      (c : FullCame to first old before n got mid text) (few : n < most) where
+    -- one came after them
+    pub row_came : {last bytes : List ℕ} → AsksIn t ep (flips n first) mid (Ok last) new
+        → bytes ≡ got ++ last → toggle ≡ flips (n + 1) first
+        → RowCame t ep first most old (n + 1) bytes toggle new
+    row_came {last} x kept turned = record {
+      full = n;
+      few = few;
+      got = got;
+      mid = mid;
+      before = (full_run c).asked;
+      last = last;
+      came = x;
+      kept = kept;
+      count = refl;
+      turned = turned;
+    }
+
+    pub row_lost : (fault : TransFault) → AsksIn t ep (flips n first) mid (Err fault) new
+        → toggle ≡ flips n first → RowLost t ep first most old fault toggle new
+    row_lost fault x turned = record {
+      full = n;
+      few = few;
+      got = got;
+      mid = mid;
+      before = (full_run c).asked;
+      lost = x;
+      turned = turned;
+    }
+
+-- A row of INs as the bus tells it, and the transaction that went on
+
+pub in_is : (t : Target) (ep : ℕ) (to : Destination) → to.address ≡ t.addr → to.number ≡ ep
+    → speed_is_low to.speed ≡ t.low → speed_has_pre to.speed ≡ t.pre → to.max ≡ t.max
+    → in_packet to ≡ in_attempt t ep
+in_is t ep to a b c d e = rw (a, b, c, d, e) refl
+
+pub in_fits : (t : Target) (ep : ℕ) → IsTarget t → ep < 16 → IsAttempt (in_attempt t ep)
+in_fits t ep i e = record {
+  addr_fits = i.addr_fits;
+  ep_fits = e;
+  max_least = i.max_least;
+  max_most = i.max_most;
+  pre_low = i.pre_low;
+  payload_sent = refl;
+  payload_fits = tt;
+}
+
+-- one more packet has room
+pub row_room : (moved most max room size : ℕ) → moved < most → most ≤ 64 → max ≤ 64
+    → room ≡ moved * max → size ≤ max → room + size ≤ 4096
+row_room moved most max room size less few fits is short =
+    let one : suc moved * max ≤ 64 * max = mul-le-mul_right max (omega (arith, less, few)) in
+    let more : suc moved * max ≡ moved * max + max = omega arith in
+    omega (arith, one, more, fits, is, short)
+
+-- where it did not end whole, it has fewer than all
+pub few_answered : (moved most : ℕ) (end : RowEnd) (o : Outcome) → end ≡ Answered o
+    → RowCounts moved most end → moved < most
+few_answered moved most end o is counts = rw is at counts
+
+module _ (t : Target) (ep : ℕ) (to : Destination) (is : in_packet to ≡ in_attempt t ep)
+    (fits : IsAttempt (in_attempt t ep)) (first : Toggle) {old : World}
+    {before : Option (List ℕ)} (settled : IsSettled old.roots) {most : ℕ} {done : RowDone}
+    {got : List ℕ} {now : World} {text : Option (List ℕ)} {toggle : Toggle}
+    (turned : toggle ≡ flips done.moved first)
+    (m : InsMade to first most old before done got now text) where
+  abbrev Ends : RowEnd → Type 0
+  Ends end = RowEnds (done.moved ≡ most) (done.moved < most) (in_packet to)
+      (λ outcome. is_full to.max (flips done.moved first) outcome ≡ false) end m.mid m.between now
+      text
+
+  pub ins_whole : done.end ≡ Whole → 1 ≤ most → RowCame t ep first most old done.moved got toggle now
+      × StepRun (transaction_bound * done.moved) old before now text
+  ins_whole end some =
+      let e : Ends Whole = subst Ends end m.ends in
+      let went = run_went t ep to is fits first settled m.came in (
+        rw e.1 (row_whole t ep to is fits first settled m.came e.0 some turned),
+        went_wider done.moved (transaction_bound * done.moved) (rw (e.1, e.2) went)
+            (omega arith),
+      )
+
+  pub ins_cut : {fault : BusFault} → done.end ≡ Faulted fault
+      → RowLost t ep first most old (Bus fault) toggle now
+      × StepRun (transaction_bound * most) old before now text
+  ins_cut {fault} end =
+      let e : Ends (Faulted fault) = subst Ends end m.ends in
+      let made = rw is at e.1 in
+      let calm = run_settled t ep to is fits first settled m.came in
+      let x = asks_in t ep (flips done.moved first) m.mid now calm refl (Err (Bus fault))
+      (cut_at_once fits made) tt in (
+        row_lost t ep to is fits first settled m.came e.0 (Bus fault) x turned,
+        went_wider (done.moved + 1) (transaction_bound * most)
+            (went_then done.moved 1 (run_went t ep to is fits first settled m.came)
+            (record { spends = made.counts.spends; traced = attempted _ _ fits still made }))
+            (omega (arith, e.0)),
+      )
+
+  module _ {o : Outcome} (end : done.end ≡ Answered o) {result : Result (List ℕ) TransFault}
+      {new : World} {written : Option (List ℕ)}
+      (says : AfterFirst (in_attempt t ep) o now text
+      (λ w x. StepRun transaction_bound w x new written × AsksIn t ep toggle w result new)) where
+    answered_ends : Ends (Answered o)
+    answered_ends = subst Ends end m.ends
+
+    answered_says : StepRun transaction_bound m.mid m.between new written
+        × AsksIn t ep toggle m.mid result new
+    answered_says = says m.mid m.between (run_settled t ep to is fits first settled m.came)
+        (rw is at answered_ends.2)
+
+    answered_went : {n : ℕ} → done.moved + transaction_bound ≤ n → StepRun n old before new written
+    answered_went {n} le = went_wider (done.moved + transaction_bound) n
+        (went_then done.moved transaction_bound (run_went t ep to is fits first settled m.came)
+        answered_says.0) le
+
+  pub ins_came : {o : Outcome} → done.end ≡ Answered o → {last bytes : List ℕ} {new : World}
+      {written : Option (List ℕ)} {next : Toggle} → AfterFirst (in_attempt t ep) o now text
+      (λ w x. StepRun transaction_bound w x new written × AsksIn t ep toggle w (Ok last) new)
+      → bytes ≡ got ++ last → next ≡ other toggle
+      → RowCame t ep first most old (done.moved + 1) bytes next new
+      × StepRun (transaction_bound * (done.moved + 1)) old before new written
+  ins_came end {last} {new = new} {next = next} says kept flip =
+      let x = answered_says end says in
+      let asked = subst (λ z. AsksIn t ep z m.mid (Ok last) new) turned x.1 in (
+        row_came t ep to is fits first settled m.came (answered_ends end says).0 asked kept
+            (flips_more done.moved first toggle next turned flip),
+        answered_went end says (omega arith),
+      )
+
+  pub ins_lost : {o : Outcome} → done.end ≡ Answered o → {fault : TransFault} {new : World}
+      {written : Option (List ℕ)} {next : Toggle} → AfterFirst (in_attempt t ep) o now text
+      (λ w x. StepRun transaction_bound w x new written × AsksIn t ep toggle w (Err fault) new)
+      → next ≡ toggle → RowLost t ep first most old fault next new
+      × StepRun (transaction_bound * most) old before new written
+  ins_lost end {fault} {new} says same =
+      let x = answered_says end says in
+      let few = (answered_ends end says).0 in
+      let asked = subst (λ z. AsksIn t ep z m.mid (Err fault) new) turned x.1 in (
+        row_lost t ep to is fits first settled m.came few fault asked (same ∙ turned),
+        answered_went end says (omega (arith, few)),
+      )
+
+-- OUTs
+
+record SentRun (t : Target) (ep : ℕ) (first : Toggle) (old : World) (before : Option (List ℕ)) (n : ℕ)
+    (sent : List ℕ) (now : World) (text : Option (List ℕ)) : Type 0 where
+  went_all : SentFull t ep first old n sent now
+  went : StepRun n old before now text
+  settled : IsSettled now.roots
+
+module _ (t : Target) (ep : ℕ) (to : Destination) (max : to.max ≡ t.max)
+    (is : (toggle : Toggle) (bytes : List ℕ) → out_packet to toggle bytes ≡ out_attempt t ep toggle bytes)
+    (fits : (toggle : Toggle) (bytes : List ℕ) → length bytes ≤ t.max
+    → IsAttempt (out_attempt t ep toggle bytes)) (first : Toggle) {old : World}
+    {before : Option (List ℕ)} (settled : IsSettled old.roots) where
+  sent_run : {n : ℕ} {sent : List ℕ} {now : World} {text : Option (List ℕ)}
+      → AllTaken to first old before n sent now text
+      → SentRun t ep first old before n sent now text
+  sent_run none_taken = record { went_all = none_sent; went = went_none; settled = settled }
+  sent_run (one_taken {n} {sent} {w} {v} bytes c size some short made) =
+      let r = sent_run c in
+      let few : length bytes ≤ t.max = omega (arith, short, max) in
+      let made = rw (is (flips n first) bytes) at made in
+      let fit = fits (flips n first) bytes few in
+      let x = sends_out t ep (flips n first) bytes w v r.settled (Ok [])
+      (first_moved fit made (packed []) refl) in
+      record {
+        went_all = one_sent bytes r.went_all (size ∙ ap (λ k. n * k) max) some few x;
+        went = went_then n 1 r.went (one_went fit made);
+        settled = trail_settled x.heard.trail r.settled;
+      }
+
+  pub sent_went : {n : ℕ} {sent : List ℕ} {now : World} {text : Option (List ℕ)}
+      → AllTaken to first old before n sent now text → StepRun n old before now text
+  sent_went c = (sent_run c).went
+
+  pub sent_settled : {n : ℕ} {sent : List ℕ} {now : World} {text : Option (List ℕ)}
+      → AllTaken to first old before n sent now text → IsSettled now.roots
+  sent_settled c = (sent_run c).settled
+
+  -- all of the bytes
+  pub row_all_gone : {n : ℕ} {total : List ℕ} {toggle : Toggle} {now : World}
+      {text : Option (List ℕ)} → AllTaken to first old before n total now text → 0 < length total
+      → toggle ≡ flips n first → RowGone t ep first total old n toggle now
+  row_all_gone {n} {total} {toggle} {now} c some turned = by_last (sent_run c).went_all some turned
+    where
+      by_last : {n : ℕ} {total : List ℕ} {now : World} → SentFull t ep first old n total now
+          → 0 < length total → toggle ≡ flips n first
+          → RowGone t ep first total old n toggle now
+      by_last none_sent some turned = absurd (omega (arith, some))
+      by_last (one_sent {n} {sent} {mid} {new} bytes c size more short x) some turned = record {
+        full = n;
+        mid = mid;
+        so_far = record {
+          sent = sent;
+          rest = bytes;
+          split = refl;
+          size = size;
+          some = more;
+          before = c;
+        };
+        went = subst (λ z. SendsOut t ep (flips n first) z mid (Ok []) new)
+            (sym (take_all t.max bytes short)) x;
+        count = refl;
+        turned = turned;
+      }
+
+  module _ {n : ℕ} {total sent : List ℕ} (rest : List ℕ) {mid : World} {text : Option (List ℕ)}
+      (c : AllTaken to first old before n sent mid text) (split : total ≡ sent ++ rest)
+      (size : length sent ≡ n * to.max) (some : 0 < length rest) where
+    abbrev so_far : RowSent t ep first total old n mid
+    so_far = record {
+      sent = sent;
+      rest = rest;
+      split = split;
+      size = size ∙ ap (λ k. n * k) max;
+      some = some;
+      before = (sent_run c).went_all;
+    }
+
+    -- one went after full ones
+    pub row_gone : {toggle : Toggle} {new : World}
+        → SendsOut t ep (flips n first) (take t.max rest) mid (Ok []) new
+        → toggle ≡ flips (n + 1) first → RowGone t ep first total old (n + 1) toggle new
+    row_gone x turned = record {
+      full = n;
+      mid = mid;
+      so_far = so_far;
+      went = x;
+      count = refl;
+      turned = turned;
+    }
+
+    pub row_kept : {toggle : Toggle} {new : World} (fault : TransFault)
+        → SendsOut t ep (flips n first) (take t.max rest) mid (Err fault) new
+        → toggle ≡ flips n first → RowKept t ep first total old fault toggle new
+    row_kept fault x turned = record {
+      full = n;
+      mid = mid;
+      so_far = so_far;
+      lost = x;
+      turned = turned;
+    }
+
+-- A row of OUTs as the bus tells it
+
+pub out_is : (t : Target) (ep : ℕ) (to : Destination) → to.address ≡ t.addr → to.number ≡ ep
+    → speed_is_low to.speed ≡ t.low → speed_has_pre to.speed ≡ t.pre → to.max ≡ t.max
+    → (toggle : Toggle) (bytes : List ℕ) → out_packet to toggle bytes ≡ out_attempt t ep toggle bytes
+out_is t ep to a b c d e toggle bytes = rw (a, b, c, d, e) refl
+
+pub out_fits : (t : Target) (ep : ℕ) → IsTarget t → ep < 16 → (toggle : Toggle) (bytes : List ℕ)
+    → length bytes ≤ t.max → IsAttempt (out_attempt t ep toggle bytes)
+out_fits t ep i e toggle bytes short = record {
+  addr_fits = i.addr_fits;
+  ep_fits = e;
+  max_least = i.max_least;
+  max_most = i.max_most;
+  pre_low = i.pre_low;
+  payload_sent = refl;
+  payload_fits = short;
+}
+
+module _ (t : Target) (ep : ℕ) (to : Destination) (max : to.max ≡ t.max)
+    (is : (toggle : Toggle) (bytes : List ℕ) → out_packet to toggle bytes ≡ out_attempt t ep toggle bytes)
+    (fits : (toggle : Toggle) (bytes : List ℕ) → length bytes ≤ t.max
+    → IsAttempt (out_attempt t ep toggle bytes)) (first : Toggle) {old : World}
+    {before : Option (List ℕ)} (settled : IsSettled old.roots) {total : List ℕ} {done : RowDone}
+    {now : World} {text : Option (List ℕ)} {toggle : Toggle}
+    (turned : toggle ≡ flips done.moved first)
+    (m : OutsMade to first total old before done now text) where
+  abbrev OutEnds : RowEnd → Type 0
+  OutEnds end = RowEnds (m.rest ≡ []) (0 < length m.rest)
+      (out_packet to (flips done.moved first) (take to.max m.rest)) (λ outcome. outcome ≢ Ack) end
+      m.mid m.between now text
+
+  out_next : out_packet to (flips done.moved first) (take to.max m.rest)
+      ≡ out_attempt t ep (flips done.moved first) (take t.max m.rest)
+  out_next = ap (λ k. out_packet to (flips done.moved first) (take k m.rest)) max
+      ∙ is (flips done.moved first) (take t.max m.rest)
+
+  outs_went : StepRun done.moved old before m.mid m.between
+  outs_went = sent_went t ep to max is fits first settled m.taken
+
+  outs_settled : IsSettled m.mid.roots
+  outs_settled = sent_settled t ep to max is fits first settled m.taken
+
+  pub outs_whole : done.end ≡ Whole → 0 < length total → RowGone t ep first total old done.moved toggle now
+      × StepRun (transaction_bound * done.moved) old before now text
+  outs_whole end some =
+      let e : OutEnds Whole = subst OutEnds end m.ends in
+      let all : m.sent ≡ total =
+      sym (m.split ∙ ap (λ z. m.sent ++ z) e.0 ∙ append-nil m.sent) in
+      let taken = subst (λ z. AllTaken to first old before done.moved z m.mid m.between) all m.taken
+      in (
+        rw e.1 (row_all_gone t ep to max is fits first settled taken some turned),
+        went_wider done.moved (transaction_bound * done.moved) (rw (e.1, e.2) outs_went)
+            (omega arith),
+      )
+
+  -- the packet that did not go at once
+  pub outs_packet : {packet : List ℕ} → 0 < length m.rest
+      → packet ≡ take t.max (drop (done.moved * t.max) total) → packet ≡ take t.max m.rest
+  outs_packet some front =
+      let size : length m.sent ≡ done.moved * t.max =
+      m.full some ∙ ap (λ k. done.moved * k) max in
+      let left : drop (done.moved * t.max) total ≡ m.rest =
+      ap (λ l. drop (done.moved * t.max) l) m.split
+      ∙ ap (λ k. drop k (m.sent ++ m.rest)) (omega (arith, size))
+      ∙ drop-append-add m.sent m.rest 0 in
+      front ∙ ap (λ l. take t.max l) left
+
+  outs_few : 0 < length m.rest → 1 ≤ t.max → done.moved < div_ceil (length total) t.max
+  outs_few some least =
+      let size : length m.sent ≡ done.moved * t.max =
+      m.full some ∙ ap (λ k. done.moved * k) max in
+      let c = div_ceil_times (length total) t.max least in
+      lt_of_mul-lt-mul_right t.max
+      (omega (arith, c, size, some, ap length m.split, length-append m.sent m.rest))
+
+  pub outs_cut : {fault : BusFault} → 1 ≤ t.max → done.end ≡ Faulted fault
+      → RowKept t ep first total old (Bus fault) toggle now
+      × StepRun (transaction_bound * div_ceil (length total) t.max) old before now text
+  outs_cut {fault} least end =
+      let e : OutEnds (Faulted fault) = subst OutEnds end m.ends in
+      let packet = take t.max m.rest in
+      let short : length packet ≤ t.max = omega (arith, length-take t.max m.rest) in
+      let fit = fits (flips done.moved first) packet short in
+      let made = subst (λ a. Attempts a m.mid m.between (Err fault) now text) out_next e.1 in
+      let few = outs_few e.0 least in
+      let x = sends_out t ep (flips done.moved first) packet m.mid now outs_settled (Err (Bus fault))
+      (cut_at_once fit made) in (
+        row_kept t ep to max is fits first settled m.rest m.taken m.split (m.full e.0) e.0
+            (Bus fault) x turned,
+        went_wider (done.moved + 1) (transaction_bound * div_ceil (length total) t.max)
+            (went_then done.moved 1 outs_went
+            (record { spends = made.counts.spends; traced = attempted _ _ fit still made }))
+            (omega (arith, few)),
+      )
+
+  module _ {o : Outcome} (end : done.end ≡ Answered o) {packet : List ℕ}
+      (front : packet ≡ take t.max (drop (done.moved * t.max) total))
+      {result : Result (List ℕ) TransFault} {new : World} {written : Option (List ℕ)}
+      (says : AfterFirst (out_attempt t ep toggle packet) o now text
+      (λ w x. StepRun transaction_bound w x new written × SendsOut t ep toggle packet w result new))
+    where
+      outs_ends : OutEnds (Answered o)
+      outs_ends = subst OutEnds end m.ends
+
+      outs_made : Attempts (out_attempt t ep toggle packet) m.mid m.between (Ok o) now text
+      outs_made =
+          let P : Attempt → Type 0 = λ a. Attempts a m.mid m.between (Ok o) now text in
+          let made : P (out_attempt t ep (flips done.moved first) (take t.max m.rest)) =
+          subst P out_next outs_ends.2 in
+          let due : P (out_attempt t ep toggle (take t.max m.rest)) =
+          subst (λ z. P (out_attempt t ep z (take t.max m.rest))) (sym turned) made in
+          subst (λ z. P (out_attempt t ep toggle z)) (sym (outs_packet outs_ends.0 front)) due
+
+      outs_say : StepRun transaction_bound m.mid m.between new written
+          × SendsOut t ep (flips done.moved first) (take t.max m.rest) m.mid result new
+      outs_say =
+          let x = says m.mid m.between outs_settled outs_made in
+          let y = subst (λ z. SendsOut t ep z packet m.mid result new) turned x.1 in (
+            x.0,
+            subst (λ z. SendsOut t ep (flips done.moved first) z m.mid result new)
+                (outs_packet outs_ends.0 front) y,
+          )
+
+      outs_more : {n : ℕ} → done.moved + transaction_bound ≤ n → StepRun n old before new written
+      outs_more {n} le = went_wider (done.moved + transaction_bound) n
+          (went_then done.moved transaction_bound outs_went outs_say.0) le
+
+  pub outs_gone : {o : Outcome} → done.end ≡ Answered o → {packet : List ℕ}
+      → packet ≡ take t.max (drop (done.moved * t.max) total) → {given : List ℕ} {new : World}
+      {written : Option (List ℕ)} {next : Toggle}
+      → AfterFirst (out_attempt t ep toggle packet) o now text
+      (λ w x. StepRun transaction_bound w x new written
+      × SendsOut t ep toggle packet w (Ok given) new) → next ≡ other toggle
+      → RowGone t ep first total old (done.moved + 1) next new
+      × StepRun (transaction_bound * (done.moved + 1)) old before new written
+  outs_gone end front {new = new} {next = next} says flip =
+      let e = outs_ends end front says in
+      let x = outs_say end front says in
+      let gone = subst (λ z. SendsOut t ep (flips done.moved first) (take t.max m.rest) m.mid (Ok z)
+      new) x.1.nothing x.1 in (
+        row_gone t ep to max is fits first settled m.rest m.taken m.split (m.full e.0) e.0 gone
+            (flips_more done.moved first toggle next turned flip),
+        outs_more end front says (omega arith),
+      )
+
+  pub outs_kept : 1 ≤ t.max → {o : Outcome} → done.end ≡ Answered o → {packet : List ℕ}
+      → packet ≡ take t.max (drop (done.moved * t.max) total) → {fault : TransFault} {new : World}
+      {written : Option (List ℕ)} {next : Toggle}
+      → AfterFirst (out_attempt t ep toggle packet) o now text
+      (λ w x. StepRun transaction_bound w x new written
+      × SendsOut t ep toggle packet w (Err fault) new) → next ≡ toggle
+      → RowKept t ep first total old fault next new
+      × StepRun (transaction_bound * div_ceil (length total) t.max) old before new written
+  outs_kept least end front {fault} says same =
+      let e = outs_ends end front says in
+      let x = outs_say end front says in (
+        row_kept t ep to max is fits first settled m.rest m.taken m.split (m.full e.0) e.0 fault x.1
+            (same ∙ turned),
+        outs_more end front says (omega (arith, outs_few e.0 least)),
+      )
