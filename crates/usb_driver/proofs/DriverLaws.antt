@@ -4,7 +4,7 @@ use Rattle.std.proofs.Common.{Some, None, Result, Ok, Err, IfOk, IfSome, subst, 
 use Rattle.std.proofs.Common.{arith}
 use Rattle.std.proofs.Common.{◌∙◌}
 use Rattle.std.proofs.Math.Logic.{∥∥₁_map}
-use Rattle.std.specs.Global.{Vec}
+use Rattle.std.specs.Global.{Box, Vec}
 use Rattle.usb_host.specs.{HostState}
 use Rattle.usb_driver.specs.Calls.{Makes}
 use Rattle.usb_driver.specs.DriverSteps.{CallIs, StepOf, the_call}
@@ -66,25 +66,26 @@ ends_so roots statuses answers p host kept d records none all is went call made 
       is = is;
     }
 
-told_so : {E : Type 0} (told : Result (Option (HostState × Vec ℕ)) E) (host kept : HostState)
-    (d : Done) (bytes : Vec ℕ)
-    → IfOk told (λ t. IfSome t (λ it. IsTold host d it.0 it.1.items))
-    → told ≡ Ok (Some (kept, bytes)) → IsTold host d kept bytes.items
+told_so : {E : Type 0} (told : Result (Option (Box HostState × Vec ℕ)) E) (host : HostState)
+    (kept : Box HostState) (d : Done) (bytes : Vec ℕ)
+    → IfOk told (λ t. IfSome t (λ it. IsTold host d it.0.value it.1.items))
+    → told ≡ Ok (Some (kept, bytes)) → IsTold host d kept.value bytes.items
 told_so {E} told host kept d bytes is e =
-    subst (λ (t : Result (Option (HostState × Vec ℕ)) E).
-    IfOk t (λ o. IfSome o (λ it. IsTold host d it.0 it.1.items))) e is
+    subst (λ (t : Result (Option (Box HostState × Vec ℕ)) E).
+    IfOk t (λ o. IfSome o (λ it. IsTold host d it.0.value it.1.items))) e is
 
-pub finished_on : {E F : Type 0} (told : Result (Option (HostState × Vec ℕ)) E) (p : Progress)
+pub finished_on : {E F : Type 0} (told : Result (Option (Box HostState × Vec ℕ)) E) (p : Progress)
     (n : ℕ) (r : Result Step F) (roots : ℕ) (statuses : List (List ℕ)) (answers : List Answer)
     (host : HostState) (d : Done) → IfOk r (StepOf told p n) → n ≡ length answers
     → ∥ Hears roots statuses answers p ∥₁ → WentSo answers p host
-    → IfOk told (λ t. IfSome t (λ it. IsTold host d it.0 it.1.items))
+    → IfOk told (λ t. IfSome t (λ it. IsTold host d it.0.value it.1.items))
     → IfOk r (λ s. (call : Call) → MakesCall call d host
     → ∥ CallIs (the_call call roots statuses answers) s ∥₁)
 finished_on told p n (Ok (step.Asks q)) roots statuses answers host d is count h went all =
     λ call made. ∥∥₁_map h (λ x. asks_so roots statuses answers p host d q is went call made x)
 finished_on told p n (Ok (step.Done kept bytes)) roots statuses answers host d is count h went all =
-    λ call made. ∥∥₁_map h (λ x. ends_so roots statuses answers p host kept d bytes.items is.0
+    λ call made. ∥∥₁_map h (λ x. ends_so roots statuses answers p host kept.value d
+    bytes.items is.0
     (subst (λ (m : ℕ). m ≤ p.used) count is.1) (told_so told host kept d bytes all is.2) went call
     made x)
 finished_on told p n (Err f) roots statuses answers host d is count h went all = tt
@@ -122,33 +123,34 @@ asks_on {F} old back heard r q p e same kept returned is none under =
     rw (same) (∥∥₁_map here (λ n. inr (none, under, n, all)))
 
 pub done_on : {F : Type 0} (old : DriverState) (heard empty : List Answer) (r : Result Step F)
-    (host : HostState) (bytes : Vec ℕ) → r ≡ Ok (step.Done host bytes) → heard ≡ old.heard
+    (host : Box HostState) (bytes : Vec ℕ) → r ≡ Ok (step.Done host bytes) → heard ≡ old.heard
     → empty ≡ []
     → IfOk r (λ s. ∥ CallIs (the_call (call_under_way old) old.roots old.statuses heard) s ∥₁)
     → old.asked ≡ None → IsUnderWay old
     → ∥ AsksNone old (record old {
-      host = Some host;
+      host = Some host.value;
       want = None;
       heard = empty;
       told = bytes.items;
     }) ∥₁
 done_on {F} old heard empty r host bytes e kept none_heard is none under =
-    let goes : ∥ EndsWith (the_call (call_under_way old) old.roots old.statuses heard) host
+    let goes : ∥ EndsWith (the_call (call_under_way old) old.roots old.statuses heard) host.value
     bytes.items ∥₁ =
     subst (λ (x : Result Step F). IfOk x (λ s.
     ∥ CallIs (the_call (call_under_way old) old.roots old.statuses heard) s ∥₁)) e is in
-    let here : ∥ EndsWith (call_in old) host bytes.items ∥₁ =
+    let here : ∥ EndsWith (call_in old) host.value bytes.items ∥₁ =
     subst (λ (x : List Answer).
-    ∥ EndsWith (the_call (call_under_way old) old.roots old.statuses x) host bytes.items ∥₁)
+    ∥ EndsWith (the_call (call_under_way old) old.roots old.statuses x) host.value
+    bytes.items ∥₁)
     kept goes in
     ∥∥₁_map here (λ ends. inr (record {
       none = none;
       under = under;
-      host = host;
+      host = host.value;
       told = bytes.items;
       ends = ends;
       rest = ap (λ (x : List Answer). record old {
-        host = Some host;
+        host = Some host.value;
         want = None;
         heard = x;
         told = bytes.items;

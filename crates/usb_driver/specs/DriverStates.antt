@@ -1,12 +1,13 @@
 -- A driver as its callers see it.
+use Rattle.std.specs.Prelude.{box_value, option_map}
 use Rattle.usb_driver.specs.Drivers.{DriverState}
 use Rattle.usb_driver.specs.declared.driver.Driver.{Driver}
 
 abbrev pub driver_state : Driver → DriverState
 driver_state d = record {
   roots = d.roots;
-  wide = d.is_wide;
-  host = d.host;
+  options = d.options;
+  host = option_map box_value d.host;
   want = d.want;
   statuses = d.statuses;
   heard = d.heard.items;

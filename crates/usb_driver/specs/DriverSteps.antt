@@ -1,6 +1,6 @@
 -- How far a call came, as a driver sees it.
 use Rattle.std.specs.Prelude.{◌≡◌, ℕ, ◌≤◌, List, Option, Some, None, Result, Ok}
-use Rattle.std.specs.Global.{Vec}
+use Rattle.std.specs.Global.{Box, Vec}
 use Rattle.usb_host.specs.{HostState}
 use Rattle.usb_driver.specs.Drivers.{Call, CallState, EndsWith, NeedsAnswer}
 use Rattle.usb_driver.specs.declared.answer.Answer.{Answer}
@@ -10,7 +10,7 @@ use Rattle.usb_driver.specs.declared.progress.Progress.{Progress}
 
 abbrev pub CallIs : CallState → Step → Type 0
 CallIs c (step.Asks q) = NeedsAnswer c q
-CallIs c (step.Done host told) = EndsWith c host told.items
+CallIs c (step.Done host told) = EndsWith c host.value told.items
 
 abbrev pub the_call : Call → ℕ → List (List ℕ) → List Answer → CallState
 the_call call roots statuses heard = record {
@@ -21,7 +21,7 @@ the_call call roots statuses heard = record {
 }
 
 -- of a private function: a question waits; or all was used, and this is told
-abbrev pub StepOf : {E : Type 0} → Result (Option (HostState × Vec ℕ)) E → Progress → ℕ → Step
+abbrev pub StepOf : {E : Type 0} → Result (Option (Box HostState × Vec ℕ)) E → Progress → ℕ → Step
     → Type 0
 StepOf told p heard (step.Asks q) = p.asked ≡ Some q
 StepOf told p heard (step.Done host bytes) =

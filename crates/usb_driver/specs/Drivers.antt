@@ -2,7 +2,7 @@
 use Rattle.std.specs.Prelude.{◌≡◌, ◌≢◌, ◌⊎◌, ℕ, ◌<◌, Bool, true, false, List, [], ◌∷◌}
 use Rattle.std.specs.Prelude.{◌++◌}
 use Rattle.std.specs.Prelude.{length, Option, Some, None, Result, Ok, Err}
-use Rattle.usb_enum.specs.{usual_options}
+use Rattle.usb_enum.specs.{HostOptions}
 use Rattle.usb_host.specs.{HostState, first_numbers, none_left}
 use Rattle.usb_driver.specs.Calls.{Makes}
 use Rattle.usb_driver.specs.Hearing.{Hears, failed_by, no_world, spent_in}
@@ -17,12 +17,12 @@ use Rattle.usb_driver.specs.declared.progress.Progress.{Progress}
 use Rattle.usb_driver.specs.declared.question.Question.{Question}
 use Rattle.usb_driver.specs.declared.want.Want.{Want}
 
--- how many root ports there are, whether wide hubs are taken; the host before the call that is
--- under way, none before the one that opens it; what is wanted, and what the root ports showed as
--- that began; what was heard since, and the question that waits; the records of the last call
+-- how many root ports there are, and what the host takes; the host before the call that is under
+-- way, none before the one that opens it; what is wanted, and what the root ports showed when that
+-- began; what was heard since, and the question that waits; the records of the last call
 pub record DriverState : Type 0 where
   pub roots : ℕ
-  pub wide : Bool
+  pub options : HostOptions
   pub host : Option HostState
   pub want : Option Want
   pub statuses : List (List ℕ)
@@ -40,24 +40,24 @@ on_bus h = record h {
   counts = record { spent = 0; failed = None; left = h.counts.left };
 }
 
--- a host that knows of no device
-pub record Opens (takes : Bool) (new : HostState) : Type 0 where
+-- a host that knows of no device, with these options
+pub record Opens (options : HostOptions) (new : HostState) : Type 0 where
   pub entries : new.entries ≡ []
   pub going : new.stopped ≡ false
   pub left : new.counts.left ≡ none_left
   pub numbers : new.numbers ≡ first_numbers
   pub reported : new.reported ≡ []
-  pub options : new.options ≡ usual_options takes
+  pub options : new.options ≡ options
 
 -- a call: it opens a host, or does what is wanted on one
 pub data Call : Type 0 where
-  opens : Bool → Call
+  opens : HostOptions → Call
   wants : HostState → Want → Call
   none : Call
 
 -- made once: it opens a host, or is made on a copy of one
 abbrev pub MakesCall : Call → Done → HostState → Type 0
-MakesCall (Call.opens wide) d new = Opens wide new × (d ≡ done.Moved (Ok tt))
+MakesCall (Call.opens options) d new = Opens options new × (d ≡ done.Moved (Ok tt))
 MakesCall (Call.wants h want) d new = Makes false want (on_bus h) d new
 MakesCall Call.none d new = ⊥
 
@@ -104,13 +104,13 @@ pub record EndsWith (c : CallState) (new : HostState) (told : List ℕ) : Type 0
 -- ---- the calls of a driver
 
 -- the call that is under way
-abbrev pub call_of : Bool → Option HostState → Option Want → Call
-call_of wide None want = Call.opens wide
-call_of wide (Some h) (Some want) = Call.wants h want
-call_of wide (Some h) None = Call.none
+abbrev pub call_of : HostOptions → Option HostState → Option Want → Call
+call_of options None want = Call.opens options
+call_of options (Some h) (Some want) = Call.wants h want
+call_of options (Some h) None = Call.none
 
 abbrev pub call_under_way : DriverState → Call
-call_under_way d = call_of d.wide d.host d.want
+call_under_way d = call_of d.options d.host d.want
 
 abbrev pub call_in : DriverState → CallState
 call_in d = record {
@@ -121,7 +121,7 @@ call_in d = record {
 }
 
 abbrev pub is_call : Call → Bool
-is_call (Call.opens wide) = true
+is_call (Call.opens options) = true
 is_call (Call.wants h want) = true
 is_call Call.none = false
 
@@ -135,10 +135,10 @@ abbrev pub IsIdle : DriverState → Type 0
 IsIdle d = is_under_way d ≡ false
 
 -- `open`
-abbrev pub opening : ℕ → Bool → List (List ℕ) → DriverState
-opening roots wide statuses = record {
+abbrev pub opening : ℕ → HostOptions → List (List ℕ) → DriverState
+opening roots options statuses = record {
   roots = roots;
-  wide = wide;
+  options = options;
   host = None;
   want = None;
   statuses = statuses;

@@ -1,6 +1,6 @@
 //! A host that a program in another language drives.
 ghost use Rattle.std.specs.Prelude.{◌≡◌, ◌≤◌, IfOk, IfSome};
-ghost use Rattle.usb_driver.specs.Drivers.{Call, IsTold, MakesCall, Opens};
+ghost use Rattle.usb_driver.specs.Drivers.{Call, IsTold, MakesCall};
 ghost use Rattle.usb_driver.specs.DriverSteps.{CallIs, StepOf, the_call};
 
 use crate::call::{Done, made};
@@ -13,7 +13,7 @@ use std::alloc::{AllocError, Global};
 use std::marker::Brand;
 use std::mem::replace;
 use usb_bus::Bus;
-use usb_host::Host;
+use usb_host::{Host, HostOptions};
 
 /// The most root ports.
 const ROOTS: u8 = 7;
@@ -25,9 +25,9 @@ const ROOTS: u8 = 7;
 pub struct Driver {
     alloc: Global,
     roots: u8,
-    is_wide: bool,
+    options: HostOptions,
     /// As it was before the call that is under way; none before it was opened.
-    host: Option<Host<Idle>>,
+    host: Option<Box<Host<Idle>>>,
     want: Option<Want>,
     /// What the root ports showed when the call began.
     statuses: Statuses,
@@ -43,7 +43,7 @@ enum Step {
     /// It needs an answer.
     Asks(Question),
     /// It is done: the host behind it, and the records of it.
-    Done(Host<Idle>, Vec<u8>),
+    Done(Box<Host<Idle>>, Vec<u8>),
 }
 
 impl Driver {
@@ -52,22 +52,22 @@ impl Driver {
     ghost use Rattle.usb_driver.specs.DriverStates.{driver_state};
     ghost use Rattle.usb_driver.specs.declared.fault.DriverFault.{DriverFault as AFault};
 
-    /// A driver of a controller with this number of root ports, which show these statuses. The
-    /// call that opens its host is under way then, the first one: each root port loses its power
-    /// and is given it again (`usb_host::Host::new`). If `is_wide`, the host takes wide hubs
-    /// (`usb_host::Host::with_wide_hubs`).
+    /// A driver of a controller with this number of root ports, which show these statuses. Its
+    /// first call is under way then, the one that opens its host: each root port loses its power
+    /// and gets it again. The options say which hubs the host takes, and how many bytes of a
+    /// device (`usb_host::Host::with_options`).
     ///
     /// # Errors
     ///
-    /// - `Roots`: it has not 1 to 7 root ports.
+    /// - `Roots`: the number of root ports is not 1 to 7.
     pub fn open(
         alloc: Global,
         roots: u8,
-        is_wide: bool,
+        options: HostOptions,
         statuses: Statuses,
     ) -> Result<Driver, DriverFault>
         ensures open { IfOk result (λ driver.
-            driver_state driver ≡ opening roots is_wide statuses) }
+            driver_state driver ≡ opening roots options statuses) }
         ensures roots { IfErr result (λ fault. (fault ≡ AFault.Roots) × HasNoRoots roots) }
     {
         if roots < 1 || roots > ROOTS {
@@ -76,7 +76,7 @@ impl Driver {
         Ok(Driver {
             alloc,
             roots,
-            is_wide,
+            options,
             host: None,
             want: None,
             statuses,
@@ -190,8 +190,9 @@ impl Driver {
     /// `Stalled`, 5 `Busy`, 6 `NoAnswer`, 7 `Broken`, 8 `Reserved`, 9 `NoPort`, 10 `NoInterface`.
     ///
     /// Causes (`usb_host::Cause`): 1 silent, 2 busy, 3 stalled, 4 bad device, 5 too deep, 6 bad
-    /// configuration, 7 no power, 8 bad hub, 9 lost, 10 no address. The second byte is of 3 the
-    /// request (0 device, 1 address, 2 configuration, 3 set configuration), of 6 the index, else 0.
+    /// configuration, 7 no power, 8 bad hub, 9 lost, 10 no address, 11 too large. The second byte is
+    /// of 3 the request (0 device, 1 address, 2 configuration, 3 set configuration), of 6 the index,
+    /// else 0.
     pub fn told(&self) -> &[u8]
         ensures { result.now ≡ (driver_state self.now).told }
     {
@@ -221,7 +222,7 @@ impl Driver {
             }
             (Some(_), None) => unreachable!(),
             (None, _) => {
-                opened::<Brand>(self.alloc, self.roots, self.statuses, heard, self.is_wide)
+                opened::<Brand>(self.alloc, self.roots, self.statuses, heard, self.options)
             }
         }
     }
@@ -233,30 +234,19 @@ fn opened<B: Begun>(
     roots: u8,
     statuses: Statuses,
     heard: Vec<Answer>,
-    is_wide: bool,
+    options: HostOptions,
 ) -> (Result<Step, AllocError>, Vec<Answer>)
     requires ports { (1 ≤ roots) × (roots ≤ 7) }
     requires roots { roots ≡ B.roots }
     requires statuses { statuses ≡ B.statuses }
     requires heard { heard.items ≡ B.answers }
     ensures step { IfOk result.0 (λ step.
-        ∥ CallIs (the_call (Call.opens is_wide) roots statuses heard.items) step ∥₁) }
+        ∥ CallIs (the_call (Call.opens options) roots statuses heard.items) step ∥₁) }
     ensures back { result.1.items ≡ heard.items }
 {
     let bus = Heard::<B>::begin(roots, statuses, heard);
-    let host = host_over(alloc, bus, is_wide);
+    let host = Host::with_options(alloc, bus, options);
     finished(alloc, roots, host, &Done::Moved(Ok(())))
-}
-
-/// A host over a bus, which takes wide hubs or not.
-fn host_over<B: Bus>(alloc: Global, bus: B, is_wide: bool) -> Host<B>
-    ensures { Opens is_wide result }
-{
-    if is_wide {
-        Host::with_wide_hubs(alloc, bus)
-    } else {
-        Host::new(alloc, bus)
-    }
 }
 
 /// Does what is wanted on a copy of a host, over what was heard in the call, and gives that back.
@@ -310,7 +300,7 @@ fn finished<B: Begun>(
 
 /// How far a call came that used so many of the answers that were heard in it.
 fn step_of(
-    told: Result<Option<(Host<Idle>, Vec<u8>)>, AllocError>,
+    told: Result<Option<(Box<Host<Idle>>, Vec<u8>)>, AllocError>,
     so_far: Progress,
     heard: usize,
 ) -> Result<Step, AllocError>
@@ -335,16 +325,17 @@ fn told_of<B: Bus>(
     roots: u8,
     host: &Host<B>,
     done: &Done,
-) -> Result<Option<(Host<Idle>, Vec<u8>)>, AllocError>
+) -> Result<Option<(Box<Host<Idle>>, Vec<u8>)>, AllocError>
     requires ports { (1 ≤ roots) × (roots ≤ 7) }
-    ensures { IfOk result (λ told. IfSome told (λ it. IsTold host.now done.now it.0 it.1.items)) }
+    ensures { IfOk result (λ told. IfSome told
+        (λ it. IsTold host.now done.now it.0.value it.1.items)) }
 {
     let Some(status) = status_of(done) else {
         return Ok(None);
     };
     let told = call_told(alloc, host, done, status)?;
     match host.copied_onto(alloc, Idle::new(roots)) {
-        Ok(kept) => Ok(Some((kept, told))),
+        Ok(kept) => Ok(Some((Box::new(alloc, kept)?, told))),
         Err(_) => Err(AllocError),
     }
 }

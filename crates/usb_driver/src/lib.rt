@@ -47,7 +47,7 @@ pub use driver::Driver;
 pub use fault::DriverFault;
 pub use question::Question;
 pub use usb_bus::{Attempt, Outcome, Toggle};
-pub use usb_host::{EndpointAddress, PortPath, Setup};
+pub use usb_host::{EndpointAddress, HostOptions, PortPath, Setup};
 pub use usb_request::ReadRequest;
 pub use want::Want;
 pub use write::{Bytes, WriteRequest};

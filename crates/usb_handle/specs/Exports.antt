@@ -2,7 +2,9 @@
 -- returns.
 use Rattle.std.specs.Prelude.{◌≡◌, ◌≢◌, ℕ, List, ◌++◌, length, take, drop, Option, Some, None}
 use Rattle.std.specs.Prelude.{Result, Ok, Err, Bool, true, false, not, nat_eq, option_map}
+use Rattle.std.specs.Prelude.{if◌then◌else◌}
 use Rattle.std.specs.Simd.{first_chunks}
+use Rattle.usb_enum.specs.{HostOptions}
 use Rattle.usb_driver.specs.Answers.{AnswerFault, IsAnswer, answer_record}
 use Rattle.usb_driver.specs.Drivers as driver
 use Rattle.usb_driver.specs.Drivers.{DriverState, HasNoRoots, Steps, opening}
@@ -26,6 +28,17 @@ held_by handle = option_map driver_state handle.slot.held
 -- the statuses of seven root ports, four bytes each
 abbrev pub statuses_in : List ℕ → List (List ℕ)
 statuses_in bytes = first_chunks 4 7 bytes
+
+-- the greatest number is no limit
+abbrev pub limit_in : ℕ → Option ℕ
+limit_in bytes = if nat_eq bytes 4294967295 then None else Some bytes
+
+-- whether wide hubs are taken, and how many bytes of a device
+abbrev pub options_in : ℕ → ℕ → HostOptions
+options_in wide bytes = record {
+  wide_hubs = not (nat_eq wide 0);
+  device_bytes = limit_in bytes;
+}
 
 -- why no driver is opened with these statuses
 abbrev pub OpenFault : ℕ → List ℕ → DriverFault → Type 0
@@ -107,11 +120,12 @@ pub record StaysClosed (roots : ℕ) (bytes : List ℕ) (number : ℕ) : Type 0 
   pub cause : OpenFault roots bytes fault
   pub returned : number ≡ fault_number fault
 
-abbrev pub Opens : Option DriverState → ℕ → ℕ → List ℕ → ℕ → Option DriverState → Type 0
-Opens (Some old) roots wide bytes number new = (number ≡ 41) × (new ≡ Some old)
-Opens None roots wide bytes number (Some new) = (number ≡ 0) × (length bytes ≡ 28)
-    × (new ≡ opening roots (not (nat_eq wide 0)) (statuses_in bytes))
-Opens None roots wide bytes number None = StaysClosed roots bytes number
+abbrev pub Opens : Option DriverState → ℕ → HostOptions → List ℕ → ℕ → Option DriverState
+    → Type 0
+Opens (Some old) roots options bytes number new = (number ≡ 41) × (new ≡ Some old)
+Opens None roots options bytes number (Some new) = (number ≡ 0) × (length bytes ≡ 28)
+    × (new ≡ opening roots options (statuses_in bytes))
+Opens None roots options bytes number None = StaysClosed roots bytes number
 
 -- a call of an open handle, which stays open
 pub record Begun (old : DriverState) (bytes : List ℕ) (number : ℕ) (new : DriverState)

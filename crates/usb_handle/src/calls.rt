@@ -3,11 +3,11 @@ ghost use Rattle.std.specs.Prelude.{◌≡◌, ◌≢◌, drop, length, IfOk, If
 ghost use Rattle.usb_driver.specs.Drivers.{opening};
 ghost use Rattle.usb_driver.specs.DriverStates.{driver_state};
 ghost use Rattle.usb_driver.specs.declared.fault.DriverFault.{DriverFault as AFault};
-ghost use Rattle.usb_handle.specs.Exports.{AnswersBytes, BeginsBytes, OpenFault, PutsQuestion, filled, statuses_in};
+ghost use Rattle.usb_handle.specs.Exports.{AnswersBytes, BeginsBytes, OpenFault, PutsQuestion, filled, options_in, statuses_in};
 
 use std::alloc::Global;
 use std::cmp::min;
-use usb_driver::{Answer, Driver, DriverFault, Statuses, Want};
+use usb_driver::{Answer, Driver, DriverFault, HostOptions, Statuses, Want};
 
 /// The bytes of a question.
 const QUESTION: usize = 72;
@@ -19,18 +19,32 @@ const STATUSES: usize = 28;
 pub(crate) fn opened(
     alloc: Global,
     roots: u8,
-    is_wide: bool,
+    options: HostOptions,
     statuses: &[u8],
 ) -> Result<Box<Driver>, DriverFault>
     ensures size { IfOk result (λ driver. length statuses.now ≡ 28) }
     ensures open { IfOk result (λ driver.
-        driver_state driver.value ≡ opening roots is_wide (statuses_in statuses.now)) }
+        driver_state driver.value ≡ opening roots options (statuses_in statuses.now)) }
     ensures cause { IfErr result (OpenFault roots statuses.now) }
 {
-    let driver = Driver::open(alloc, roots, is_wide, statuses_of(statuses)?)?;
+    let driver = Driver::open(alloc, roots, options, statuses_of(statuses)?)?;
     match Box::new(alloc, driver) {
         Ok(driver) => Ok(driver),
         Err(_) => Err(DriverFault::Memory),
+    }
+}
+
+/// Wide hubs if `wide` is not 0, and this many bytes of a device; any number if it is the greatest.
+pub(crate) fn options_of(wide: u8, device_bytes: u32) -> HostOptions
+    ensures { result ≡ options_in wide device_bytes }
+{
+    HostOptions {
+        wide_hubs: wide != 0,
+        device_bytes: if device_bytes == u32::MAX {
+            None
+        } else {
+            Some(device_bytes as usize)
+        },
     }
 }
 

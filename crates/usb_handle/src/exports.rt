@@ -1,8 +1,8 @@
 //! The six calls.
 ghost use Rattle.std.specs.Prelude.{◌≡◌};
-ghost use Rattle.usb_handle.specs.Exports.{Answers, Asks, Begins, Closes, Opens, Copies, done_number, held_by, put_number};
+ghost use Rattle.usb_handle.specs.Exports.{Answers, Asks, Begins, Closes, Opens, Copies, done_number, held_by, options_in, put_number};
 
-use crate::calls::{answered, begun, copy_rest, opened, put_question};
+use crate::calls::{answered, begun, copy_rest, opened, options_of, put_question};
 use crate::handle::Handle;
 use std::alloc::Global;
 use usb_driver::DriverFault;
@@ -19,14 +19,15 @@ const CLOSED: u8 = 47;
 /// Opens a closed handle: a host of a controller with this number of root ports, 1 to 7.
 ///
 /// `statuses` are 28 bytes: wPortStatus and wPortChange (11.24.2.7) of root ports 1 to 7, the low
-/// byte first, and zeros for ports that there are not. If `wide` is not 0, the host takes hubs of
-/// up to 15 ports. The first call is under way then: ask for its first question.
+/// byte first, and zeros for each port that does not exist. If `wide` is not 0, the host takes hubs
+/// of up to 15 ports. A device is refused if its configurations have more than `device_bytes` bytes
+/// together; `u32::MAX` is no limit. The first call is under way then: ask for its first question.
 ///
 /// Returns 0, or one of these. The handle stays as it was:
 ///
 /// - 41: it is open.
 /// - 43: `statuses` are not 28 bytes.
-/// - 45: the controller has not 1 to 7 root ports.
+/// - 45: the number of root ports is not 1 to 7.
 /// - 40: memory was refused.
 #[unsafe(no_mangle)]
 pub extern "C" fn usb_handle_open(
@@ -34,14 +35,16 @@ pub extern "C" fn usb_handle_open(
     handle: &mut Handle,
     roots: u8,
     wide: u8,
+    device_bytes: u32,
     statuses: &[u8],
 ) -> u8
-    ensures { Opens (held_by handle.old) roots wide statuses.now result (held_by handle.new) }
+    ensures { Opens (held_by handle.old) roots (options_in wide device_bytes) statuses.now result
+        (held_by handle.new) }
 {
     if handle.live {
         return DriverFault::OutOfTurn.number();
     }
-    match opened(alloc, roots, wide != 0, statuses) {
+    match opened(alloc, roots, options_of(wide, device_bytes), statuses) {
         Ok(driver) => {
             handle.put(driver);
             DONE

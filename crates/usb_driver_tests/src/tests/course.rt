@@ -8,8 +8,8 @@ use std::alloc::{AllocError, Global};
 use std::test::Fail;
 use usb_bus::{Bus, Destination, Speed};
 use usb_driver::{
-    Answer, Attempt, Bytes, Driver, DriverFault, EndpointAddress, Outcome, PortPath, Statuses,
-    Toggle, Want,
+    Answer, Attempt, Bytes, Driver, DriverFault, EndpointAddress, HostOptions, Outcome, PortPath,
+    Statuses, Toggle, Want,
 };
 use usb_plan::read_plan;
 use usb_request::feature::{
@@ -91,6 +91,13 @@ const KEYBOARD_TOLD: &str =
     33 0201010000000000020100008100000000000000120100020000000827060100000001040B01\n\
     34 09022200010108A032090400000103010100092111010001223F000705810308000A\n\
     35 014B0065007900\n\
+    32 00\n";
+
+/// The same with a limit of 30 bytes a device: the keyboard's configuration has 34.
+const LIMITED_TOLD: &str =
+    "33 010100000000000001000004800000000000000012011001090000080904AA55010101020301\n\
+    34 09021900010100E000090400000109000000070581030200FF\n\
+    36 02010100000000000B00120100020000000827060100000001040B01\n\
     32 00\n";
 
 /// A device with a bulk endpoint each way. What it has to give is "Hello, host".
@@ -248,10 +255,14 @@ impl Course {
 }
 
 /// The course of a plan, whose events have all come, and each of them was followed by rounds.
-fn course_of(alloc: Global, plan: &str) -> Result<Course, Fail> {
+fn course_of(alloc: Global, plan: &str, device_bytes: Option<usize>) -> Result<Course, Fail> {
     let plan = read_plan(alloc, plan)?;
     let bus = SimBus::untraced(alloc, &plan)?;
-    let driver = Driver::open(alloc, bus.root_ports(), false, statuses(&bus))?;
+    let options = HostOptions {
+        wide_hubs: false,
+        device_bytes,
+    };
+    let driver = Driver::open(alloc, bus.root_ports(), options, statuses(&bus))?;
     let mut course = Course { driver, bus };
     course.finish()?;
     'events: for _ in 0..100u8 {
@@ -290,20 +301,28 @@ fn lines_of(alloc: Global, told: &[u8]) -> Result<String, AllocError> {
     Ok(text)
 }
 
-/// A plan, and the records of its tree behind all its events.
+/// A plan, the most bytes of a device, and the records of its tree after all its events.
 struct TreeRow {
     plan: &'static str,
+    device_bytes: Option<usize>,
     told: &'static str,
 }
 
 const TREES: &[TreeRow] = &[
     TreeRow {
         plan: REFUSED,
+        device_bytes: None,
         told: REFUSED_TOLD,
     },
     TreeRow {
         plan: KEYBOARD,
+        device_bytes: Some(34),
         told: KEYBOARD_TOLD,
+    },
+    TreeRow {
+        plan: KEYBOARD,
+        device_bytes: Some(30),
+        told: LIMITED_TOLD,
     },
 ];
 
@@ -312,7 +331,7 @@ const TREES: &[TreeRow] = &[
 fn trees(rt: HostRuntime) -> Result<(), Fail> {
     let alloc = rt.alloc();
     for row in TREES {
-        let mut course = course_of(alloc, row.plan)?;
+        let mut course = course_of(alloc, row.plan, row.device_bytes)?;
         course.call(Want::Tree)?;
         assert_eq!(rt; lines_of(alloc, course.driver.told())?.as_str(), row.told);
     }
@@ -323,7 +342,7 @@ fn trees(rt: HostRuntime) -> Result<(), Fail> {
 #[test]
 fn transfers(rt: HostRuntime) -> Result<(), Fail> {
     let alloc = rt.alloc();
-    let mut course = course_of(alloc, STICK)?;
+    let mut course = course_of(alloc, STICK, None)?;
     let wants = [
         (receive("1"), "37 48656C6C6F2C20686F7374\n32 00\n"),
         (send(alloc, "1")?, "32 00\n"),
@@ -379,14 +398,14 @@ fn refusals(rt: HostRuntime) -> Result<(), Fail> {
     let alloc = rt.alloc();
     let none = [[0; 4]; 7];
     assert_eq!(rt;
-        Driver::open(alloc, 0, false, none).err(),
+        Driver::open(alloc, 0, HostOptions::usual(false), none).err(),
         Some(DriverFault::Roots)
     );
     assert_eq!(rt;
-        Driver::open(alloc, 8, false, none).err(),
+        Driver::open(alloc, 8, HostOptions::usual(false), none).err(),
         Some(DriverFault::Roots)
     );
-    let mut driver = Driver::open(alloc, 1, false, none)?;
+    let mut driver = Driver::open(alloc, 1, HostOptions::usual(false), none)?;
     // the call that opens the host is under way, and no question was asked
     assert_eq!(rt;
         driver.begin(Want::Round, none).err(),
@@ -430,7 +449,7 @@ fn too_much(rt: HostRuntime) -> Result<(), Fail> {
     let alloc = rt.alloc();
     // connected, enabled by a reset, powered
     let shown = [[3, 1, 1, 0], [0; 4], [0; 4], [0; 4], [0; 4], [0; 4], [0; 4]];
-    let mut driver = Driver::open(alloc, 1, false, shown)?;
+    let mut driver = Driver::open(alloc, 1, HostOptions::usual(false), shown)?;
     'questions: for _ in 0..100u8 {
         match driver.question()? {
             None => driver.begin(Want::Round, shown)?,
