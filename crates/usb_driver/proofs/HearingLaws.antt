@@ -13,6 +13,7 @@ use Rattle.usb_driver.specs.declared.answer.Answer.{Answer}
 use Rattle.usb_driver.specs.declared.progress.Progress.{Progress}
 use Rattle.usb_driver.specs.declared.question.Question.{Question}
 use Rattle.usb_driver.specs.declared.question.Question.TheVariants.{Attempt, Set, Clear, Restart}
+use Rattle.usb_driver.specs.declared.question.Question.TheVariants.{Ins}
 
 -- no answer is used that there is not; and if a question waits, all were used
 pub record Within (answers : List Answer) (p : Progress) : Type 0 where
@@ -25,6 +26,7 @@ one_attempt (Attempt a) = omega arith
 one_attempt (Set port feature) = omega arith
 one_attempt (Clear port feature) = omega arith
 one_attempt (Restart address endpoint) = omega arith
+one_attempt (Ins to toggle most) = omega arith
 
 abbrev progress : ℕ → List (List ℕ) → ℕ → Option Question → Progress
 progress used statuses attempts asked =

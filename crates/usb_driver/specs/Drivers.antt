@@ -7,6 +7,7 @@ use Rattle.usb_host.specs.{HostState, first_numbers, none_left}
 use Rattle.usb_driver.specs.Calls.{Makes}
 use Rattle.usb_driver.specs.Hearing.{Hears, failed_by, no_world, spent_in}
 use Rattle.usb_driver.specs.Questions.{FitsQuestion}
+use Rattle.usb_driver.specs.RowAnswers.{CameFirst, FirstFault}
 use Rattle.usb_driver.specs.Told.{call_told, done_status}
 use Rattle.usb_driver.specs.declared.answer.Answer.{Answer}
 use Rattle.usb_driver.specs.declared.call.Done.{Done}
@@ -183,6 +184,36 @@ abbrev pub AnswersQuestion : Answer → DriverState → Result (Unit {0}) Driver
     → Type 0
 AnswersQuestion a old (Ok done) new = TakesAnswer a old new
 AnswersQuestion a old (Err f) new = AnswerRefused a old f × (new ≡ old)
+
+-- `answer_row`
+pub record TakesRow (before : List ℕ) (last : Answer) (old new : DriverState) : Type 0 where
+  pub question : Question
+  pub asked : old.asked ≡ Some question
+  pub packets : List Answer
+  pub first : CameFirst last.statuses question before packets
+  pub fits : FitsQuestion question last.outcome
+  pub rest : new ≡ record old { heard = old.heard ++ (packets ++ last ∷ []); asked = None }
+
+pub record HasNoFirst (before : List ℕ) (old : DriverState) (f : DriverFault) : Type 0 where
+  pub question : Question
+  pub asked : old.asked ≡ Some question
+  pub cause : FirstFault question before f
+
+abbrev pub RowRefused : List ℕ → Answer → DriverState → DriverFault → Type 0
+RowRefused before last old fault.OutOfTurn =
+    (old.asked ≡ None) ⊎ HasNoFirst before old fault.OutOfTurn
+RowRefused before last old fault.Length = HasNoFirst before old fault.Length
+RowRefused before last old fault.TooMuch =
+    HasTooMuch last old ⊎ HasNoFirst before old fault.TooMuch
+RowRefused before last old fault.Memory = old.asked ≢ None
+RowRefused before last old fault.Kind = ⊥
+RowRefused before last old fault.Roots = ⊥
+RowRefused before last old fault.Number = ⊥
+
+abbrev pub AnswersRow : List ℕ → Answer → DriverState → Result (Unit {0}) DriverFault
+    → DriverState → Type 0
+AnswersRow before last old (Ok done) new = TakesRow before last old new
+AnswersRow before last old (Err f) new = RowRefused before last old f × (new ≡ old)
 
 -- `question`: the one that waits; or a new one, where the call that is under way needs an answer
 abbrev pub Asks : Question → DriverState → DriverState → Type 0

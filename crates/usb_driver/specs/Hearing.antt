@@ -2,6 +2,7 @@
 use Rattle.std.specs.Prelude.{◌≡◌, ℕ, ◌+◌, ◌-◌, ◌≤◌, List, [], length, Bool, true, false}
 use Rattle.std.specs.Prelude.{Option, Some, None, slice_get, slice_index_or, Result, Ok}
 use Rattle.std.specs.Prelude.{Err, nat_lt, if◌then◌else◌}
+use Rattle.usb_bus.specs.{IsDestination}
 use Rattle.usb_device.specs.{new_ports}
 use Rattle.usb_port.specs.{IsClearFeature, IsSetFeature}
 use Rattle.usb_request.specs.{DIRECTION_IN, is_endpoint_address}
@@ -14,6 +15,7 @@ use Rattle.usb_driver.specs.declared.answer.Answer.{Answer}
 use Rattle.usb_driver.specs.declared.progress.Progress.{Progress}
 use Rattle.usb_driver.specs.declared.question.Question.{Question}
 use Rattle.usb_driver.specs.declared.question.Question.TheVariants.{Attempt, Set, Clear, Restart}
+use Rattle.usb_driver.specs.declared.question.Question.TheVariants.{Ins}
 
 -- what a controller with so many root ports may be asked
 abbrev pub IsQuestion : ℕ → Question → Type 0
@@ -22,12 +24,15 @@ IsQuestion roots (Set port feature) = (1 ≤ port) × (port ≤ roots) × IsSetF
 IsQuestion roots (Clear port feature) = (1 ≤ port) × (port ≤ roots) × IsClearFeature feature
 IsQuestion roots (Restart address endpoint) =
     (address ≤ 127) × (is_endpoint_address endpoint ≡ true)
+IsQuestion roots (Ins to toggle most) = IsDestination to × (1 ≤ most) × (most ≤ 64)
 
+-- how many attempts an answer to it is; a row is answered by one attempt after the other
 abbrev pub attempts_in : Question → ℕ
 attempts_in (Attempt a) = 1
 attempts_in (Set port feature) = 0
 attempts_in (Clear port feature) = 0
 attempts_in (Restart address endpoint) = 0
+attempts_in (Ins to toggle most) = 1
 
 -- how many attempts a question that waits is
 abbrev pub pending : Option Question → ℕ

@@ -6,6 +6,8 @@ pub mod Questions
 pub mod WriteRequests
 pub mod Wants
 pub mod Hearing
+pub mod HeardRows
+pub mod RowAnswers
 pub mod Calls
 pub mod Told
 pub mod Drivers

@@ -1,12 +1,13 @@
 -- The record of a question.
 use Rattle.std.specs.Prelude.{ℕ, ◌+◌, ◌-◌, List, [], ◌∷◌, ◌++◌, length, replicate}
 use Rattle.std.specs.Prelude.{Bool, true, false, ⊤}
-use Rattle.usb_packet.specs.{Toggle, Zero, One, speed_has_pre, speed_is_low}
-use Rattle.usb_world.specs.{FitsMaximum, Outcome, destination_of}
+use Rattle.usb_packet.specs.{Speed, Toggle, Zero, One, speed_has_pre, speed_is_low}
+use Rattle.usb_world.specs.{Destination, FitsMaximum, Outcome, destination_of}
 use Rattle.usb_world.specs.declared.types.Attempt.{Attempt as AnAttempt}
 use Rattle.usb_world.specs.declared.types.Attempt.TheVariants as token
 use Rattle.usb_driver.specs.declared.question.Question.{Question}
 use Rattle.usb_driver.specs.declared.question.Question.TheVariants.{Attempt, Set, Clear, Restart}
+use Rattle.usb_driver.specs.declared.question.Question.TheVariants.{Ins}
 
 abbrev pub token_number : AnAttempt → ℕ
 token_number (token.Setup to bytes) = 1
@@ -34,11 +35,12 @@ flag true bit = bit
 flag false bit = 0
 
 -- low speed, PRE (8.6.5), DATA1
+abbrev pub flags_by : Speed → Bool → ℕ
+flags_by speed one =
+    flag (speed_is_low speed) 1 + flag (speed_has_pre speed) 2 + flag one 4
+
 abbrev pub attempt_flags : AnAttempt → ℕ
-attempt_flags a =
-    flag (speed_is_low (destination_of a).speed) 1
-    + flag (speed_has_pre (destination_of a).speed) 2
-    + flag (sends_one a) 4
+attempt_flags a = flags_by (destination_of a).speed (sends_one a)
 
 -- eight bytes, then data, and zeros up to 72
 abbrev pub question_record : List ℕ → List ℕ → List ℕ
@@ -50,6 +52,11 @@ attempt_head a =
     ∷ attempt_flags a ∷ (destination_of a).max
     ∷ length (sent_bytes a) ∷ 0 ∷ 0 ∷ []
 
+-- a row of INs: the toggle of its first packet, and the most packets
+abbrev pub row_head : Destination → Toggle → ℕ → List ℕ
+row_head to toggle most =
+    7 ∷ to.address ∷ to.number ∷ flags_by to.speed (is_one toggle) ∷ to.max ∷ 0 ∷ most ∷ 0 ∷ []
+
 -- a head of a kind and two numbers
 abbrev pub call_head : ℕ → ℕ → ℕ → List ℕ
 call_head kind first second = kind ∷ first ∷ second ∷ 0 ∷ 0 ∷ 0 ∷ 0 ∷ 0 ∷ []
@@ -59,9 +66,11 @@ question_bytes (Attempt a) = question_record (attempt_head a) (sent_bytes a)
 question_bytes (Set port feature) = question_record (call_head 4 port feature) []
 question_bytes (Clear port feature) = question_record (call_head 5 port feature) []
 question_bytes (Restart address endpoint) = question_record (call_head 6 address endpoint) []
+question_bytes (Ins to toggle most) = question_record (row_head to toggle most) []
 
 -- an answer to it has no more data than the endpoint's maximum packet (8.7.4); what comes of any
 -- other question is not read
 abbrev pub FitsQuestion : Question → Outcome → Type 0
 FitsQuestion (Attempt a) outcome = FitsMaximum (destination_of a).max outcome
+FitsQuestion (Ins to toggle most) outcome = FitsMaximum to.max outcome
 FitsQuestion other outcome = ⊤

@@ -2,11 +2,13 @@
 ghost use Rattle.std.specs.Prelude.{◌≡◌, ◌≤◌, IfOk, IfSome};
 ghost use Rattle.usb_driver.specs.Drivers.{Call, IsTold, MakesCall};
 ghost use Rattle.usb_driver.specs.DriverSteps.{CallIs, StepOf, the_call};
+ghost use Rattle.usb_driver.specs.RowAnswers.{row_max};
 
 use crate::call::{Done, made};
 use crate::heard::{Begun, Heard};
 use crate::idle::Idle;
 use crate::progress::Progress;
+use crate::row::first_answers;
 use crate::told::{call_told, status_of};
 use crate::{Answer, DriverFault, Question, Statuses, Want};
 use std::alloc::{AllocError, Global};
@@ -36,6 +38,7 @@ pub struct Driver {
     told: Vec<u8>,
     ghost some_root: { 1 ≤ roots },
     ghost few_roots: { roots ≤ 7 },
+    ghost row_fits: { row_max asked ≤ 64 },
 }
 
 /// How far a call came.
@@ -48,7 +51,7 @@ enum Step {
 
 impl Driver {
     ghost use Rattle.std.specs.Prelude.{IfErr};
-    ghost use Rattle.usb_driver.specs.Drivers.{AnswersQuestion, Begins, HasNoRoots, IsUnderWay, Steps, call_under_way, is_under_way, opening};
+    ghost use Rattle.usb_driver.specs.Drivers.{AnswersQuestion, AnswersRow, Begins, HasNoRoots, IsUnderWay, Steps, call_under_way, is_under_way, opening};
     ghost use Rattle.usb_driver.specs.DriverStates.{driver_state};
     ghost use Rattle.usb_driver.specs.declared.fault.DriverFault.{DriverFault as AFault};
 
@@ -159,6 +162,40 @@ impl Driver {
             return Err(DriverFault::TooMuch);
         }
         if self.heard.push(answer).is_err() {
+            return Err(DriverFault::Memory);
+        }
+        self.asked = None;
+        Ok(())
+    }
+
+    /// Answers a row of INs (`Question::Ins`), or any other question with `before` empty.
+    ///
+    /// `before` are the bytes of the full packets that came first, in order. Their toggles were
+    /// those that were due. `last` is what came of the attempt after them, and may again be a full
+    /// packet. This does what one `answer` for each packet would do, with the statuses of `last`,
+    /// and then one for `last`.
+    ///
+    /// # Errors
+    ///
+    /// Nothing changes:
+    ///
+    /// - `OutOfTurn`: there is no question, or `before` is not empty and the question is no row.
+    /// - `Length`: the length of `before` is no multiple of the endpoint's maximum packet.
+    /// - `TooMuch`: `before` has all packets of the row or more, or `last` has more data than the
+    ///   maximum packet.
+    /// - `Memory`: memory was refused. Nothing was taken; answer again.
+    pub fn answer_row(&mut self, before: &[u8], last: Answer) -> Result<(), DriverFault>
+        ensures { AnswersRow before.now last (driver_state self.old) result
+            (driver_state self.new) }
+    {
+        let Some(asked) = &self.asked else {
+            return Err(DriverFault::OutOfTurn);
+        };
+        let mut row = first_answers(self.alloc, asked, before, last.statuses)?;
+        if !asked.takes(&last) {
+            return Err(DriverFault::TooMuch);
+        }
+        if row.push(last).is_err() || self.heard.append(&mut row).is_err() {
             return Err(DriverFault::Memory);
         }
         self.asked = None;

@@ -5,9 +5,11 @@ ghost use Rattle.usb_driver.specs.declared.answer.Answer.{Answer as AnAnswer};
 
 use crate::progress::{Progress, within};
 use crate::question::attempt_again;
+use crate::row::add_full;
 use crate::{Answer, Question, Statuses};
+use arrayvec::ArrayVec;
 use std::marker::{Brand, PhantomData};
-use usb_bus::{Attempt, Bus, BusFault, Outcome};
+use usb_bus::{Attempt, Bus, BusFault, Destination, Outcome, ROW_ROOM, RowDone, RowEnd, Toggle};
 use usb_request::endpoint_address::DIRECTION_IN;
 
 /// Where a call begins.
@@ -48,12 +50,14 @@ pub(crate) struct Heard<B: Begun> {
 
 /// Nothing is said of a world: what the controller side does is its own.
 impl<B: Begun> Bus for Heard<B> {
-    ghost use Rattle.std.specs.Prelude.{None, Some, false, IfErr, IfOk};
+    ghost use Rattle.std.specs.Prelude.{◌*◌, None, Some, false, length, IfErr, IfOk};
+    ghost use Rattle.usb_bus.specs.Rows.{CountsRow, IsDestination, RowTold, row_attempts};
     ghost use Rattle.usb_bus.specs.Traces.{Spends};
     ghost use Rattle.usb_port.specs.Calls.{IsClearFeature, IsSetFeature};
     ghost use Rattle.usb_world.specs.PlainAttempts.{attempt_data};
     ghost use Rattle.usb_world.specs.Worlds.{FitsMaximum, IsAttempt};
     ghost use Rattle.usb_driver.specs.Hearing.{asked_on, attempt_gives, failed_by, no_world, restart_of, spent_in, status_shown};
+    ghost use Rattle.usb_driver.specs.HeardRows.{HearsIns};
     ghost use Rattle.usb_driver.specs.declared.question.Question.TheVariants as question;
 
     ghost modelled = { false };
@@ -72,7 +76,7 @@ impl<B: Begun> Bus for Heard<B> {
     ///
     /// # Errors
     ///
-    /// Failed where no answer was heard, and behind that.
+    /// Failed if no answer was heard, and after that.
     fn attempt(&mut self, attempt: &Attempt) -> Result<Outcome, BusFault>
         requires { IsAttempt (attempt_data attempt.now) }
         ensures gives { result ≡ attempt_gives self.old.answers.items self.old.so_far attempt.now }
@@ -87,6 +91,54 @@ impl<B: Begun> Bus for Heard<B> {
         match self.hear(Question::Attempt(attempt_again(attempt))) {
             Some(outcome) => Ok(within(most, outcome)),
             None => Err(BusFault::Failed),
+        }
+    }
+
+    /// Makes a row of INs. Each attempt asks for all that is left of the row.
+    ///
+    /// # Errors
+    ///
+    /// Failed if no answer was heard, and after that.
+    fn attempt_ins(
+        &mut self,
+        to: Destination,
+        toggle: Toggle,
+        most: u8,
+        got: &mut ArrayVec<u8, ROW_ROOM>,
+    ) -> RowDone
+        requires row { IsDestination to × (most ≤ 64) }
+        ensures hears { HearsIns B.answers to toggle most self.old.so_far result got.new.items
+            self.new.so_far }
+        ensures spends { Spends (λ bus. spent_in bus.so_far) (λ bus. bus.roots)
+            (row_attempts result.moved result.end) self.old self.new }
+        ensures fits { CountsRow to.max most result
+            × (length got.new.items ≡ result.moved * to.max) }
+        ensures told { RowTold result.end (failed_by self.new.so_far.asked) }
+    {
+        got.clear();
+        let mut due = toggle;
+        'packets: for moved in 0..most {
+            match self.hear_in(to, due, most - moved) {
+                Ok(outcome) => {
+                    if !add_full(got, to.max, due, &outcome) {
+                        return RowDone {
+                            moved,
+                            end: RowEnd::Answered(outcome),
+                        };
+                    }
+                    due = due.other();
+                }
+                Err(fault) => {
+                    return RowDone {
+                        moved,
+                        end: RowEnd::Faulted(fault),
+                    };
+                }
+            }
+        }
+        RowDone {
+            moved: most,
+            end: RowEnd::Whole,
         }
     }
 
@@ -154,8 +206,13 @@ impl<B: Begun> Bus for Heard<B> {
 }
 
 impl<B: Begun> Heard<B> {
-    ghost use Rattle.std.specs.Prelude.{option_map};
-    ghost use Rattle.usb_driver.specs.Hearing.{IsQuestion, answer_for, asked_on, begun_at};
+    ghost use Rattle.std.specs.Prelude.{Some, option_map, IfErr, IfOk};
+    ghost use Rattle.usb_bus.specs.Rows.{IsDestination};
+    ghost use Rattle.usb_bus.specs.Traces.{Spends};
+    ghost use Rattle.usb_world.specs.Worlds.{FitsMaximum};
+    ghost use Rattle.usb_world.specs.declared.types.Attempt.TheVariants as token;
+    ghost use Rattle.usb_driver.specs.Hearing.{IsQuestion, answer_for, asked_on, attempt_gives, begun_at, failed_by, spent_in};
+    ghost use Rattle.usb_driver.specs.declared.question.Question.TheVariants as question;
 
     /// The bus of a call that is made anew. The root ports showed these statuses when it began.
     pub(crate) fn begin(roots: u8, statuses: Statuses, answers: Vec<Answer>) -> Self
@@ -188,7 +245,29 @@ impl<B: Begun> Heard<B> {
         (so_far, answers)
     }
 
-    /// Asks a question, and returns what came of an attempt; `None` where nothing was heard.
+    /// Makes the next attempt of a row of INs, of which this many packets are left.
+    fn hear_in(&mut self, to: Destination, due: Toggle, left: u8) -> Result<Outcome, BusFault>
+        requires { IsDestination to × (1 ≤ left) × (left ≤ 64) }
+        ensures hears { (result ≡ attempt_gives B.answers self.old.so_far (token.In to))
+            × (self.new.so_far
+            ≡ asked_on B.answers self.old.so_far (question.Ins to due left)) }
+        ensures spends { Spends (λ bus. spent_in bus.so_far) (λ bus. bus.roots) 1
+            self.old self.new }
+        ensures fits { IfOk result (FitsMaximum to.max) }
+        ensures told { IfErr result (λ fault. failed_by self.new.so_far.asked ≡ Some fault) }
+    {
+        let question = Question::Ins {
+            to,
+            toggle: due,
+            most: left,
+        };
+        match self.hear(question) {
+            Some(outcome) => Ok(within(to.max, outcome)),
+            None => Err(BusFault::Failed),
+        }
+    }
+
+    /// Asks a question, and returns what came of an attempt; `None` if nothing was heard.
     fn hear(&mut self, question: Question) -> Option<Outcome>
         requires { IsQuestion self.old.roots question }
         ensures value { result

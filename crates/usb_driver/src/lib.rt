@@ -38,6 +38,7 @@ mod idle;
 mod place;
 mod progress;
 mod question;
+mod row;
 mod told;
 mod want;
 mod write;

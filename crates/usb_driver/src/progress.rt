@@ -57,12 +57,12 @@ impl Progress {
     }
 }
 
-/// How many attempts a question is.
+/// How many attempts an answer to a question is.
 fn attempts_in(question: &Question) -> usize
     ensures { result ≡ attempts_in question.now }
 {
     match question {
-        Question::Attempt(_) => 1,
+        Question::Attempt(_) | Question::Ins { .. } => 1,
         Question::Set { .. } | Question::Clear { .. } | Question::Restart { .. } => 0,
     }
 }

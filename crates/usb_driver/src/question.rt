@@ -1,12 +1,12 @@
 //! Questions to the controller side.
 ghost use Rattle.std.specs.Prelude.{◌≡◌, ◌≤◌, ◌↔◌, IsTrue, length};
 ghost use Rattle.usb_world.specs.declared.types.Attempt.{Attempt as AnAttempt};
-ghost use Rattle.usb_driver.specs.Questions.{FitsQuestion, attempt_flags, attempt_head, call_head, flag, question_bytes, question_record, sends_one, sent_bytes, token_number};
+ghost use Rattle.usb_driver.specs.Questions.{FitsQuestion, attempt_flags, attempt_head, call_head, flag, flags_by, is_one, question_bytes, question_record, row_head, sends_one, sent_bytes, token_number};
 
 use crate::Answer;
 use crate::answer::copied;
 use arrayvec::ArrayVec;
-use usb_bus::{Attempt, Outcome, Toggle};
+use usb_bus::{Attempt, Destination, Outcome, Speed, Toggle};
 
 /// What the controller side is to do.
 #[derive(Debug, Drop)]
@@ -34,6 +34,17 @@ pub enum Question {
         /// bEndpointAddress (9.6.6): the number, and bit 7 of an IN endpoint.
         endpoint: u8,
     },
+    /// INs of one endpoint, one after the other, until one is not answered by a full packet of
+    /// the toggle that is due. At least one is made. The controller side may end the row after
+    /// any of them.
+    Ins {
+        /// The endpoint. A full packet has its maximum.
+        to: Destination,
+        /// The toggle of the first packet. The others alternate.
+        toggle: Toggle,
+        /// The most packets, 1 to 64.
+        most: u8,
+    },
 }
 
 impl Question {
@@ -41,14 +52,18 @@ impl Question {
     ///
     /// | at | what |
     /// |---|---|
-    /// | 0 | 1 SETUP, 2 OUT, 3 IN, 4 set a root port's feature, 5 clear it, 6 begin an endpoint again |
+    /// | 0 | 1 SETUP, 2 OUT, 3 IN, 4 set a root port's feature, 5 clear it |
+    /// | | 6 begin an endpoint again, 7 a row of INs |
     /// | 1 | the device's address, or the root port |
     /// | 2 | the endpoint's number, the feature, or of 6 bEndpointAddress |
-    /// | 3 | of an attempt: 1 low speed, 2 PRE before each packet (8.6.5), 4 DATA1; their sum |
-    /// | 4 | of an attempt: the endpoint's maximum packet, 1 to 64 |
-    /// | 5 | how many bytes of data SETUP or OUT sends, 0 to 64 |
-    /// | 6, 7 | 0 |
-    /// | 8 to 71 | those data, zeros behind them |
+    /// | 3 | of 1, 2, 3 and 7: 1 low speed, 2 PRE before each packet (8.6.5), 4 DATA1; their sum |
+    /// | 4 | of 1, 2, 3 and 7: the endpoint's maximum packet, 1 to 64 |
+    /// | 5 | the number of bytes that SETUP or OUT sends, 0 to 64 |
+    /// | 6 | of 7: the most packets, 1 to 64 |
+    /// | 7 | 0 |
+    /// | 8 to 71 | the bytes that SETUP or OUT sends, then zeros |
+    ///
+    /// DATA1 is the toggle of an OUT's data, and of the first packet of a row.
     pub fn bytes(&self) -> [u8; 72]
         ensures { result ≡ question_bytes self.now }
     {
@@ -59,6 +74,7 @@ impl Question {
             Question::Restart { address, endpoint } => {
                 laid_out([6, *address, *endpoint, 0, 0, 0, 0, 0], &[])
             }
+            Question::Ins { to, toggle, most } => laid_out(row_head(*to, *toggle, *most), &[]),
         }
     }
 
@@ -80,16 +96,24 @@ impl Question {
                 address: *address,
                 endpoint: *endpoint,
             },
+            Question::Ins { to, toggle, most } => Question::Ins {
+                to: *to,
+                toggle: *toggle,
+                most: *most,
+            },
         }
     }
 
-    /// Whether an answer has no more data than the maximum packet of the attempt (8.7.4).
+    /// Whether an answer has no more data than the endpoint's maximum packet (8.7.4).
     pub(crate) fn takes(&self, answer: &Answer) -> bool
         ensures { IsTrue result ↔ FitsQuestion self.now answer.now.outcome }
     {
         match (self, &answer.outcome) {
             (Question::Attempt(attempt), Outcome::Payload(_, bytes)) => {
                 bytes.len() <= usize::from(attempt.destination().max)
+            }
+            (Question::Ins { to, .. }, Outcome::Payload(_, bytes)) => {
+                bytes.len() <= usize::from(to.max)
             }
             _ => true,
         }
@@ -162,24 +186,43 @@ fn eight(bytes: &[u8; 8]) -> &[u8]
     bytes.as_slice()
 }
 
+/// The first eight bytes of a row's record.
+fn row_head(to: Destination, toggle: Toggle, most: u8) -> [u8; 8]
+    ensures { result ≡ row_head to toggle most }
+{
+    let flags = flags_by(to.speed, is_one(toggle));
+    [7, to.address, to.number, flags, to.max, 0, most, 0]
+}
+
 /// Low speed, PRE and DATA1, of an attempt.
 fn flags_of(attempt: &Attempt) -> u8
     ensures { result ≡ attempt_flags attempt.now }
 {
-    let speed = attempt.destination().speed;
-    flag(speed.is_low(), 1) + flag(speed.has_pre(), 2) + flag(sends_one(attempt), 4)
+    flags_by(attempt.destination().speed, sends_one(attempt))
+}
+
+fn flags_by(speed: Speed, is_one: bool) -> u8
+    ensures { result ≡ flags_by speed is_one }
+{
+    flag(speed.is_low(), 1) + flag(speed.has_pre(), 2) + flag(is_one, 4)
 }
 
 fn sends_one(attempt: &Attempt) -> bool
     ensures { result ≡ sends_one attempt.now }
 {
-    matches!(
-        attempt,
-        Attempt::Out {
-            toggle: Toggle::One,
-            ..
-        }
-    )
+    match attempt {
+        Attempt::Out { toggle, .. } => is_one(*toggle),
+        Attempt::Setup { .. } | Attempt::In { .. } => false,
+    }
+}
+
+fn is_one(toggle: Toggle) -> bool
+    ensures { result ≡ is_one toggle }
+{
+    match toggle {
+        Toggle::Zero => false,
+        Toggle::One => true,
+    }
 }
 
 fn flag(is_set: bool, bit: u8) -> u8

@@ -84,6 +84,18 @@ pub record AnswersBytes (old : DriverState) (bytes : List ℕ)
   pub read : ReadsAnswer bytes answer
   pub answers : AnswersRead old answer done new
 
+-- the same of the answer to a row of INs
+abbrev pub RowRead : DriverState → List ℕ → Result Answer DriverFault
+    → Result (Unit {0}) DriverFault → DriverState → Type 0
+RowRead old before (Ok answer) done new = driver.AnswersRow before answer old done new
+RowRead old before (Err f) done new = (done ≡ Err f) × (new ≡ old)
+
+pub record RowBytes (old : DriverState) (before bytes : List ℕ)
+    (done : Result (Unit {0}) DriverFault) (new : DriverState) : Type 0 where
+  pub answer : Result Answer DriverFault
+  pub read : ReadsAnswer bytes answer
+  pub answers : RowRead old before answer done new
+
 -- the driver's question fills the room; if there is none, or it failed, the room stays as it was
 abbrev pub Puts : DriverState → List ℕ → Result Bool DriverFault → DriverState → List ℕ → Type 0
 Puts old room (Ok true) new now = (question : Question)
@@ -146,6 +158,12 @@ pub record Answered (old : DriverState) (bytes : List ℕ) (number : ℕ) (new :
   pub answers : AnswersBytes old bytes done new
   pub returned : number ≡ done_number done
 
+pub record RowAnswered (old : DriverState) (before bytes : List ℕ) (number : ℕ)
+    (new : DriverState) : Type 0 where
+  pub done : Result (Unit {0}) DriverFault
+  pub answers : RowBytes old before bytes done new
+  pub returned : number ≡ done_number done
+
 abbrev pub Begins : Option DriverState → List ℕ → ℕ → Option DriverState → Type 0
 Begins None bytes number new = (number ≡ 47) × (new ≡ None)
 Begins (Some old) bytes number (Some new) = Begun old bytes number new
@@ -160,6 +178,11 @@ abbrev pub Answers : Option DriverState → List ℕ → ℕ → Option DriverSt
 Answers None bytes number new = (number ≡ 47) × (new ≡ None)
 Answers (Some old) bytes number (Some new) = Answered old bytes number new
 Answers (Some old) bytes number None = ⊥
+
+abbrev pub AnswersRow : Option DriverState → List ℕ → List ℕ → ℕ → Option DriverState → Type 0
+AnswersRow None before bytes number new = (number ≡ 47) × (new ≡ None)
+AnswersRow (Some old) before bytes number (Some new) = RowAnswered old before bytes number new
+AnswersRow (Some old) before bytes number None = ⊥
 
 -- the records of the call that was done last, without the first `skip` bytes
 abbrev pub Copies : Option DriverState → ℕ → List ℕ → ℕ → List ℕ → Type 0

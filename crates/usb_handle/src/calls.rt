@@ -3,7 +3,7 @@ ghost use Rattle.std.specs.Prelude.{◌≡◌, ◌≢◌, drop, length, IfOk, If
 ghost use Rattle.usb_driver.specs.Drivers.{opening};
 ghost use Rattle.usb_driver.specs.DriverStates.{driver_state};
 ghost use Rattle.usb_driver.specs.declared.fault.DriverFault.{DriverFault as AFault};
-ghost use Rattle.usb_handle.specs.Exports.{AnswersBytes, BeginsBytes, OpenFault, PutsQuestion, filled, options_in, statuses_in};
+ghost use Rattle.usb_handle.specs.Exports.{AnswersBytes, BeginsBytes, OpenFault, PutsQuestion, RowBytes, filled, options_in, statuses_in};
 
 use std::alloc::Global;
 use std::cmp::min;
@@ -95,6 +95,18 @@ pub(crate) fn answered(driver: &mut Driver, bytes: &[u8]) -> Result<(), DriverFa
     ensures { AnswersBytes (driver_state driver.old) bytes.now result (driver_state driver.new) }
 {
     driver.answer(Answer::read(bytes)?)
+}
+
+/// Answers a row with the bytes of its first packets, and the record of its last attempt.
+pub(crate) fn row_answered(
+    driver: &mut Driver,
+    before: &[u8],
+    bytes: &[u8],
+) -> Result<(), DriverFault>
+    ensures { RowBytes (driver_state driver.old) before.now bytes.now result
+        (driver_state driver.new) }
+{
+    driver.answer_row(before, Answer::read(bytes)?)
 }
 
 /// Copies the bytes without the first ones, as many as there is room for.

@@ -1,8 +1,8 @@
-//! The six calls.
+//! The seven calls.
 ghost use Rattle.std.specs.Prelude.{◌≡◌};
-ghost use Rattle.usb_handle.specs.Exports.{Answers, Asks, Begins, Closes, Opens, Copies, done_number, held_by, options_in, put_number};
+ghost use Rattle.usb_handle.specs.Exports.{Answers, AnswersRow, Asks, Begins, Closes, Opens, Copies, done_number, held_by, options_in, put_number};
 
-use crate::calls::{answered, begun, copy_rest, opened, options_of, put_question};
+use crate::calls::{answered, begun, copy_rest, opened, options_of, put_question, row_answered};
 use crate::handle::Handle;
 use std::alloc::Global;
 use usb_driver::DriverFault;
@@ -111,6 +111,35 @@ pub extern "C" fn usb_handle_answer(alloc: Global, handle: &mut Handle, answer: 
         return CLOSED;
     };
     let done = answered(&mut driver, answer);
+    handle.put(driver);
+    done_number(done)
+}
+
+/// Answers a row of INs (`usb_driver::Question::Ins`): the bytes of the full packets that came first,
+/// in order, and the record of the attempt after them. Without such bytes it is `usb_handle_answer`.
+///
+/// Returns 0, or one of these. Nothing is taken, and the host stays as it was:
+///
+/// - 47: the handle is closed.
+/// - 42, 43, 44, 46: the record is no answer, as `Answer::read` says.
+/// - 41: there is no question, or there are first packets and the question is no row.
+/// - 43: the length of `before` is no multiple of the question's maximum packet.
+/// - 44: there are more packets than the row has, or the last one is too long.
+/// - 40: memory was refused.
+#[unsafe(no_mangle)]
+pub extern "C" fn usb_handle_answer_row(
+    alloc: Global,
+    handle: &mut Handle,
+    before: &[u8],
+    answer: &[u8],
+) -> u8
+    ensures { AnswersRow (held_by handle.old) before.now answer.now result
+        (held_by handle.new) }
+{
+    let Some(mut driver) = handle.take(alloc) else {
+        return CLOSED;
+    };
+    let done = row_answered(&mut driver, before, answer);
     handle.put(driver);
     done_number(done)
 }

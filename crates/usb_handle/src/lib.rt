@@ -1,4 +1,4 @@
-//! The host as a library for C: six calls at a handle, each of which may be made at any time.
+//! The host as a library for C: seven calls at a handle, each of which may be made at any time.
 //!
 //! C lays down this struct, and fills it with zeros before the first call. The handle is closed then.
 //!
@@ -56,8 +56,8 @@ mod handle;
 mod slot;
 
 pub use exports::{
-    usb_handle_answer, usb_handle_begin, usb_handle_close, usb_handle_open, usb_handle_question,
-    usb_handle_told,
+    usb_handle_answer, usb_handle_answer_row, usb_handle_begin, usb_handle_close, usb_handle_open,
+    usb_handle_question, usb_handle_told,
 };
 pub use handle::Handle;
 pub use slot::Slot;

@@ -118,7 +118,48 @@ path = "1"
 device = "stick"
 "#;
 
-/// The attempt that a question's bytes ask for; `None` if it is no attempt.
+/// A device with 20 bytes in packets of 8, by three INs, and the same with a NAK before each packet.
+const READER: &str = r#"
+limit = 10000
+roots = 2
+
+[[device]]
+name = "reader"
+speed = "full"
+descriptor = "120100020000004034127856000100000001"
+configs = ["0902200001010080640904000002080650000705810208000007050202400000"]
+source = "5477656E7479206279746573206F662064617461"
+
+[[device]]
+name = "slow"
+speed = "full"
+descriptor = "120100020000004034127856000100000001"
+configs = ["0902200001010080640904000002080650000705810208000007050202400000"]
+endpoint = [{ address = 0x81, source = "5477656E7479206279746573206F662064617461", naks = 1 }]
+
+[[event]]
+do = "plug"
+path = "1"
+device = "reader"
+
+[[event]]
+do = "plug"
+path = "2"
+device = "slow"
+"#;
+
+/// Those bytes: "Twenty bytes of data".
+const TWENTY_TOLD: &str = "37 5477656E7479206279746573206F662064617461\n32 00\n";
+
+/// Both devices.
+const READERS_TOLD: &str =
+    "33 0101000000000000010000008000000000000000120100020000004034127856000100000001\n\
+    34 0902200001010080640904000002080650000705810208000007050202400000\n\
+    33 0102000000000000020000008100000000000000120100020000004034127856000100000001\n\
+    34 0902200001010080640904000002080650000705810208000007050202400000\n\
+    32 00\n";
+
+/// The attempt that a question's bytes ask for, and the first of a row; `None` if it is none.
 fn attempt_of(record: &[u8; 72]) -> Option<Attempt>
     ensures { IfSome result (λ attempt. IsAttempt (attempt_data attempt)) }
 {
@@ -154,7 +195,7 @@ fn attempt_of(record: &[u8; 72]) -> Option<Attempt>
             },
             bytes: sent(record, usize::from(record[5])),
         }),
-        3 => Some(Attempt::In { to }),
+        3 | 7 => Some(Attempt::In { to }),
         _ => None,
     }
 }
@@ -192,6 +233,35 @@ fn put(bus: &mut SimBus<Untraced>, record: &[u8; 72]) -> Answer {
     }
 }
 
+/// Makes at most `most` attempts of a row, and returns the bytes of the full packets before the last
+/// attempt, and what came of that.
+fn put_row(
+    alloc: Global,
+    bus: &mut SimBus<Untraced>,
+    record: &[u8; 72],
+    most: u8,
+) -> Result<(Vec<u8>, Answer), AllocError> {
+    let mut before = Vec::new(alloc);
+    let mut last = put(bus, record);
+    let mut due = if record[3] >= 4 {
+        Toggle::One
+    } else {
+        Toggle::Zero
+    };
+    'packets: for _ in 1..record[6].min(most) {
+        match &last.outcome {
+            Outcome::Payload(given, bytes)
+                if due.is_same(*given) && bytes.len() == usize::from(record[4]) => {
+                before.extend_from_slice(bytes.as_slice())?;
+            }
+            _ => return Ok((before, last)),
+        }
+        due = due.other();
+        last = put(bus, record);
+    }
+    Ok((before, last))
+}
+
 /// Does a call at a root port, or begins an endpoint again.
 fn call(bus: &mut SimBus<Untraced>, kind: u8, first: u8, second: u8) {
     let feature = u16::from(second);
@@ -217,23 +287,36 @@ fn call(bus: &mut SimBus<Untraced>, kind: u8, first: u8, second: u8) {
 /// A driver and the bus that its questions go to.
 #[derive(Drop)]
 struct Course {
+    alloc: Global,
     driver: Driver,
     bus: SimBus<Untraced>,
+    /// The most attempts that the controller makes of a row. Of one, it answers as to any question.
+    row: u8,
+    /// The number of questions of the last call.
+    questions: u16,
 }
 
 impl Course {
     /// Answers questions until the call is done.
     fn finish(&mut self) -> Result<(), DriverFault> {
-        'questions: for _ in 0..10000u16 {
-            match self.driver.question()? {
-                Some(question) => {
-                    let answer = put(&mut self.bus, &question.bytes());
-                    self.driver.answer(answer)?;
-                }
-                None => return Ok(()),
-            }
+        'questions: for asked in 0..10000u16 {
+            let Some(question) = self.driver.question()? else {
+                self.questions = asked;
+                return Ok(());
+            };
+            self.put(&question.bytes())?;
         }
         Err(DriverFault::OutOfTurn)
+    }
+
+    /// Does what a question's bytes say, and answers it.
+    fn put(&mut self, record: &[u8; 72]) -> Result<(), DriverFault> {
+        if record[0] != 7 || self.row == 1 {
+            let answer = put(&mut self.bus, record);
+            return self.driver.answer(answer);
+        }
+        let (before, last) = put_row(self.alloc, &mut self.bus, record, self.row)?;
+        self.driver.answer_row(before.as_slice(), last)
     }
 
     /// Makes a call.
@@ -263,7 +346,13 @@ fn course_of(alloc: Global, plan: &str, device_bytes: Option<usize>) -> Result<C
         device_bytes,
     };
     let driver = Driver::open(alloc, bus.root_ports(), options, statuses(&bus))?;
-    let mut course = Course { driver, bus };
+    let mut course = Course {
+        alloc,
+        driver,
+        bus,
+        row: 1,
+        questions: 0,
+    };
     course.finish()?;
     'events: for _ in 0..100u8 {
         course.settle()?;
@@ -366,6 +455,190 @@ fn transfers(rt: HostRuntime) -> Result<(), Fail> {
         assert_eq!(rt; lines_of(alloc, course.driver.told())?.as_str(), told);
     }
     Ok(())
+}
+
+/// The most attempts that a controller makes of a row, whence packets are received, and how many
+/// questions that takes.
+struct RowOfIns {
+    row: u8,
+    path: &'static str,
+    packets: u16,
+    questions: u16,
+}
+
+const ROWS_OF_INS: &[RowOfIns] = &[
+    RowOfIns {
+        row: 1,
+        path: "1",
+        packets: 3,
+        questions: 3,
+    },
+    RowOfIns {
+        row: 2,
+        path: "1",
+        packets: 3,
+        questions: 2,
+    },
+    RowOfIns {
+        row: 3,
+        path: "1",
+        packets: 3,
+        questions: 1,
+    },
+    // the short packet ends the row, and the call
+    RowOfIns {
+        row: 64,
+        path: "1",
+        packets: 200,
+        questions: 1,
+    },
+    // a NAK ends each row, and its packet is then asked for alone
+    RowOfIns {
+        row: 1,
+        path: "2",
+        packets: 3,
+        questions: 6,
+    },
+    RowOfIns {
+        row: 64,
+        path: "2",
+        packets: 3,
+        questions: 6,
+    },
+];
+
+/// However a controller cuts a row of INs, the same bytes come, and the same devices are listed.
+#[test]
+fn rows_of_ins(rt: HostRuntime) -> Result<(), Fail> {
+    let alloc = rt.alloc();
+    for row in ROWS_OF_INS {
+        let mut course = course_of(alloc, READER, None)?;
+        course.row = row.row;
+        let Some(path) = PortPath::from_text(row.path) else {
+            continue;
+        };
+        course.call(Want::Receive {
+            path,
+            packets: row.packets,
+        })?;
+        assert_eq!(rt;
+            lines_of(alloc, course.driver.told())?.as_str(),
+            TWENTY_TOLD
+        );
+        assert_eq!(rt; course.questions, row.questions);
+        course.call(Want::Tree)?;
+        assert_eq!(rt;
+            lines_of(alloc, course.driver.told())?.as_str(),
+            READERS_TOLD
+        );
+    }
+    Ok(())
+}
+
+/// The number of bytes before the last attempt, that of the last packet, and why they are refused.
+struct RefusedRow {
+    before: usize,
+    last: usize,
+    fault: DriverFault,
+}
+
+/// Of a row of three INs, 8 bytes each.
+const REFUSED_ROWS: &[RefusedRow] = &[
+    RefusedRow {
+        before: 7,
+        last: 8,
+        fault: DriverFault::Length,
+    },
+    RefusedRow {
+        before: 17,
+        last: 0,
+        fault: DriverFault::Length,
+    },
+    // three packets, and one more
+    RefusedRow {
+        before: 24,
+        last: 0,
+        fault: DriverFault::TooMuch,
+    },
+    RefusedRow {
+        before: 8,
+        last: 9,
+        fault: DriverFault::TooMuch,
+    },
+];
+
+/// A row's answer to no question, or to one that is no row, changes nothing.
+#[test]
+fn rows_out_of_turn(rt: HostRuntime) -> Result<(), Fail> {
+    let alloc = rt.alloc();
+    let mut course = course_of(alloc, READER, None)?;
+    let shown = statuses(&course.bus);
+    assert_eq!(rt;
+        course.driver.answer_row(&[], packet(0, shown)).err(),
+        Some(DriverFault::OutOfTurn)
+    );
+    let Some(want) = send(alloc, "1")? else {
+        return Ok(());
+    };
+    course.driver.begin(want, shown)?;
+    let asked = question_of(&mut course.driver)?;
+    // OUT
+    assert_eq!(rt; asked[0], 2);
+    assert_eq!(rt;
+        course.driver.answer_row(&[0; 8], packet(0, shown)).err(),
+        Some(DriverFault::OutOfTurn)
+    );
+    assert_eq!(rt; question_of(&mut course.driver)?, asked);
+    Ok(())
+}
+
+/// An answer that no row of three INs can have changes nothing, and a right one is taken after it.
+#[test]
+fn refused_rows(rt: HostRuntime) -> Result<(), Fail> {
+    let alloc = rt.alloc();
+    let mut course = course_of(alloc, READER, None)?;
+    let shown = statuses(&course.bus);
+    let Some(path) = PortPath::from_text("1") else {
+        return Ok(());
+    };
+    course
+        .driver
+        .begin(Want::Receive { path, packets: 3 }, shown)?;
+    let asked = question_of(&mut course.driver)?;
+    // address 1, endpoint 1, full speed from DATA0, packets of 8, three of them
+    assert_eq!(rt; asked.first_chunk::<8>(), Some(&[7, 1, 1, 0, 8, 0, 3, 0]));
+    let bytes = [0x2a; 24];
+    for row in REFUSED_ROWS {
+        let before = bytes.get(..row.before).unwrap_or(&[]);
+        assert_eq!(rt;
+            course
+                .driver
+                .answer_row(before, packet(row.last, shown))
+                .err(),
+            Some(row.fault)
+        );
+        assert_eq!(rt; question_of(&mut course.driver)?, asked);
+    }
+    // DATA0 and DATA1 came, and a short packet with DATA0
+    course.driver.answer_row(&[0x2a; 16], packet(1, shown))?;
+    assert!(rt; course.driver.question()?.is_none());
+    assert_eq!(rt;
+        lines_of(alloc, course.driver.told())?.as_str(),
+        "37 2A2A2A2A2A2A2A2A2A2A2A2A2A2A2A2A00\n32 00\n"
+    );
+    Ok(())
+}
+
+/// A packet of this number of zeros, with DATA0.
+fn packet(count: usize, statuses: Statuses) -> Answer {
+    let mut bytes = ArrayVec::new();
+    'bytes: for _ in 0..count.min(64) {
+        bytes.push(0);
+    }
+    Answer {
+        outcome: Outcome::Payload(Toggle::Zero, bytes),
+        statuses,
+    }
 }
 
 fn receive(path: &str) -> Option<Want> {

@@ -518,5 +518,11 @@ fn questions(rt: HostRuntime) -> Result<(), Fail> {
         endpoint: 0x83,
     };
     assert!(rt; begins(&restart.bytes(), &[6, 9, 0x83]));
+    let row = Question::Ins {
+        to: destination(Speed::LowBelowHub),
+        toggle: Toggle::One,
+        most: 64,
+    };
+    assert!(rt; begins(&row.bytes(), &[7, 5, 2, 7, 8, 0, 64]));
     Ok(())
 }
