@@ -3,23 +3,20 @@ use Rattle.std.proofs.Common.{◌≡◌, ℕ, ◌≤◌, inr, false, List, [], l
 use Rattle.std.proofs.Common.{Some, None, Result, Ok, Err, IfOk, IfSome, subst, ap}
 use Rattle.std.proofs.Common.{arith}
 use Rattle.std.proofs.Common.{◌∙◌}
-use Rattle.std.proofs.Math.Logic.{∥∥₁_map}
+use Rattle.std.proofs.Math.Bridge.{le_prop}
+use Rattle.std.proofs.Math.Logic.{∥∥₁_elim, ∥∥₁_map}
 use Rattle.std.specs.Global.{Box, Vec}
 use Rattle.usb_host.specs.{HostState}
-use Rattle.usb_driver.specs.Calls.{Makes}
-use Rattle.usb_driver.specs.DriverSteps.{CallIs, StepOf, the_call}
-use Rattle.usb_driver.specs.Drivers.{Asks, AsksNone, Call, DriverState, EndsWith}
-use Rattle.usb_driver.specs.Drivers.{IsTold, IsUnderWay, MakesCall, NeedsAnswer, call_in}
-use Rattle.usb_driver.specs.Drivers.{call_under_way, on_bus}
-use Rattle.usb_driver.specs.Hearing.{Hears, failed_by, spent_in}
-use Rattle.usb_driver.specs.declared.answer.Answer.{Answer}
+use Rattle.usb_driver.specs.{Makes, CallIs, StepOf, the_call, Asks, AsksNone, Call, DriverState}
+use Rattle.usb_driver.specs.{EndsWith, IsTold, IsUnderWay, MakesCall, NeedsAnswer, call_in}
+use Rattle.usb_driver.specs.{call_under_way, on_bus, Hears, failed_by, spent_in, Answer, Question}
+use Rattle.usb_driver.specs.{CallState, Want, row_max}
 use Rattle.usb_driver.specs.declared.call.Done.{Done}
 use Rattle.usb_driver.specs.declared.driver.Step.{Step}
 use Rattle.usb_driver.specs.declared.driver.Step.TheVariants as step
 use Rattle.usb_driver.specs.declared.progress.Progress.{Progress}
-use Rattle.usb_driver.specs.declared.question.Question.{Question}
-use Rattle.usb_driver.specs.declared.want.Want.{Want}
-use Rattle.usb_driver.proofs.HearingLaws.{within_heard}
+use Rattle.usb_driver.proofs.HearingLaws.{question_asked, within_heard}
+use Rattle.usb_driver.proofs.RowLaws.{row_max-fits}
 
 -- a call went so, by the host behind it and by how far it came
 pub record WentSo (answers : List Answer) (p : Progress) (host : HostState) : Type 0 where
@@ -156,3 +153,11 @@ done_on {F} old heard empty r host bytes e kept none_heard is none under =
         told = bytes.items;
       }) none_heard;
     }))
+
+-- a question that a call came to fits a packet
+pub row_fits_on : {F : Type 0} (c : CallState) (r : Result Step F) (p : Question)
+    → r ≡ Ok (step.Asks p) → IfOk r (λ s. ∥ CallIs c s ∥₁) → row_max (Some p) ≤ 64
+row_fits_on {F} c r p e is =
+    let goes : ∥ NeedsAnswer c p ∥₁ =
+    subst (λ (x : Result Step F). IfOk x (λ s. ∥ CallIs c s ∥₁)) e is in
+    ∥∥₁_elim goes le_prop (λ n. row_max-fits c.roots p (question_asked n.goes.course p n.goes.asked))

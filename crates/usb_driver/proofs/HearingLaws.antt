@@ -6,12 +6,10 @@ use Rattle.std.proofs.Common.{◌∙◌}
 use Rattle.std.proofs.lemmas.Option.{slice_get_cases, slice_get_within}
 use Rattle.usb_world.specs.{Outcome}
 use Rattle.usb_world.specs.declared.types.BusFault.TheVariants as bus
-use Rattle.usb_driver.specs.Hearing.{Hears, IsQuestion, answer_for, asked_on, attempts_in, begun_at}
-use Rattle.usb_driver.specs.Hearing.{failed_by, next_answer, outcome_by, pending, spent_in, waits}
-use Rattle.usb_driver.specs.Hearing.{with_answer, within}
-use Rattle.usb_driver.specs.declared.answer.Answer.{Answer}
+use Rattle.usb_driver.specs.{Hears, IsQuestion, answer_for, asked_on, attempts_in, begun_at}
+use Rattle.usb_driver.specs.{failed_by, next_answer, outcome_by, pending, spent_in, waits}
+use Rattle.usb_driver.specs.{with_answer, within, Answer, Question}
 use Rattle.usb_driver.specs.declared.progress.Progress.{Progress}
-use Rattle.usb_driver.specs.declared.question.Question.{Question}
 use Rattle.usb_driver.specs.declared.question.Question.TheVariants.{Attempt, Set, Clear, Restart}
 use Rattle.usb_driver.specs.declared.question.Question.TheVariants.{Ins}
 
@@ -70,6 +68,30 @@ within_heard {answers = answers} (Hears.asks {p} q h is) =
 
 same_Some : {A : Type 0} (x y : A) → Some x ≡ Some y → x ≡ y
 same_Some x y e = cc
+
+asked_with : (roots used : ℕ) (statuses : List (List ℕ)) (attempts : ℕ) (o : Option Answer)
+    (r : Question) → IsQuestion roots r → (q : Question)
+    → (with_answer o r (progress used statuses attempts None)).asked ≡ Some q
+    → IsQuestion roots q
+asked_with roots used statuses attempts (Some a) r is q e = cc
+asked_with roots used statuses attempts None r is q e =
+    subst (IsQuestion roots) (same_Some r q e) is
+
+asked_is : (roots used : ℕ) (statuses : List (List ℕ)) (attempts : ℕ) (asked : Option Question)
+    (answers : List Answer) (r : Question)
+    → ((q : Question) → asked ≡ Some q → IsQuestion roots q) → IsQuestion roots r → (q : Question)
+    → (asked_on answers (progress used statuses attempts asked) r).asked ≡ Some q
+    → IsQuestion roots q
+asked_is roots used statuses attempts (Some x) answers r before is q e = before q e
+asked_is roots used statuses attempts None answers r before is q e =
+    asked_with roots used statuses attempts (slice_get answers used) r is q e
+
+-- the question that waits is one that a controller may be asked
+pub question_asked : {roots : ℕ} {begun : List (List ℕ)} {answers : List Answer} {p : Progress}
+    → Hears roots begun answers p → (q : Question) → p.asked ≡ Some q → IsQuestion roots q
+question_asked Hears.begins q e = cc
+question_asked {roots = roots} {answers = answers} (Hears.asks {p} r h is) q e =
+    asked_is roots p.used p.statuses p.attempts p.asked answers r (question_asked h) is q e
 
 with_counted : (o : Option Answer) (q : Question) (p : Progress) → p.attempts ≤ p.used
     → (with_answer o q p).attempts ≤ (with_answer o q p).used

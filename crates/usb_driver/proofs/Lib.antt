@@ -2,4 +2,5 @@ pub mod StatusLaws
 pub mod AnswerLaws
 pub mod WantLaws
 pub mod HearingLaws
+pub mod RowLaws
 pub mod DriverLaws

@@ -1,6 +1,5 @@
 use Rattle.std.proofs.Common.{None, ◌∙◌, ap}
-use Rattle.usb_driver.specs.Drivers.{Call}
-use Rattle.usb_driver.specs.Hearing.{failed_by, no_world, spent_in}
+use Rattle.usb_driver.specs.{Call, failed_by, no_world, spent_in}
 use Rattle.usb_driver.specs.declared.progress.Progress.{Progress}
 use Rattle.usb_driver.proofs.DriverLaws.{calls_on, makes_on}
 use Rattle.usb_driver.proofs.driver.called.Goals as goal

@@ -1,6 +1,6 @@
 use Rattle.std.proofs.Common.{◌∙◌, ap, rules, sym}
 use Rattle.usb_host.specs.{BusCounts}
-use Rattle.usb_driver.specs.Hearing.{failed_by, spent_in}
+use Rattle.usb_driver.specs.{failed_by, spent_in}
 use Rattle.usb_driver.specs.declared.progress.Progress.{Progress}
 use Rattle.usb_driver.proofs.DriverLaws.{finished_on}
 use Rattle.usb_driver.proofs.driver.finished.Goals as goal

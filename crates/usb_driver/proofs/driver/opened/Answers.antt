@@ -1,5 +1,5 @@
 use Rattle.std.proofs.Common.{Ok, refl}
-use Rattle.usb_driver.specs.Drivers.{Call}
+use Rattle.usb_driver.specs.{Call}
 use Rattle.usb_driver.specs.declared.call.Done.TheVariants as done
 use Rattle.usb_driver.proofs.DriverLaws.{calls_on}
 use Rattle.usb_driver.proofs.driver.opened.Goals as goal

@@ -1,6 +1,6 @@
 use Rattle.std.proofs.Common.{◌≡◌, ◌∙◌, None, Ok, ap, rules, sym}
-use Rattle.usb_driver.specs.DriverStates.{driver_state}
-use Rattle.usb_driver.proofs.DriverLaws.{asks_on, done_on}
+use Rattle.usb_driver.specs.{call_under_way, driver_state, the_call}
+use Rattle.usb_driver.proofs.DriverLaws.{asks_on, done_on, row_fits_on}
 use Rattle.usb_driver.proofs.driver.Driver.question.Goals as goal
 
 pub returns-in-Asks : goal.returns-in-Asks
@@ -20,3 +20,10 @@ returns-in-Done c =
     c.in-Done.host c.in-Done.told (c.in_ok-question.was ∙ ap Ok c.in-Done.is) (search rules)
     (search rules) c.step-step.ensures.step none
     (sym c.is_under_way.ensures ∙ c.if-not-is_under_way.false)
+
+pub invariant_of-self-in-Asks-clause-row_fits : goal.invariant_of-self-in-Asks-clause-row_fits
+invariant_of-self-in-Asks-clause-row_fits c =
+    let old = driver_state c.args.self.now in
+    row_fits_on (the_call (call_under_way old) old.roots old.statuses c.replace-heard.result.items)
+    c.step-step.result.0 c.in-Asks.question (c.in_ok-question.was ∙ ap Ok c.in-Asks.is)
+    c.step-step.ensures.step
