@@ -5,7 +5,8 @@ ghost use Rattle.std.specs.Box.Ownership.{box_owns};
 use std::alloc::Allocator;
 use std::marker::Model;
 
-/// A box's pointer and allocator. It owns the block and the value in it, and only `into_box` leads to a free.
+/// A box's pointer and allocator. It owns the block and the value in it. Only `into_box` leads to
+/// a free.
 pub struct RawBox<T, A: Allocator> {
     pub at: *mut T,
     pub alloc: A,
@@ -17,7 +18,7 @@ impl<T, A: Allocator> Model for RawBox<T, A> {
 }
 
 impl<T: Drop, A: Allocator> RawBox<T, A> {
-    /// Takes a box apart. Its value stays where it is.
+    /// Takes a box apart. Its value stays in its block.
     pub fn from_box(value: Box<T, A>) -> RawBox<T, A>
         ensures { result.value ≡ value.value }
     {

@@ -6,12 +6,9 @@ use Rattle.std.proofs.lemmas.List.{take_at, drop_at, take-append-drop}
 use Rattle.usb_packet.specs.{Toggle, Zero, One}
 use Rattle.usb_world.specs.{Outcome}
 use Rattle.usb_world.specs.declared.types.Outcome.TheVariants.{Payload, Ack, Nak, Stall, Nothing}
-use Rattle.usb_driver.specs.Answers.{AnswerFault, Came, IsAnswer, NoToggle, WrongAnswerLength}
-use Rattle.usb_driver.specs.Answers.{answer_record, came_data, came_number, came_toggle}
-use Rattle.usb_driver.specs.Answers.{toggle_number}
-use Rattle.usb_driver.specs.Statuses.{AreStatuses, statuses_bytes}
-use Rattle.usb_driver.specs.declared.answer.Answer.{Answer}
-use Rattle.usb_driver.specs.declared.fault.DriverFault.{DriverFault}
+use Rattle.usb_driver.specs.{AnswerFault, Came, IsAnswer, NoToggle, WrongAnswerLength}
+use Rattle.usb_driver.specs.{answer_record, came_data, came_number, came_toggle, toggle_number}
+use Rattle.usb_driver.specs.{AreStatuses, statuses_bytes, Answer, DriverFault}
 use Rattle.usb_driver.specs.declared.fault.DriverFault.TheVariants as fault
 use Rattle.usb_driver.proofs.StatusLaws.{statuses_bytes-28, statuses_bytes-same}
 

@@ -3,7 +3,7 @@ use Rattle.std.proofs.Common.{◌≡◌, ℕ, zero, suc, ◌*◌, ◌<◌, List,
 use Rattle.std.proofs.Common.{All}
 use Rattle.std.proofs.Common.{get_or, refl, sym, ap, ◌∙◌, arith, length-append}
 use Rattle.std.proofs.lemmas.List.{take_at, drop_at}
-use Rattle.usb_driver.specs.Statuses.{AreStatuses, IsStatus, statuses_bytes}
+use Rattle.usb_driver.specs.{AreStatuses, IsStatus, statuses_bytes}
 
 pub length-statuses_bytes : (xs : List (List ℕ)) → All IsStatus xs
     → length (statuses_bytes xs) ≡ 4 * length xs

@@ -11,17 +11,13 @@ use Rattle.std.proofs.lemmas.List.{take_at, drop_at, take-append-drop, length-re
 use Rattle.usb_port.specs.{IsPath}
 use Rattle.usb_request.specs.{DIRECTION_IN, IsToHost, Setup, bytes_of, setup_of}
 use Rattle.usb_request.specs.{is_endpoint_address}
-use Rattle.usb_driver.specs.Places.{padded, place_bytes}
-use Rattle.usb_driver.specs.Statuses.{AreStatuses, statuses_bytes}
-use Rattle.usb_driver.specs.Wants.{IsReadAs, IsWant, IsWantOf, IsWantWith, WantFault, WrongWantKind}
-use Rattle.usb_driver.specs.Wants.{WrongWantLength, endpoint_in, has_data, head_bytes, nothing}
-use Rattle.usb_driver.specs.Wants.{read_request, want_by, want_data, want_head}
-use Rattle.usb_driver.specs.Wants.{fields_in, want_to, want_with, write_request}
-use Rattle.usb_driver.specs.WriteRequests.{IsWrite, Write}
-use Rattle.usb_driver.specs.declared.fault.DriverFault.{DriverFault}
+use Rattle.usb_driver.specs.{padded, place_bytes, AreStatuses, statuses_bytes, IsReadAs, IsWant}
+use Rattle.usb_driver.specs.{IsWantOf, IsWantWith, WantFault, WrongWantKind, WrongWantLength}
+use Rattle.usb_driver.specs.{endpoint_in, has_data, head_bytes, nothing, read_request, want_by}
+use Rattle.usb_driver.specs.{want_data, want_head, fields_in, want_to, want_with, write_request}
+use Rattle.usb_driver.specs.{IsWrite, Write, DriverFault, Want}
 use Rattle.usb_driver.specs.declared.fault.DriverFault.TheVariants as fault
 use Rattle.usb_driver.specs.declared.want.Fields.{Fields}
-use Rattle.usb_driver.specs.declared.want.Want.{Want}
 use Rattle.usb_driver.specs.declared.want.Want.TheVariants.{Round, Tree, Send, Receive, ClearHalt}
 use Rattle.usb_driver.specs.declared.want.Want.TheVariants.{SendTo, ReceiveFrom, Poll, ClearHaltOf}
 use Rattle.usb_driver.specs.declared.want.Want.TheVariants.{SetInterface, ControlIn, ControlOut}

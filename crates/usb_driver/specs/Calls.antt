@@ -2,16 +2,14 @@
 use Rattle.std.specs.Prelude.{◌≡◌, ◌*◌, ◌≤◌, length, Bool, ⊤, IfOk, IfErr}
 use Rattle.usb_transaction.specs.{transaction_bound}
 use Rattle.usb_pipe.specs.{write_bound}
-use Rattle.usb_table.specs.{At, FirstBulk, control_target, write_target}
-use Rattle.usb_table.specs.PipeRows.{clears_miss, pipe_to, polls_miss, polls_through, receives_miss}
-use Rattle.usb_table.specs.PipeRows.{receives_through, sends_miss, sends_through, unless_broken}
+use Rattle.usb_table.specs.{At, FirstBulk, control_target, write_target, clears_miss, pipe_to}
+use Rattle.usb_table.specs.{polls_miss, polls_through, receives_miss, receives_through, sends_miss}
+use Rattle.usb_table.specs.{sends_through, unless_broken}
 use Rattle.usb_host.specs.{ClearOfTells, ClearTells, ControlsAnyBus, HostState, InterfaceTells}
 use Rattle.usb_host.specs.{LookTells, LooksAnyBus, MovesAnyBus, ReadTells, ReceiveTells}
-use Rattle.usb_host.specs.{ReportTells}
-use Rattle.usb_host.specs.{ReportsNews, RoundTells, RoundsAnyBus, SendTells, SetsAnyBus}
-use Rattle.usb_host.specs.{TransfersAnyBus, WriteTells, clear_bound}
-use Rattle.usb_host.specs.ToldFaults.{StopsAsLook, StopsAsRound, StopsAsTransfer}
-use Rattle.usb_host.specs.Transfers.{pipe_for}
+use Rattle.usb_host.specs.{ReportTells, ReportsNews, RoundTells, RoundsAnyBus, SendTells}
+use Rattle.usb_host.specs.{SetsAnyBus, TransfersAnyBus, WriteTells, clear_bound, StopsAsLook}
+use Rattle.usb_host.specs.{StopsAsRound, StopsAsTransfer, pipe_for}
 use Rattle.usb_host.specs.declared.fault.HostFault.TheVariants as fault
 use Rattle.usb_driver.specs.declared.call.Done.{Done}
 use Rattle.usb_driver.specs.declared.call.Done.TheVariants as done

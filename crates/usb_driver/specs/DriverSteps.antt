@@ -20,7 +20,7 @@ the_call call roots statuses heard = record {
   heard = heard;
 }
 
--- of a private function: a question waits; or all was used, and this is told
+-- of a private function: a question waits; or all was used, and these are the records
 abbrev pub StepOf : {E : Type 0} → Result (Option (Box HostState × Vec ℕ)) E → Progress → ℕ → Step
     → Type 0
 StepOf told p heard (step.Asks q) = p.asked ≡ Some q

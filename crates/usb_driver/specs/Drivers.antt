@@ -33,7 +33,7 @@ pub record DriverState : Type 0 where
 
 -- ---- one call
 
--- what a host knows, over a bus of which nothing was asked
+-- what a host knows, over a bus that was asked nothing
 abbrev pub on_bus : HostState → HostState
 on_bus h = record h {
   world = no_world;
@@ -42,13 +42,13 @@ on_bus h = record h {
 }
 
 -- a host that knows of no device, with these options
-pub record Opens (options : HostOptions) (new : HostState) : Type 0 where
+pub record Opens (takes : HostOptions) (new : HostState) : Type 0 where
   pub entries : new.entries ≡ []
   pub going : new.stopped ≡ false
   pub left : new.counts.left ≡ none_left
   pub numbers : new.numbers ≡ first_numbers
   pub reported : new.reported ≡ []
-  pub options : new.options ≡ options
+  pub options : new.options ≡ takes
 
 -- a call: it opens a host, or does what is wanted on one
 pub data Call : Type 0 where
@@ -70,7 +70,7 @@ pub record CallState : Type 0 where
   pub heard : List Answer
 
 -- so it went over a bus of what was heard: each answer was used, once and in their order, and what
--- was asked behind them waits; the attempts of the call are those of the bus
+-- was asked after them waits; the attempts of the call are those of the bus
 pub record GoesTo (c : CallState) (q : Option Question) (d : Done) (new : HostState) : Type 0
   where
     pub end : Progress
@@ -87,15 +87,15 @@ pub record NeedsAnswer (c : CallState) (q : Question) : Type 0 where
   pub end : HostState
   pub goes : GoesTo c (Some q) done end
 
--- behind a call that went well, or failed as a transfer does: the host goes on, and this is told
+-- after a call that went well, or failed as a transfer does, the host goes on with these records
 pub record IsTold (end : HostState) (d : Done) (new : HostState) (records : List ℕ) : Type 0 where
   pub status : ℕ
   pub went : done_status d ≡ Some status
   pub host : new ≡ on_bus end
   pub told : records ≡ call_told end d status
 
--- the call found all its answers and is done: so the host is the one behind it, and this is told of
--- it, once
+-- the call found all its answers and is done: the host is the one after it, and these are its
+-- records, once
 pub record EndsWith (c : CallState) (new : HostState) (told : List ℕ) : Type 0 where
   pub done : Done
   pub end : HostState
@@ -215,7 +215,7 @@ abbrev pub AnswersRow : List ℕ → Answer → DriverState → Result (Unit {0}
 AnswersRow before last old (Ok done) new = TakesRow before last old new
 AnswersRow before last old (Err f) new = RowRefused before last old f × (new ≡ old)
 
--- `question`: the one that waits; or a new one, where the call that is under way needs an answer
+-- `question`: the one that waits; or a new one, if the call that is under way needs an answer
 abbrev pub Asks : Question → DriverState → DriverState → Type 0
 Asks q old new = ((old.asked ≡ Some q) × (new ≡ old))
     ⊎ ((old.asked ≡ None) × IsUnderWay old × NeedsAnswer (call_in old) q

@@ -17,7 +17,7 @@ use Rattle.usb_driver.specs.declared.question.Question.{Question}
 use Rattle.usb_driver.specs.declared.question.Question.TheVariants.{Attempt, Set, Clear, Restart}
 use Rattle.usb_driver.specs.declared.question.Question.TheVariants.{Ins}
 
--- what a controller with so many root ports may be asked
+-- what a controller with this number of root ports may be asked
 abbrev pub IsQuestion : ℕ → Question → Type 0
 IsQuestion roots (Attempt a) = IsAttempt (attempt_data a)
 IsQuestion roots (Set port feature) = (1 ≤ port) × (port ≤ roots) × IsSetFeature feature
@@ -26,7 +26,7 @@ IsQuestion roots (Restart address endpoint) =
     (address ≤ 127) × (is_endpoint_address endpoint ≡ true)
 IsQuestion roots (Ins to toggle most) = IsDestination to × (1 ≤ most) × (most ≤ 64)
 
--- how many attempts an answer to it is; a row is answered by one attempt after the other
+-- the attempts of one answer to it; each attempt of a row has its own
 abbrev pub attempts_in : Question → ℕ
 attempts_in (Attempt a) = 1
 attempts_in (Set port feature) = 0
@@ -71,7 +71,7 @@ with_answer (Some a) q p = record {
 }
 with_answer None q p = record p { asked = waits p.asked q }
 
--- a question is asked: it takes the next answer, or waits; behind one that waits nothing is asked
+-- a question is asked: it takes the next answer, or waits; after one that waits nothing is asked
 abbrev pub asked_on : List Answer → Progress → Question → Progress
 asked_on answers p q = with_answer (answer_for answers p) q p
 
@@ -114,7 +114,7 @@ endpoint_of number false = number
 abbrev pub restart_of : ℕ → ℕ → Bool → Question
 restart_of address number is_in = Restart address (endpoint_of number is_in)
 
--- the world of a bus of which no world is said
+-- the world of a bus that has none
 pub no_world : World
 no_world = record {
   roots = new_ports 0;

@@ -10,7 +10,7 @@ pub record AreStatuses (statuses : List (List ℕ)) : Type 0 where
   pub seven : length statuses ≡ 7
   pub each : All IsStatus statuses
 
--- one behind the other
+-- one after the other
 abbrev pub statuses_bytes : List (List ℕ) → List ℕ
 statuses_bytes statuses = flat_map (λ status. status) statuses
 

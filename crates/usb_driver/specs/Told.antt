@@ -11,15 +11,10 @@ use Rattle.usb_enum.specs.declared.cause.Request.TheVariants as request
 use Rattle.usb_enum.specs.declared.finding.Finding.TheVariants.{Device, Refused}
 use Rattle.usb_table.specs.{Entries, TransferFault, said_at}
 use Rattle.usb_table.specs.declared.fault.TransferFault.TheVariants as transfer
-use Rattle.usb_host.specs.{HostState, known_in, number_in}
-use Rattle.usb_host.specs.Transfers.{table_in}
-use Rattle.usb_host.specs.declared.fault.HostFault.{HostFault}
+use Rattle.usb_host.specs.{HostState, known_in, number_in, table_in, HostFault, Round, Look, News}
 use Rattle.usb_host.specs.declared.fault.HostFault.TheVariants as fault
-use Rattle.usb_host.specs.declared.host.Round.{Round}
 use Rattle.usb_host.specs.declared.host.Round.TheVariants as round
-use Rattle.usb_host.specs.declared.look.Look.{Look}
 use Rattle.usb_host.specs.declared.look.Look.TheVariants as look
-use Rattle.usb_host.specs.declared.news.News.{News}
 use Rattle.usb_host.specs.declared.news.News.TheVariants as news
 use Rattle.usb_driver.specs.Places.{place_bytes}
 use Rattle.usb_driver.specs.declared.call.Done.{Done}
@@ -89,7 +84,7 @@ ports_number None = 0
 abbrev pub number_of : HostState → List ℕ → ℕ
 number_of h path = unwrap_or (number_in path (known_in h)) 0
 
--- where it is, its address, speed, chosen configuration and ports, its number, its descriptor
+-- its path, its address, speed, chosen configuration and ports, its number, its descriptor
 abbrev pub device_body : ℕ → List ℕ → Accepted → List ℕ
 device_body number path d =
     place_bytes path
@@ -173,7 +168,7 @@ news_body h (news.Arrived path) = news_bytes 1 path (number_of h path)
 
 -- ---- all of a call
 
--- what a call gave, by the host behind it
+-- what a call gave, by the host after it
 abbrev pub tree_told : HostState → Result Entries HostFault → List ℕ
 tree_told h (Ok entries) = tree_records h entries
 tree_told h (Err f) = []

@@ -8,7 +8,8 @@ use crate::DriverFault;
 use arrayvec::ArrayVec;
 use usb_bus::{Outcome, Toggle};
 
-/// wPortStatus and wPortChange of root ports 1 to 7 (11.24.2.7), zeros where there is no such port.
+/// wPortStatus and wPortChange of root ports 1 to 7 (11.24.2.7), zeros for a port that does not
+/// exist.
 pub type Statuses = [[u8; 4]; 7];
 
 /// What came of a question.
@@ -26,8 +27,8 @@ impl Answer {
     /// | at | what |
     /// |---|---|
     /// | 0 | 0 nothing, 1 ACK, 2 NAK, 3 STALL, 4 data |
-    /// | 1 | 0 DATA0, 1 DATA1; 0 where there are no data |
-    /// | 2, 3 | how many bytes of data, low byte first: 0 to 64; 0 where there are no data |
+    /// | 1 | 0 DATA0, 1 DATA1; 0 if there are no data |
+    /// | 2, 3 | the number of bytes of data, low byte first: 0 to 64; 0 if there are no data |
     /// | 4 to 31 | the statuses of root ports 1 to 7, four bytes each |
     /// | 32 .. | the data |
     ///
@@ -37,10 +38,10 @@ impl Answer {
     ///
     /// - `Length`: fewer than 32 bytes.
     /// - `Kind`: byte 0 is more than 4.
-    /// - `Length`: bytes 2 and 3 are not the number of bytes behind the 32, or there are data where
+    /// - `Length`: bytes 2 and 3 are not the number of bytes after the 32, or there are data and
     ///   byte 0 is not 4.
     /// - `TooMuch`: more than 64 bytes of data.
-    /// - `Number`: byte 1 is more than 1, or is 1 where byte 0 is not 4.
+    /// - `Number`: byte 1 is more than 1, or it is 1 and byte 0 is not 4.
     pub fn read(bytes: &[u8]) -> Result<Answer, DriverFault>
         ensures read { IfOk result (λ answer.
             IsAnswer answer × (bytes.now ≡ answer_record answer)) }

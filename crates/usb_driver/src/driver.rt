@@ -45,7 +45,7 @@ pub struct Driver {
 enum Step {
     /// It needs an answer.
     Asks(Question),
-    /// It is done: the host behind it, and the records of it.
+    /// It is done: the host after it, and its records.
     Done(Box<Host<Idle>>, Vec<u8>),
 }
 
@@ -89,8 +89,8 @@ impl Driver {
         })
     }
 
-    /// Begins a call; the root ports show these statuses now. What was told before stays until the
-    /// call is done.
+    /// Begins a call; the root ports show these statuses now. The records of the last call stay
+    /// until this one is done.
     ///
     /// # Errors
     ///
@@ -108,8 +108,8 @@ impl Driver {
         Ok(())
     }
 
-    /// What the controller side is to do next. `None` if the call is done, or none was begun. It
-    /// may be asked again, and is the same until it is answered.
+    /// What the controller side is to do next. `None` if the call is done, or none was begun. A
+    /// second request returns the same question, until `answer` or `answer_row` takes its answer.
     ///
     /// # Errors
     ///
@@ -202,10 +202,11 @@ impl Driver {
         Ok(())
     }
 
-    /// The records of the call that was done last, one behind the other; none before the first.
+    /// The records of the call that was done last, one after the other; none before the first.
     ///
-    /// Each is its kind, how many bytes follow (four bytes, low one first), and those. A *place* is
-    /// how many numbers a path has and its port numbers, in eight bytes, zeros behind them.
+    /// Each is its kind, the number of bytes that follow (four bytes, low one first), and those. A
+    /// *place* is the number of ports of a path and those ports, in eight bytes, with zeros at the
+    /// end.
     ///
     /// | kind | what | bytes |
     /// |---|---|---|
@@ -215,7 +216,7 @@ impl Driver {
     /// | 35 | a string of that device | which, and its UTF-16, low bytes first (9.6.7) |
     /// | 36 | a refused device | place, cause (2 bytes), what it said of itself (0 to 18 bytes) |
     /// | 37 | bytes that were received, polled (none at NAK) or read | the bytes |
-    /// | 38 | what a look found | 0 nothing is connected, 1 accepted, 2 refused; then cause (2 bytes) |
+    /// | 38 | what a look found | 0 nothing is there, 1 accepted, 2 refused; then cause (2 bytes) |
     /// | 39 | news | 0 left, 1 arrived; place; the device's number (8 bytes), 0 if it left |
     ///
     /// The four bytes of a device are its address, its speed (1 low), the index of its chosen
@@ -227,9 +228,9 @@ impl Driver {
     /// `Stalled`, 5 `Busy`, 6 `NoAnswer`, 7 `Broken`, 8 `Reserved`, 9 `NoPort`, 10 `NoInterface`.
     ///
     /// Causes (`usb_host::Cause`): 1 silent, 2 busy, 3 stalled, 4 bad device, 5 too deep, 6 bad
-    /// configuration, 7 no power, 8 bad hub, 9 lost, 10 no address, 11 too large. The second byte is
-    /// of 3 the request (0 device, 1 address, 2 configuration, 3 set configuration), of 6 the index,
-    /// else 0.
+    /// configuration, 7 no power, 8 bad hub, 9 lost, 10 no address, 11 too large. The second byte
+    /// is of 3 the request (0 device, 1 address, 2 configuration, 3 set configuration), of 6 the
+    /// index, else 0.
     pub fn told(&self) -> &[u8]
         ensures { result.now ≡ (driver_state self.now).told }
     {
@@ -317,7 +318,7 @@ fn called<B: Begun>(
     }
 }
 
-/// How far a call came, by the host behind it, and what was heard in it.
+/// How far a call came, by the host after it, and what was heard in it.
 fn finished<B: Begun>(
     alloc: Global,
     roots: u8,
@@ -335,7 +336,7 @@ fn finished<B: Begun>(
     (step, heard)
 }
 
-/// How far a call came that used so many of the answers that were heard in it.
+/// How far a call came, by the answers that it used of those that were heard in it.
 fn step_of(
     told: Result<Option<(Box<Host<Idle>>, Vec<u8>)>, AllocError>,
     so_far: Progress,
@@ -356,7 +357,7 @@ fn step_of(
     }
 }
 
-/// The host behind a call, over no bus, and the records of the call; `None` if it was not done.
+/// The host after a call, over no bus, and the call's records; `None` if it was not done.
 fn told_of<B: Bus>(
     alloc: Global,
     roots: u8,

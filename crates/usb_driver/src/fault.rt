@@ -12,19 +12,19 @@ pub enum DriverFault {
     /// Memory was refused. Nothing changed; the call may be made again.
     #[error("out of memory")]
     Memory,
-    /// `begin` during a call, or `answer` with no question.
+    /// `begin` during a call, an answer with no question, or a row's answer to another question.
     #[error("out of turn")]
     OutOfTurn,
     /// The record is of no kind that is read here.
     #[error("no such kind of record")]
     Kind,
-    /// The record's length is not the one that it must have.
+    /// The record's length is not the one that it must have, or a row has no full packets.
     #[error("wrong length of a record")]
     Length,
-    /// An answer has more data than the question's maximum.
+    /// An answer has more data than the question's maximum, or more packets than its row.
     #[error("more data than the maximum")]
     TooMuch,
-    /// A controller has 1 to 7 root ports.
+    /// The number of root ports is not 1 to 7.
     #[error("not 1 to 7 root ports")]
     Roots,
     /// A field of the record has no meaning: no path, endpoint, request or toggle has this number,

@@ -32,7 +32,7 @@ impl Begun for Brand {
     ghost answers = { [] };
 }
 
-/// A bus of what was heard in a call. Behind the first question that finds no answer it asks
+/// A bus of what was heard in a call. After the first question that finds no answer it asks
 /// nothing more.
 #[derive(Drop)]
 pub(crate) struct Heard<B: Begun> {
@@ -245,12 +245,13 @@ impl<B: Begun> Heard<B> {
         (so_far, answers)
     }
 
-    /// Makes the next attempt of a row of INs, of which this many packets are left.
+    /// Makes the next attempt of a row of INs; `left` packets of it are left.
     fn hear_in(&mut self, to: Destination, due: Toggle, left: u8) -> Result<Outcome, BusFault>
         requires { IsDestination to × (1 ≤ left) × (left ≤ 64) }
-        ensures hears { (result ≡ attempt_gives B.answers self.old.so_far (token.In to))
-            × (self.new.so_far
-            ≡ asked_on B.answers self.old.so_far (question.Ins to due left)) }
+        ensures gives { result
+            ≡ attempt_gives self.old.answers.items self.old.so_far (token.In to) }
+        ensures asks { self.new.so_far
+            ≡ asked_on self.old.answers.items self.old.so_far (question.Ins to due left) }
         ensures spends { Spends (λ bus. spent_in bus.so_far) (λ bus. bus.roots) 1
             self.old self.new }
         ensures fits { IfOk result (FitsMaximum to.max) }

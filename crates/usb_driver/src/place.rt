@@ -6,7 +6,7 @@ ghost use Rattle.usb_driver.specs.Places.{padded, place_bytes};
 use arrayvec::ArrayVec;
 use usb_port::PortPath;
 
-/// How many numbers a path has, and those in seven bytes, zeros behind them.
+/// The number of ports of a path, and those ports in seven bytes, with zeros at the end.
 pub(crate) fn place_of(path: &PortPath) -> [u8; 8]
     ensures { result ≡ place_bytes path.now }
 {
@@ -20,7 +20,7 @@ pub(crate) fn place_of(path: &PortPath) -> [u8; 8]
     place.into_inner().unwrap()
 }
 
-/// The path of the first so many of these numbers; `None` if they are none.
+/// The path of the first `count` of these numbers; `None` if they are none.
 pub(crate) fn path_in(count: u8, numbers: &[u8; 7]) -> Option<PortPath>
     ensures some { IfSome result (λ path. (path ≡ take count numbers.now) × IsPath path) }
     ensures none { IfNone result (count ≤ 7 → IsPath (take count numbers.now) → ⊥) }

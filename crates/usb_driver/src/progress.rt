@@ -16,7 +16,7 @@ pub(crate) struct Progress {
     pub statuses: Statuses,
     /// How many attempts were answered.
     pub attempts: usize,
-    /// The question that found no answer. Behind it nothing is asked.
+    /// The question that found no answer. After it nothing is asked.
     pub asked: Option<Question>,
 }
 
@@ -33,7 +33,7 @@ impl Progress {
         }
     }
 
-    /// Asks a question, and returns what came of an attempt; `None` where nothing was heard.
+    /// Asks a question, and returns what came of an attempt; `None` if nothing was heard.
     pub fn hear(&mut self, answers: &[Answer], question: Question) -> Option<Outcome>
         requires { self.old.attempts ≤ self.old.used }
         ensures value { result ≡ option_map (λ a. a.outcome) (answer_for answers.now self.old) }

@@ -231,7 +231,7 @@ fn flag(is_set: bool, bit: u8) -> u8
     if is_set { bit } else { 0 }
 }
 
-/// Eight bytes, data, and zeros behind them.
+/// Eight bytes, data, and zeros up to 72.
 fn laid_out(head: [u8; 8], sent: &[u8]) -> [u8; 72]
     requires { length sent.now ≤ 64 }
     ensures { result ≡ question_record head sent.now }

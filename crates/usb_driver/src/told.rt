@@ -100,7 +100,7 @@ fn transfer_number(fault: TransferFault) -> u8
     }
 }
 
-/// The records of a call that went so, by the host behind it.
+/// The records of a call that went so, by the host after it.
 pub(crate) fn call_told<B: Bus>(
     alloc: Global,
     host: &Host<B>,
@@ -376,7 +376,7 @@ fn look_body(look: &Look) -> ArrayVec<u8, 3>
     body
 }
 
-/// Whether a device left or arrived, where, and its number if it is there.
+/// Whether a device left or arrived, its path, and its number if it is there.
 fn news_body<B: Bus>(host: &Host<B>, news: &News) -> ArrayVec<u8, 17>
     ensures { result.items ≡ news_body host.now news.now }
 {

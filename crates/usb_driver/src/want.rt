@@ -105,7 +105,7 @@ pub enum Want {
 }
 
 impl Want {
-    /// Reads the record of a want: 52 bytes, and data behind them.
+    /// Reads the record of a want: 52 bytes, and then data.
     ///
     /// The kinds are 16 `Round`, 17 `Tree`, 18 `Send`, 19 `Receive`, 20 `ClearHalt`, 21 `SendTo`,
     /// 22 `ReceiveFrom`, 23 `Poll`, 24 `ClearHaltOf`, 25 `SetInterface`, 26 `ControlIn`, 27
@@ -132,7 +132,7 @@ impl Want {
     ///
     /// - `Length`: fewer than 52 bytes.
     /// - `Kind`: byte 0 is not 16 to 29.
-    /// - `Length`: there are data where the kind has none.
+    /// - `Length`: there are data, and the kind has none.
     /// - `Memory`: the data find no room.
     /// - `Number`: the record is that of no want, as one with a port 0 or 16, endpoint 0, a request
     ///   of the other direction, a wLength that is not the number of bytes, or a field that the

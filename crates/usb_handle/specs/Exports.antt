@@ -1,22 +1,15 @@
--- What each call does to the driver of a handle, `None` if the handle is closed, and which number it
--- returns.
+-- What each call does to the driver of a handle, `None` if the handle is closed, and which number
+-- it returns.
 use Rattle.std.specs.Prelude.{◌≡◌, ◌≢◌, ℕ, List, ◌++◌, length, take, drop, Option, Some, None}
 use Rattle.std.specs.Prelude.{Result, Ok, Err, Bool, true, false, not, nat_eq, option_map}
 use Rattle.std.specs.Prelude.{if◌then◌else◌}
 use Rattle.std.specs.Simd.{first_chunks}
 use Rattle.usb_enum.specs.{HostOptions}
-use Rattle.usb_driver.specs.Answers.{AnswerFault, IsAnswer, answer_record}
+use Rattle.usb_driver.specs.{AnswerFault, IsAnswer, answer_record, DriverState, HasNoRoots, Steps}
+use Rattle.usb_driver.specs.{opening, driver_state, fault_number, question_bytes, IsWantOf}
+use Rattle.usb_driver.specs.{WantFault, Answer, DriverFault, Question, Want}
 use Rattle.usb_driver.specs.Drivers as driver
-use Rattle.usb_driver.specs.Drivers.{DriverState, HasNoRoots, Steps, opening}
-use Rattle.usb_driver.specs.DriverStates.{driver_state}
-use Rattle.usb_driver.specs.Faults.{fault_number}
-use Rattle.usb_driver.specs.Questions.{question_bytes}
-use Rattle.usb_driver.specs.Wants.{IsWantOf, WantFault}
-use Rattle.usb_driver.specs.declared.answer.Answer.{Answer}
-use Rattle.usb_driver.specs.declared.fault.DriverFault.{DriverFault}
 use Rattle.usb_driver.specs.declared.fault.DriverFault.TheVariants as fault
-use Rattle.usb_driver.specs.declared.question.Question.{Question}
-use Rattle.usb_driver.specs.declared.want.Want.{Want}
 use Rattle.usb_handle.specs.declared.handle.Handle.{Handle}
 
 -- the driver of a handle, as its callers see it
@@ -109,7 +102,7 @@ pub record PutsQuestion (old : DriverState) (room : List ℕ) (put : Result Bool
   pub fits : length room ≡ 72 → Puts old room put new now
   pub other : length room ≢ 72 → (put ≡ Err fault.Length) × (new ≡ old) × (now ≡ room)
 
--- as many of the bytes as there is room for, and the rest of the room as it was
+-- the bytes, until the room is full, and the rest of the room as it was
 abbrev pub filled : List ℕ → List ℕ → List ℕ
 filled bytes room = take (length room) bytes ++ drop (length bytes) room
 

@@ -109,7 +109,7 @@ pub(crate) fn row_answered(
     driver.answer_row(before, Answer::read(bytes)?)
 }
 
-/// Copies the bytes without the first ones, as many as there is room for.
+/// Copies the bytes without the first ones, until the room is full.
 pub(crate) fn copy_rest(bytes: &[u8], skip: usize, room: &mut [u8])
     ensures { room.new ≡ filled (drop skip bytes.now) room.old }
 {

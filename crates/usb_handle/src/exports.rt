@@ -53,12 +53,12 @@ pub extern "C" fn usb_handle_open(
     }
 }
 
-/// Begins a call of the host: the one that this record wants (`usb_driver::Want`).
+/// Begins the call of the host that this record names (`usb_driver::Want`).
 ///
 /// Returns 0, or one of these. The host stays as it was:
 ///
 /// - 47: the handle is closed.
-/// - 42, 43, 46: the record wants nothing, as `Want::read` says.
+/// - 42, 43, 46: the record names no call, as `Want::read` says.
 /// - 41: a call is under way.
 /// - 40: memory was refused.
 #[unsafe(no_mangle)]
@@ -73,8 +73,8 @@ pub extern "C" fn usb_handle_begin(alloc: Global, handle: &mut Handle, want: &[u
     done_number(done)
 }
 
-/// Puts the question into a room of 72 bytes (`usb_driver::Question`). It may be asked for again, and
-/// is the same until it is answered.
+/// Puts the question into a room of 72 bytes (`usb_driver::Question`). A second call puts the same
+/// question there, until its answer is taken.
 ///
 /// Returns 0 if it is there, 1 if there is none: the call is done. Only at 0 is anything put into
 /// the room. Or it returns one of these:
@@ -115,8 +115,9 @@ pub extern "C" fn usb_handle_answer(alloc: Global, handle: &mut Handle, answer: 
     done_number(done)
 }
 
-/// Answers a row of INs (`usb_driver::Question::Ins`): the bytes of the full packets that came first,
-/// in order, and the record of the attempt after them. Without such bytes it is `usb_handle_answer`.
+/// Answers a row of INs (`usb_driver::Question::Ins`): the bytes of the full packets that came
+/// first, in order, and the record of the attempt after them. Without such bytes it is
+/// `usb_handle_answer`.
 ///
 /// Returns 0, or one of these. Nothing is taken, and the host stays as it was:
 ///
@@ -144,8 +145,8 @@ pub extern "C" fn usb_handle_answer_row(
     done_number(done)
 }
 
-/// Copies the records of the call that was done last, without their first `skip` bytes, as many as
-/// there is room for. The rest of the room stays as it was.
+/// Copies the records of the call that was done last, without their first `skip` bytes, until the
+/// room is full. The rest of the room stays as it was.
 ///
 /// Returns how many bytes the records have in all: 0 before the first call is done, and if the
 /// handle is closed.

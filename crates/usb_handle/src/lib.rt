@@ -1,6 +1,7 @@
 //! The host as a library for C: seven calls at a handle, each of which may be made at any time.
 //!
-//! C lays down this struct, and fills it with zeros before the first call. The handle is closed then.
+//! C lays down this struct, and fills it with zeros before the first call. The handle is closed
+//! then.
 //!
 //! ```c
 //! struct usb_handle { void *at; bool live; };
@@ -9,7 +10,8 @@
 //! `usb_handle_open` puts a host into it, `usb_handle_close` frees the host. Between them C makes
 //! the host's calls one after the other. `usb_handle_begin` begins a call. As long as
 //! `usb_handle_question` returns 0, C does what the question says, and passes what came of it to
-//! `usb_handle_answer`. At 1 the call is done, and `usb_handle_told` copies its records.
+//! `usb_handle_answer`, or of a row of INs to `usb_handle_answer_row`. At 1 the call is done, and
+//! `usb_handle_told` copies its records.
 //! `usb_driver` has the records' bytes (`Want`, `Question`, `Answer`, `Driver::told`).
 //!
 //! | a call returns | if |
@@ -21,7 +23,7 @@
 //! | 42 | a record has no such kind |
 //! | 43 | a length is wrong |
 //! | 44 | an answer has more data than the question's maximum |
-//! | 45 | the controller has not 1 to 7 root ports |
+//! | 45 | the number of root ports is not 1 to 7 |
 //! | 46 | a record has a number with no meaning |
 //! | 47 | the handle is closed |
 //!
@@ -29,10 +31,11 @@
 //!
 //! # What is proved
 //!
-//! - No call requires anything of a handle but what the next section has. A closed one stays closed,
-//!   and the call returns 47.
+//! - No call requires anything of a handle but what the next section has. A closed one stays
+//!   closed, and the call returns 47.
 //! - Each call does to the host what the driver's call does, and returns the number of what came of
-//!   it: *Opens*, *Begins*, *Asks*, *Answers*, *Copies*, *Closes* (`specs/Exports.antt`).
+//!   it: *Opens*, *Begins*, *Asks*, *Answers*, *AnswersRow*, *Copies*, *Closes*
+//!   (`specs/Exports.antt`).
 //! - Into C's memory go the 72 bytes of a question, if 0 is returned, and the bytes of records that
 //!   there is room for; nothing else.
 //! - The handle owns the host. `usb_handle_close` alone ends one, and no call loses one.

@@ -1,4 +1,4 @@
-//! Whole courses: a driver whose questions go to a simulated bus, as their bytes say, and what it tells.
+//! Whole courses: a driver whose questions go to a simulated bus by their bytes, and its records.
 ghost use Rattle.std.specs.Prelude.{IfSome};
 ghost use Rattle.usb_world.specs.PlainAttempts.{attempt_data};
 ghost use Rattle.usb_world.specs.Worlds.{IsAttempt};
@@ -46,7 +46,7 @@ path = "2"
 device = "thermometer"
 "#;
 
-/// What is told of them: stalled, of SET_ADDRESS, and the eight bytes that it said before; and the device.
+/// The records: the first stalled SET_ADDRESS, and said eight bytes before that; then the device.
 const REFUSED_TOLD: &str = "36 010100000000000003011201000200000040\n\
     33 0102000000000000010000008000000000000000120100020000004034127856000100000001\n\
     34 0902120001010080320904000000FF000000\n\
@@ -118,7 +118,7 @@ path = "1"
 device = "stick"
 "#;
 
-/// A device with 20 bytes in packets of 8, by three INs, and the same with a NAK before each packet.
+/// A device with 20 bytes in packets of 8, by three INs; the same with a NAK before each packet.
 const READER: &str = r#"
 limit = 10000
 roots = 2
@@ -200,7 +200,7 @@ fn attempt_of(record: &[u8; 72]) -> Option<Attempt>
     }
 }
 
-/// The first so many bytes of a question's data.
+/// The first `count` bytes of a question's data.
 fn sent(record: &[u8; 72], count: usize) -> ArrayVec<u8, 64> {
     let mut bytes = ArrayVec::new();
     for byte in record.iter().skip(8).take(count) {
@@ -233,7 +233,7 @@ fn put(bus: &mut SimBus<Untraced>, record: &[u8; 72]) -> Answer {
     }
 }
 
-/// Makes at most `most` attempts of a row, and returns the bytes of the full packets before the last
+/// Makes at most `most` attempts of a row. Returns the bytes of the full packets before the last
 /// attempt, and what came of that.
 fn put_row(
     alloc: Global,
@@ -364,7 +364,7 @@ fn course_of(alloc: Global, plan: &str, device_bytes: Option<usize>) -> Result<C
     Ok(course)
 }
 
-/// A record's kind, its body, and the records behind it.
+/// A record's kind, its body, and the records after it.
 fn cut(told: &[u8]) -> Option<(u8, &[u8], &[u8])> {
     let (kind, rest) = told.split_first()?;
     let (length, rest) = rest.split_first_chunk::<4>()?;
@@ -415,7 +415,7 @@ const TREES: &[TreeRow] = &[
     },
 ];
 
-/// Each tree is told by rising path, each entry once.
+/// The records of a tree come by rising path, each entry once.
 #[test]
 fn trees(rt: HostRuntime) -> Result<(), Fail> {
     let alloc = rt.alloc();
@@ -427,7 +427,7 @@ fn trees(rt: HostRuntime) -> Result<(), Fail> {
     Ok(())
 }
 
-/// A device gives what it has, takes bytes, and is no hub's port; news tell that it came.
+/// A device gives what it has, takes bytes, and has no port; the news report its arrival.
 #[test]
 fn transfers(rt: HostRuntime) -> Result<(), Fail> {
     let alloc = rt.alloc();
@@ -457,8 +457,8 @@ fn transfers(rt: HostRuntime) -> Result<(), Fail> {
     Ok(())
 }
 
-/// The most attempts that a controller makes of a row, whence packets are received, and how many
-/// questions that takes.
+/// The most attempts that a controller makes of a row, a path and the packets that are received
+/// from there, and the number of questions.
 struct RowOfIns {
     row: u8,
     path: &'static str,

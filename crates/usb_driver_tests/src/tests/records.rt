@@ -136,13 +136,13 @@ const WANTS: &[WantRow] = &[
         said: "no such kind of record",
         ..ROUND
     },
-    // bytes where there are none
+    // bytes of a kind that has none
     WantRow {
         bytes: &[1],
         said: "wrong length of a record",
         ..ROUND
     },
-    // no path, or one where there is none
+    // no path, or the path of a kind that has none
     WantRow {
         kind: 20,
         said: "no such number in a record",
@@ -291,7 +291,7 @@ fn said_of_endpoint(alloc: Global, want: &Want) -> Result<String, AllocError> {
     }
 }
 
-/// The words, and each byte behind a space.
+/// The words, and each byte after a space.
 fn listed(alloc: Global, words: String, bytes: &[u8]) -> Result<String, AllocError> {
     let mut words = words;
     for byte in bytes {
@@ -446,7 +446,7 @@ fn came(alloc: Global, outcome: &Outcome) -> Result<String, AllocError> {
     }
 }
 
-/// Each answer is read as it is, and what is none has its fault, also where it is cut.
+/// Each answer is read as it is, and what is none has its fault. So has each cut one.
 #[test]
 fn answers(rt: HostRuntime) -> Result<(), Fail> {
     let alloc = rt.alloc();
@@ -477,7 +477,7 @@ fn destination(speed: Speed) -> Destination {
     }
 }
 
-/// Whether a record begins with these bytes, and has zeros behind them.
+/// Whether a record begins with these bytes, and has zeros after them.
 fn begins(record: &[u8; 72], head: &[u8]) -> bool {
     record.starts_with(head) && record.iter().skip(head.len()).all(|byte| *byte == 0)
 }

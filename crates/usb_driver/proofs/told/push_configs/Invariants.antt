@@ -1,5 +1,5 @@
 use Rattle.std.proofs.Common.{◌≡◌, ◌++◌, take}
-use Rattle.usb_driver.specs.Told.{config_records}
+use Rattle.usb_driver.specs.{config_records}
 use Rattle.usb_driver.proofs.told.push_configs.Given as goal
 
 -- the configurations so far

@@ -1,5 +1,5 @@
 use Rattle.std.proofs.Common.{◌≡◌, ◌∙◌, ℕ, List, ◌++◌, ap, append_assoc}
-use Rattle.usb_driver.specs.Told.{config_records, record_of}
+use Rattle.usb_driver.specs.{config_records, record_of}
 use Rattle.usb_driver.proofs.told.push_device.Goals as goal
 
 -- five lists, one behind the other

@@ -1,5 +1,5 @@
 use Rattle.std.proofs.Common.{◌≡◌, ◌++◌, take}
-use Rattle.usb_driver.specs.Told.{tree_records}
+use Rattle.usb_driver.specs.{tree_records}
 use Rattle.usb_driver.proofs.told.push_tree.Given as goal
 
 -- the entries so far

@@ -1,5 +1,5 @@
 use Rattle.std.proofs.Common.{◌≡◌, ◌∷◌, ◌++◌, [], take}
-use Rattle.usb_driver.specs.Told.{units_bytes}
+use Rattle.usb_driver.specs.{units_bytes}
 use Rattle.usb_driver.proofs.told.units_body.Given as goal
 
 -- the units so far

@@ -1,5 +1,5 @@
 use Rattle.std.proofs.Common.{◌∙◌, ap, get_or}
-use Rattle.usb_driver.specs.Wants.{fields_in, want_by}
+use Rattle.usb_driver.specs.{fields_in, want_by}
 use Rattle.usb_driver.specs.declared.want.Fields.{Fields}
 use Rattle.usb_driver.proofs.WantLaws.{fields_are, likely, path_looked}
 use Rattle.usb_driver.proofs.want.likely_want.Goals as goal

@@ -1,6 +1,6 @@
 use Rattle.std.proofs.Common.{ℕ, ◌≤◌, ◌∙◌, sym, subst}
 use Rattle.std.proofs.Math.Logic.{∥∥₁_map}
-use Rattle.usb_driver.specs.Hearing.{IsQuestion}
+use Rattle.usb_driver.specs.{IsQuestion}
 use Rattle.usb_driver.specs.declared.progress.Progress.{Progress}
 use Rattle.usb_driver.proofs.HearingLaws.{counted_on, heard_on}
 use Rattle.usb_driver.proofs.heard.Heard.hear.Goals as goal
