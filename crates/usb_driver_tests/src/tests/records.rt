@@ -318,8 +318,9 @@ fn wants(rt: HostRuntime) -> Result<(), Fail> {
     for row in WANTS {
         let record = record_of(alloc, row)?;
         match Want::read(alloc, record.as_slice()) {
-            Ok((want, statuses)) => {
-                assert_eq!(rt; said(alloc, &want)?.as_str(), row.said);
+            Ok(read) => {
+                let statuses = read.1;
+                assert_eq!(rt; said(alloc, &read.0)?.as_str(), row.said);
                 assert_eq!(rt; statuses, SHOWN);
             }
             Err(fault) => assert_eq!(rt; format!(in alloc; "{fault}")?.as_str(), row.said),
