@@ -91,14 +91,18 @@ size_t usb_path_text(const struct usb_path *path, char text[USB_PATH_TEXT])
 
 /* ---- No blocking ---- */
 
-enum usb_status usb_start(struct usb_host *host, unsigned roots, bool is_wide, const uint32_t statuses[USB_ROOTS])
+enum usb_status usb_start(struct usb_host *host, unsigned roots, const struct usb_options *options,
+                          const uint32_t statuses[USB_ROOTS])
 {
+    static const struct usb_options usual = { false, USB_DEVICE_BYTES };
+    const struct usb_options *its = options ? options : &usual;
     uint8_t bytes[STATUSES];
     memset(host, 0, sizeof *host);
     if (roots < 1 || roots > USB_ROOTS)
         return USB_BAD_ROOTS;
     put_statuses(bytes, statuses);
-    return (enum usb_status)usb_handle_open(&host->handle, (uint8_t)roots, is_wide, bytes, sizeof bytes);
+    return (enum usb_status)usb_handle_open(&host->handle, (uint8_t)roots, its->is_wide, its->device_bytes, bytes,
+                                            sizeof bytes);
 }
 
 /* Puts what a call is into its record: all but the statuses and the data. */
@@ -139,17 +143,39 @@ enum usb_status usb_asked(struct usb_host *host, struct usb_question *question)
     return (enum usb_status)usb_handle_question(&host->handle, (uint8_t *)question, sizeof *question);
 }
 
-enum usb_status usb_answer(struct usb_host *host, const struct usb_answer *answer, const uint32_t statuses[USB_ROOTS])
+/* Puts an answer into its record. Returns the record's length, or 0 if there are too many bytes. */
+static size_t put_answer(uint8_t record[ANSWER + USB_PACKET], const struct usb_answer *answer,
+                         const uint32_t statuses[USB_ROOTS])
 {
     bool is_data = answer->came == USB_DATA;
-    uint8_t record[ANSWER + USB_PACKET] = { answer->came, is_data && answer->toggle };
     size_t length = is_data ? answer->length : 0;
     if (length > USB_PACKET)
-        return USB_TOO_MUCH;
+        return 0;
+    record[0] = answer->came;
+    record[1] = is_data && answer->toggle;
     put(record + 2, length, 2);
     put_statuses(record + ANSWER_STATUSES, statuses);
     memcpy(record + ANSWER, answer->data, length);
-    return (enum usb_status)usb_handle_answer(&host->handle, record, ANSWER + length);
+    return ANSWER + length;
+}
+
+enum usb_status usb_answer(struct usb_host *host, const struct usb_answer *answer, const uint32_t statuses[USB_ROOTS])
+{
+    uint8_t record[ANSWER + USB_PACKET];
+    size_t length = put_answer(record, answer, statuses);
+    return length ? (enum usb_status)usb_handle_answer(&host->handle, record, length) : USB_TOO_MUCH;
+}
+
+enum usb_status usb_answer_row(struct usb_host *host, const void *before, size_t length, const struct usb_answer *last,
+                               const uint32_t statuses[USB_ROOTS])
+{
+    uint8_t record[ANSWER + USB_PACKET];
+    if (length == 0)
+        return usb_answer(host, last, statuses);
+    size_t last_length = put_answer(record, last, statuses);
+    if (!last_length)
+        return USB_TOO_MUCH;
+    return (enum usb_status)usb_handle_answer_row(&host->handle, before, length, record, last_length);
 }
 
 /* ---- What was told ---- */
@@ -309,17 +335,42 @@ static void read_ports(struct usb_controller *of, uint32_t statuses[USB_ROOTS])
         statuses[port - 1] = port <= of->roots ? of->status(of, port) : 0;
 }
 
-/* Lets the controller do what is asked. Data that are too long are no good answer (8.7.4), nor is an unknown one. */
-static void ask_controller(struct usb_controller *to, const struct usb_question *asked, struct usb_answer *came)
+/* Lets the controller make a row. Returns how many packets came before the last attempt. */
+static unsigned ask_row(const struct usb_host *host, const struct usb_question *asked, struct usb_answer *last)
 {
+    struct usb_controller *to = host->controller;
+    if (host->row) {
+        unsigned count = to->ins(to, asked, host->row, last);
+        if (count < asked->row)
+            return count;
+        last->came = USB_NOTHING; /* there is no such row */
+    } else {
+        struct usb_question one = *asked;
+        one.kind = USB_IN;
+        one.flags &= (uint8_t)~USB_DATA1;
+        one.row = 0;
+        to->attempt(to, &one, last);
+    }
+    return 0;
+}
+
+/* Lets the controller do what is asked. Data that are too long are no good answer (8.7.4), nor is an unknown one. */
+static void ask_controller(struct usb_host *host, const struct usb_question *asked)
+{
+    struct usb_controller *to = host->controller;
+    struct usb_answer *came = &host->kept;
+    bool is_in = asked->kind == USB_IN || asked->kind == USB_INS;
     memset(came, 0, sizeof *came);
+    host->kept_length = 0;
     if (asked->kind == USB_PORT_SET || asked->kind == USB_PORT_CLEAR)
         to->port(to, asked->address, asked->kind == USB_PORT_SET, asked->endpoint);
+    else if (asked->kind == USB_INS)
+        host->kept_length = (size_t)ask_row(host, asked, came) * asked->most;
     else if (asked->kind != USB_RESTART)
         to->attempt(to, asked, came);
     else if (to->restart)
         to->restart(to, asked->address, asked->endpoint & 15, (asked->endpoint & 0x80) != 0);
-    if (came->came > USB_DATA || (came->came == USB_DATA && (asked->kind != USB_IN || came->length > asked->most)))
+    if (came->came > USB_DATA || (came->came == USB_DATA && (!is_in || came->length > asked->most)))
         came->came = USB_NOTHING;
 }
 
@@ -336,10 +387,10 @@ static enum usb_status finish(struct usb_host *host)
         if (status != USB_DONE)
             return status;
         if (!host->is_kept)
-            ask_controller(host->controller, &asked, &host->kept);
+            ask_controller(host, &asked);
         host->is_kept = true;
         read_ports(host->controller, statuses);
-        status = usb_answer(host, &host->kept, statuses);
+        status = usb_answer_row(host, host->row, host->kept_length, &host->kept, statuses);
         if (status != USB_DONE)
             return status;
         host->is_kept = false;
@@ -348,13 +399,15 @@ static enum usb_status finish(struct usb_host *host)
     return usb_done(host);
 }
 
-enum usb_status usb_open(struct usb_host *host, struct usb_controller *controller, bool is_wide)
+enum usb_status usb_open(struct usb_host *host, struct usb_controller *controller, const struct usb_options *options)
 {
     uint32_t statuses[USB_ROOTS] = { 0 };
     if (controller->roots >= 1 && controller->roots <= USB_ROOTS)
         read_ports(controller, statuses);
-    enum usb_status status = usb_start(host, controller->roots, is_wide, statuses);
+    enum usb_status status = usb_start(host, controller->roots, options, statuses);
     host->controller = controller;
+    if (status == USB_DONE && controller->ins && !(host->row = malloc((USB_ROW - 1) * USB_PACKET)))
+        status = USB_NO_MEMORY;
     if (status == USB_DONE)
         status = finish(host);
     if (status != USB_DONE)
@@ -365,6 +418,8 @@ enum usb_status usb_open(struct usb_host *host, struct usb_controller *controlle
 enum usb_status usb_close(struct usb_host *host)
 {
     host->is_kept = host->is_begun = false;
+    free(host->row);
+    host->row = NULL;
     return (enum usb_status)usb_handle_close(&host->handle);
 }
 

@@ -4,8 +4,9 @@
  * calls below into that archive's records. docs/EMBEDDING.md says what is proved, what is assumed, and how to write a
  * driver for a controller.
  *
- * A program that may block writes a `struct usb_controller`: three functions, and a fourth if it chooses interface
- * settings. It then calls usb_open, usb_settle, usb_tree and the transfers. Each call returns when it is done.
+ * A program that may block writes a `struct usb_controller`: three functions, a fourth if it chooses interface
+ * settings, and a fifth if it makes rows of packets. It then calls usb_open, usb_settle, usb_tree and the transfers.
+ * Each call returns when it is done.
  *
  * A program that must not block calls usb_start and usb_begin. It takes each question by usb_asked, and answers by
  * usb_answer when it can, from an interrupt or a loop of its own. When nothing is asked, usb_done has the result.
@@ -36,6 +37,7 @@ enum {
     USB_ROOTS = 7,         /* the most root ports */
     USB_DEPTH = 7,         /* the most port numbers in a path */
     USB_PACKET = 64,       /* the most bytes in a packet */
+    USB_ROW = 64,          /* the most packets in a row */
     USB_ROUNDS = 256,      /* the most rounds of usb_settle */
     USB_STACK = 192 * 1024 /* enough stack for any call, in bytes */
 };
@@ -84,28 +86,30 @@ size_t usb_path_text(const struct usb_path *path, char text[USB_PATH_TEXT]);
 
 /* ---- The controller ---- */
 
-/* What the host asks: one transaction attempt (8.5) with no retry, or one call at a root port (11.24.2). */
+/* What the host asks: one transaction attempt (8.5) with no retry, one call at a root port (11.24.2), or a row. */
 enum usb_kind {
     USB_SETUP = 1,
     USB_OUT = 2,
     USB_IN = 3,
     USB_PORT_SET = 4,
     USB_PORT_CLEAR = 5,
-    USB_RESTART = 6 /* an endpoint begins again at DATA0, by SET_INTERFACE (9.1.1.5) */
+    USB_RESTART = 6, /* an endpoint begins again at DATA0, by SET_INTERFACE (9.1.1.5) */
+    USB_INS = 7      /* a row: INs of one endpoint, one after the other */
 };
 enum usb_flag {
     USB_LOW = 1,  /* the device has low speed */
     USB_PRE = 2,  /* the host's packets go with PRE before them: low speed below a hub (8.6.5) */
-    USB_DATA1 = 4 /* of SETUP and OUT: the data go as DATA1, else as DATA0 */
+    USB_DATA1 = 4 /* of SETUP and OUT: the data go as DATA1, else as DATA0; of a row: its first packet is DATA1 */
 };
 struct usb_question {
     uint8_t kind;     /* of enum usb_kind */
     uint8_t address;  /* the device's, 0 to 127; of a call at a root port the port's number, from 1 */
     uint8_t endpoint; /* its number, 0 to 15; of a root port the feature; of USB_RESTART its address, bit 7 for IN */
     uint8_t flags;    /* of enum usb_flag */
-    uint8_t most;     /* of IN: the most bytes that may come, the endpoint's maximum packet */
+    uint8_t most;     /* of IN and a row: the most bytes in a packet that may come, the endpoint's maximum packet */
     uint8_t length;   /* of SETUP and OUT: how many bytes go out, 0 to 64 */
-    uint8_t unused[2];
+    uint8_t row;      /* of a row: the most packets, 1 to USB_ROW */
+    uint8_t unused[1];
     uint8_t data[USB_PACKET]; /* those bytes */
 };
 
@@ -161,6 +165,17 @@ struct usb_controller {
     /* An endpoint, 1 to 15, begins again at DATA0. Only a driver that keeps toggles itself needs it, and only if
      * usb_set_interface is called; else it may be NULL. */
     void (*restart)(struct usb_controller *, unsigned address, unsigned endpoint, bool is_in);
+
+    /* Makes a row, a USB_INS: INs of one endpoint, at least one, and at most question->row. A controller with a queue
+     * makes one queue of them. The toggles of the packets alternate, from that of the question on.
+     *
+     * The row ends after an attempt that brings no full packet (`most` bytes) of the toggle that is due. The driver may
+     * also end it after any other attempt. `last` gets what came of the last attempt, as of `attempt`. `room` gets the
+     * bytes of the full packets before that one, in order. Returns the number of packets in `room`, which is less than
+     * question->row. The room has (USB_ROW - 1) * USB_PACKET bytes.
+     *
+     * If it is NULL, `attempt` is called in its place, and each row has one packet. */
+    unsigned (*ins)(struct usb_controller *, const struct usb_question *, uint8_t *room, struct usb_answer *last);
 };
 
 /* ---- A host ---- */
@@ -174,17 +189,29 @@ struct usb_host {
     struct usb_handle handle;
     struct usb_controller *controller; /* NULL: the caller answers */
     struct usb_answer kept;            /* an answer that found no memory */
+    uint8_t *row;                      /* room for the packets of a row before its last one; NULL: there are no rows */
+    size_t kept_length;                /* how many bytes of it the kept answer has */
     uint8_t begun[24];                 /* the call that is under way */
     bool is_kept, is_begun;
 };
 
+/* What a host takes. A NULL pointer to options is { false, USB_DEVICE_BYTES }. */
+struct usb_options {
+    bool is_wide;          /* also hubs of 8 to 15 ports, and hubs whose status endpoint is not number 1 */
+    uint32_t device_bytes; /* the most bytes of all configurations of a device together; USB_ANY_BYTES is no limit */
+};
+enum { USB_DEVICE_BYTES = 8192 };
+#define USB_ANY_BYTES UINT32_MAX
+
 /* Begins a host at a controller, which stays the caller's and must outlive it. The host switches the power of each root
- * port off and on, so a boot loader's host may have had the controller before. With is_wide it also takes hubs of 8 to
- * 15 ports, and hubs whose status endpoint is not number 1.
+ * port off and on, so a boot loader's host may have had the controller before.
+ *
+ * A device whose configurations say that they have more bytes than the options allow is refused as too large. So no
+ * device uses up the heap: docs/EMBEDDING.md has the size of a heap that is always enough.
  *
  * The struct is overwritten: close a host before it is opened again. Returns USB_DONE, USB_BAD_ROOTS or USB_NO_MEMORY.
  * After the last two the host is closed, and holds no memory. */
-enum usb_status usb_open(struct usb_host *host, struct usb_controller *controller, bool is_wide);
+enum usb_status usb_open(struct usb_host *host, struct usb_controller *controller, const struct usb_options *options);
 
 /* Closes a host at any time, also in the middle of a call, and frees all its memory. Returns USB_DONE, or USB_CLOSED if
  * it was closed. Devices keep their addresses until another host is opened. */
@@ -300,7 +327,7 @@ enum usb_status usb_send(struct usb_host *host, struct usb_path path, const void
  * usb_received gives all. 64 bytes a packet are always enough. The heap has room for the bytes twice.
  *
  * After each answer the call is made anew over all that was heard in it. So its cost grows with the square of the
- * number of packets. Some 16 to 64 packets a call cost least. */
+ * number of answers. With rows of 64 packets some 256 to 1,024 packets a call cost least, with none some 16 to 64. */
 enum usb_status usb_receive(struct usb_host *host, struct usb_path path, void *room, size_t length, unsigned packets,
                             size_t *got);
 
@@ -349,7 +376,8 @@ enum usb_status usb_control_out(struct usb_host *host, struct usb_path path, con
 
 /* Begins a host with no controller, at that many root ports, which have these statuses; the caller then answers. The
  * opening is the first call that is under way. Apart from that, as usb_open. */
-enum usb_status usb_start(struct usb_host *host, unsigned roots, bool is_wide, const uint32_t statuses[USB_ROOTS]);
+enum usb_status usb_start(struct usb_host *host, unsigned roots, const struct usb_options *options,
+                          const uint32_t statuses[USB_ROOTS]);
 
 /* A call to begin. */
 enum usb_wanted {
@@ -386,12 +414,20 @@ struct usb_want {
 enum usb_status usb_begin(struct usb_host *host, const struct usb_want *want, const uint32_t statuses[USB_ROOTS]);
 
 /* Puts the question there that is to be answered. USB_QUIET: there is none, as the call is done or none was begun.
- * USB_NO_MEMORY: ask again. A question stays the same until it is answered. */
+ * USB_NO_MEMORY: ask again. A question stays the same until it is answered. A row, USB_INS, may always be taken for one
+ * USB_IN: one packet is then asked for and answered. */
 enum usb_status usb_asked(struct usb_host *host, struct usb_question *question);
 
 /* Answers the question, and says how the root ports are then. USB_NO_MEMORY: answer it again. USB_TOO_MUCH: more data
  * than the maximum, nothing is taken. USB_OUT_OF_TURN: there is no question. */
 enum usb_status usb_answer(struct usb_host *host, const struct usb_answer *answer, const uint32_t statuses[USB_ROOTS]);
+
+/* The same for a row of more than one packet. `before` has the `length` bytes of the full packets that came first, and
+ * `last` is what came of the attempt after them: see `ins` of struct usb_controller. Apart from what usb_answer returns,
+ * USB_OUT_OF_TURN: there are bytes before, and the question is no row. USB_WRONG_LENGTH: they are not full packets.
+ * USB_TOO_MUCH: there are more packets than in the row. After each of them nothing is taken. */
+enum usb_status usb_answer_row(struct usb_host *host, const void *before, size_t length, const struct usb_answer *last,
+                               const uint32_t statuses[USB_ROOTS]);
 
 /* Returns the status of the call that was done last. USB_OUT_OF_TURN: none is done yet. */
 enum usb_status usb_done(struct usb_host *host);
@@ -406,11 +442,14 @@ enum usb_status usb_reported(struct usb_host *host, struct usb_news *news);
 
 /* ---- The archive ----
  *
- * Its six exports, which usb_host.c calls. A handle is zeroed before it is opened. */
-uint8_t usb_handle_open(struct usb_handle *handle, uint8_t roots, uint8_t wide, const uint8_t *statuses, size_t length);
+ * Its seven exports, which usb_host.c calls. A handle is zeroed before it is opened. */
+uint8_t usb_handle_open(struct usb_handle *handle, uint8_t roots, uint8_t wide, uint32_t device_bytes,
+                        const uint8_t *statuses, size_t length);
 uint8_t usb_handle_begin(struct usb_handle *handle, const uint8_t *want, size_t length);
 uint8_t usb_handle_question(struct usb_handle *handle, uint8_t *question, size_t room);
 uint8_t usb_handle_answer(struct usb_handle *handle, const uint8_t *answer, size_t length);
+uint8_t usb_handle_answer_row(struct usb_handle *handle, const uint8_t *before, size_t before_length,
+                              const uint8_t *answer, size_t length);
 size_t usb_handle_told(struct usb_handle *handle, size_t skip, uint8_t *room, size_t length);
 uint8_t usb_handle_close(struct usb_handle *handle);
 
