@@ -3,7 +3,7 @@
 #include <string.h>
 
 enum { READ_CAPACITY = 0x25, READ = 0x28, COMMAND_LENGTH = 10, TRIES = 3 };
-enum { COMMAND_BLOCK = 31, STATUS_BLOCK = 13, FROM_DEVICE = 0x80, DATA_PACKETS = 512, MOST_SECTORS = 128 };
+enum { COMMAND_BLOCK = 31, STATUS_BLOCK = 13, FROM_DEVICE = 0x80, DATA_PACKETS = 256, MOST_SECTORS = 128 };
 
 static void put_high_first(uint8_t *to, uint32_t number)
 {

@@ -1,8 +1,8 @@
 use alloc::vec::Vec;
 
 use crate::{
-    Attempt, Came, Done, Endpoint, Entry, Fault, Feature, Host, Hubs, Look, News, Packet, Path, Question, Setup,
-    Statuses, Want,
+    Attempt, Came, Done, Endpoint, Entry, Fault, Feature, Host, Ins, Look, News, Options, Packet, Path, Question, Row,
+    Setup, Statuses, Want,
 };
 
 /// A controller with its root ports: what its driver provides.
@@ -26,6 +26,18 @@ pub trait Controller {
     fn restart(&mut self, address: u8, endpoint: Endpoint) {
         let _ = (address, endpoint);
     }
+
+    /// Makes a row: INs of one endpoint, at least one and at most `ins.most`. A controller with a queue makes one queue
+    /// of them.
+    ///
+    /// The row ends after an attempt that brings no full packet of the toggle that is due. It may also end after any
+    /// other attempt. What came of the last attempt is returned, and `before` gets the full packets before that one.
+    ///
+    /// This body makes one attempt.
+    fn ins(&mut self, ins: &Ins, before: &mut Row) -> Came {
+        let _ = before;
+        self.attempt(&Attempt::In { to: ins.to })
+    }
 }
 
 /// A host with its controller: each call returns when it is done.
@@ -39,6 +51,8 @@ pub struct Bus<C> {
     begun: Option<[u8; 24]>,
     /// An answer that found no memory.
     kept: Option<Came>,
+    /// The packets of a row before it.
+    before: Row,
 }
 
 fn statuses_of<C: Controller>(controller: &mut C) -> Statuses {
@@ -56,10 +70,10 @@ impl<C: Controller> Bus<C> {
     ///
     /// - `Roots`: the controller has not 1 to 7 root ports.
     /// - `Memory`: the heap had no memory. The controller is lost, so lend a `&mut` one if it must not be.
-    pub fn open(mut controller: C, hubs: Hubs) -> Result<Bus<C>, Fault> {
+    pub fn open(mut controller: C, options: Options) -> Result<Bus<C>, Fault> {
         let statuses = statuses_of(&mut controller);
-        let host = Host::open(controller.roots(), hubs, &statuses)?;
-        let mut bus = Bus { host, controller, begun: None, kept: None };
+        let host = Host::open(controller.roots(), options, &statuses)?;
+        let mut bus = Bus { host, controller, begun: None, kept: None, before: Row::EMPTY };
         bus.finish()?;
         Ok(bus)
     }
@@ -264,23 +278,49 @@ impl<C: Controller> Bus<C> {
                 let Some(question) = self.host.question()? else {
                     return Ok(());
                 };
-                self.kept = Some(came_of(&mut self.controller, &question));
+                self.before.clear();
+                self.kept = Some(came_of(&mut self.controller, &question, &mut self.before));
             }
             let statuses = statuses_of(&mut self.controller);
-            self.host.answer(self.kept.as_ref().unwrap_or(&Came::Nothing), &statuses)?;
+            let last = self.kept.as_ref().unwrap_or(&Came::Nothing);
+            if self.before.is_empty() {
+                self.host.answer(last, &statuses)?;
+            } else {
+                self.host.answer_row(&self.before, last, &statuses)?;
+            }
             self.kept = None;
         }
     }
 }
 
-/// Lets the controller do what is asked. Data that are too long are no good answer (8.7.4).
-fn came_of<C: Controller>(controller: &mut C, question: &Question) -> Came {
+/// Data that are too long are no good answer (8.7.4).
+fn fitting(came: Came, most: u8) -> Came {
+    match came {
+        Came::Data { data, .. } if data.len() > usize::from(most) => Came::Nothing,
+        came => came,
+    }
+}
+
+/// Lets the controller make a row. One that cannot be is no good answer.
+fn row_of<C: Controller>(controller: &mut C, ins: &Ins, before: &mut Row) -> Came {
+    let came = fitting(controller.ins(ins, before), ins.to.most);
+    let most = usize::from(ins.to.most);
+    if before.len() % most != 0 || before.len() / most >= usize::from(ins.most) {
+        before.clear();
+        return Came::Nothing;
+    }
+    came
+}
+
+/// Lets the controller do what is asked.
+fn came_of<C: Controller>(controller: &mut C, question: &Question, before: &mut Row) -> Came {
     match question {
         Question::Attempt(attempt) => match (controller.attempt(attempt), attempt) {
-            (Came::Data { data, .. }, Attempt::In { to }) if data.len() > usize::from(to.most) => Came::Nothing,
+            (came, Attempt::In { to }) => fitting(came, to.most),
             (Came::Data { .. }, Attempt::Setup { .. } | Attempt::Out { .. }) => Came::Nothing,
             (came, _) => came,
         },
+        Question::Ins(ins) => row_of(controller, ins, before),
         Question::Port { port, set, feature } => {
             controller.port(*port, *set, *feature);
             Came::Nothing
@@ -311,5 +351,9 @@ impl<C: Controller> Controller for &mut C {
 
     fn restart(&mut self, address: u8, endpoint: Endpoint) {
         (**self).restart(address, endpoint);
+    }
+
+    fn ins(&mut self, ins: &Ins, before: &mut Row) -> Came {
+        (**self).ins(ins, before)
     }
 }

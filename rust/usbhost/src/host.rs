@@ -3,7 +3,7 @@ use alloc::vec::Vec;
 use crate::question::status_bytes;
 use crate::sys::{self, Handle};
 use crate::told;
-use crate::{Came, Done, Entry, Fault, Look, News, Question, Statuses, Want};
+use crate::{Came, Done, Entry, Fault, Look, News, Question, Row, Statuses, Want};
 
 /// Which hubs a host takes.
 #[derive(Clone, Copy, Debug, PartialEq, Eq, Hash)]
@@ -12,6 +12,22 @@ pub enum Hubs {
     Narrow,
     /// Those of 1 to 15 ports, with a status endpoint of any number.
     Wide,
+}
+
+/// What a host takes. By default narrow hubs alone, and 8,192 bytes of each device.
+#[derive(Clone, Copy, Debug, PartialEq, Eq, Hash)]
+pub struct Options {
+    /// Which hubs.
+    pub hubs: Hubs,
+    /// The most bytes of all configurations of a device together; `None` is no limit. A device that says more is
+    /// refused, so that no device uses up the heap.
+    pub device_bytes: Option<u32>,
+}
+
+impl Default for Options {
+    fn default() -> Options {
+        Options { hubs: Hubs::Narrow, device_bytes: Some(8192) }
+    }
 }
 
 /// A host that asks questions and hears answers, with no I/O of its own and no blocking.
@@ -48,9 +64,10 @@ impl Host {
     ///
     /// - `Roots`: there are not 1 to 7 root ports.
     /// - `Memory`: the heap had no memory.
-    pub fn open(roots: u8, hubs: Hubs, statuses: &Statuses) -> Result<Host, Fault> {
+    pub fn open(roots: u8, options: Options, statuses: &Statuses) -> Result<Host, Fault> {
         let mut host = Host { handle: Handle::CLOSED };
-        checked(sys::open(&mut host.handle, roots, hubs == Hubs::Wide, &status_bytes(statuses)))?;
+        let device_bytes = options.device_bytes.unwrap_or(u32::MAX);
+        checked(sys::open(&mut host.handle, roots, options.hubs == Hubs::Wide, device_bytes, &status_bytes(statuses)))?;
         Ok(host)
     }
 
@@ -97,6 +114,24 @@ impl Host {
         let mut record = [0; 96];
         let length = came.put(statuses, &mut record);
         checked(sys::answer(&mut self.handle, &record[..length]))
+    }
+
+    /// The same for a row of more than one packet ([`Question::Ins`]): the full packets that came first, in order, and
+    /// what came of the attempt after them.
+    ///
+    /// # Errors
+    ///
+    /// After any of them nothing was taken.
+    ///
+    /// - `OutOfTurn`: there is no question, or there are packets and the question is no row.
+    /// - `Length`: a packet is not full.
+    /// - `TooMuch`: there are more packets than in the row, or the data of the last attempt are longer than the
+    ///   maximum.
+    /// - `Memory`: the heap had no memory.
+    pub fn answer_row(&mut self, before: &Row, last: &Came, statuses: &Statuses) -> Result<(), Fault> {
+        let mut record = [0; 96];
+        let length = last.put(statuses, &mut record);
+        checked(sys::answer_row(&mut self.handle, before, &record[..length]))
     }
 
     /// How the call ended that was done last.
