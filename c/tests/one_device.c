@@ -438,6 +438,16 @@ static void check_budget(void)
     MUST(usb_close(&host) == USB_DONE && heap_blocks == 0);
 }
 
+/* Opens a host, and receives from the device. */
+static void check_received(unsigned most)
+{
+    begin_device(most);
+    MAKE(USB_DONE, usb_open(&host, &controller, NULL));
+    MAKE(USB_DONE, usb_settle(&host));
+    check_rows();
+    MUST(usb_close(&host) == USB_DONE && heap_blocks == 0);
+}
+
 /* Returns how many attempts were made. */
 static unsigned check_blocking(unsigned most)
 {
@@ -616,19 +626,26 @@ static void show_costs(void)
     printf("stack: %zu bytes, with that of the C library to begin a thread\n", sizeof stack - unused);
 }
 
-/* All calls before a controller that makes rows of so many attempts, and once more for each allocation. They must make
- * so many attempts. Returns how many allocations there are. */
-static long check_all(unsigned most, unsigned made)
+static void check_all(void)
+{
+    check_blocking(0);
+    check_stepped(1);
+}
+
+static void check_whole_rows(void) { check_received(USB_ROW); }
+
+static void check_cut_rows(void) { check_received(3); }
+
+/* Makes these calls once more for each allocation, which then fails. Returns how many allocations there are. */
+static long check_each(void (*make_calls)(void))
 {
     heap_calls = heap_fails_at = 0;
-    MUST(check_blocking(most) == made);
-    check_stepped(most ? most : 1);
+    make_calls();
     long calls = heap_calls;
     for (long fails = 1; fails <= calls; fails++) {
         heap_calls = 0;
         heap_fails_at = fails;
-        MUST(check_blocking(most) == made);
-        check_stepped(most ? most : 1);
+        make_calls();
     }
     heap_fails_at = 0;
     return calls;
@@ -636,12 +653,14 @@ static long check_all(unsigned most, unsigned made)
 
 int main(int words, char **word)
 {
-    static const unsigned mosts[] = { 0, USB_ROW, 3 }; /* attempts in a row at most */
-    long calls = 0;
+    static const unsigned mosts[] = { USB_ROW, 3, 1 }; /* attempts in a row at most */
     check_paths();
     unsigned made = check_blocking(0);
-    for (size_t i = 0; i < sizeof mosts / sizeof *mosts; i++)
-        calls += check_all(mosts[i], made);
+    for (size_t i = 0; i < sizeof mosts / sizeof *mosts; i++) {
+        MUST(check_blocking(mosts[i]) == made);
+        check_stepped(mosts[i]);
+    }
+    long calls = check_each(check_all) + check_each(check_whole_rows) + check_each(check_cut_rows);
     MUST(refusals > 0 && refusals <= (unsigned long)calls);
     printf("each call did what it must; each of %ld allocations failed once, %u calls had no memory\n", calls,
            refusals);
