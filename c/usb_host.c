@@ -4,7 +4,7 @@
 #include <stdlib.h>
 #include <string.h>
 
-/* Lengths of records, and where their parts are. All numbers have their low byte first. */
+/* Lengths of records, and the places of their parts. All numbers have their low byte first. */
 enum { STATUSES = 4 * USB_ROOTS, WANT = 52, WANT_STATUSES = 24, ANSWER = 32, ANSWER_STATUSES = 4, HEAD = 5 };
 _Static_assert(sizeof((struct usb_host *)0)->begun == WANT_STATUSES, "what a call is, without statuses and data");
 enum { PATH = 8, DEVICE = 38, REFUSED = 10, NEWS = 17, DESCRIPTOR = 18 };
@@ -16,7 +16,7 @@ _Static_assert(sizeof(size_t) == 8, "the archive is for 64 bits");
 _Static_assert(sizeof(struct usb_question) == 72, "a question is the archive's record");
 _Static_assert(sizeof(struct usb_path) == PATH, "a path is the archive's");
 
-/* Where a record is in what was told: its kind, and the place and number of its bytes. */
+/* A record of what was done: its kind, and the place and number of its bytes. */
 struct record {
     uint8_t kind;
     size_t at, length;
@@ -178,10 +178,10 @@ enum usb_status usb_answer_row(struct usb_host *host, const void *before, size_t
     return (enum usb_status)usb_handle_answer_row(&host->handle, before, length, record, last_length);
 }
 
-/* ---- What was told ---- */
+/* ---- The records of what was done ---- */
 
-/* Copies what was told from a place on. Returns whether there are so many bytes. */
-static bool read_told(struct usb_host *host, size_t at, uint8_t *room, size_t length)
+/* Copies bytes of the records, from a place on. Returns whether there are that many. */
+static bool read_records(struct usb_host *host, size_t at, uint8_t *room, size_t length)
 {
     size_t all = usb_handle_told(&host->handle, at, room, length);
     return at <= all && length <= all - at;
@@ -192,7 +192,7 @@ static bool next_record(struct usb_host *host, struct record *it)
 {
     uint8_t head[HEAD], none;
     size_t at = it->at + it->length;
-    if (!read_told(host, at, head, HEAD))
+    if (!read_records(host, at, head, HEAD))
         return false;
     it->kind = head[0];
     it->at = at + HEAD;
@@ -215,7 +215,7 @@ enum usb_status usb_done(struct usb_host *host)
 {
     struct record it;
     uint8_t status;
-    if (!find_record(host, IS_DONE, &it) || it.length != 1 || !read_told(host, it.at, &status, 1))
+    if (!find_record(host, IS_DONE, &it) || it.length != 1 || !read_records(host, it.at, &status, 1))
         return USB_OUT_OF_TURN;
     return (enum usb_status)status;
 }
@@ -228,7 +228,7 @@ enum usb_status usb_received(struct usb_host *host, void *room, size_t length, s
         return USB_OUT_OF_TURN;
     *got = it.length;
     size_t count = it.length < length ? it.length : length;
-    if (count > 0 && !read_told(host, it.at, room, count))
+    if (count > 0 && !read_records(host, it.at, room, count))
         return USB_OUT_OF_TURN;
     return it.length > length ? USB_NO_ROOM : USB_DONE;
 }
@@ -239,7 +239,7 @@ enum usb_status usb_looked(struct usb_host *host, struct usb_look *look)
     uint8_t body[3] = { 0 };
     if (!find_record(host, IS_LOOK, &it) || it.length < 1)
         return USB_OUT_OF_TURN;
-    if (!read_told(host, it.at, body, it.length < sizeof body ? it.length : sizeof body))
+    if (!read_records(host, it.at, body, it.length < sizeof body ? it.length : sizeof body))
         return USB_OUT_OF_TURN;
     *look = (struct usb_look) { (enum usb_found)body[0], (enum usb_cause)body[1], body[2] };
     return USB_DONE;
@@ -249,7 +249,7 @@ enum usb_status usb_reported(struct usb_host *host, struct usb_news *news)
 {
     struct record it;
     uint8_t body[NEWS];
-    if (!find_record(host, IS_NEWS, &it) || it.length != NEWS || !read_told(host, it.at, body, NEWS))
+    if (!find_record(host, IS_NEWS, &it) || it.length != NEWS || !read_records(host, it.at, body, NEWS))
         return USB_QUIET;
     *news = (struct usb_news) { body[0] != 0, get_path(body + 1), get(body + 1 + PATH, 8) };
     return USB_DONE;
@@ -257,7 +257,7 @@ enum usb_status usb_reported(struct usb_host *host, struct usb_news *news)
 
 /* ---- The listing ---- */
 
-/* Who visits, the device that is visited, and how many of its configurations were. */
+/* The visitor, the device that is visited, and the number of its configurations that were. */
 struct visit {
     const struct usb_visitor *to;
     struct usb_device device;
@@ -321,7 +321,7 @@ enum usb_status usb_listed(struct usb_host *host, const struct usb_visitor *visi
     if (!body)
         return USB_NO_MEMORY;
     while (next_record(host, &it))
-        if (read_told(host, it.at, body, it.length))
+        if (read_records(host, it.at, body, it.length))
             visit_record(&visit, it.kind, body, it.length);
     free(body);
     return USB_DONE;
@@ -335,7 +335,7 @@ static void read_ports(struct usb_controller *of, uint32_t statuses[USB_ROOTS])
         statuses[port - 1] = port <= of->roots ? of->status(of, port) : 0;
 }
 
-/* Lets the controller make a row. Returns how many packets came before the last attempt. */
+/* Lets the controller make a row. Returns the number of packets that came before the last attempt. */
 static unsigned ask_row(const struct usb_host *host, const struct usb_question *asked, struct usb_answer *last)
 {
     struct usb_controller *to = host->controller;

@@ -48,8 +48,8 @@ enum usb_status {
     USB_QUIET = 1,         /* it is done, and there was nothing: no work for a round, no packet, no news, no question */
     USB_NO_DEVICE = 2,     /* no accepted device is at the path */
     USB_NO_ENDPOINT = 3,   /* the device is a hub, or has no such endpoint */
-    USB_STALLED = 4,       /* the endpoint answered STALL, or the device refused the request */
-    USB_BUSY = 5,          /* it answered NAK too often */
+    USB_STALLED = 4,       /* the endpoint returned STALL, or the device refused the request */
+    USB_BUSY = 5,          /* it returned NAK too often */
     USB_NO_ANSWER = 6,     /* three errors in a row */
     USB_BROKEN = 7,        /* the endpoint must be cleared first, or its interface set */
     USB_RESERVED = 8,      /* only the host may send this request */
@@ -107,7 +107,7 @@ struct usb_question {
     uint8_t endpoint; /* its number, 0 to 15; of a root port the feature; of USB_RESTART its address, bit 7 for IN */
     uint8_t flags;    /* of enum usb_flag */
     uint8_t most;     /* of IN and a row: the most bytes in a packet that may come, the endpoint's maximum packet */
-    uint8_t length;   /* of SETUP and OUT: how many bytes go out, 0 to 64 */
+    uint8_t length;   /* of SETUP and OUT: the number of bytes that go out, 0 to 64 */
     uint8_t row;      /* of a row: the most packets, 1 to USB_ROW */
     uint8_t unused[1];
     uint8_t data[USB_PACKET]; /* those bytes */
@@ -144,7 +144,7 @@ enum usb_came {
 struct usb_answer {
     uint8_t came;   /* of enum usb_came */
     uint8_t toggle; /* of data: 0 for DATA0, 1 for DATA1 */
-    uint8_t length; /* of data: how many bytes, 0 to the maximum of the question */
+    uint8_t length; /* of data: the number of bytes, 0 to the maximum of the question */
     uint8_t data[USB_PACKET];
 };
 
@@ -190,7 +190,7 @@ struct usb_host {
     struct usb_controller *controller; /* NULL: the caller answers */
     struct usb_answer kept;            /* an answer that found no memory */
     uint8_t *row;                      /* room for the packets of a row before its last one; NULL: there are no rows */
-    size_t kept_length;                /* how many bytes of it the kept answer has */
+    size_t kept_length;                /* the number of bytes in it that the kept answer has */
     uint8_t begun[24];                 /* the call that is under way */
     bool is_kept, is_begun;
 };
@@ -239,7 +239,7 @@ enum usb_status usb_settle(struct usb_host *host);
 enum usb_cause {
     USB_CAUSE_NONE = 0,
     USB_CAUSE_SILENT = 1,            /* it gave no answer */
-    USB_CAUSE_BUSY = 2,              /* it answered NAK too often */
+    USB_CAUSE_BUSY = 2,              /* it returned NAK too often */
     USB_CAUSE_STALLED = 3,           /* it refused a request: `of` is of enum usb_request */
     USB_CAUSE_BAD_DEVICE = 4,        /* its device descriptor is malformed */
     USB_CAUSE_TOO_DEEP = 5,          /* it is a hub in the seventh tier */
@@ -271,7 +271,7 @@ struct usb_refused {
     struct usb_path path;
     enum usb_cause cause;
     uint8_t of;          /* what the cause names, else 0 */
-    uint8_t said_length; /* how many bytes of its device descriptor came, 0 to 18 */
+    uint8_t said_length; /* the number of bytes of its device descriptor that came, 0 to 18 */
     uint8_t said[18];
 };
 
@@ -323,7 +323,7 @@ enum usb_status usb_look(struct usb_host *host, struct usb_path path, struct usb
 enum usb_status usb_send(struct usb_host *host, struct usb_path path, const void *bytes, size_t length);
 
 /* Receives packets of the first bulk IN endpoint, 0 to 65,535 of them, up to the first one that is shorter than the
- * endpoint's maximum. `got` is how many bytes came, or 0. USB_NO_ROOM: `room` has the first `length` of them, and
+ * endpoint's maximum. `got` is the number of bytes that came, or 0. USB_NO_ROOM: `room` has the first `length` of them, and
  * usb_received gives all. 64 bytes a packet are always enough. The heap has room for the bytes twice.
  *
  * After each answer the call is made anew over all that was heard in it. So its cost grows with the square of the
@@ -331,7 +331,7 @@ enum usb_status usb_send(struct usb_host *host, struct usb_path path, const void
 enum usb_status usb_receive(struct usb_host *host, struct usb_path path, void *room, size_t length, unsigned packets,
                             size_t *got);
 
-/* Clears the halts of the first bulk endpoints, where a transfer found them halted. */
+/* Clears the halts of the first bulk endpoints, if a transfer found them halted. */
 enum usb_status usb_clear_halt(struct usb_host *host, struct usb_path path);
 
 /* The same for any bulk or interrupt endpoint, by its address: bit 7 is set for IN (9.6.6). usb_clear_halt_of always
@@ -361,7 +361,7 @@ struct usb_setup {
 };
 
 /* Makes a request of endpoint 0 whose data come from the device: bit 7 of its type is set. `room` has setup->length
- * bytes, and `got` is how many came. Hubs take it too. USB_STALLED: the device refused it, and nothing has to be
+ * bytes, and `got` is the number that came. Hubs take it too. USB_STALLED: the device refused it, and nothing has to be
  * cleared. The heap has room for the bytes twice. */
 enum usb_status usb_control_in(struct usb_host *host, struct usb_path path, const struct usb_setup *setup, void *room,
                                size_t *got);
@@ -408,12 +408,12 @@ struct usb_want {
 };
 
 /* Begins a call; `statuses` are those of the root ports, port 1 first. USB_OUT_OF_TURN: a call is under way.
- * USB_WRONG_LENGTH: there are bytes where none belong, or more packets than 65,535. USB_BAD_VALUE: no path, no
+ * USB_WRONG_LENGTH: there are bytes and the call takes none, or more packets than 65,535. USB_BAD_VALUE: no path, no
  * endpoint, a request of the other direction, or with more or fewer bytes than its length. After any fault nothing was
  * begun. */
 enum usb_status usb_begin(struct usb_host *host, const struct usb_want *want, const uint32_t statuses[USB_ROOTS]);
 
-/* Puts the question there that is to be answered. USB_QUIET: there is none, as the call is done or none was begun.
+/* Puts the next question there. USB_QUIET: there is none, as the call is done or none was begun.
  * USB_NO_MEMORY: ask again. A question stays the same until it is answered. A row, USB_INS, may always be taken for one
  * USB_IN: one packet is then asked for and answered. */
 enum usb_status usb_asked(struct usb_host *host, struct usb_question *question);
@@ -433,7 +433,7 @@ enum usb_status usb_answer_row(struct usb_host *host, const void *before, size_t
 enum usb_status usb_done(struct usb_host *host);
 
 /* Take the result of the call that was done last: of what receives, polls or reads, of the tree, a look, and news. They
- * may be called again until the next call begins. `got` is how many bytes came in all. USB_NO_ROOM: they are more than
+ * may be called again until the next call begins. `got` is the number of bytes that came in all. USB_NO_ROOM: they are more than
  * `length`, and `room` has the first ones. USB_OUT_OF_TURN: that call has no such result. */
 enum usb_status usb_received(struct usb_host *host, void *room, size_t length, size_t *got);
 enum usb_status usb_listed(struct usb_host *host, const struct usb_visitor *visitor);

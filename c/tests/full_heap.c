@@ -4,11 +4,11 @@
  * usage: full_heap [BYTES [DEVICES [CONFIGURATIONS [PACKET]]]]
  *
  * Each of DEVICES (127, at least 8) has CONFIGURATIONS (see `shape`), which together have BYTES (8,192) to the byte, and
- * three strings of 126 UTF-16 units. Its endpoint 0 has PACKET (64). Eight of them are hubs of 15 ports. They are
- * plugged in one by one, and the tree is listed twice after each.
+ * three strings of 126 UTF-16 units. The maximum packet of its endpoint 0 is PACKET (64). Eight of them are hubs of 15
+ * ports. They are plugged in one by one, and the tree is listed twice after each.
  *
- * Then a device comes that says that each of its 255 configurations has 65,535 bytes. It must be refused as too large,
- * and the device that comes after it must be listed. Status 0: all was so.
+ * Then another host has the eight hubs, and a device comes that says that each of its 255 configurations has 65,535
+ * bytes. It must be refused as too large, and the device that comes after it must be listed. Status 0: all was so.
  */
 #include <stdio.h>
 #include <stdlib.h>
@@ -32,11 +32,17 @@ enum { CHANGED_CONNECTION = 1, CHANGED_RESET = 0x10 };
 
 enum { FIXED = 32 * 1024, OF_DEVICE = 48 * 1024, COPIES = 9, OF_ATTEMPT = 400 };
 
-/* A heap that is enough for so many listed devices with so many bytes each, and calls of so many attempts. */
+/* A heap that is enough for this number of listed devices, with this number of bytes each, and of attempts in a call. */
 static size_t heap_for(size_t bytes, size_t devices, size_t attempts_of_call)
 {
     return FIXED + devices * (COPIES * bytes + OF_DEVICE) + attempts_of_call * OF_ATTEMPT;
 }
+
+static unsigned packet = 64;
+static size_t bytes = USB_DEVICE_BYTES;
+
+/* The most attempts of a call in which one device is new, and answers each. */
+static size_t attempts_stated(void) { return 2000 + bytes / packet; }
 
 /* ---- The devices ----
  *
@@ -55,8 +61,6 @@ static struct device {
 } devices[MOST];
 
 static struct port roots[ROOTS + 1];
-static unsigned packet = 64;
-static size_t bytes = USB_DEVICE_BYTES;
 static unsigned long attempts, attempts_of_call, most_of_call;
 
 /* What the device in question still has to give. Only one request is under way at a time. */
@@ -339,45 +343,69 @@ static void plug(unsigned device, unsigned configurations)
     settle();
 }
 
-/* A device that says too much is refused, and the one that is plugged in after it is listed. */
-static void check_liar(unsigned count)
+static struct usb_controller controller = { ROOTS, attempt, status, call_port, NULL, NULL };
+
+/* Opens a host on the heap that is enough for this number of devices. */
+static void open_host(unsigned count)
 {
-    struct usb_news news;
-    if (count + 2 > MOST)
-        return;
-    devices[count].is_lying = true;
-    plug(count, 255);
-    plug(count + 1, 1);
-    struct seen seen = list();
-    MUST(seen.devices == count + 1 && seen.refused == 1 && seen.cause == USB_CAUSE_TOO_LARGE);
-    while (usb_news(&host, &news) == USB_DONE)
-        MUST(news.has_arrived);
+    const struct usb_options options = { true, (uint32_t)bytes };
+    memset(devices, 0, sizeof devices);
+    memset(roots, 0, sizeof roots);
+    heap_limit = heap_for(bytes, count, attempts_stated());
+    attempts = most_of_call = 0;
+    MUST(usb_open(&host, &controller, &options) == USB_DONE);
 }
 
-int main(int words, char **word)
+static void close_host(void)
 {
-    static struct usb_controller controller = { ROOTS, attempt, status, call_port, NULL, NULL };
-    bytes = words > 1 ? (size_t)atol(word[1]) : bytes;
-    unsigned count = words > 2 ? (unsigned)atoi(word[2]) : MOST;
-    unsigned configurations = words > 3 ? (unsigned)atoi(word[3]) : ANY;
-    packet = words > 4 ? (unsigned)atoi(word[4]) : packet;
-    const struct usb_options options = { true, (uint32_t)bytes };
-    MUST(count >= HUBS && count <= MOST && configurations >= 1);
-    MUST(bytes / (configurations == ANY ? 255 : configurations) >= 27); /* so that items fill each of them */
-    size_t attempts_stated = 2000 + bytes / packet;
-    heap_limit = heap_for(bytes, count + 2, attempts_stated);
-    MUST(usb_open(&host, &controller, &options) == USB_DONE);
+    MUST(most_of_call <= attempts_stated());
+    MUST(usb_close(&host) == USB_DONE && heap_blocks == 0);
+}
+
+/* A tree of this number of devices. */
+static void check_tree(unsigned count, unsigned configurations)
+{
+    open_host(count);
+    heap_most = heap_bytes;
     for (unsigned device = 0; device < count; device++) {
         plug(device, configurations);
         struct seen seen = list();
         MUST(seen.devices == device + 1 && seen.refused == 0 && seen.bytes == bytes * seen.devices);
         MUST(seen.units == 3 * 126 * seen.devices && list().devices == seen.devices);
     }
-    size_t kept = heap_bytes;
-    check_liar(count);
     printf("%u devices of %zu bytes, %lu attempts, at most %lu a call: %zu bytes of heap at most of %zu, %zu kept\n",
-           count, bytes, attempts, most_of_call, heap_most, heap_limit, kept);
-    MUST(most_of_call <= attempts_stated);
-    MUST(usb_close(&host) == USB_DONE && heap_blocks == 0);
+           count, bytes, attempts, most_of_call, heap_most, heap_limit, heap_bytes);
+    close_host();
+}
+
+/* A device that says too much is refused, and the one that is plugged in after it is listed. */
+static void check_liar(void)
+{
+    struct usb_news news;
+    unsigned arrived = 0;
+    open_host(HUBS + 2);
+    for (unsigned device = 0; device < HUBS; device++)
+        plug(device, 1);
+    devices[HUBS].is_lying = true;
+    plug(HUBS, 255);
+    plug(HUBS + 1, 1);
+    struct seen seen = list();
+    MUST(seen.devices == HUBS + 1 && seen.refused == 1 && seen.cause == USB_CAUSE_TOO_LARGE);
+    while (usb_news(&host, &news) == USB_DONE)
+        arrived += news.has_arrived;
+    MUST(arrived == HUBS + 1);
+    close_host();
+}
+
+int main(int words, char **word)
+{
+    bytes = words > 1 ? (size_t)atol(word[1]) : bytes;
+    unsigned count = words > 2 ? (unsigned)atoi(word[2]) : MOST;
+    unsigned configurations = words > 3 ? (unsigned)atoi(word[3]) : ANY;
+    packet = words > 4 ? (unsigned)atoi(word[4]) : packet;
+    MUST(count >= HUBS && count <= MOST && configurations >= 1);
+    MUST(bytes / (configurations == ANY ? 255 : configurations) >= 27); /* so that items fill each of them */
+    check_tree(count, configurations);
+    check_liar();
     return 0;
 }

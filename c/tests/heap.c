@@ -14,10 +14,10 @@ void *test_malloc(size_t length);
 void *test_realloc(void *old, size_t length);
 void test_free(void *block);
 
-/* Each block has its length before it, in as many bytes as keep it aligned. */
+/* Each block has its length before it, in a number of bytes that keeps it aligned. */
 enum { BEFORE = 16 };
 
-/* Whether a call fails that takes so many bytes. */
+/* Whether a call fails that takes this number of bytes. */
 static bool fails(size_t length)
 {
     static uint32_t state = 1;

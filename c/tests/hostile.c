@@ -145,7 +145,7 @@ static void restart(struct usb_controller *of, unsigned address, unsigned endpoi
         toggles[endpoint] = false;
 }
 
-/* ---- What is told ---- */
+/* ---- What is reported ---- */
 
 static struct usb_path paths[32];
 static unsigned path_count;

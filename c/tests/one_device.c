@@ -193,7 +193,7 @@ static void restart(struct usb_controller *of, unsigned address, unsigned endpoi
     restarts++;
 }
 
-/* How many attempts the controller makes in a row at most. */
+/* The most attempts that the controller makes in a row. */
 static unsigned row_most;
 
 static unsigned make_row(struct usb_controller *of, const struct usb_question *q, uint8_t *room,
@@ -216,7 +216,7 @@ static unsigned make_row(struct usb_controller *of, const struct usb_question *q
 
 static struct usb_controller controller = { 2, attempt, status, call_port, restart, NULL };
 
-/* The device as it is at first, before a controller that makes rows of so many attempts; 0: no rows. */
+/* The device as it is at first, at a controller that makes rows of at most this number of attempts; 0: no rows. */
 static void begin_device(unsigned most)
 {
     memset(&it, 0, sizeof it);
@@ -226,7 +226,7 @@ static void begin_device(unsigned most)
     controller.ins = most ? make_row : NULL;
 }
 
-/* ---- What is told ---- */
+/* ---- What is reported ---- */
 
 struct seen {
     unsigned devices, configurations, texts, refused, left, arrived;
@@ -422,7 +422,7 @@ static void check_looks(uint64_t number)
     MAKE(USB_QUIET, usb_news(&host, &news));
 }
 
-/* A device that has one byte more than the options allow is refused, and one that has as many is not. */
+/* A device that has one byte more than the options allow is refused, and one that has the same number is not. */
 static void check_budget(void)
 {
     struct usb_options fits = { false, sizeof configuration }, fails = { false, sizeof configuration - 1 };
@@ -448,7 +448,7 @@ static void check_received(unsigned most)
     MUST(usb_close(&host) == USB_DONE && heap_blocks == 0);
 }
 
-/* Returns how many attempts were made. */
+/* Returns the number of attempts. */
 static unsigned check_blocking(unsigned most)
 {
     struct usb_news news;
@@ -576,7 +576,7 @@ static struct cost costs[16];
 static unsigned cost_count, enumerated;
 static size_t kept, most;
 
-/* What an attempt costs in calls of so many packets, in rows or not. */
+/* What an attempt costs in calls of this number of packets, in rows or not. */
 static void measure(unsigned packets, bool has_rows)
 {
     static uint8_t room[64 * 4096];
@@ -636,7 +636,7 @@ static void check_whole_rows(void) { check_received(USB_ROW); }
 
 static void check_cut_rows(void) { check_received(3); }
 
-/* Makes these calls once more for each allocation, which then fails. Returns how many allocations there are. */
+/* Makes these calls once more for each allocation, which then fails. Returns the number of allocations. */
 static long check_each(void (*make_calls)(void))
 {
     heap_calls = heap_fails_at = 0;

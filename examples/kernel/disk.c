@@ -98,7 +98,7 @@ enum usb_status disk_open(struct usb_host *host, const struct found *found, stru
     return has_passed && get_high_first(capacity + 4) == SECTOR ? USB_DONE : USB_WRONG_LENGTH;
 }
 
-/* Reads as many sectors as one command can. */
+/* Reads sectors by one command. */
 static enum usb_status read_some(struct usb_host *host, struct disk *it, uint32_t first, uint16_t count, uint8_t *room)
 {
     uint8_t command[COMMAND_LENGTH] = { READ };

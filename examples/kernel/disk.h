@@ -8,7 +8,7 @@ enum { SECTOR = 512 };
 
 struct disk {
     struct found at;
-    uint32_t sectors; /* how many it has */
+    uint32_t sectors; /* the number of them */
     uint32_t tag;     /* of the last command */
 };
 

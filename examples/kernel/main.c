@@ -1,5 +1,5 @@
 /* A kernel that is a USB host and nothing else. On the serial line it prints what is plugged, each key of a boot
- * keyboard, and the first sector of each disk. It goes on as devices come and go. A byte on the serial line requests
+ * keyboard, and how fast it reads each disk. It goes on as devices come and go. A byte on the serial line requests
  * more: s a listing, q the end.
  *
  * It has no interrupts, no processes and no other stack than the one that it boots with. */
@@ -118,7 +118,7 @@ static uint32_t sum_of(const uint8_t *bytes, size_t length)
     return sum;
 }
 
-/* Reads the first sectors of a disk, and prints how fast. */
+/* Reads the first sectors of a disk. */
 static void read_disk(const struct found *found)
 {
     static uint8_t sectors[READ_SECTORS * SECTOR];

@@ -75,7 +75,7 @@ size_t stack_used(void)
 /* ---- A heap: blocks in a row, of which the first free one that is long enough is taken ---- */
 
 struct block {
-    size_t length, is_free; /* 16 bytes, so each block is aligned to as many */
+    size_t length, is_free; /* 16 bytes, so each block is aligned to 16 */
 };
 
 static struct {

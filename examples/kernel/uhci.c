@@ -69,18 +69,18 @@ static void fill_queue(const struct usb_question *q, unsigned count, unsigned pi
     }
 }
 
-/* How many bytes a descriptor that is done has moved. */
+/* The number of bytes that a descriptor has moved, once it is done. */
 static unsigned length_of(uint32_t status) { return (status + 1) & 0x7FF; }
 
-/* Whether a descriptor has moved so many bytes, so that the controller goes on with the next one. */
+/* Whether a descriptor has moved this number of bytes, so that the controller goes on with the next one. */
 static bool is_full(uint32_t status, unsigned length)
 {
     return !(status & (ACTIVE | STALLED | ERRORS)) && length_of(status) == length;
 }
 
-/* Waits until the queue is done, or goes no further. A descriptor that is answered by NAK stays ACTIVE, and the
- * controller makes it again in each frame. The queue is given up when so many frames have passed since its last packet.
- * Returns how many descriptors were full. */
+/* Waits until the queue is done, or goes no further. A descriptor that meets NAK stays ACTIVE, and the controller makes
+ * it again in each frame. The queue is given up when `nak_frames` frames have passed since its last packet. Returns the
+ * number of full descriptors. */
 static unsigned wait_for_queue(const struct uhci *it, unsigned count, unsigned length, unsigned nak_frames)
 {
     unsigned moved = 0;
@@ -114,7 +114,7 @@ static void stop_queue(const struct uhci *it)
         pause_us(20);
 }
 
-/* Makes this number of attempts, or fewer if one moves no full packet. Returns how many moved one. */
+/* Makes this number of attempts, or fewer if one moves no full packet. Returns the number that moved one. */
 static unsigned make(struct uhci *it, const struct usb_question *q, unsigned count, unsigned pid, unsigned length,
                      bool toggle)
 {
@@ -337,7 +337,7 @@ static void start(const struct uhci *it)
     outw(RUN | CONFIGURED | MAXP, it->base + USBCMD);
 }
 
-/* How many root ports there are: bit 7 of each register is always set. */
+/* The number of root ports: bit 7 of each register is always set. */
 static unsigned count_ports(const struct uhci *it)
 {
     unsigned count = 0;

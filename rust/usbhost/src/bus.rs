@@ -10,7 +10,7 @@ use crate::{
 /// The host has no clock, so the controller makes all waits: in [`Controller::port`] those of a reset, and in
 /// [`Controller::attempt`] those after SET_ADDRESS and after a hub's PORT_RESET.
 pub trait Controller {
-    /// How many root ports there are, 1 to 7: always the same.
+    /// The number of root ports, 1 to 7: always the same.
     fn roots(&self) -> u8;
 
     /// wPortStatus and, from bit 16 on, wPortChange of a root port, from 1 on.
@@ -22,7 +22,7 @@ pub trait Controller {
     /// Sets or clears a feature of a root port. A reset has ended, and has had its 10 ms, when this returns.
     fn port(&mut self, port: u8, set: bool, feature: Feature);
 
-    /// An endpoint begins again at DATA0. Whoever takes the toggle from each attempt, and compares none, does nothing.
+    /// An endpoint begins again at DATA0. A controller that takes the toggle from each attempt, and compares none, does nothing.
     fn restart(&mut self, address: u8, endpoint: Endpoint) {
         let _ = (address, endpoint);
     }
@@ -167,7 +167,7 @@ impl<C: Controller> Bus<C> {
         self.make_read(&Want::Receive { path, packets })
     }
 
-    /// Clears the halts of the first bulk endpoints, where a transfer found them halted.
+    /// Clears the halts of the first bulk endpoints, if a transfer found them halted.
     ///
     /// # Errors
     ///
@@ -242,7 +242,7 @@ impl<C: Controller> Bus<C> {
     ///
     /// # Errors
     ///
-    /// - `Value`: bit 7 of its type is set, or the bytes are not as many as its length says.
+    /// - `Value`: bit 7 of its type is set, or the number of bytes is not its length.
     /// - `Reserved`: only the host may send it. `NoDevice`. Nothing is attempted.
     /// - `Stalled`: the device refused it; `Busy`, `NoAnswer`.
     pub fn control_out(&mut self, path: Path, setup: Setup, bytes: &[u8]) -> Result<(), Fault> {
@@ -305,7 +305,7 @@ fn fitting(came: Came, most: u8) -> Came {
 fn row_of<C: Controller>(controller: &mut C, ins: &Ins, before: &mut Row) -> Came {
     let came = fitting(controller.ins(ins, before), ins.to.most);
     let most = usize::from(ins.to.most);
-    if before.len() % most != 0 || before.len() / most >= usize::from(ins.most) {
+    if !before.len().is_multiple_of(most) || before.len() >= most * usize::from(ins.most) {
         before.clear();
         return Came::Nothing;
     }

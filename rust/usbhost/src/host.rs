@@ -1,8 +1,8 @@
 use alloc::vec::Vec;
 
 use crate::question::status_bytes;
+use crate::records;
 use crate::sys::{self, Handle};
-use crate::told;
 use crate::{Came, Done, Entry, Fault, Look, News, Question, Row, Statuses, Want};
 
 /// Which hubs a host takes.
@@ -32,7 +32,7 @@ impl Default for Options {
 
 /// A host that asks questions and hears answers, with no I/O of its own and no blocking.
 ///
-/// It does one call at a time. [`Host::begin`] begins a call. As long as [`Host::question`] is some, whoever has the
+/// It does one call at a time. [`Host::begin`] begins a call. As long as [`Host::question`] is some, the holder of the
 /// controller does what it says, and calls [`Host::answer`]. Then [`Host::done`] says how the call ended, and one of
 /// `bytes`, `entries`, `look` and `news` has its result. [`Host::open`] begins the first call itself.
 ///
@@ -142,8 +142,8 @@ impl Host {
     /// - `OutOfTurn`: no call is done yet.
     /// - `Memory`: this call found no memory.
     pub fn done(&mut self) -> Result<Done, Fault> {
-        let told = self.told()?;
-        match told::records(&told).find(|it| it.0 == told::DONE) {
+        let all = self.records()?;
+        match records::records(&all).find(|it| it.0 == records::DONE) {
             Some((_, &[number])) => {
                 checked(number)?;
                 Ok(if number == 0 { Done::Worked } else { Done::Quiet })
@@ -159,7 +159,7 @@ impl Host {
     ///
     /// `Memory`: the heap had no memory.
     pub fn bytes(&mut self) -> Result<Option<Vec<u8>>, Fault> {
-        told::data(&self.told()?)
+        records::data(&self.records()?)
     }
 
     /// What the last call, a [`Want::Tree`], found at each port, by rising path.
@@ -168,7 +168,7 @@ impl Host {
     ///
     /// `Memory`: the heap had no memory.
     pub fn entries(&mut self) -> Result<Vec<Entry>, Fault> {
-        told::entries(&self.told()?)
+        records::entries(&self.records()?)
     }
 
     /// What the last call, a [`Want::Look`], found.
@@ -177,7 +177,7 @@ impl Host {
     ///
     /// `Memory`: the heap had no memory.
     pub fn look(&mut self) -> Result<Option<Look>, Fault> {
-        Ok(told::look(&self.told()?))
+        Ok(records::look(&self.records()?))
     }
 
     /// The change that the last call, a [`Want::News`], reports.
@@ -186,16 +186,16 @@ impl Host {
     ///
     /// `Memory`: the heap had no memory.
     pub fn news(&mut self) -> Result<Option<News>, Fault> {
-        Ok(told::news(&self.told()?))
+        Ok(records::news(&self.records()?))
     }
 
     /// All records of the call that was done last.
-    fn told(&mut self) -> Result<Vec<u8>, Fault> {
+    fn records(&mut self) -> Result<Vec<u8>, Fault> {
         let length = sys::told(&mut self.handle, &mut []);
-        let mut told = Vec::new();
-        told.try_reserve_exact(length).map_err(|_| Fault::Memory)?;
-        told.resize(length, 0);
-        sys::told(&mut self.handle, &mut told);
-        Ok(told)
+        let mut all = Vec::new();
+        all.try_reserve_exact(length).map_err(|_| Fault::Memory)?;
+        all.resize(length, 0);
+        sys::told(&mut self.handle, &mut all);
+        Ok(all)
     }
 }

@@ -75,8 +75,8 @@ mod heap;
 mod host;
 mod path;
 mod question;
+mod records;
 mod sys;
-mod told;
 mod want;
 
 pub use bus::{Bus, Controller};
@@ -84,7 +84,7 @@ pub use fault::{Done, Fault};
 pub use host::{Host, Hubs, Options};
 pub use path::{Endpoint, Path};
 pub use question::{Attempt, Came, Feature, Ins, Packet, Question, Row, Speed, Statuses, Target, Toggle, status};
-pub use told::{Cause, Device, Entry, Look, News, Refused, Request, Text};
+pub use records::{Cause, Device, Entry, Look, News, Refused, Request, Text};
 pub use want::{Setup, Want};
 
 /// The page's blocks are tests of this crate.

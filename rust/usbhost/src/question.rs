@@ -236,7 +236,7 @@ pub enum Question {
         /// The feature.
         feature: Feature,
     },
-    /// An endpoint begins again at DATA0, by SET_INTERFACE (9.1.1.5). Whoever keeps toggles sets that one.
+    /// An endpoint begins again at DATA0, by SET_INTERFACE (9.1.1.5). A controller that keeps toggles sets that one.
     Restart {
         /// The device's address.
         address: u8,

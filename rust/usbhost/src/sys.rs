@@ -58,7 +58,7 @@ pub(crate) fn answer_row(handle: &mut Handle, before: &[u8], answer: &[u8]) -> u
     unsafe { usb_handle_answer_row(handle, before.as_ptr(), before.len(), answer.as_ptr(), answer.len()) }
 }
 
-/// Copies what was told, and returns how many bytes that is in all.
+/// Copies the records, and returns the number of their bytes.
 pub(crate) fn told(handle: &mut Handle, room: &mut [u8]) -> usize {
     unsafe { usb_handle_told(handle, 0, room.as_mut_ptr(), room.len()) }
 }

@@ -39,7 +39,7 @@ pub enum Want<'a> {
         /// The most packets.
         packets: u16,
     },
-    /// The halts of the first bulk endpoints cleared, where a transfer found them halted.
+    /// The halts of the first bulk endpoints cleared, if a transfer found them halted.
     ClearHalt {
         /// The device.
         path: Path,
@@ -98,7 +98,7 @@ pub enum Want<'a> {
         path: Path,
         /// The request.
         setup: Setup,
-        /// As many bytes as its length says.
+        /// The bytes: their number is its length.
         bytes: &'a [u8],
     },
     /// A port enumerated again, as if its connection had changed.
