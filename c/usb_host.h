@@ -206,8 +206,8 @@ enum { USB_DEVICE_BYTES = 8192 };
 /* Begins a host at a controller, which stays the caller's and must outlive it. The host switches the power of each root
  * port off and on, so a boot loader's host may have had the controller before.
  *
- * A device whose configurations say that they have more bytes than the options allow is refused as too large. So no
- * device uses up the heap: docs/EMBEDDING.md has the size of a heap that is always enough.
+ * A device whose configurations say that they have more bytes than the options allow is refused as too large. So the
+ * bytes of a device do not use up the heap: docs/EMBEDDING.md has the size of one that is enough.
  *
  * The struct is overwritten: close a host before it is opened again. Returns USB_DONE, USB_BAD_ROOTS or USB_NO_MEMORY.
  * After the last two the host is closed, and holds no memory. */
@@ -323,8 +323,8 @@ enum usb_status usb_look(struct usb_host *host, struct usb_path path, struct usb
 enum usb_status usb_send(struct usb_host *host, struct usb_path path, const void *bytes, size_t length);
 
 /* Receives packets of the first bulk IN endpoint, 0 to 65,535 of them, up to the first one that is shorter than the
- * endpoint's maximum. `got` is the number of bytes that came, or 0. USB_NO_ROOM: `room` has the first `length` of them, and
- * usb_received gives all. 64 bytes a packet are always enough. The heap has room for the bytes twice.
+ * endpoint's maximum. `got` is the number of bytes that came, or 0. USB_NO_ROOM: `room` has the first `length` of them,
+ * and usb_received gives all. 64 bytes a packet are always enough. The heap has room for the bytes four times.
  *
  * After each answer the call is made anew over all that was heard in it. So its cost grows with the square of the
  * number of answers. With rows of 64 packets some 256 to 1,024 packets a call cost least, with none some 16 to 64. */
@@ -362,7 +362,7 @@ struct usb_setup {
 
 /* Makes a request of endpoint 0 whose data come from the device: bit 7 of its type is set. `room` has setup->length
  * bytes, and `got` is the number that came. Hubs take it too. USB_STALLED: the device refused it, and nothing has to be
- * cleared. The heap has room for the bytes twice. */
+ * cleared. The heap has room for the bytes four times. */
 enum usb_status usb_control_in(struct usb_host *host, struct usb_path path, const struct usb_setup *setup, void *room,
                                size_t *got);
 
@@ -423,9 +423,9 @@ enum usb_status usb_asked(struct usb_host *host, struct usb_question *question);
 enum usb_status usb_answer(struct usb_host *host, const struct usb_answer *answer, const uint32_t statuses[USB_ROOTS]);
 
 /* The same for a row of more than one packet. `before` has the `length` bytes of the full packets that came first, and
- * `last` is what came of the attempt after them: see `ins` of struct usb_controller. Apart from what usb_answer returns,
- * USB_OUT_OF_TURN: there are bytes before, and the question is no row. USB_WRONG_LENGTH: they are not full packets.
- * USB_TOO_MUCH: there are more packets than in the row. After each of them nothing is taken. */
+ * `last` is what came of the attempt after them: see `ins` of struct usb_controller. Apart from what usb_answer
+ * returns, USB_OUT_OF_TURN: there are bytes before, and the question is no row. USB_WRONG_LENGTH: they are not full
+ * packets. USB_TOO_MUCH: there are more packets than in the row. After each of them nothing is taken. */
 enum usb_status usb_answer_row(struct usb_host *host, const void *before, size_t length, const struct usb_answer *last,
                                const uint32_t statuses[USB_ROOTS]);
 
@@ -433,8 +433,8 @@ enum usb_status usb_answer_row(struct usb_host *host, const void *before, size_t
 enum usb_status usb_done(struct usb_host *host);
 
 /* Take the result of the call that was done last: of what receives, polls or reads, of the tree, a look, and news. They
- * may be called again until the next call begins. `got` is the number of bytes that came in all. USB_NO_ROOM: they are more than
- * `length`, and `room` has the first ones. USB_OUT_OF_TURN: that call has no such result. */
+ * may be called again until the next call begins. `got` is the number of bytes that came in all. USB_NO_ROOM: they are
+ * more than `length`, and `room` has the first ones. USB_OUT_OF_TURN: that call has no such result. */
 enum usb_status usb_received(struct usb_host *host, void *room, size_t length, size_t *got);
 enum usb_status usb_listed(struct usb_host *host, const struct usb_visitor *visitor);
 enum usb_status usb_looked(struct usb_host *host, struct usb_look *look);

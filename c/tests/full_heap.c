@@ -3,9 +3,9 @@
  *
  * usage: full_heap [BYTES [DEVICES [CONFIGURATIONS [PACKET]]]]
  *
- * Each of DEVICES (127, at least 8) has CONFIGURATIONS (see `shape`), which together have BYTES (8,192) to the byte, and
- * three strings of 126 UTF-16 units. The maximum packet of its endpoint 0 is PACKET (64). Eight of them are hubs of 15
- * ports. They are plugged in one by one, and the tree is listed twice after each.
+ * Each of DEVICES (127, at least 8) has CONFIGURATIONS (see `shape`), which together have BYTES (8,192) to the byte. It
+ * has three strings of 126 UTF-16 units. The maximum packet of its endpoint 0 is PACKET (64). Eight of them are hubs of
+ * 15 ports. They are plugged in one by one, and the tree is listed twice after each.
  *
  * Then another host has the eight hubs, and a device comes that says that each of its 255 configurations has 65,535
  * bytes. It must be refused as too large, and the device that comes after it must be listed. Status 0: all was so.
@@ -32,7 +32,7 @@ enum { CHANGED_CONNECTION = 1, CHANGED_RESET = 0x10 };
 
 enum { FIXED = 32 * 1024, OF_DEVICE = 48 * 1024, COPIES = 9, OF_ATTEMPT = 400 };
 
-/* A heap that is enough for this number of listed devices, with this number of bytes each, and of attempts in a call. */
+/* A heap that is enough for this number of listed devices, of bytes of each, and of attempts in a call. */
 static size_t heap_for(size_t bytes, size_t devices, size_t attempts_of_call)
 {
     return FIXED + devices * (COPIES * bytes + OF_DEVICE) + attempts_of_call * OF_ATTEMPT;

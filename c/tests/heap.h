@@ -1,5 +1,6 @@
 /* The heap of the tests: malloc, realloc and free that count blocks, and fail when they must. A block that grows is in
- * use twice until it has moved. The library's files are compiled with -Dmalloc=test_malloc -Drealloc=test_realloc -Dfree=test_free. */
+ * use twice until it has moved. The library's files are compiled with -Dmalloc=test_malloc -Drealloc=test_realloc
+ * -Dfree=test_free. */
 #ifndef HEAP_H
 #define HEAP_H
 

@@ -288,9 +288,10 @@ int main(int words, char **word)
     state = words > 2 ? strtoull(word[2], NULL, 10) : 1;
     for (int i = 0; i < hosts; i++) {
         static const uint32_t budgets[] = { USB_ANY_BYTES, USB_DEVICE_BYTES, 48, 25, 0 };
-        struct usb_controller controller = { 1 + dice(7), attempt, status, call_port, restart, dice(2) ? make_row : NULL };
+        struct usb_controller controller = { 1 + dice(7), attempt, status, call_port, restart, NULL };
         struct usb_options options = { dice(2), budgets[dice(5)] };
         struct usb_host host;
+        controller.ins = dice(2) ? make_row : NULL;
         heap_fails_one_in = dice(2) ? 0 : 20 + dice(2000);
         path_count = 0;
         changes = 1;

@@ -22,7 +22,8 @@ pub trait Controller {
     /// Sets or clears a feature of a root port. A reset has ended, and has had its 10 ms, when this returns.
     fn port(&mut self, port: u8, set: bool, feature: Feature);
 
-    /// An endpoint begins again at DATA0. A controller that takes the toggle from each attempt, and compares none, does nothing.
+    /// An endpoint begins again at DATA0. A controller that takes the toggle from each attempt, and compares none, does
+    /// nothing.
     fn restart(&mut self, address: u8, endpoint: Endpoint) {
         let _ = (address, endpoint);
     }
