@@ -339,7 +339,7 @@ static void read_ports(struct usb_controller *of, uint32_t statuses[USB_ROOTS])
 static unsigned ask_row(const struct usb_host *host, const struct usb_question *asked, struct usb_answer *last)
 {
     struct usb_controller *to = host->controller;
-    if (host->row) {
+    if (host->row && to->ins) {
         unsigned count = to->ins(to, asked, host->row, last);
         if (count < asked->row)
             return count;

@@ -39,7 +39,7 @@ enum {
     USB_PACKET = 64,       /* the most bytes in a packet */
     USB_ROW = 64,          /* the most packets in a row */
     USB_ROUNDS = 256,      /* the most rounds of usb_settle */
-    USB_STACK = 192 * 1024 /* enough stack for any call, in bytes */
+    USB_STACK = 128 * 1024 /* enough stack for any call, in bytes: twice what was measured */
 };
 
 /* What a call returns. */
