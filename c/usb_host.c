@@ -101,6 +101,7 @@ enum usb_status usb_start(struct usb_host *host, unsigned roots, const struct us
     if (roots < 1 || roots > USB_ROOTS)
         return USB_BAD_ROOTS;
     put_statuses(bytes, statuses);
+    host->device_bytes = its->device_bytes;
     return (enum usb_status)usb_handle_open(&host->handle, (uint8_t)roots, its->is_wide, its->device_bytes, bytes,
                                             sizeof bytes);
 }
@@ -354,24 +355,46 @@ static unsigned ask_row(const struct usb_host *host, const struct usb_question *
     return 0;
 }
 
-/* Lets the controller do what is asked. Data that are too long are no good answer (8.7.4), nor is an unknown one. */
+/* Lets the controller make an attempt or a row, unless the address has had all its attempts in this call. Data that are
+ * too long are no good answer (8.7.4), nor is an unknown one. */
+static void ask_attempt(struct usb_host *host, const struct usb_question *asked)
+{
+    struct usb_answer *came = &host->kept;
+    uint32_t *made = &host->attempts[asked->address & 127];
+    unsigned before = 0;
+    if (*made >= host->most_attempts)
+        return;
+    if (asked->kind == USB_INS)
+        before = ask_row(host, asked, came);
+    else
+        host->controller->attempt(host->controller, asked, came);
+    *made += before + 1;
+    host->kept_length = (size_t)before * asked->most;
+    bool is_in = asked->kind == USB_IN || asked->kind == USB_INS;
+    if (came->came > USB_DATA || (came->came == USB_DATA && (!is_in || came->length > asked->most)))
+        came->came = USB_NOTHING;
+}
+
+/* Lets the controller do what is asked. */
 static void ask_controller(struct usb_host *host, const struct usb_question *asked)
 {
     struct usb_controller *to = host->controller;
-    struct usb_answer *came = &host->kept;
-    bool is_in = asked->kind == USB_IN || asked->kind == USB_INS;
-    memset(came, 0, sizeof *came);
+    memset(&host->kept, 0, sizeof host->kept);
     host->kept_length = 0;
     if (asked->kind == USB_PORT_SET || asked->kind == USB_PORT_CLEAR)
         to->port(to, asked->address, asked->kind == USB_PORT_SET, asked->endpoint);
-    else if (asked->kind == USB_INS)
-        host->kept_length = (size_t)ask_row(host, asked, came) * asked->most;
     else if (asked->kind != USB_RESTART)
-        to->attempt(to, asked, came);
+        ask_attempt(host, asked);
     else if (to->restart)
         to->restart(to, asked->address, asked->endpoint & 15, (asked->endpoint & 0x80) != 0);
-    if (came->came > USB_DATA || (came->came == USB_DATA && (!is_in || came->length > asked->most)))
-        came->came = USB_NOTHING;
+}
+
+/* Gives each address its attempts in a call: some for what goes wrong, and one for each least packet. */
+static void begin_attempts(struct usb_host *host, const struct usb_want *want)
+{
+    uint64_t bytes = (uint64_t)host->device_bytes + want->length + want->setup.length;
+    memset(host->attempts, 0, sizeof host->attempts);
+    host->most_attempts = host->device_bytes == USB_ANY_BYTES ? UINT64_MAX : USB_TRIES + bytes / 8 + want->packets;
 }
 
 /* Answers what is asked until the call is done. An answer that found no memory is kept for the next try, since what was
@@ -406,6 +429,7 @@ enum usb_status usb_open(struct usb_host *host, struct usb_controller *controlle
         read_ports(controller, statuses);
     enum usb_status status = usb_start(host, controller->roots, options, statuses);
     host->controller = controller;
+    begin_attempts(host, &(struct usb_want) { .kind = USB_WANT_ROUND });
     if (status == USB_DONE && controller->ins && !(host->row = malloc((USB_ROW - 1) * USB_PACKET)))
         status = USB_NO_MEMORY;
     if (status == USB_DONE)
@@ -440,6 +464,7 @@ static enum usb_status make(struct usb_host *host, const struct usb_want *want)
             return begun;
         memcpy(host->begun, wanted, sizeof wanted);
         host->is_begun = true;
+        begin_attempts(host, want);
     }
     return finish(host);
 }

@@ -39,6 +39,7 @@ enum {
     USB_PACKET = 64,       /* the most bytes in a packet */
     USB_ROW = 64,          /* the most packets in a row */
     USB_ROUNDS = 256,      /* the most rounds of usb_settle */
+    USB_TRIES = 4096,      /* see usb_open */
     USB_STACK = 128 * 1024 /* enough stack for any call, in bytes: twice what was measured */
 };
 
@@ -191,6 +192,9 @@ struct usb_host {
     struct usb_answer kept;            /* an answer that found no memory */
     uint8_t *row;                      /* room for the packets of a row before its last one; NULL: there are no rows */
     size_t kept_length;                /* the number of bytes in it that the kept answer has */
+    uint32_t device_bytes;             /* of the options */
+    uint64_t most_attempts;            /* to one address in the call that is under way */
+    uint32_t attempts[128];            /* those that were made, by address */
     uint8_t begun[24];                 /* the call that is under way */
     bool is_kept, is_begun;
 };
@@ -206,8 +210,10 @@ enum { USB_DEVICE_BYTES = 8192 };
 /* Begins a host at a controller, which stays the caller's and must outlive it. The host switches the power of each root
  * port off and on, so a boot loader's host may have had the controller before.
  *
- * A device whose configurations say that they have more bytes than the options allow is refused as too large. So the
- * bytes of a device do not use up the heap: docs/EMBEDDING.md has the size of one that is enough.
+ * A device whose configurations say that they have more bytes than the options allow is refused as too large. Nor may a
+ * device fill the heap with NAKs: in one call a device gets at most USB_TRIES attempts, and one for each 8 bytes that
+ * the options allow and that the call moves. After them the controller is not asked, and the host hears USB_NOTHING.
+ * docs/EMBEDDING.md has the size of a heap that is then enough. With USB_ANY_BYTES there is neither limit.
  *
  * The struct is overwritten: close a host before it is opened again. Returns USB_DONE, USB_BAD_ROOTS or USB_NO_MEMORY.
  * After the last two the host is closed, and holds no memory. */

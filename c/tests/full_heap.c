@@ -7,8 +7,9 @@
  * has three strings of 126 UTF-16 units. The maximum packet of its endpoint 0 is PACKET (64). Eight of them are hubs of
  * 15 ports. They are plugged in one by one, and the tree is listed twice after each.
  *
- * Then another host has the eight hubs, and a device comes that says that each of its 255 configurations has 65,535
- * bytes. It must be refused as too large, and the device that comes after it must be listed. Status 0: all was so.
+ * Then other hosts have the eight hubs, and a hostile device comes. One says that each of its 255 configurations has
+ * 65,535 bytes, and must be refused as too large. One answers NAK 255 times before each packet, and one gives each
+ * packet 255 times. The device that comes after a hostile one must be listed. Status 0: all was so.
  */
 #include <stdio.h>
 #include <stdlib.h>
@@ -41,8 +42,8 @@ static size_t heap_for(size_t bytes, size_t devices, size_t attempts_of_call)
 static unsigned packet = 64;
 static size_t bytes = USB_DEVICE_BYTES;
 
-/* The most attempts of a call in which one device is new, and answers each. */
-static size_t attempts_stated(void) { return 2000 + bytes / packet; }
+/* The most attempts of a call in which one device is new: those of two addresses, 0 and its own. */
+static size_t attempts_stated(void) { return 2 * (USB_TRIES + bytes / 8); }
 
 /* ---- The devices ----
  *
@@ -53,8 +54,12 @@ struct port {
     uint16_t status, change;
 };
 
+enum kind { HONEST, LYING, LATE, REPEATING };
+
 static struct device {
-    bool is_plugged, is_lying; /* it says that its configurations have 65,535 bytes each */
+    bool is_plugged;
+    enum kind kind;
+    unsigned turns; /* of INs of endpoint 0 */
     uint8_t address, setup[8], toggles;
     unsigned count; /* of configurations */
     struct port ports[PORTS + 1];
@@ -105,7 +110,7 @@ static void put_descriptor(unsigned device)
 /* The length of a configuration: all of them have the bytes together. */
 static size_t length_of(const struct device *it, unsigned index)
 {
-    return it->is_lying ? LONGEST : bytes / it->count + (index < bytes % it->count);
+    return it->kind == LYING ? LONGEST : bytes / it->count + (index < bytes % it->count);
 }
 
 static void put_configuration(unsigned device, unsigned index)
@@ -215,7 +220,10 @@ static void answer_in(unsigned device, const struct usb_question *q, struct usb_
 {
     struct device *it = &devices[device];
     unsigned changes = 0;
-    if (q->endpoint == 0 && !(it->setup[0] & 0x80)) {
+    if (q->endpoint == 0 && it->kind >= LATE && ++it->turns % 256) {
+        answer->came = it->kind == LATE ? USB_NAK : USB_DATA;
+        answer->toggle = !(it->toggles & 1);
+    } else if (q->endpoint == 0 && !(it->setup[0] & 0x80)) {
         give(it, q, answer, 0);
         end_request(device);
     } else if (q->endpoint == 0) {
@@ -378,19 +386,22 @@ static void check_tree(unsigned count, unsigned configurations)
     close_host();
 }
 
-/* A device that says too much is refused, and the one that is plugged in after it is listed. */
-static void check_liar(void)
+/* A hostile device is refused, and the one that is plugged in after it is listed. */
+static void check_hostile(enum kind kind, enum usb_cause cause)
 {
     struct usb_news news;
     unsigned arrived = 0;
     open_host(HUBS + 2);
+    heap_most = heap_bytes;
     for (unsigned device = 0; device < HUBS; device++)
         plug(device, 1);
-    devices[HUBS].is_lying = true;
+    devices[HUBS].kind = kind;
     plug(HUBS, 255);
     plug(HUBS + 1, 1);
     struct seen seen = list();
-    MUST(seen.devices == HUBS + 1 && seen.refused == 1 && seen.cause == USB_CAUSE_TOO_LARGE);
+    printf("a hostile device: %s; at most %lu attempts a call, %zu bytes of heap at most of %zu\n",
+           usb_cause_text(seen.cause), most_of_call, heap_most, heap_limit);
+    MUST(seen.devices == HUBS + 1 && seen.refused == 1 && seen.cause == cause);
     while (usb_news(&host, &news) == USB_DONE)
         arrived += news.has_arrived;
     MUST(arrived == HUBS + 1);
@@ -406,6 +417,8 @@ int main(int words, char **word)
     MUST(count >= HUBS && count <= MOST && configurations >= 1);
     MUST(bytes / (configurations == ANY ? 255 : configurations) >= 27); /* so that items fill each of them */
     check_tree(count, configurations);
-    check_liar();
+    check_hostile(LYING, USB_CAUSE_TOO_LARGE);
+    check_hostile(LATE, USB_CAUSE_SILENT);
+    check_hostile(REPEATING, USB_CAUSE_SILENT);
     return 0;
 }

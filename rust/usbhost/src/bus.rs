@@ -54,6 +54,33 @@ pub struct Bus<C> {
     kept: Option<Came>,
     /// The packets of a row before it.
     before: Row,
+    device_bytes: Option<u32>,
+    budget: Budget,
+}
+
+/// The attempts that each address may have in a call, so that no device fills the heap with NAKs.
+struct Budget {
+    most: u64,
+    made: [u32; 128],
+}
+
+impl Budget {
+    /// Some for what goes wrong, and one for each least packet.
+    fn of(device_bytes: Option<u32>, want: &Want<'_>) -> Budget {
+        let bytes = device_bytes.map(|it| u64::from(it) + want.moves());
+        Budget { most: bytes.map_or(u64::MAX, |it| 4096 + it / 8 + want.packets()), made: [0; 128] }
+    }
+
+    /// Whether this address may have another attempt.
+    fn has(&self, address: u8) -> bool {
+        u64::from(self.made[usize::from(address & 127)]) < self.most
+    }
+
+    /// Notes attempts.
+    fn spend(&mut self, address: u8, attempts: usize) {
+        let made = &mut self.made[usize::from(address & 127)];
+        *made = made.saturating_add(attempts as u32);
+    }
 }
 
 fn statuses_of<C: Controller>(controller: &mut C) -> Statuses {
@@ -67,6 +94,10 @@ fn statuses_of<C: Controller>(controller: &mut C) -> Statuses {
 impl<C: Controller> Bus<C> {
     /// Opens a host at a controller. It switches the power of each root port off and on.
     ///
+    /// In one call a device gets at most 4,096 attempts, and one for each 8 bytes that the options allow and that the
+    /// call moves. After them the controller is not asked, and the host hears no answer. So no device fills the heap
+    /// with NAKs. With no limit of bytes there is no such limit either.
+    ///
     /// # Errors
     ///
     /// - `Roots`: the controller has not 1 to 7 root ports.
@@ -74,7 +105,9 @@ impl<C: Controller> Bus<C> {
     pub fn open(mut controller: C, options: Options) -> Result<Bus<C>, Fault> {
         let statuses = statuses_of(&mut controller);
         let host = Host::open(controller.roots(), options, &statuses)?;
-        let mut bus = Bus { host, controller, begun: None, kept: None, before: Row::EMPTY };
+        let device_bytes = options.device_bytes.filter(|it| *it != u32::MAX);
+        let budget = Budget::of(device_bytes, &Want::Round);
+        let mut bus = Bus { host, controller, begun: None, kept: None, before: Row::EMPTY, device_bytes, budget };
         bus.finish()?;
         Ok(bus)
     }
@@ -265,6 +298,7 @@ impl<C: Controller> Bus<C> {
                 let statuses = statuses_of(&mut self.controller);
                 self.host.begin(want, &statuses)?;
                 self.begun = Some(head);
+                self.budget = Budget::of(self.device_bytes, want);
             }
         }
         self.finish()?;
@@ -280,7 +314,7 @@ impl<C: Controller> Bus<C> {
                     return Ok(());
                 };
                 self.before.clear();
-                self.kept = Some(came_of(&mut self.controller, &question, &mut self.before));
+                self.kept = Some(came_of(&mut self.controller, &question, &mut self.before, &mut self.budget));
             }
             let statuses = statuses_of(&mut self.controller);
             let last = self.kept.as_ref().unwrap_or(&Came::Nothing);
@@ -313,15 +347,28 @@ fn row_of<C: Controller>(controller: &mut C, ins: &Ins, before: &mut Row) -> Cam
     came
 }
 
-/// Lets the controller do what is asked.
-fn came_of<C: Controller>(controller: &mut C, question: &Question, before: &mut Row) -> Came {
+/// Lets the controller make an attempt.
+fn attempt_of<C: Controller>(controller: &mut C, attempt: &Attempt) -> Came {
+    match (controller.attempt(attempt), attempt) {
+        (came, Attempt::In { to }) => fitting(came, to.most),
+        (Came::Data { .. }, Attempt::Setup { .. } | Attempt::Out { .. }) => Came::Nothing,
+        (came, _) => came,
+    }
+}
+
+/// Lets the controller do what is asked. An address that has had all its attempts gives no answer.
+fn came_of<C: Controller>(controller: &mut C, question: &Question, before: &mut Row, budget: &mut Budget) -> Came {
     match question {
-        Question::Attempt(attempt) => match (controller.attempt(attempt), attempt) {
-            (came, Attempt::In { to }) => fitting(came, to.most),
-            (Came::Data { .. }, Attempt::Setup { .. } | Attempt::Out { .. }) => Came::Nothing,
-            (came, _) => came,
-        },
-        Question::Ins(ins) => row_of(controller, ins, before),
+        Question::Attempt(attempt) if budget.has(attempt.to().address) => {
+            budget.spend(attempt.to().address, 1);
+            attempt_of(controller, attempt)
+        }
+        Question::Ins(ins) if budget.has(ins.to.address) => {
+            let came = row_of(controller, ins, before);
+            budget.spend(ins.to.address, before.len() / usize::from(ins.to.most).max(1) + 1);
+            came
+        }
+        Question::Attempt(_) | Question::Ins(_) => Came::Nothing,
         Question::Port { port, set, feature } => {
             controller.port(*port, *set, *feature);
             Came::Nothing

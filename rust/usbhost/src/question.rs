@@ -208,6 +208,14 @@ pub enum Attempt {
     },
 }
 
+impl Attempt {
+    /// Where it goes.
+    pub fn to(&self) -> &Target {
+        let (Attempt::Setup { to, .. } | Attempt::Out { to, .. } | Attempt::In { to }) = self;
+        to
+    }
+}
+
 /// INs of one endpoint, one after the other.
 #[derive(Clone, Copy, Debug, PartialEq, Eq)]
 pub struct Ins {

@@ -184,6 +184,22 @@ impl Want<'_> {
         }
     }
 
+    /// The bytes that a call moves, apart from those of its packets.
+    pub(crate) fn moves(&self) -> u64 {
+        match *self {
+            Want::ControlIn { setup, .. } | Want::ControlOut { setup, .. } => u64::from(setup.length),
+            _ => self.bytes().len() as u64,
+        }
+    }
+
+    /// The packets that it asks for.
+    pub(crate) fn packets(&self) -> u64 {
+        match *self {
+            Want::Receive { packets, .. } | Want::ReceiveFrom { packets, .. } => u64::from(packets),
+            _ => 0,
+        }
+    }
+
     fn bytes(&self) -> &[u8] {
         match self {
             Want::Send { bytes, .. } | Want::SendTo { bytes, .. } | Want::ControlOut { bytes, .. } => bytes,

@@ -76,6 +76,39 @@ fn a_device_with_one_byte_too_many_is_too_large() {
     }
 }
 
+/// A device that answers NAK to each IN of endpoint 0, and how often it was asked.
+struct Late(Device, u32);
+
+impl Controller for Late {
+    fn roots(&self) -> u8 {
+        1
+    }
+    fn status(&mut self, port: u8) -> u32 {
+        self.0.status(port)
+    }
+    fn attempt(&mut self, attempt: &usbhost::Attempt) -> Came {
+        self.1 += 1;
+        match attempt {
+            // one in 256 is answered, so that the host never calls it busy
+            usbhost::Attempt::In { to } if to.endpoint == 0 && !self.1.is_multiple_of(256) => Came::Nak,
+            _ => self.0.attempt(attempt),
+        }
+    }
+    fn port(&mut self, port: u8, set: bool, feature: usbhost::Feature) {
+        self.0.port(port, set, feature);
+    }
+}
+
+#[test]
+fn a_late_device_does_not_hold_the_host() {
+    for (device_bytes, most) in [(Some(64), 2 * (4096 + 8)), (None, u32::MAX)] {
+        let options = Options { device_bytes, ..Options::default() };
+        let mut bus = Bus::open(Late(Device::default(), 0), options).unwrap();
+        bus.settle().unwrap();
+        assert!(bus.controller().1 <= most && bus.tree().unwrap().len() == 1, "{}", bus.controller().1);
+    }
+}
+
 #[test]
 fn polls_and_requests() {
     let (mut bus, reports) = (opened(), Endpoint::input(3).unwrap());
