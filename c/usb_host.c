@@ -392,9 +392,10 @@ static void ask_controller(struct usb_host *host, const struct usb_question *ask
 /* Gives each address its attempts in a call: some for what goes wrong, and one for each least packet. */
 static void begin_attempts(struct usb_host *host, const struct usb_want *want)
 {
-    uint64_t bytes = (uint64_t)host->device_bytes + want->length + want->setup.length;
+    uint64_t moved = want->length + want->setup.length + (uint64_t)want->packets * USB_PACKET;
+    bool is_any = host->device_bytes == USB_ANY_BYTES;
     memset(host->attempts, 0, sizeof host->attempts);
-    host->most_attempts = host->device_bytes == USB_ANY_BYTES ? UINT64_MAX : USB_TRIES + bytes / 8 + want->packets;
+    host->most_attempts = is_any ? UINT64_MAX : USB_TRIES + (host->device_bytes + moved) / 8;
 }
 
 /* Answers what is asked until the call is done. An answer that found no memory is kept for the next try, since what was

@@ -212,7 +212,7 @@ enum { USB_DEVICE_BYTES = 8192 };
  *
  * A device whose configurations say that they have more bytes than the options allow is refused as too large. Nor may a
  * device fill the heap with NAKs: in one call a device gets at most USB_TRIES attempts, and one for each 8 bytes that
- * the options allow and that the call moves. After them the controller is not asked, and the host hears USB_NOTHING.
+ * the options allow and that the call may move. After them the controller is not asked, and the host hears USB_NOTHING.
  * docs/EMBEDDING.md has the size of a heap that is then enough. With USB_ANY_BYTES there is neither limit.
  *
  * The struct is overwritten: close a host before it is opened again. Returns USB_DONE, USB_BAD_ROOTS or USB_NO_MEMORY.

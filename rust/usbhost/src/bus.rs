@@ -68,7 +68,7 @@ impl Budget {
     /// Some for what goes wrong, and one for each least packet.
     fn of(device_bytes: Option<u32>, want: &Want<'_>) -> Budget {
         let bytes = device_bytes.map(|it| u64::from(it) + want.moves());
-        Budget { most: bytes.map_or(u64::MAX, |it| 4096 + it / 8 + want.packets()), made: [0; 128] }
+        Budget { most: bytes.map_or(u64::MAX, |it| 4096 + it / 8), made: [0; 128] }
     }
 
     /// Whether this address may have another attempt.
@@ -95,7 +95,7 @@ impl<C: Controller> Bus<C> {
     /// Opens a host at a controller. It switches the power of each root port off and on.
     ///
     /// In one call a device gets at most 4,096 attempts, and one for each 8 bytes that the options allow and that the
-    /// call moves. After them the controller is not asked, and the host hears no answer. So no device fills the heap
+    /// call may move. After them the controller is not asked, and the host hears no answer. So no device fills the heap
     /// with NAKs. With no limit of bytes there is no such limit either.
     ///
     /// # Errors

@@ -184,19 +184,12 @@ impl Want<'_> {
         }
     }
 
-    /// The bytes that a call moves, apart from those of its packets.
+    /// The most bytes that a call moves.
     pub(crate) fn moves(&self) -> u64 {
         match *self {
             Want::ControlIn { setup, .. } | Want::ControlOut { setup, .. } => u64::from(setup.length),
+            Want::Receive { packets, .. } | Want::ReceiveFrom { packets, .. } => 64 * u64::from(packets),
             _ => self.bytes().len() as u64,
-        }
-    }
-
-    /// The packets that it asks for.
-    pub(crate) fn packets(&self) -> u64 {
-        match *self {
-            Want::Receive { packets, .. } | Want::ReceiveFrom { packets, .. } => u64::from(packets),
-            _ => 0,
         }
     }
 
