@@ -15,7 +15,7 @@ struct tried rattle_alloc(size_t length, size_t alignment);
 struct tried rattle_realloc(void *old, size_t kept, size_t length, size_t alignment);
 void rattle_dealloc(void *block);
 
-/* Some address for where there is no memory. */
+/* The address that is returned if there is no memory. */
 static _Alignas(16) char nothing[16];
 
 static struct tried tried(void *block) { return (struct tried) { block != NULL, block ? block : nothing }; }

@@ -4,7 +4,7 @@
 #include <stdlib.h>
 #include <string.h>
 
-/* Lengths of records, and where their parts are. All numbers have their low byte first. */
+/* Lengths of records, and the places of their parts. All numbers have their low byte first. */
 enum { STATUSES = 4 * USB_ROOTS, WANT = 52, WANT_STATUSES = 24, ANSWER = 32, ANSWER_STATUSES = 4, HEAD = 5 };
 _Static_assert(sizeof((struct usb_host *)0)->begun == WANT_STATUSES, "what a call is, without statuses and data");
 enum { PATH = 8, DEVICE = 38, REFUSED = 10, NEWS = 17, DESCRIPTOR = 18 };
@@ -16,7 +16,7 @@ _Static_assert(sizeof(size_t) == 8, "the archive is for 64 bits");
 _Static_assert(sizeof(struct usb_question) == 72, "a question is the archive's record");
 _Static_assert(sizeof(struct usb_path) == PATH, "a path is the archive's");
 
-/* Where a record is in what was told: its kind, and the place and number of its bytes. */
+/* A record of what was done: its kind, and the place and number of its bytes. */
 struct record {
     uint8_t kind;
     size_t at, length;
@@ -91,14 +91,19 @@ size_t usb_path_text(const struct usb_path *path, char text[USB_PATH_TEXT])
 
 /* ---- No blocking ---- */
 
-enum usb_status usb_start(struct usb_host *host, unsigned roots, bool is_wide, const uint32_t statuses[USB_ROOTS])
+enum usb_status usb_start(struct usb_host *host, unsigned roots, const struct usb_options *options,
+                          const uint32_t statuses[USB_ROOTS])
 {
+    static const struct usb_options usual = { false, USB_DEVICE_BYTES };
+    const struct usb_options *its = options ? options : &usual;
     uint8_t bytes[STATUSES];
     memset(host, 0, sizeof *host);
     if (roots < 1 || roots > USB_ROOTS)
         return USB_BAD_ROOTS;
     put_statuses(bytes, statuses);
-    return (enum usb_status)usb_handle_open(&host->handle, (uint8_t)roots, is_wide, bytes, sizeof bytes);
+    host->device_bytes = its->device_bytes;
+    return (enum usb_status)usb_handle_open(&host->handle, (uint8_t)roots, its->is_wide, its->device_bytes, bytes,
+                                            sizeof bytes);
 }
 
 /* Puts what a call is into its record: all but the statuses and the data. */
@@ -139,23 +144,45 @@ enum usb_status usb_asked(struct usb_host *host, struct usb_question *question)
     return (enum usb_status)usb_handle_question(&host->handle, (uint8_t *)question, sizeof *question);
 }
 
-enum usb_status usb_answer(struct usb_host *host, const struct usb_answer *answer, const uint32_t statuses[USB_ROOTS])
+/* Puts an answer into its record. Returns the record's length, or 0 if there are too many bytes. */
+static size_t put_answer(uint8_t record[ANSWER + USB_PACKET], const struct usb_answer *answer,
+                         const uint32_t statuses[USB_ROOTS])
 {
     bool is_data = answer->came == USB_DATA;
-    uint8_t record[ANSWER + USB_PACKET] = { answer->came, is_data && answer->toggle };
     size_t length = is_data ? answer->length : 0;
     if (length > USB_PACKET)
-        return USB_TOO_MUCH;
+        return 0;
+    record[0] = answer->came;
+    record[1] = is_data && answer->toggle;
     put(record + 2, length, 2);
     put_statuses(record + ANSWER_STATUSES, statuses);
     memcpy(record + ANSWER, answer->data, length);
-    return (enum usb_status)usb_handle_answer(&host->handle, record, ANSWER + length);
+    return ANSWER + length;
 }
 
-/* ---- What was told ---- */
+enum usb_status usb_answer(struct usb_host *host, const struct usb_answer *answer, const uint32_t statuses[USB_ROOTS])
+{
+    uint8_t record[ANSWER + USB_PACKET];
+    size_t length = put_answer(record, answer, statuses);
+    return length ? (enum usb_status)usb_handle_answer(&host->handle, record, length) : USB_TOO_MUCH;
+}
 
-/* Copies what was told from a place on. Returns whether there are so many bytes. */
-static bool read_told(struct usb_host *host, size_t at, uint8_t *room, size_t length)
+enum usb_status usb_answer_row(struct usb_host *host, const void *before, size_t length, const struct usb_answer *last,
+                               const uint32_t statuses[USB_ROOTS])
+{
+    uint8_t record[ANSWER + USB_PACKET];
+    if (length == 0)
+        return usb_answer(host, last, statuses);
+    size_t last_length = put_answer(record, last, statuses);
+    if (!last_length)
+        return USB_TOO_MUCH;
+    return (enum usb_status)usb_handle_answer_row(&host->handle, before, length, record, last_length);
+}
+
+/* ---- The records of what was done ---- */
+
+/* Copies bytes of the records, from a place on. Returns whether there are that many. */
+static bool read_records(struct usb_host *host, size_t at, uint8_t *room, size_t length)
 {
     size_t all = usb_handle_told(&host->handle, at, room, length);
     return at <= all && length <= all - at;
@@ -166,7 +193,7 @@ static bool next_record(struct usb_host *host, struct record *it)
 {
     uint8_t head[HEAD], none;
     size_t at = it->at + it->length;
-    if (!read_told(host, at, head, HEAD))
+    if (!read_records(host, at, head, HEAD))
         return false;
     it->kind = head[0];
     it->at = at + HEAD;
@@ -189,7 +216,7 @@ enum usb_status usb_done(struct usb_host *host)
 {
     struct record it;
     uint8_t status;
-    if (!find_record(host, IS_DONE, &it) || it.length != 1 || !read_told(host, it.at, &status, 1))
+    if (!find_record(host, IS_DONE, &it) || it.length != 1 || !read_records(host, it.at, &status, 1))
         return USB_OUT_OF_TURN;
     return (enum usb_status)status;
 }
@@ -202,7 +229,7 @@ enum usb_status usb_received(struct usb_host *host, void *room, size_t length, s
         return USB_OUT_OF_TURN;
     *got = it.length;
     size_t count = it.length < length ? it.length : length;
-    if (count > 0 && !read_told(host, it.at, room, count))
+    if (count > 0 && !read_records(host, it.at, room, count))
         return USB_OUT_OF_TURN;
     return it.length > length ? USB_NO_ROOM : USB_DONE;
 }
@@ -213,7 +240,7 @@ enum usb_status usb_looked(struct usb_host *host, struct usb_look *look)
     uint8_t body[3] = { 0 };
     if (!find_record(host, IS_LOOK, &it) || it.length < 1)
         return USB_OUT_OF_TURN;
-    if (!read_told(host, it.at, body, it.length < sizeof body ? it.length : sizeof body))
+    if (!read_records(host, it.at, body, it.length < sizeof body ? it.length : sizeof body))
         return USB_OUT_OF_TURN;
     *look = (struct usb_look) { (enum usb_found)body[0], (enum usb_cause)body[1], body[2] };
     return USB_DONE;
@@ -223,7 +250,7 @@ enum usb_status usb_reported(struct usb_host *host, struct usb_news *news)
 {
     struct record it;
     uint8_t body[NEWS];
-    if (!find_record(host, IS_NEWS, &it) || it.length != NEWS || !read_told(host, it.at, body, NEWS))
+    if (!find_record(host, IS_NEWS, &it) || it.length != NEWS || !read_records(host, it.at, body, NEWS))
         return USB_QUIET;
     *news = (struct usb_news) { body[0] != 0, get_path(body + 1), get(body + 1 + PATH, 8) };
     return USB_DONE;
@@ -231,7 +258,7 @@ enum usb_status usb_reported(struct usb_host *host, struct usb_news *news)
 
 /* ---- The listing ---- */
 
-/* Who visits, the device that is visited, and how many of its configurations were. */
+/* The visitor, the device that is visited, and the number of its configurations that were. */
 struct visit {
     const struct usb_visitor *to;
     struct usb_device device;
@@ -295,7 +322,7 @@ enum usb_status usb_listed(struct usb_host *host, const struct usb_visitor *visi
     if (!body)
         return USB_NO_MEMORY;
     while (next_record(host, &it))
-        if (read_told(host, it.at, body, it.length))
+        if (read_records(host, it.at, body, it.length))
             visit_record(&visit, it.kind, body, it.length);
     free(body);
     return USB_DONE;
@@ -309,18 +336,66 @@ static void read_ports(struct usb_controller *of, uint32_t statuses[USB_ROOTS])
         statuses[port - 1] = port <= of->roots ? of->status(of, port) : 0;
 }
 
-/* Lets the controller do what is asked. Data that are too long are no good answer (8.7.4), nor is an unknown one. */
-static void ask_controller(struct usb_controller *to, const struct usb_question *asked, struct usb_answer *came)
+/* Lets the controller make a row. Returns the number of packets that came before the last attempt. */
+static unsigned ask_row(const struct usb_host *host, const struct usb_question *asked, struct usb_answer *last)
 {
-    memset(came, 0, sizeof *came);
+    struct usb_controller *to = host->controller;
+    if (host->row && to->ins) {
+        unsigned count = to->ins(to, asked, host->row, last);
+        if (count < asked->row)
+            return count;
+        last->came = USB_NOTHING; /* there is no such row */
+    } else {
+        struct usb_question one = *asked;
+        one.kind = USB_IN;
+        one.flags &= (uint8_t)~USB_DATA1;
+        one.row = 0;
+        to->attempt(to, &one, last);
+    }
+    return 0;
+}
+
+/* Lets the controller make an attempt or a row, unless the address has had all its attempts in this call. Data that are
+ * too long are no good answer (8.7.4), nor is an unknown one. */
+static void ask_attempt(struct usb_host *host, const struct usb_question *asked)
+{
+    struct usb_answer *came = &host->kept;
+    uint32_t *made = &host->attempts[asked->address & 127];
+    unsigned before = 0;
+    if (*made >= host->most_attempts)
+        return;
+    if (asked->kind == USB_INS)
+        before = ask_row(host, asked, came);
+    else
+        host->controller->attempt(host->controller, asked, came);
+    *made += before + 1;
+    host->kept_length = (size_t)before * asked->most;
+    bool is_in = asked->kind == USB_IN || asked->kind == USB_INS;
+    if (came->came > USB_DATA || (came->came == USB_DATA && (!is_in || came->length > asked->most)))
+        came->came = USB_NOTHING;
+}
+
+/* Lets the controller do what is asked. */
+static void ask_controller(struct usb_host *host, const struct usb_question *asked)
+{
+    struct usb_controller *to = host->controller;
+    memset(&host->kept, 0, sizeof host->kept);
+    host->kept_length = 0;
     if (asked->kind == USB_PORT_SET || asked->kind == USB_PORT_CLEAR)
         to->port(to, asked->address, asked->kind == USB_PORT_SET, asked->endpoint);
     else if (asked->kind != USB_RESTART)
-        to->attempt(to, asked, came);
+        ask_attempt(host, asked);
     else if (to->restart)
         to->restart(to, asked->address, asked->endpoint & 15, (asked->endpoint & 0x80) != 0);
-    if (came->came > USB_DATA || (came->came == USB_DATA && (asked->kind != USB_IN || came->length > asked->most)))
-        came->came = USB_NOTHING;
+}
+
+/* Gives each address its attempts in a call: some for what goes wrong, and one for each least packet. */
+static void begin_attempts(struct usb_host *host, const struct usb_want *want)
+{
+    uint64_t moved = want->length + want->setup.length + (uint64_t)want->packets * USB_PACKET;
+    bool is_any = host->device_bytes == USB_ANY_BYTES;
+    memset(host->attempts, 0, sizeof host->attempts);
+    host->most_attempts = is_any ? UINT64_MAX : USB_TRIES + (host->device_bytes + moved) / 8;
 }
 
 /* Answers what is asked until the call is done. An answer that found no memory is kept for the next try, since what was
@@ -336,10 +411,10 @@ static enum usb_status finish(struct usb_host *host)
         if (status != USB_DONE)
             return status;
         if (!host->is_kept)
-            ask_controller(host->controller, &asked, &host->kept);
+            ask_controller(host, &asked);
         host->is_kept = true;
         read_ports(host->controller, statuses);
-        status = usb_answer(host, &host->kept, statuses);
+        status = usb_answer_row(host, host->row, host->kept_length, &host->kept, statuses);
         if (status != USB_DONE)
             return status;
         host->is_kept = false;
@@ -348,13 +423,16 @@ static enum usb_status finish(struct usb_host *host)
     return usb_done(host);
 }
 
-enum usb_status usb_open(struct usb_host *host, struct usb_controller *controller, bool is_wide)
+enum usb_status usb_open(struct usb_host *host, struct usb_controller *controller, const struct usb_options *options)
 {
     uint32_t statuses[USB_ROOTS] = { 0 };
     if (controller->roots >= 1 && controller->roots <= USB_ROOTS)
         read_ports(controller, statuses);
-    enum usb_status status = usb_start(host, controller->roots, is_wide, statuses);
+    enum usb_status status = usb_start(host, controller->roots, options, statuses);
     host->controller = controller;
+    begin_attempts(host, &(struct usb_want) { .kind = USB_WANT_ROUND });
+    if (status == USB_DONE && controller->ins && !(host->row = malloc((USB_ROW - 1) * USB_PACKET)))
+        status = USB_NO_MEMORY;
     if (status == USB_DONE)
         status = finish(host);
     if (status != USB_DONE)
@@ -365,6 +443,8 @@ enum usb_status usb_open(struct usb_host *host, struct usb_controller *controlle
 enum usb_status usb_close(struct usb_host *host)
 {
     host->is_kept = host->is_begun = false;
+    free(host->row);
+    host->row = NULL;
     return (enum usb_status)usb_handle_close(&host->handle);
 }
 
@@ -385,6 +465,7 @@ static enum usb_status make(struct usb_host *host, const struct usb_want *want)
             return begun;
         memcpy(host->begun, wanted, sizeof wanted);
         host->is_begun = true;
+        begin_attempts(host, want);
     }
     return finish(host);
 }

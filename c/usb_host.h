@@ -4,8 +4,9 @@
  * calls below into that archive's records. docs/EMBEDDING.md says what is proved, what is assumed, and how to write a
  * driver for a controller.
  *
- * A program that may block writes a `struct usb_controller`: three functions, and a fourth if it chooses interface
- * settings. It then calls usb_open, usb_settle, usb_tree and the transfers. Each call returns when it is done.
+ * A program that may block writes a `struct usb_controller`: three functions, a fourth if it chooses interface
+ * settings, and a fifth if it makes rows of packets. It then calls usb_open, usb_settle, usb_tree and the transfers.
+ * Each call returns when it is done.
  *
  * A program that must not block calls usb_start and usb_begin. It takes each question by usb_asked, and answers by
  * usb_answer when it can, from an interrupt or a loop of its own. When nothing is asked, usb_done has the result.
@@ -36,8 +37,10 @@ enum {
     USB_ROOTS = 7,         /* the most root ports */
     USB_DEPTH = 7,         /* the most port numbers in a path */
     USB_PACKET = 64,       /* the most bytes in a packet */
+    USB_ROW = 64,          /* the most packets in a row */
     USB_ROUNDS = 256,      /* the most rounds of usb_settle */
-    USB_STACK = 192 * 1024 /* enough stack for any call, in bytes */
+    USB_TRIES = 4096,      /* see usb_open */
+    USB_STACK = 128 * 1024 /* enough stack for any call, in bytes: twice what was measured */
 };
 
 /* What a call returns. */
@@ -46,8 +49,8 @@ enum usb_status {
     USB_QUIET = 1,         /* it is done, and there was nothing: no work for a round, no packet, no news, no question */
     USB_NO_DEVICE = 2,     /* no accepted device is at the path */
     USB_NO_ENDPOINT = 3,   /* the device is a hub, or has no such endpoint */
-    USB_STALLED = 4,       /* the endpoint answered STALL, or the device refused the request */
-    USB_BUSY = 5,          /* it answered NAK too often */
+    USB_STALLED = 4,       /* the endpoint returned STALL, or the device refused the request */
+    USB_BUSY = 5,          /* it returned NAK too often */
     USB_NO_ANSWER = 6,     /* three errors in a row */
     USB_BROKEN = 7,        /* the endpoint must be cleared first, or its interface set */
     USB_RESERVED = 8,      /* only the host may send this request */
@@ -84,28 +87,30 @@ size_t usb_path_text(const struct usb_path *path, char text[USB_PATH_TEXT]);
 
 /* ---- The controller ---- */
 
-/* What the host asks: one transaction attempt (8.5) with no retry, or one call at a root port (11.24.2). */
+/* What the host asks: one transaction attempt (8.5) with no retry, one call at a root port (11.24.2), or a row. */
 enum usb_kind {
     USB_SETUP = 1,
     USB_OUT = 2,
     USB_IN = 3,
     USB_PORT_SET = 4,
     USB_PORT_CLEAR = 5,
-    USB_RESTART = 6 /* an endpoint begins again at DATA0, by SET_INTERFACE (9.1.1.5) */
+    USB_RESTART = 6, /* an endpoint begins again at DATA0, by SET_INTERFACE (9.1.1.5) */
+    USB_INS = 7      /* a row: INs of one endpoint, one after the other */
 };
 enum usb_flag {
     USB_LOW = 1,  /* the device has low speed */
     USB_PRE = 2,  /* the host's packets go with PRE before them: low speed below a hub (8.6.5) */
-    USB_DATA1 = 4 /* of SETUP and OUT: the data go as DATA1, else as DATA0 */
+    USB_DATA1 = 4 /* of SETUP and OUT: the data go as DATA1, else as DATA0; of a row: its first packet is DATA1 */
 };
 struct usb_question {
     uint8_t kind;     /* of enum usb_kind */
     uint8_t address;  /* the device's, 0 to 127; of a call at a root port the port's number, from 1 */
     uint8_t endpoint; /* its number, 0 to 15; of a root port the feature; of USB_RESTART its address, bit 7 for IN */
     uint8_t flags;    /* of enum usb_flag */
-    uint8_t most;     /* of IN: the most bytes that may come, the endpoint's maximum packet */
-    uint8_t length;   /* of SETUP and OUT: how many bytes go out, 0 to 64 */
-    uint8_t unused[2];
+    uint8_t most;     /* of IN and a row: the most bytes in a packet that may come, the endpoint's maximum packet */
+    uint8_t length;   /* of SETUP and OUT: the number of bytes that go out, 0 to 64 */
+    uint8_t row;      /* of a row: the most packets, 1 to USB_ROW */
+    uint8_t unused[1];
     uint8_t data[USB_PACKET]; /* those bytes */
 };
 
@@ -140,7 +145,7 @@ enum usb_came {
 struct usb_answer {
     uint8_t came;   /* of enum usb_came */
     uint8_t toggle; /* of data: 0 for DATA0, 1 for DATA1 */
-    uint8_t length; /* of data: how many bytes, 0 to the maximum of the question */
+    uint8_t length; /* of data: the number of bytes, 0 to the maximum of the question */
     uint8_t data[USB_PACKET];
 };
 
@@ -161,6 +166,17 @@ struct usb_controller {
     /* An endpoint, 1 to 15, begins again at DATA0. Only a driver that keeps toggles itself needs it, and only if
      * usb_set_interface is called; else it may be NULL. */
     void (*restart)(struct usb_controller *, unsigned address, unsigned endpoint, bool is_in);
+
+    /* Makes a row, a USB_INS: INs of one endpoint, at least one, and at most question->row. A controller with a queue
+     * makes one queue of them. The toggles of the packets alternate, from that of the question on.
+     *
+     * The row ends after an attempt that brings no full packet (`most` bytes) of the toggle that is due. The driver may
+     * also end it after any other attempt. `last` gets what came of the last attempt, as of `attempt`. `room` gets the
+     * bytes of the full packets before that one, in order. Returns the number of packets in `room`, which is less than
+     * question->row. The room has (USB_ROW - 1) * USB_PACKET bytes.
+     *
+     * If it is NULL, `attempt` is called in its place, and each row has one packet. */
+    unsigned (*ins)(struct usb_controller *, const struct usb_question *, uint8_t *room, struct usb_answer *last);
 };
 
 /* ---- A host ---- */
@@ -174,17 +190,34 @@ struct usb_host {
     struct usb_handle handle;
     struct usb_controller *controller; /* NULL: the caller answers */
     struct usb_answer kept;            /* an answer that found no memory */
+    uint8_t *row;                      /* room for the packets of a row before its last one; NULL: there are no rows */
+    size_t kept_length;                /* the number of bytes in it that the kept answer has */
+    uint32_t device_bytes;             /* of the options */
+    uint64_t most_attempts;            /* to one address in the call that is under way */
+    uint32_t attempts[128];            /* those that were made, by address */
     uint8_t begun[24];                 /* the call that is under way */
     bool is_kept, is_begun;
 };
 
+/* What a host takes. A NULL pointer to options is { false, USB_DEVICE_BYTES }. */
+struct usb_options {
+    bool is_wide;          /* also hubs of 8 to 15 ports, and hubs whose status endpoint is not number 1 */
+    uint32_t device_bytes; /* the most bytes of all configurations of a device together; USB_ANY_BYTES is no limit */
+};
+enum { USB_DEVICE_BYTES = 8192 };
+#define USB_ANY_BYTES UINT32_MAX
+
 /* Begins a host at a controller, which stays the caller's and must outlive it. The host switches the power of each root
- * port off and on, so a boot loader's host may have had the controller before. With is_wide it also takes hubs of 8 to
- * 15 ports, and hubs whose status endpoint is not number 1.
+ * port off and on, so a boot loader's host may have had the controller before.
+ *
+ * A device whose configurations say that they have more bytes than the options allow is refused as too large. Nor may a
+ * device fill the heap with NAKs: in one call a device gets at most USB_TRIES attempts, and one for each 8 bytes that
+ * the options allow and that the call may move. After them the controller is not asked, and the host hears USB_NOTHING.
+ * docs/EMBEDDING.md has the size of a heap that is then enough. With USB_ANY_BYTES there is neither limit.
  *
  * The struct is overwritten: close a host before it is opened again. Returns USB_DONE, USB_BAD_ROOTS or USB_NO_MEMORY.
  * After the last two the host is closed, and holds no memory. */
-enum usb_status usb_open(struct usb_host *host, struct usb_controller *controller, bool is_wide);
+enum usb_status usb_open(struct usb_host *host, struct usb_controller *controller, const struct usb_options *options);
 
 /* Closes a host at any time, also in the middle of a call, and frees all its memory. Returns USB_DONE, or USB_CLOSED if
  * it was closed. Devices keep their addresses until another host is opened. */
@@ -212,7 +245,7 @@ enum usb_status usb_settle(struct usb_host *host);
 enum usb_cause {
     USB_CAUSE_NONE = 0,
     USB_CAUSE_SILENT = 1,            /* it gave no answer */
-    USB_CAUSE_BUSY = 2,              /* it answered NAK too often */
+    USB_CAUSE_BUSY = 2,              /* it returned NAK too often */
     USB_CAUSE_STALLED = 3,           /* it refused a request: `of` is of enum usb_request */
     USB_CAUSE_BAD_DEVICE = 4,        /* its device descriptor is malformed */
     USB_CAUSE_TOO_DEEP = 5,          /* it is a hub in the seventh tier */
@@ -244,7 +277,7 @@ struct usb_refused {
     struct usb_path path;
     enum usb_cause cause;
     uint8_t of;          /* what the cause names, else 0 */
-    uint8_t said_length; /* how many bytes of its device descriptor came, 0 to 18 */
+    uint8_t said_length; /* the number of bytes of its device descriptor that came, 0 to 18 */
     uint8_t said[18];
 };
 
@@ -296,15 +329,15 @@ enum usb_status usb_look(struct usb_host *host, struct usb_path path, struct usb
 enum usb_status usb_send(struct usb_host *host, struct usb_path path, const void *bytes, size_t length);
 
 /* Receives packets of the first bulk IN endpoint, 0 to 65,535 of them, up to the first one that is shorter than the
- * endpoint's maximum. `got` is how many bytes came, or 0. USB_NO_ROOM: `room` has the first `length` of them, and
- * usb_received gives all. 64 bytes a packet are always enough. The heap has room for the bytes twice.
+ * endpoint's maximum. `got` is the number of bytes that came, or 0. USB_NO_ROOM: `room` has the first `length` of them,
+ * and usb_received gives all. 64 bytes a packet are always enough. The heap has room for the bytes four times.
  *
  * After each answer the call is made anew over all that was heard in it. So its cost grows with the square of the
- * number of packets. Some 16 to 64 packets a call cost least. */
+ * number of answers. With rows of 64 packets some 256 to 1,024 packets a call cost least, with none some 16 to 64. */
 enum usb_status usb_receive(struct usb_host *host, struct usb_path path, void *room, size_t length, unsigned packets,
                             size_t *got);
 
-/* Clears the halts of the first bulk endpoints, where a transfer found them halted. */
+/* Clears the halts of the first bulk endpoints, if a transfer found them halted. */
 enum usb_status usb_clear_halt(struct usb_host *host, struct usb_path path);
 
 /* The same for any bulk or interrupt endpoint, by its address: bit 7 is set for IN (9.6.6). usb_clear_halt_of always
@@ -334,8 +367,8 @@ struct usb_setup {
 };
 
 /* Makes a request of endpoint 0 whose data come from the device: bit 7 of its type is set. `room` has setup->length
- * bytes, and `got` is how many came. Hubs take it too. USB_STALLED: the device refused it, and nothing has to be
- * cleared. The heap has room for the bytes twice. */
+ * bytes, and `got` is the number that came. Hubs take it too. USB_STALLED: the device refused it, and nothing has to be
+ * cleared. The heap has room for the bytes four times. */
 enum usb_status usb_control_in(struct usb_host *host, struct usb_path path, const struct usb_setup *setup, void *room,
                                size_t *got);
 
@@ -349,7 +382,8 @@ enum usb_status usb_control_out(struct usb_host *host, struct usb_path path, con
 
 /* Begins a host with no controller, at that many root ports, which have these statuses; the caller then answers. The
  * opening is the first call that is under way. Apart from that, as usb_open. */
-enum usb_status usb_start(struct usb_host *host, unsigned roots, bool is_wide, const uint32_t statuses[USB_ROOTS]);
+enum usb_status usb_start(struct usb_host *host, unsigned roots, const struct usb_options *options,
+                          const uint32_t statuses[USB_ROOTS]);
 
 /* A call to begin. */
 enum usb_wanted {
@@ -380,25 +414,33 @@ struct usb_want {
 };
 
 /* Begins a call; `statuses` are those of the root ports, port 1 first. USB_OUT_OF_TURN: a call is under way.
- * USB_WRONG_LENGTH: there are bytes where none belong, or more packets than 65,535. USB_BAD_VALUE: no path, no
+ * USB_WRONG_LENGTH: there are bytes and the call takes none, or more packets than 65,535. USB_BAD_VALUE: no path, no
  * endpoint, a request of the other direction, or with more or fewer bytes than its length. After any fault nothing was
  * begun. */
 enum usb_status usb_begin(struct usb_host *host, const struct usb_want *want, const uint32_t statuses[USB_ROOTS]);
 
-/* Puts the question there that is to be answered. USB_QUIET: there is none, as the call is done or none was begun.
- * USB_NO_MEMORY: ask again. A question stays the same until it is answered. */
+/* Puts the next question there. USB_QUIET: there is none, as the call is done or none was begun.
+ * USB_NO_MEMORY: ask again. A question stays the same until it is answered. A row, USB_INS, may always be taken for one
+ * USB_IN: one packet is then asked for and answered. */
 enum usb_status usb_asked(struct usb_host *host, struct usb_question *question);
 
 /* Answers the question, and says how the root ports are then. USB_NO_MEMORY: answer it again. USB_TOO_MUCH: more data
  * than the maximum, nothing is taken. USB_OUT_OF_TURN: there is no question. */
 enum usb_status usb_answer(struct usb_host *host, const struct usb_answer *answer, const uint32_t statuses[USB_ROOTS]);
 
+/* The same for a row of more than one packet. `before` has the `length` bytes of the full packets that came first, and
+ * `last` is what came of the attempt after them: see `ins` of struct usb_controller. Apart from what usb_answer
+ * returns, USB_OUT_OF_TURN: there are bytes before, and the question is no row. USB_WRONG_LENGTH: they are not full
+ * packets. USB_TOO_MUCH: there are more packets than in the row. After each of them nothing is taken. */
+enum usb_status usb_answer_row(struct usb_host *host, const void *before, size_t length, const struct usb_answer *last,
+                               const uint32_t statuses[USB_ROOTS]);
+
 /* Returns the status of the call that was done last. USB_OUT_OF_TURN: none is done yet. */
 enum usb_status usb_done(struct usb_host *host);
 
 /* Take the result of the call that was done last: of what receives, polls or reads, of the tree, a look, and news. They
- * may be called again until the next call begins. `got` is how many bytes came in all. USB_NO_ROOM: they are more than
- * `length`, and `room` has the first ones. USB_OUT_OF_TURN: that call has no such result. */
+ * may be called again until the next call begins. `got` is the number of bytes that came in all. USB_NO_ROOM: they are
+ * more than `length`, and `room` has the first ones. USB_OUT_OF_TURN: that call has no such result. */
 enum usb_status usb_received(struct usb_host *host, void *room, size_t length, size_t *got);
 enum usb_status usb_listed(struct usb_host *host, const struct usb_visitor *visitor);
 enum usb_status usb_looked(struct usb_host *host, struct usb_look *look);
@@ -406,11 +448,14 @@ enum usb_status usb_reported(struct usb_host *host, struct usb_news *news);
 
 /* ---- The archive ----
  *
- * Its six exports, which usb_host.c calls. A handle is zeroed before it is opened. */
-uint8_t usb_handle_open(struct usb_handle *handle, uint8_t roots, uint8_t wide, const uint8_t *statuses, size_t length);
+ * Its seven exports, which usb_host.c calls. A handle is zeroed before it is opened. */
+uint8_t usb_handle_open(struct usb_handle *handle, uint8_t roots, uint8_t wide, uint32_t device_bytes,
+                        const uint8_t *statuses, size_t length);
 uint8_t usb_handle_begin(struct usb_handle *handle, const uint8_t *want, size_t length);
 uint8_t usb_handle_question(struct usb_handle *handle, uint8_t *question, size_t room);
 uint8_t usb_handle_answer(struct usb_handle *handle, const uint8_t *answer, size_t length);
+uint8_t usb_handle_answer_row(struct usb_handle *handle, const uint8_t *before, size_t before_length,
+                              const uint8_t *answer, size_t length);
 size_t usb_handle_told(struct usb_handle *handle, size_t skip, uint8_t *room, size_t length);
 uint8_t usb_handle_close(struct usb_handle *handle);
 

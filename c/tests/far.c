@@ -2,6 +2,8 @@
  * power that a hub's ports give.
  *
  * usage: far PROGRAM ARGUMENT ..      as far usbplan far PLAN
+ *
+ * With WIDE_HUBS in the environment the host takes wide hubs. With ROWS the controller makes rows of packets.
  */
 #define _POSIX_C_SOURCE 200809L
 #include <stdio.h>
@@ -96,6 +98,21 @@ static void attempt(struct usb_controller *of, const struct usb_question *q, str
             : !strcmp(came, "NAK")          ? USB_NAK
             : !strcmp(came, "STALL")        ? USB_STALL
                                             : USB_NOTHING;
+    }
+}
+
+/* Makes a row of all its packets, one by one. */
+static unsigned make_row(struct usb_controller *of, const struct usb_question *q, uint8_t *room,
+                         struct usb_answer *last)
+{
+    struct usb_question one = *q;
+    bool is_one = (q->flags & USB_DATA1) != 0;
+    one.kind = USB_IN;
+    for (unsigned count = 0;; count++, is_one = !is_one) {
+        attempt(of, &one, last);
+        if (count + 1 == q->row || last->came != USB_DATA || last->toggle != is_one || last->length != q->most)
+            return count;
+        memcpy(room + count * q->most, last->data, q->most);
     }
 }
 
@@ -337,12 +354,13 @@ static void obey(struct usb_host *host, char *request)
 
 int main(int count, char **words)
 {
-    struct usb_controller controller = { 0, attempt, status, call_port, restart };
+    struct usb_controller controller = { 0, attempt, status, call_port, restart, getenv("ROWS") ? make_row : NULL };
+    const struct usb_options options = { getenv("WIDE_HUBS") != NULL, USB_ANY_BYTES };
     struct usb_host host;
     if (count < 2 || !start(words + 1))
         return 2;
     strcpy(line, "usbplan live 1");
-    if (sscanf(ask(), "roots %u", &controller.roots) != 1 || usb_open(&host, &controller, getenv("WIDE_HUBS") != NULL))
+    if (sscanf(ask(), "roots %u", &controller.roots) != 1 || usb_open(&host, &controller, &options))
         return 1;
     for (;;) {
         enum usb_status settled = usb_settle(&host);

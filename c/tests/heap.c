@@ -8,19 +8,23 @@
 long heap_blocks, heap_calls, heap_fails_at;
 size_t heap_bytes, heap_most;
 unsigned heap_fails_one_in;
+size_t heap_limit;
 
 void *test_malloc(size_t length);
 void *test_realloc(void *old, size_t length);
 void test_free(void *block);
 
-/* Each block has its length before it, in as many bytes as keep it aligned. */
+/* Each block has its length before it, in a number of bytes that keeps it aligned. */
 enum { BEFORE = 16 };
 
-static bool fails(void)
+/* Whether a call fails that takes this number of bytes. */
+static bool fails(size_t length)
 {
     static uint32_t state = 1;
     state = state * 1664525u + 1013904223u;
-    return ++heap_calls == heap_fails_at || (heap_fails_one_in && (state >> 8) % heap_fails_one_in == 0);
+    if (++heap_calls == heap_fails_at || (heap_fails_one_in && (state >> 8) % heap_fails_one_in == 0))
+        return true;
+    return heap_limit && (length > heap_limit || heap_bytes > heap_limit - length);
 }
 
 static void *taken(uint8_t *start, size_t length)
@@ -40,7 +44,7 @@ static size_t length_of(const uint8_t *start)
 
 void *test_malloc(size_t length)
 {
-    uint8_t *start = fails() ? NULL : malloc(length + BEFORE);
+    uint8_t *start = fails(length) ? NULL : malloc(length + BEFORE);
     if (!start)
         return NULL;
     heap_blocks++;
@@ -53,11 +57,12 @@ void *test_realloc(void *old, size_t length)
         return test_malloc(length);
     uint8_t *start = (uint8_t *)old - BEFORE;
     size_t before = length_of(start);
-    start = fails() ? NULL : realloc(start, length + BEFORE);
+    start = fails(length) ? NULL : realloc(start, length + BEFORE);
     if (!start)
         return NULL;
+    void *block = taken(start, length);
     heap_bytes -= before;
-    return taken(start, length);
+    return block;
 }
 
 void test_free(void *block)

@@ -100,6 +100,24 @@ static void attempt(struct usb_controller *of, const struct usb_question *q, str
     given += has_text ? answer->length : 0u;
 }
 
+/* A row of some full packets, and perhaps a number of them that cannot be. */
+static unsigned make_row(struct usb_controller *of, const struct usb_question *q, uint8_t *room,
+                         struct usb_answer *last)
+{
+    struct usb_question one = *q;
+    unsigned most = 1 + dice(q->row), count = 0;
+    MUST(q->kind == USB_INS && q->row >= 1 && q->row <= USB_ROW && q->length == 0 && q->endpoint >= 1);
+    one.kind = USB_IN;
+    for (;; count++) {
+        memset(last, 0, sizeof *last);
+        attempt(of, &one, last);
+        if (count + 1 == most || last->came != USB_DATA || last->length > q->most || dice(4) == 0)
+            break;
+        memcpy(room + count * q->most, last->data, q->most);
+    }
+    return dice(300) ? count : dice(1000);
+}
+
 static uint32_t changes = 1;
 
 static uint32_t status(struct usb_controller *of, unsigned port)
@@ -127,7 +145,7 @@ static void restart(struct usb_controller *of, unsigned address, unsigned endpoi
         toggles[endpoint] = false;
 }
 
-/* ---- What is told ---- */
+/* ---- What is reported ---- */
 
 static struct usb_path paths[32];
 static unsigned path_count;
@@ -170,7 +188,7 @@ static void count_refused(void *context, const struct usb_refused *it)
 {
     (void)context;
     check_path(&it->path);
-    MUST(it->cause >= USB_CAUSE_SILENT && it->cause <= USB_CAUSE_NO_ADDRESS && it->said_length <= 18);
+    MUST(it->cause >= USB_CAUSE_SILENT && it->cause <= USB_CAUSE_TOO_LARGE && it->said_length <= 18);
     refused++;
 }
 
@@ -269,12 +287,15 @@ int main(int words, char **word)
     int hosts = words > 1 ? atoi(word[1]) : 1000;
     state = words > 2 ? strtoull(word[2], NULL, 10) : 1;
     for (int i = 0; i < hosts; i++) {
-        struct usb_controller controller = { 1 + dice(7), attempt, status, call_port, restart };
+        static const uint32_t budgets[] = { USB_ANY_BYTES, USB_DEVICE_BYTES, 48, 25, 0 };
+        struct usb_controller controller = { 1 + dice(7), attempt, status, call_port, restart, NULL };
+        struct usb_options options = { dice(2), budgets[dice(5)] };
         struct usb_host host;
+        controller.ins = dice(2) ? make_row : NULL;
         heap_fails_one_in = dice(2) ? 0 : 20 + dice(2000);
         path_count = 0;
         changes = 1;
-        enum usb_status opened = usb_open(&host, &controller, dice(2));
+        enum usb_status opened = usb_open(&host, &controller, dice(4) ? &options : NULL);
         MUST(opened == USB_DONE || (opened == USB_NO_MEMORY && heap_fails_one_in));
         if (opened == USB_DONE) {
             for (int turn = 0; turn < 30; turn++)

@@ -1,5 +1,6 @@
 /* The host in C before one device in memory: each call of usb_host.h, with blocking and without, and once more for each
- * allocation, which then fails. Reports what attempts cost.
+ * allocation, which then fails. All of it is done with no rows, with whole rows, and with rows that the controller cuts
+ * short: the attempts must be the same. Reports what attempts cost.
  *
  * usage: one_device [--times]      status 0: each call did what usb_host.h says
  */
@@ -40,10 +41,13 @@ static struct {
     const uint8_t *data;
     size_t left, written, taken, given;
     bool toggle[16], out_toggle[16], has_key, is_halted;
+    unsigned naks_at, short_at, halts_at; /* which attempt from now on at bulk IN 1 brings that; 0: none does */
     uint8_t wrote[64], took[TAKES];
 } it;
 static uint32_t port;
-static unsigned attempts, resets, restarts;
+static unsigned attempts, resets, restarts, rows;
+
+enum { SHORT = 10 };
 
 /* The bytes that bulk IN 1 gives, one after the other. */
 static uint8_t byte_at(size_t place) { return (uint8_t)(place * 7 + place / 251); }
@@ -97,9 +101,27 @@ static void give(const struct usb_question *q, struct usb_answer *answer, const 
     it.toggle[q->endpoint] = !it.toggle[q->endpoint];
 }
 
-static void answer_in(const struct usb_question *q, struct usb_answer *answer)
+/* Whether it is the turn of a thing that comes at some attempt. */
+static bool is_now(unsigned *at) { return *at && --*at == 0; }
+
+static void answer_bulk(const struct usb_question *q, struct usb_answer *answer)
 {
     uint8_t bulk[USB_PACKET];
+    size_t length = is_now(&it.short_at) ? SHORT : sizeof bulk;
+    it.is_halted = is_now(&it.halts_at) || it.is_halted;
+    if (it.is_halted) {
+        answer->came = USB_STALL;
+    } else if (is_now(&it.naks_at)) {
+        answer->came = USB_NAK;
+    } else {
+        for (size_t i = 0; i < length; i++)
+            bulk[i] = byte_at(it.given++);
+        give(q, answer, bulk, length);
+    }
+}
+
+static void answer_in(const struct usb_question *q, struct usb_answer *answer)
+{
     if (q->endpoint == 0 && refuses()) {
         answer->came = USB_STALL;
     } else if (q->endpoint == 0 && (it.setup[0] & 0x80)) {
@@ -110,12 +132,8 @@ static void answer_in(const struct usb_question *q, struct usb_answer *answer)
     } else if (q->endpoint == 0) {
         give(q, answer, NULL, 0);
         end_request();
-    } else if (q->endpoint == 1 && it.is_halted) {
-        answer->came = USB_STALL;
     } else if (q->endpoint == 1) {
-        for (size_t i = 0; i < sizeof bulk; i++)
-            bulk[i] = byte_at(it.given++);
-        give(q, answer, bulk, sizeof bulk);
+        answer_bulk(q, answer);
     } else if (it.has_key) {
         give(q, answer, it.key, sizeof it.key);
         it.has_key = false;
@@ -175,16 +193,40 @@ static void restart(struct usb_controller *of, unsigned address, unsigned endpoi
     restarts++;
 }
 
-static struct usb_controller controller = { 2, attempt, status, call_port, restart };
+/* The most attempts that the controller makes in a row. */
+static unsigned row_most;
 
-static void begin_device(void)
+static unsigned make_row(struct usb_controller *of, const struct usb_question *q, uint8_t *room,
+                         struct usb_answer *last)
+{
+    unsigned most = q->row < row_most ? q->row : row_most;
+    bool is_one = (q->flags & USB_DATA1) != 0;
+    struct usb_question one = *q;
+    one.kind = USB_IN;
+    MUST(q->row >= 1 && q->row <= USB_ROW && q->length == 0 && q->most == 64 && is_one == it.toggle[q->endpoint]);
+    rows++;
+    for (unsigned count = 0;; count++, is_one = !is_one) {
+        memset(last, 0, sizeof *last);
+        attempt(of, &one, last);
+        if (count + 1 == most || last->came != USB_DATA || last->toggle != is_one || last->length != q->most)
+            return count;
+        memcpy(room + count * q->most, last->data, q->most);
+    }
+}
+
+static struct usb_controller controller = { 2, attempt, status, call_port, restart, NULL };
+
+/* The device as it is at first, at a controller that makes rows of at most this number of attempts; 0: no rows. */
+static void begin_device(unsigned most)
 {
     memset(&it, 0, sizeof it);
     port = 0;
-    attempts = resets = restarts = 0;
+    attempts = resets = restarts = rows = 0;
+    row_most = most;
+    controller.ins = most ? make_row : NULL;
 }
 
-/* ---- What is told ---- */
+/* ---- What is reported ---- */
 
 struct seen {
     unsigned devices, configurations, texts, refused, left, arrived;
@@ -291,6 +333,31 @@ static void check_bulk(void)
     MUST(got == 64);
 }
 
+/* Packets of which one is short, one was answered by NAK, and one by STALL, over more than one row. */
+static void check_rows(void)
+{
+    static uint8_t room[64 * 70];
+    size_t got, first = it.given;
+    unsigned before = rows, whole = row_most ? (20 + row_most - 1) / row_most : 0;
+    MAKE(USB_DONE, usb_receive(&host, at, room, sizeof room, 20, &got));
+    MUST(got == 1280 && rows == before + whole);
+    it.short_at = 6;
+    MAKE(USB_DONE, usb_receive(&host, at, room, sizeof room, 70, &got));
+    MUST(got == 5 * 64 + SHORT && it.given == first + 1280 + got);
+    for (size_t i = 0; i < got; i++)
+        MUST(room[i] == byte_at(first + 1280 + i));
+    first = it.given;
+    it.naks_at = 4;
+    MAKE(USB_DONE, usb_receive(&host, at, room, sizeof room, 70, &got));
+    MUST(got == sizeof room && it.given == first + got);
+    for (size_t i = 0; i < got; i++)
+        MUST(room[i] == byte_at(first + i));
+    it.halts_at = 66;
+    MAKE(USB_STALLED, usb_receive(&host, at, room, sizeof room, 70, &got));
+    MUST(got == 0);
+    MAKE(USB_DONE, usb_clear_halt(&host, at));
+}
+
 static void check_others(void)
 {
     uint8_t room[64];
@@ -355,11 +422,40 @@ static void check_looks(uint64_t number)
     MAKE(USB_QUIET, usb_news(&host, &news));
 }
 
-static void check_blocking(void)
+/* A device that has one byte more than the options allow is refused, and one that has the same number is not. */
+static void check_budget(void)
+{
+    struct usb_options fits = { false, sizeof configuration }, fails = { false, sizeof configuration - 1 };
+    struct usb_look look;
+    MAKE(USB_DONE, usb_open(&host, &controller, &fails));
+    MAKE(USB_DONE, usb_settle(&host));
+    MAKE(USB_DONE, usb_look(&host, at, &look));
+    MUST(look.found == USB_REFUSED && look.cause == USB_CAUSE_TOO_LARGE && look.of == 0);
+    MUST(usb_close(&host) == USB_DONE && heap_blocks == 0);
+    MAKE(USB_DONE, usb_open(&host, &controller, &fits));
+    MAKE(USB_DONE, usb_settle(&host));
+    check_tree(1);
+    MUST(usb_close(&host) == USB_DONE && heap_blocks == 0);
+}
+
+/* Opens a host, and receives from the device. */
+static void check_received(unsigned most)
+{
+    begin_device(most);
+    MAKE(USB_DONE, usb_open(&host, &controller, NULL));
+    MAKE(USB_DONE, usb_settle(&host));
+    check_rows();
+    MUST(usb_close(&host) == USB_DONE && heap_blocks == 0);
+}
+
+/* Returns the number of attempts. */
+static unsigned check_blocking(unsigned most)
 {
     struct usb_news news;
-    begin_device();
-    MAKE(USB_DONE, usb_open(&host, &controller, false));
+    begin_device(most);
+    check_budget();
+    begin_device(most);
+    MAKE(USB_DONE, usb_open(&host, &controller, NULL));
     MAKE(USB_DONE, usb_round(&host));
     MAKE(USB_QUIET, usb_round(&host));
     MAKE(USB_DONE, usb_settle(&host));
@@ -367,14 +463,18 @@ static void check_blocking(void)
     check_news(true, number);
     MAKE(USB_QUIET, usb_news(&host, &news));
     check_bulk();
+    check_rows();
     check_others();
     check_refusals();
     check_looks(number);
     MUST(usb_close(&host) == USB_DONE && usb_close(&host) == USB_CLOSED && usb_round(&host) == USB_CLOSED);
     MUST(heap_blocks == 0);
+    return attempts;
 }
 
 /* ---- With no blocking ---- */
+
+static uint8_t row_room[(USB_ROW + 1) * USB_PACKET];
 
 /* Answers what is asked until nothing is. */
 static unsigned answer_all(void)
@@ -391,27 +491,38 @@ static unsigned answer_all(void)
             return questions;
         MUST(status == USB_DONE);
         struct usb_answer answer = { 0 }, long_one = { USB_DATA, 0, USB_PACKET + 1, { 0 } };
+        size_t before = 0;
+        bool is_row = asked.kind == USB_INS;
         if (asked.kind == USB_PORT_SET || asked.kind == USB_PORT_CLEAR)
             call_port(&controller, asked.address, asked.kind == USB_PORT_SET, asked.endpoint);
+        else if (is_row)
+            before = (size_t)make_row(&controller, &asked, row_room, &answer) * asked.most;
         else
             attempt(&controller, &asked, &answer);
         statuses[0] = port;
         MUST(usb_answer(&host, &long_one, statuses) == USB_TOO_MUCH);
-        MAKE(USB_DONE, usb_answer(&host, &answer, statuses));
+        MUST(is_row || usb_answer_row(&host, row_room, 64, &answer, statuses) == USB_OUT_OF_TURN);
+        MUST(!is_row || usb_answer_row(&host, row_room, asked.most - 1u, &answer, statuses) == USB_WRONG_LENGTH);
+        MUST(!is_row || usb_answer_row(&host, row_room, 64u * asked.row, &answer, statuses) == USB_TOO_MUCH);
+        MUST(usb_answer_row(&host, row_room, 64, &long_one, statuses) == USB_TOO_MUCH);
+        MAKE(USB_DONE, usb_answer_row(&host, row_room, before, &answer, statuses));
         MUST(usb_answer(&host, &answer, statuses) == USB_OUT_OF_TURN);
+        MUST(usb_answer_row(&host, row_room, 64, &answer, statuses) == USB_OUT_OF_TURN);
     }
 }
 
-static void check_stepped(void)
+static void check_stepped(unsigned most)
 {
     uint32_t statuses[USB_ROOTS] = { 0 };
     struct usb_want round = { .kind = USB_WANT_ROUND }, list = { .kind = USB_WANT_TREE }, none = { .kind = 0 };
     struct seen seen = { 0 };
     struct usb_visitor visitor = { see_device, see_configuration, see_text, see_refused, &seen };
-    begin_device();
-    MUST(usb_start(&host, 0, false, statuses) == USB_BAD_ROOTS
-         && usb_start(&host, 8, false, statuses) == USB_BAD_ROOTS);
-    MAKE(USB_DONE, usb_start(&host, 1, false, statuses));
+    struct usb_want receive = { .kind = USB_WANT_RECEIVE, .path = at, .packets = 130 };
+    static uint8_t room[64 * 130];
+    size_t got;
+    begin_device(most);
+    MUST(usb_start(&host, 0, NULL, statuses) == USB_BAD_ROOTS && usb_start(&host, 8, NULL, statuses) == USB_BAD_ROOTS);
+    MAKE(USB_DONE, usb_start(&host, 1, NULL, statuses));
     MUST(usb_done(&host) == USB_OUT_OF_TURN && usb_begin(&host, &round, statuses) == USB_OUT_OF_TURN);
     MUST(answer_all() == 2 && usb_done(&host) == USB_DONE && port == 0x00010101);
     statuses[0] = port;
@@ -425,6 +536,11 @@ static void check_stepped(void)
     MUST(answer_all() == 0 && usb_done(&host) == USB_DONE);
     MAKE(USB_DONE, usb_listed(&host, &visitor));
     MUST(seen.devices == 1 && usb_round(&host) == USB_OUT_OF_TURN);
+    MAKE(USB_DONE, usb_begin(&host, &receive, statuses));
+    MUST(answer_all() == (most < USB_ROW ? (64 + most - 1) / most * 2 + (2 + most - 1) / most : 3));
+    MAKE(USB_DONE, usb_received(&host, room, sizeof room, &got));
+    for (size_t i = 0; i < got; i++)
+        MUST(got == sizeof room && room[i] == byte_at(i));
     MAKE(USB_DONE, usb_begin(&host, &round, statuses));
     MUST(usb_close(&host) == USB_DONE && heap_blocks == 0);
 }
@@ -451,16 +567,17 @@ static void check_paths(void)
 
 struct cost {
     unsigned packets;
+    bool has_rows;
     double ns;
     size_t heap;
 };
 
-static struct cost costs[8];
+static struct cost costs[16];
 static unsigned cost_count, enumerated;
 static size_t kept, most;
 
-/* What an attempt costs in calls of so many packets. */
-static void measure(unsigned packets)
+/* What an attempt costs in calls of this number of packets, in rows or not. */
+static void measure(unsigned packets, bool has_rows)
 {
     static uint8_t room[64 * 4096];
     unsigned before = attempts;
@@ -470,20 +587,22 @@ static void measure(unsigned packets)
     for (unsigned turns = 4096 / packets; turns > 0; turns--)
         MUST(usb_receive(&host, at, room, sizeof room, packets, &got) == USB_DONE && got == 64u * packets);
     double seconds = (double)(clock() - from) / CLOCKS_PER_SEC;
-    costs[cost_count++] = (struct cost) { packets, 1e9 * seconds / (attempts - before), heap_most };
+    costs[cost_count++] = (struct cost) { packets, has_rows, 1e9 * seconds / (attempts - before), heap_most };
 }
 
 static void *measure_all(void *none)
 {
-    begin_device();
-    heap_most = heap_bytes;
-    MUST(usb_open(&host, &controller, false) == USB_DONE && usb_settle(&host) == USB_DONE);
-    enumerated = attempts;
-    kept = heap_bytes;
-    most = heap_most;
-    for (unsigned packets = 1; packets <= 4096; packets *= 4)
-        measure(packets);
-    MUST(usb_close(&host) == USB_DONE && heap_blocks == 0);
+    for (unsigned row = 0; row <= USB_ROW; row += USB_ROW) {
+        begin_device(row);
+        heap_most = heap_bytes;
+        MUST(usb_open(&host, &controller, NULL) == USB_DONE && usb_settle(&host) == USB_DONE);
+        enumerated = attempts;
+        kept = heap_bytes;
+        most = heap_most;
+        for (unsigned packets = 1; packets <= 4096; packets *= 4)
+            measure(packets, row != 0);
+        MUST(usb_close(&host) == USB_DONE && heap_blocks == 0);
+    }
     return none;
 }
 
@@ -502,25 +621,47 @@ static void show_costs(void)
         unused++;
     printf("enumeration: %u attempts, %zu bytes of heap at most, %zu after it\n", enumerated, most, kept);
     for (unsigned i = 0; i < cost_count; i++)
-        printf("receive, %u packets a call: %.0f ns an attempt, %zu bytes of heap at most\n", costs[i].packets,
-               costs[i].ns, costs[i].heap);
+        printf("receive, %u packets a call, %s: %.0f ns an attempt, %zu bytes of heap at most\n", costs[i].packets,
+               costs[i].has_rows ? "in rows" : "one by one", costs[i].ns, costs[i].heap);
     printf("stack: %zu bytes, with that of the C library to begin a thread\n", sizeof stack - unused);
 }
 
-int main(int words, char **word)
+static void check_all(void)
 {
-    check_paths();
-    check_blocking();
-    check_stepped();
+    check_blocking(0);
+    check_stepped(1);
+}
+
+static void check_whole_rows(void) { check_received(USB_ROW); }
+
+static void check_cut_rows(void) { check_received(3); }
+
+/* Makes these calls once more for each allocation, which then fails. Returns the number of allocations. */
+static long check_each(void (*make_calls)(void))
+{
+    heap_calls = heap_fails_at = 0;
+    make_calls();
     long calls = heap_calls;
     for (long fails = 1; fails <= calls; fails++) {
         heap_calls = 0;
         heap_fails_at = fails;
-        check_blocking();
-        check_stepped();
+        make_calls();
     }
-    MUST(refusals > 0 && refusals <= (unsigned long)calls);
     heap_fails_at = 0;
+    return calls;
+}
+
+int main(int words, char **word)
+{
+    static const unsigned mosts[] = { USB_ROW, 3, 1 }; /* attempts in a row at most */
+    check_paths();
+    unsigned made = check_blocking(0);
+    for (size_t i = 0; i < sizeof mosts / sizeof *mosts; i++) {
+        MUST(check_blocking(mosts[i]) == made);
+        check_stepped(mosts[i]);
+    }
+    long calls = check_each(check_all) + check_each(check_whole_rows) + check_each(check_cut_rows);
+    MUST(refusals > 0 && refusals <= (unsigned long)calls);
     printf("each call did what it must; each of %ld allocations failed once, %u calls had no memory\n", calls,
            refusals);
     if (words > 1 && strcmp(word[1], "--times") == 0)

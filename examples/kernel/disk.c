@@ -3,7 +3,7 @@
 #include <string.h>
 
 enum { READ_CAPACITY = 0x25, READ = 0x28, COMMAND_LENGTH = 10, TRIES = 3 };
-enum { COMMAND_BLOCK = 31, STATUS_BLOCK = 13, FROM_DEVICE = 0x80, DATA_PACKETS = 128 };
+enum { COMMAND_BLOCK = 31, STATUS_BLOCK = 13, FROM_DEVICE = 0x80, DATA_PACKETS = 256, MOST_SECTORS = 128 };
 
 static void put_high_first(uint8_t *to, uint32_t number)
 {
@@ -35,7 +35,7 @@ static enum usb_status send_command(struct usb_host *host, struct disk *it, cons
     return usb_send_to(host, it->at.path, it->at.out, block, sizeof block);
 }
 
-/* Receives the data, a few packets a call. A halt ends them. */
+/* Receives the data, some rows of packets a call. A halt ends them. */
 static enum usb_status receive_data(struct usb_host *host, const struct disk *it, uint8_t *room, uint32_t length)
 {
     size_t got;
@@ -98,7 +98,8 @@ enum usb_status disk_open(struct usb_host *host, const struct found *found, stru
     return has_passed && get_high_first(capacity + 4) == SECTOR ? USB_DONE : USB_WRONG_LENGTH;
 }
 
-enum usb_status disk_read(struct usb_host *host, struct disk *it, uint32_t first, uint16_t count, uint8_t *room)
+/* Reads sectors by one command. */
+static enum usb_status read_some(struct usb_host *host, struct disk *it, uint32_t first, uint16_t count, uint8_t *room)
 {
     uint8_t command[COMMAND_LENGTH] = { READ };
     bool has_passed;
@@ -107,4 +108,15 @@ enum usb_status disk_read(struct usb_host *host, struct disk *it, uint32_t first
     command[8] = (uint8_t)count;
     enum usb_status status = make(host, it, command, room, (uint32_t)count * SECTOR, &has_passed);
     return status == USB_DONE && !has_passed ? USB_WRONG_LENGTH : status;
+}
+
+enum usb_status disk_read(struct usb_host *host, struct disk *it, uint32_t first, uint32_t count, uint8_t *room)
+{
+    enum usb_status status = USB_DONE;
+    for (uint32_t done = 0; done < count && status == USB_DONE; done += MOST_SECTORS) {
+        uint32_t left = count - done;
+        uint16_t now = (uint16_t)(left < MOST_SECTORS ? left : MOST_SECTORS);
+        status = read_some(host, it, first + done, now, room + (size_t)done * SECTOR);
+    }
+    return status;
 }

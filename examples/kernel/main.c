@@ -1,5 +1,5 @@
 /* A kernel that is a USB host and nothing else. On the serial line it prints what is plugged, each key of a boot
- * keyboard, and the first sector of each disk. It goes on as devices come and go. A byte on the serial line requests
+ * keyboard, and how fast it reads each disk. It goes on as devices come and go. A byte on the serial line requests
  * more: s a listing, q the end.
  *
  * It has no interrupts, no processes and no other stack than the one that it boots with. */
@@ -10,7 +10,7 @@
 
 #include <string.h>
 
-enum { MOST = 16, ROUND_US = 10000, SOME_SECTORS = 16 };
+enum { MOST = 16, ROUND_US = 10000, READ_SECTORS = 1024 };
 
 static struct uhci uhci;
 static struct usb_host host;
@@ -109,26 +109,34 @@ static void failed(const struct found *it, const char *what, enum usb_status sta
     print(" failed: %s\n", usb_status_text(status));
 }
 
+/* A sum of bytes that shows their order (FNV-1a, 32 bits). */
+static uint32_t sum_of(const uint8_t *bytes, size_t length)
+{
+    uint32_t sum = 0x811C9DC5;
+    for (size_t i = 0; i < length; i++)
+        sum = (sum ^ bytes[i]) * 0x01000193;
+    return sum;
+}
+
+/* Reads the first sectors of a disk. */
 static void read_disk(const struct found *found)
 {
-    static uint8_t sectors[SOME_SECTORS * SECTOR + 1];
+    static uint8_t sectors[READ_SECTORS * SECTOR];
     struct disk disk;
     enum usb_status status = disk_open(&host, found, &disk);
+    unsigned count = disk.sectors < READ_SECTORS ? disk.sectors : READ_SECTORS;
     uint64_t from = now_us();
     if (status == USB_DONE)
-        status = disk_read(&host, &disk, 0, SOME_SECTORS, sectors);
+        status = disk_read(&host, &disk, 0, count, sectors);
     if (status != USB_DONE) {
         failed(found, "disk", status);
         return;
     }
-    unsigned ms = (unsigned)((now_us() - from) / 1000);
-    for (char *at = (char *)sectors; *at; at++)
-        if (*at == '\n')
-            *at = '\0';
+    uint64_t us = now_us() - from + 1;
     print("disk ");
     print_path(&found->path);
-    print(": %d sectors; the first: \"%s\"", disk.sectors, (char *)sectors);
-    print("; the last of 16: \"%s\"; %d ms\n", (char *)sectors + (SOME_SECTORS - 1) * SECTOR, ms);
+    print(": %d sectors; sum of %d: %8x; ", disk.sectors, count, sum_of(sectors, (size_t)count * SECTOR));
+    print("%d ms, %d bytes a second\n", (unsigned)(us / 1000), (unsigned)((uint64_t)count * SECTOR * 1000000 / us));
 }
 
 /* Finds a driver for the device of this number, if there is one. */
@@ -217,11 +225,12 @@ static void run(void)
 
 void main(void)
 {
+    static const struct usb_options options = { true, USB_DEVICE_BYTES };
     paint_stack();
     if (!uhci_open(&uhci))
         die("no UHCI controller");
     uint64_t began = now_us();
-    must(usb_open(&host, &uhci.controller, true), "open");
+    must(usb_open(&host, &uhci.controller, &options), "open");
     must(usb_settle(&host), "settle");
     print("settled: %d attempts, %d ms\n", uhci.attempts, (unsigned)((now_us() - began) / 1000));
     show();

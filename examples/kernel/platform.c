@@ -75,7 +75,7 @@ size_t stack_used(void)
 /* ---- A heap: blocks in a row, of which the first free one that is long enough is taken ---- */
 
 struct block {
-    size_t length, is_free; /* 16 bytes, so each block is aligned to as many */
+    size_t length, is_free; /* 16 bytes, so each block is aligned to 16 */
 };
 
 static struct {
@@ -146,19 +146,28 @@ void *realloc(void *block, size_t length)
 
 /* ---- What compilers call ---- */
 
-/* The bytes are volatile, so that no compiler makes a call of the function itself of its loop. */
+/* Bytes and words are volatile, so that no compiler makes a call of the function itself of its loop. A word may be at
+ * any address. */
+typedef volatile uint64_t __attribute__((aligned(1), may_alias)) word;
 
 void *memcpy(void *to, const void *from, size_t count)
 {
+    volatile uint8_t *at = to;
     const volatile uint8_t *source = from;
-    for (volatile uint8_t *at = to; count; count--)
+    for (; count >= sizeof(word); count -= sizeof(word), at += sizeof(word), source += sizeof(word))
+        *(word *)at = *(const word *)source;
+    for (; count; count--)
         *at++ = *source++;
     return to;
 }
 
 void *memset(void *to, int byte, size_t count)
 {
-    for (volatile uint8_t *at = to; count; count--)
+    volatile uint8_t *at = to;
+    uint64_t bytes = (uint8_t)byte * UINT64_C(0x0101010101010101);
+    for (; count >= sizeof(word); count -= sizeof(word), at += sizeof(word))
+        *(word *)at = bytes;
+    for (; count; count--)
         *at++ = (uint8_t)byte;
     return to;
 }

@@ -1,5 +1,5 @@
-/* A UHCI controller as a struct usb_controller. Each question is one transfer descriptor with C_ERR = 1, so one attempt
- * with no retry. */
+/* A UHCI controller as a struct usb_controller. Each attempt is one transfer descriptor with C_ERR = 1, so there is no
+ * retry. A row is a queue of them. */
 #include "uhci.h"
 
 #include <string.h>
@@ -17,22 +17,27 @@ struct td {
 };
 #define TERMINATE 1u
 #define QUEUE_HEAD 2u
+#define SAME_FRAME 4u /* of a descriptor's link: the controller goes on with the next one in the same frame */
 #define ACTIVE (1u << 23)
 #define STALLED (1u << 22)
 #define ERRORS (1u << 21 | 1u << 20 | 1u << 18 | 1u << 17) /* data buffer; babble; check or time-out; bit stuffing */
 #define NAKED (1u << 19)
 #define ONE_TRY (1u << 27)
 #define LOW_SPEED (1u << 26)
+#define STOPS_AT_SHORT (1u << 29) /* a packet that is not full ends the queue */
 
 enum { SETUP = 0x2D, OUT = 0xE1, IN = 0x69, PAGE = 4096 };
 enum { NAK_FRAMES = 33, LAST_FRAME = 1000 }; /* 256 NAKs take eight seconds, and no attempt more than one */
 enum { RESET_MS = 50, RECOVERY_MS = 10, HUB_RESET_MS = 30, ADDRESS_MS = 10 };
 
-static uint32_t frames[PAGE / 4] __attribute__((aligned(4096))); /* the frame list: each entry is the queue */
+/* The frame list. Each entry is the anchor, whose link is the queue when there is work. So the controller writes to no
+ * word that takes the queue out again. */
+static uint32_t frames[PAGE / 4] __attribute__((aligned(4096)));
+static volatile uint32_t anchor[4] __attribute__((aligned(16))); /* a queue head: its link, its first descriptor */
 static struct {
     volatile uint32_t head[4];
-    struct td td;
-    uint8_t data[USB_PACKET];
+    struct td tds[USB_ROW];
+    uint8_t data[USB_ROW * USB_PACKET]; /* of the descriptors, one after the other */
 } queue __attribute__((aligned(4096)));
 
 /* Memory has the addresses that it seems to have. */
@@ -50,12 +55,58 @@ static unsigned frames_since(const struct uhci *it, uint16_t first)
 /* The first NAK is reported at once. If the same question comes again, the device is asked a frame later each time. */
 static unsigned frames_of_naks(const struct uhci *it) { return it->naks + 1 < NAK_FRAMES ? it->naks + 1 : NAK_FRAMES; }
 
-/* Takes the descriptor out of the queue, and waits until the controller cannot have it any more. */
+/* Makes descriptors of this number of attempts, of `length` bytes each. The toggles alternate. */
+static void fill_queue(const struct usb_question *q, unsigned count, unsigned pid, unsigned length, bool toggle)
+{
+    for (unsigned i = 0; i < count; i++, toggle = !toggle) {
+        struct td *td = &queue.tds[i];
+        bool is_last = i + 1 == count;
+        td->link = is_last ? TERMINATE : physical(td + 1) | SAME_FRAME;
+        td->token = ((length - 1) & 0x7FF) << 21 | (uint32_t)toggle << 19 | (uint32_t)q->endpoint << 15
+            | (uint32_t)q->address << 8 | pid;
+        td->buffer = physical(queue.data + i * length);
+        td->status = ACTIVE | ONE_TRY | (q->flags & USB_LOW ? LOW_SPEED : 0) | (is_last ? 0 : STOPS_AT_SHORT);
+    }
+}
+
+/* The number of bytes that a descriptor has moved, once it is done. */
+static unsigned length_of(uint32_t status) { return (status + 1) & 0x7FF; }
+
+/* Whether a descriptor has moved this number of bytes, so that the controller goes on with the next one. */
+static bool is_full(uint32_t status, unsigned length)
+{
+    return !(status & (ACTIVE | STALLED | ERRORS)) && length_of(status) == length;
+}
+
+/* Waits until the queue is done, or goes no further. A descriptor that meets NAK stays ACTIVE, and the controller makes
+ * it again in each frame. The queue is given up when `nak_frames` frames have passed since its last packet. Returns the
+ * number of full descriptors. */
+static unsigned wait_for_queue(const struct uhci *it, unsigned count, unsigned length, unsigned nak_frames)
+{
+    unsigned moved = 0;
+    uint16_t last = inw(it->base + FRNUM);
+    while (moved < count) {
+        uint32_t status = queue.tds[moved].status;
+        unsigned passed = frames_since(it, last);
+        if (is_full(status, length)) {
+            moved++;
+            last = inw(it->base + FRNUM);
+        } else if (!(status & ACTIVE) || passed > LAST_FRAME || ((status & NAKED) && passed >= nak_frames)) {
+            break;
+        } else {
+            pause_us(20);
+        }
+    }
+    return moved;
+}
+
+/* Takes the queue out of the schedule. Unless it has come to its end, the controller may have it in hand until the next
+ * frame begins. */
 static void stop_queue(const struct uhci *it)
 {
-    queue.head[1] = TERMINATE;
+    anchor[0] = TERMINATE;
     __sync_synchronize();
-    if (!(queue.td.status & ACTIVE))
+    if (queue.head[1] & TERMINATE)
         return;
     if (inw(it->base + USBSTS) & HALTED)
         die("uhci: the controller has halted");
@@ -63,26 +114,20 @@ static void stop_queue(const struct uhci *it)
         pause_us(20);
 }
 
-/* Makes one attempt and returns the descriptor's status. One that is answered by NAK stays ACTIVE, and the controller
- * makes it again in each frame. */
-static uint32_t make(const struct uhci *it, const struct usb_question *q, unsigned pid, unsigned length, bool toggle)
+/* Makes this number of attempts, or fewer if one moves no full packet. Returns the number that moved one. */
+static unsigned make(struct uhci *it, const struct usb_question *q, unsigned count, unsigned pid, unsigned length,
+                     bool toggle)
 {
-    queue.td.link = TERMINATE;
-    queue.td.token = ((length - 1) & 0x7FF) << 21 | (uint32_t)toggle << 19 | (uint32_t)q->endpoint << 15
-        | (uint32_t)q->address << 8 | pid;
-    queue.td.buffer = physical(queue.data);
-    queue.td.status = ACTIVE | ONE_TRY | (q->flags & USB_LOW ? LOW_SPEED : 0);
+    fill_queue(q, count, pid, length, toggle);
+    queue.head[1] = physical(&queue.tds[0]);
     __sync_synchronize();
-    queue.head[1] = physical(&queue.td);
-    uint16_t first = inw(it->base + FRNUM);
-    while (queue.td.status & ACTIVE) {
-        unsigned passed = frames_since(it, first);
-        if (passed > LAST_FRAME || ((queue.td.status & NAKED) && passed >= frames_of_naks(it)))
-            break;
-        pause_us(20);
-    }
+    anchor[0] = physical(&queue) | QUEUE_HEAD;
+    unsigned moved = wait_for_queue(it, count, length, frames_of_naks(it));
     stop_queue(it);
-    return queue.td.status;
+    while (moved < count && is_full(queue.tds[moved].status, length)) /* the controller went on meanwhile */
+        moved++;
+    it->attempts += moved < count ? moved + 1 : moved;
+    return moved;
 }
 
 /* What a request that has ended means for the toggles, and for the time until the next attempt. */
@@ -99,16 +144,43 @@ static void request_done(struct uhci *it, unsigned address)
         pause_ms(HUB_RESET_MS);
 }
 
-static void take_data(struct uhci *it, const struct usb_question *q, uint32_t status, struct usb_answer *answer)
+/* Takes the data of a descriptor, whose toggle was the one that this controller keeps. */
+static void take_data(struct uhci *it, const struct usb_question *q, unsigned place, struct usb_answer *answer)
 {
     uint16_t bit = (uint16_t)(1u << q->endpoint);
     answer->came = USB_DATA;
     answer->toggle = (it->toggles[q->address] & bit) != 0;
-    answer->length = (uint8_t)((status + 1) & 0x7FF);
-    memcpy(answer->data, queue.data, USB_PACKET);
+    answer->length = (uint8_t)length_of(queue.tds[place].status);
+    memcpy(answer->data, queue.data + place * q->most, answer->length);
     it->toggles[q->address] ^= bit;
     if (q->endpoint == 0 && !(it->setup[q->address][0] & 0x80)) /* the status stage of a request with no data to read */
         request_done(it, q->address);
+}
+
+/* What came of the descriptor at a place in the queue. */
+static void take_answer(struct uhci *it, const struct usb_question *q, unsigned place, struct usb_answer *answer)
+{
+    uint32_t status = queue.tds[place].status;
+    if (status & ERRORS) {
+        answer->came = USB_NOTHING;
+    } else if (status & (ACTIVE | STALLED)) {
+        answer->came = status & STALLED ? USB_STALL : status & NAKED ? USB_NAK : USB_NOTHING;
+    } else if (q->kind == USB_IN) {
+        take_data(it, q, place, answer);
+    } else {
+        answer->came = USB_ACK;
+        if (q->kind == USB_SETUP)
+            it->toggles[q->address] |= 1;
+    }
+    it->naks = answer->came == USB_NAK ? it->naks + 1 : 0;
+}
+
+/* Notes the question, since the next one may be the same. */
+static void note(struct uhci *it, const struct usb_question *q)
+{
+    if (memcmp(q, &it->last, sizeof *q) != 0)
+        it->naks = 0;
+    it->last = *q;
 }
 
 static void attempt(struct usb_controller *of, const struct usb_question *q, struct usb_answer *answer)
@@ -117,26 +189,35 @@ static void attempt(struct usb_controller *of, const struct usb_question *q, str
     bool is_in = q->kind == USB_IN;
     unsigned pid = q->kind == USB_SETUP ? SETUP : is_in ? IN : OUT;
     bool toggle = is_in ? it->toggles[q->address] >> q->endpoint & 1 : (q->flags & USB_DATA1) != 0;
-    if (memcmp(q, &it->last, sizeof *q) != 0)
-        it->naks = 0;
-    it->last = *q;
-    it->attempts++;
+    note(it, q);
     memcpy(queue.data, q->data, USB_PACKET);
     if (q->kind == USB_SETUP)
         memcpy(it->setup[q->address], q->data, 8);
-    uint32_t status = make(it, q, pid, is_in ? q->most : q->length, toggle);
-    if (status & ERRORS) {
-        answer->came = USB_NOTHING;
-    } else if (status & (ACTIVE | STALLED)) {
-        answer->came = status & STALLED ? USB_STALL : status & NAKED ? USB_NAK : USB_NOTHING;
-    } else if (is_in) {
-        take_data(it, q, status, answer);
-    } else {
-        answer->came = USB_ACK;
-        if (q->kind == USB_SETUP)
-            it->toggles[q->address] |= 1;
-    }
-    it->naks = answer->came == USB_NAK ? it->naks + 1 : 0;
+    make(it, q, 1, pid, is_in ? q->most : q->length, toggle);
+    take_answer(it, q, 0, answer);
+}
+
+/* Makes a row: one queue. A NAK ends it as soon as a frame is over in which nothing moved; the host then asks again. If
+ * the toggle that is due is not the one that this controller keeps, it makes one attempt, with its own. */
+static unsigned make_row(struct usb_controller *of, const struct usb_question *q, uint8_t *room,
+                         struct usb_answer *last)
+{
+    struct uhci *it = (struct uhci *)of;
+    bool toggle = it->toggles[q->address] >> q->endpoint & 1;
+    unsigned count = toggle == ((q->flags & USB_DATA1) != 0) ? q->row : 1;
+    struct usb_question one = *q; /* the last attempt of the row */
+    one.kind = USB_IN;
+    one.flags &= (uint8_t)~USB_DATA1;
+    one.row = 0;
+    note(it, &one);
+    unsigned moved = make(it, &one, count, IN, q->most, toggle), before = moved < count ? moved : count - 1;
+    memcpy(room, queue.data, before * q->most);
+    if (before % 2)
+        it->toggles[q->address] ^= (uint16_t)(1u << q->endpoint);
+    if (before)
+        it->naks = 0;
+    take_answer(it, &one, before, last);
+    return before;
 }
 
 /* The toggle of an OUT endpoint is in each question. */
@@ -246,9 +327,9 @@ static void start(const struct uhci *it)
     pause_ms(10);
     if (inw(it->base + USBCMD) & HCRESET)
         die("uhci: the controller is not reset");
-    queue.head[0] = queue.head[1] = TERMINATE;
+    anchor[0] = anchor[1] = queue.head[0] = queue.head[1] = TERMINATE;
     for (int i = 0; i < PAGE / 4; i++)
-        frames[i] = physical(&queue) | QUEUE_HEAD;
+        frames[i] = physical(anchor) | QUEUE_HEAD;
     outw(0, it->base + USBINTR);
     outw(ALL_STATUS, it->base + USBSTS);
     outw(0, it->base + FRNUM);
@@ -256,7 +337,7 @@ static void start(const struct uhci *it)
     outw(RUN | CONFIGURED | MAXP, it->base + USBCMD);
 }
 
-/* How many root ports there are: bit 7 of each register is always set. */
+/* The number of root ports: bit 7 of each register is always set. */
 static unsigned count_ports(const struct uhci *it)
 {
     unsigned count = 0;
@@ -279,7 +360,7 @@ bool uhci_open(struct uhci *it)
     pci_write(found, 0x04, (pci_read(found, 0x04) & 0xFFFF) | 0x0005); /* I/O space, bus master */
     pci_write(found, 0xC0, 0x8F00);                                    /* no emulation of a keyboard */
     start(it);
-    it->controller = (struct usb_controller) { count_ports(it), attempt, status, call_port, restart };
+    it->controller = (struct usb_controller) { count_ports(it), attempt, status, call_port, restart, make_row };
     return it->controller.roots > 0;
 }
 

@@ -2,10 +2,10 @@
 mod device;
 
 use device::Device;
-use usbhost::{Bus, Endpoint, Entry, Fault, Hubs, Path};
+use usbhost::{Bus, Endpoint, Entry, Fault, Options, Path};
 
 fn main() -> Result<(), Fault> {
-    let mut bus = Bus::open(Device::default(), Hubs::Narrow)?;
+    let mut bus = Bus::open(Device::default(), Options::default())?;
     bus.settle()?;
     for entry in bus.tree()? {
         match entry {

@@ -1,8 +1,8 @@
 use alloc::vec::Vec;
 
 use crate::{
-    Attempt, Came, Done, Endpoint, Entry, Fault, Feature, Host, Hubs, Look, News, Packet, Path, Question, Setup,
-    Statuses, Want,
+    Attempt, Came, Done, Endpoint, Entry, Fault, Feature, Host, Ins, Look, News, Options, Packet, Path, Question, Row,
+    Setup, Statuses, Want,
 };
 
 /// A controller with its root ports: what its driver provides.
@@ -10,7 +10,7 @@ use crate::{
 /// The host has no clock, so the controller makes all waits: in [`Controller::port`] those of a reset, and in
 /// [`Controller::attempt`] those after SET_ADDRESS and after a hub's PORT_RESET.
 pub trait Controller {
-    /// How many root ports there are, 1 to 7: always the same.
+    /// The number of root ports, 1 to 7: always the same.
     fn roots(&self) -> u8;
 
     /// wPortStatus and, from bit 16 on, wPortChange of a root port, from 1 on.
@@ -22,9 +22,22 @@ pub trait Controller {
     /// Sets or clears a feature of a root port. A reset has ended, and has had its 10 ms, when this returns.
     fn port(&mut self, port: u8, set: bool, feature: Feature);
 
-    /// An endpoint begins again at DATA0. Whoever takes the toggle from each attempt, and compares none, does nothing.
+    /// An endpoint begins again at DATA0. A controller that takes the toggle from each attempt, and compares none, does
+    /// nothing.
     fn restart(&mut self, address: u8, endpoint: Endpoint) {
         let _ = (address, endpoint);
+    }
+
+    /// Makes a row: INs of one endpoint, at least one and at most `ins.most`. A controller with a queue makes one queue
+    /// of them.
+    ///
+    /// The row ends after an attempt that brings no full packet of the toggle that is due. It may also end after any
+    /// other attempt. What came of the last attempt is returned, and `before` gets the full packets before that one.
+    ///
+    /// This body makes one attempt.
+    fn ins(&mut self, ins: &Ins, before: &mut Row) -> Came {
+        let _ = before;
+        self.attempt(&Attempt::In { to: ins.to })
     }
 }
 
@@ -39,6 +52,35 @@ pub struct Bus<C> {
     begun: Option<[u8; 24]>,
     /// An answer that found no memory.
     kept: Option<Came>,
+    /// The packets of a row before it.
+    before: Row,
+    device_bytes: Option<u32>,
+    budget: Budget,
+}
+
+/// The attempts that each address may have in a call, so that no device fills the heap with NAKs.
+struct Budget {
+    most: u64,
+    made: [u32; 128],
+}
+
+impl Budget {
+    /// Some for what goes wrong, and one for each least packet.
+    fn of(device_bytes: Option<u32>, want: &Want<'_>) -> Budget {
+        let bytes = device_bytes.map(|it| u64::from(it) + want.moves());
+        Budget { most: bytes.map_or(u64::MAX, |it| 4096 + it / 8), made: [0; 128] }
+    }
+
+    /// Whether this address may have another attempt.
+    fn has(&self, address: u8) -> bool {
+        u64::from(self.made[usize::from(address & 127)]) < self.most
+    }
+
+    /// Notes attempts.
+    fn spend(&mut self, address: u8, attempts: usize) {
+        let made = &mut self.made[usize::from(address & 127)];
+        *made = made.saturating_add(attempts as u32);
+    }
 }
 
 fn statuses_of<C: Controller>(controller: &mut C) -> Statuses {
@@ -52,14 +94,20 @@ fn statuses_of<C: Controller>(controller: &mut C) -> Statuses {
 impl<C: Controller> Bus<C> {
     /// Opens a host at a controller. It switches the power of each root port off and on.
     ///
+    /// In one call a device gets at most 4,096 attempts, and one for each 8 bytes that the options allow and that the
+    /// call may move. After them the controller is not asked, and the host hears no answer. So no device fills the heap
+    /// with NAKs. With no limit of bytes there is no such limit either.
+    ///
     /// # Errors
     ///
     /// - `Roots`: the controller has not 1 to 7 root ports.
     /// - `Memory`: the heap had no memory. The controller is lost, so lend a `&mut` one if it must not be.
-    pub fn open(mut controller: C, hubs: Hubs) -> Result<Bus<C>, Fault> {
+    pub fn open(mut controller: C, options: Options) -> Result<Bus<C>, Fault> {
         let statuses = statuses_of(&mut controller);
-        let host = Host::open(controller.roots(), hubs, &statuses)?;
-        let mut bus = Bus { host, controller, begun: None, kept: None };
+        let host = Host::open(controller.roots(), options, &statuses)?;
+        let device_bytes = options.device_bytes.filter(|it| *it != u32::MAX);
+        let budget = Budget::of(device_bytes, &Want::Round);
+        let mut bus = Bus { host, controller, begun: None, kept: None, before: Row::EMPTY, device_bytes, budget };
         bus.finish()?;
         Ok(bus)
     }
@@ -153,7 +201,7 @@ impl<C: Controller> Bus<C> {
         self.make_read(&Want::Receive { path, packets })
     }
 
-    /// Clears the halts of the first bulk endpoints, where a transfer found them halted.
+    /// Clears the halts of the first bulk endpoints, if a transfer found them halted.
     ///
     /// # Errors
     ///
@@ -228,7 +276,7 @@ impl<C: Controller> Bus<C> {
     ///
     /// # Errors
     ///
-    /// - `Value`: bit 7 of its type is set, or the bytes are not as many as its length says.
+    /// - `Value`: bit 7 of its type is set, or the number of bytes is not its length.
     /// - `Reserved`: only the host may send it. `NoDevice`. Nothing is attempted.
     /// - `Stalled`: the device refused it; `Busy`, `NoAnswer`.
     pub fn control_out(&mut self, path: Path, setup: Setup, bytes: &[u8]) -> Result<(), Fault> {
@@ -250,6 +298,7 @@ impl<C: Controller> Bus<C> {
                 let statuses = statuses_of(&mut self.controller);
                 self.host.begin(want, &statuses)?;
                 self.begun = Some(head);
+                self.budget = Budget::of(self.device_bytes, want);
             }
         }
         self.finish()?;
@@ -264,23 +313,62 @@ impl<C: Controller> Bus<C> {
                 let Some(question) = self.host.question()? else {
                     return Ok(());
                 };
-                self.kept = Some(came_of(&mut self.controller, &question));
+                self.before.clear();
+                self.kept = Some(came_of(&mut self.controller, &question, &mut self.before, &mut self.budget));
             }
             let statuses = statuses_of(&mut self.controller);
-            self.host.answer(self.kept.as_ref().unwrap_or(&Came::Nothing), &statuses)?;
+            let last = self.kept.as_ref().unwrap_or(&Came::Nothing);
+            if self.before.is_empty() {
+                self.host.answer(last, &statuses)?;
+            } else {
+                self.host.answer_row(&self.before, last, &statuses)?;
+            }
             self.kept = None;
         }
     }
 }
 
-/// Lets the controller do what is asked. Data that are too long are no good answer (8.7.4).
-fn came_of<C: Controller>(controller: &mut C, question: &Question) -> Came {
+/// Data that are too long are no good answer (8.7.4).
+fn fitting(came: Came, most: u8) -> Came {
+    match came {
+        Came::Data { data, .. } if data.len() > usize::from(most) => Came::Nothing,
+        came => came,
+    }
+}
+
+/// Lets the controller make a row. One that cannot be is no good answer.
+fn row_of<C: Controller>(controller: &mut C, ins: &Ins, before: &mut Row) -> Came {
+    let came = fitting(controller.ins(ins, before), ins.to.most);
+    let most = usize::from(ins.to.most);
+    if !before.len().is_multiple_of(most) || before.len() >= most * usize::from(ins.most) {
+        before.clear();
+        return Came::Nothing;
+    }
+    came
+}
+
+/// Lets the controller make an attempt.
+fn attempt_of<C: Controller>(controller: &mut C, attempt: &Attempt) -> Came {
+    match (controller.attempt(attempt), attempt) {
+        (came, Attempt::In { to }) => fitting(came, to.most),
+        (Came::Data { .. }, Attempt::Setup { .. } | Attempt::Out { .. }) => Came::Nothing,
+        (came, _) => came,
+    }
+}
+
+/// Lets the controller do what is asked. An address that has had all its attempts gives no answer.
+fn came_of<C: Controller>(controller: &mut C, question: &Question, before: &mut Row, budget: &mut Budget) -> Came {
     match question {
-        Question::Attempt(attempt) => match (controller.attempt(attempt), attempt) {
-            (Came::Data { data, .. }, Attempt::In { to }) if data.len() > usize::from(to.most) => Came::Nothing,
-            (Came::Data { .. }, Attempt::Setup { .. } | Attempt::Out { .. }) => Came::Nothing,
-            (came, _) => came,
-        },
+        Question::Attempt(attempt) if budget.has(attempt.to().address) => {
+            budget.spend(attempt.to().address, 1);
+            attempt_of(controller, attempt)
+        }
+        Question::Ins(ins) if budget.has(ins.to.address) => {
+            let came = row_of(controller, ins, before);
+            budget.spend(ins.to.address, before.len() / usize::from(ins.to.most).max(1) + 1);
+            came
+        }
+        Question::Attempt(_) | Question::Ins(_) => Came::Nothing,
         Question::Port { port, set, feature } => {
             controller.port(*port, *set, *feature);
             Came::Nothing
@@ -311,5 +399,9 @@ impl<C: Controller> Controller for &mut C {
 
     fn restart(&mut self, address: u8, endpoint: Endpoint) {
         (**self).restart(address, endpoint);
+    }
+
+    fn ins(&mut self, ins: &Ins, before: &mut Row) -> Came {
+        (**self).ins(ins, before)
     }
 }

@@ -8,9 +8,9 @@ pub enum Fault {
     NoDevice,
     /// The device is a hub, or has no such endpoint.
     NoEndpoint,
-    /// The endpoint answered STALL, or the device refused the request.
+    /// The endpoint returned STALL, or the device refused the request.
     Stalled,
-    /// The device answered NAK too often.
+    /// The device returned NAK too often.
     Busy,
     /// There were three errors in a row.
     NoAnswer,

@@ -3,10 +3,10 @@ use alloc::alloc::{alloc, dealloc, realloc};
 use core::alloc::Layout;
 use core::ptr;
 
-/// As many bytes as keep a block aligned to 16.
+/// The bytes before a block, which keep it aligned to 16.
 const HEAD: usize = 16;
 
-/// What the archive is told: whether there is a block, and its address.
+/// What the archive gets: whether there is a block, and its address.
 #[repr(C)]
 struct Tried {
     is_there: bool,

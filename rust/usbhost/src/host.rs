@@ -1,9 +1,9 @@
 use alloc::vec::Vec;
 
 use crate::question::status_bytes;
+use crate::records;
 use crate::sys::{self, Handle};
-use crate::told;
-use crate::{Came, Done, Entry, Fault, Look, News, Question, Statuses, Want};
+use crate::{Came, Done, Entry, Fault, Look, News, Question, Row, Statuses, Want};
 
 /// Which hubs a host takes.
 #[derive(Clone, Copy, Debug, PartialEq, Eq, Hash)]
@@ -14,9 +14,25 @@ pub enum Hubs {
     Wide,
 }
 
+/// What a host takes. By default narrow hubs alone, and 8,192 bytes of each device.
+#[derive(Clone, Copy, Debug, PartialEq, Eq, Hash)]
+pub struct Options {
+    /// Which hubs.
+    pub hubs: Hubs,
+    /// The most bytes of all configurations of a device together; `None` is no limit. A device that says more is
+    /// refused, so that no device uses up the heap.
+    pub device_bytes: Option<u32>,
+}
+
+impl Default for Options {
+    fn default() -> Options {
+        Options { hubs: Hubs::Narrow, device_bytes: Some(8192) }
+    }
+}
+
 /// A host that asks questions and hears answers, with no I/O of its own and no blocking.
 ///
-/// It does one call at a time. [`Host::begin`] begins a call. As long as [`Host::question`] is some, whoever has the
+/// It does one call at a time. [`Host::begin`] begins a call. As long as [`Host::question`] is some, the holder of the
 /// controller does what it says, and calls [`Host::answer`]. Then [`Host::done`] says how the call ended, and one of
 /// `bytes`, `entries`, `look` and `news` has its result. [`Host::open`] begins the first call itself.
 ///
@@ -48,9 +64,10 @@ impl Host {
     ///
     /// - `Roots`: there are not 1 to 7 root ports.
     /// - `Memory`: the heap had no memory.
-    pub fn open(roots: u8, hubs: Hubs, statuses: &Statuses) -> Result<Host, Fault> {
+    pub fn open(roots: u8, options: Options, statuses: &Statuses) -> Result<Host, Fault> {
         let mut host = Host { handle: Handle::CLOSED };
-        checked(sys::open(&mut host.handle, roots, hubs == Hubs::Wide, &status_bytes(statuses)))?;
+        let device_bytes = options.device_bytes.unwrap_or(u32::MAX);
+        checked(sys::open(&mut host.handle, roots, options.hubs == Hubs::Wide, device_bytes, &status_bytes(statuses)))?;
         Ok(host)
     }
 
@@ -99,6 +116,24 @@ impl Host {
         checked(sys::answer(&mut self.handle, &record[..length]))
     }
 
+    /// The same for a row of more than one packet ([`Question::Ins`]): the full packets that came first, in order, and
+    /// what came of the attempt after them.
+    ///
+    /// # Errors
+    ///
+    /// After any of them nothing was taken.
+    ///
+    /// - `OutOfTurn`: there is no question, or there are packets and the question is no row.
+    /// - `Length`: a packet is not full.
+    /// - `TooMuch`: there are more packets than in the row, or the data of the last attempt are longer than the
+    ///   maximum.
+    /// - `Memory`: the heap had no memory.
+    pub fn answer_row(&mut self, before: &Row, last: &Came, statuses: &Statuses) -> Result<(), Fault> {
+        let mut record = [0; 96];
+        let length = last.put(statuses, &mut record);
+        checked(sys::answer_row(&mut self.handle, before, &record[..length]))
+    }
+
     /// How the call ended that was done last.
     ///
     /// # Errors
@@ -107,8 +142,8 @@ impl Host {
     /// - `OutOfTurn`: no call is done yet.
     /// - `Memory`: this call found no memory.
     pub fn done(&mut self) -> Result<Done, Fault> {
-        let told = self.told()?;
-        match told::records(&told).find(|it| it.0 == told::DONE) {
+        let all = self.records()?;
+        match records::records(&all).find(|it| it.0 == records::DONE) {
             Some((_, &[number])) => {
                 checked(number)?;
                 Ok(if number == 0 { Done::Worked } else { Done::Quiet })
@@ -124,7 +159,7 @@ impl Host {
     ///
     /// `Memory`: the heap had no memory.
     pub fn bytes(&mut self) -> Result<Option<Vec<u8>>, Fault> {
-        told::data(&self.told()?)
+        records::data(&self.records()?)
     }
 
     /// What the last call, a [`Want::Tree`], found at each port, by rising path.
@@ -133,7 +168,7 @@ impl Host {
     ///
     /// `Memory`: the heap had no memory.
     pub fn entries(&mut self) -> Result<Vec<Entry>, Fault> {
-        told::entries(&self.told()?)
+        records::entries(&self.records()?)
     }
 
     /// What the last call, a [`Want::Look`], found.
@@ -142,7 +177,7 @@ impl Host {
     ///
     /// `Memory`: the heap had no memory.
     pub fn look(&mut self) -> Result<Option<Look>, Fault> {
-        Ok(told::look(&self.told()?))
+        Ok(records::look(&self.records()?))
     }
 
     /// The change that the last call, a [`Want::News`], reports.
@@ -151,16 +186,16 @@ impl Host {
     ///
     /// `Memory`: the heap had no memory.
     pub fn news(&mut self) -> Result<Option<News>, Fault> {
-        Ok(told::news(&self.told()?))
+        Ok(records::news(&self.records()?))
     }
 
     /// All records of the call that was done last.
-    fn told(&mut self) -> Result<Vec<u8>, Fault> {
+    fn records(&mut self) -> Result<Vec<u8>, Fault> {
         let length = sys::told(&mut self.handle, &mut []);
-        let mut told = Vec::new();
-        told.try_reserve_exact(length).map_err(|_| Fault::Memory)?;
-        told.resize(length, 0);
-        sys::told(&mut self.handle, &mut told);
-        Ok(told)
+        let mut all = Vec::new();
+        all.try_reserve_exact(length).map_err(|_| Fault::Memory)?;
+        all.resize(length, 0);
+        sys::told(&mut self.handle, &mut all);
+        Ok(all)
     }
 }

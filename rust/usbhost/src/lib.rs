@@ -8,7 +8,7 @@
 //! A program that may block implements [`Controller`] and uses a [`Bus`]:
 //!
 //! ```no_run
-//! use usbhost::{Attempt, Bus, Came, Controller, Entry, Feature, Hubs};
+//! use usbhost::{Attempt, Bus, Came, Controller, Entry, Feature, Options};
 //!
 //! struct Mine;
 //!
@@ -28,7 +28,7 @@
 //! }
 //!
 //! # fn main() -> Result<(), usbhost::Fault> {
-//! let mut bus = Bus::open(Mine, Hubs::Wide)?;
+//! let mut bus = Bus::open(Mine, Options::default())?;
 //! bus.settle()?;
 //! for entry in bus.tree()? {
 //!     match entry {
@@ -47,11 +47,11 @@
 //! interrupt or a loop of its own, and then takes the result:
 //!
 //! ```no_run
-//! # use usbhost::{Came, Fault, Host, Hubs, Question, Statuses, Want};
+//! # use usbhost::{Came, Fault, Host, Options, Question, Statuses, Want};
 //! # fn do_it(question: &Question) -> (Came, Statuses) { unimplemented!() }
 //! # fn main() -> Result<(), Fault> {
 //! # let statuses = [0; 7];
-//! let mut host = Host::open(2, Hubs::Wide, &statuses)?;
+//! let mut host = Host::open(2, Options::default(), &statuses)?;
 //! while let Some(question) = host.question()? {
 //!     let (came, statuses) = do_it(&question);
 //!     host.answer(&came, &statuses)?;
@@ -75,16 +75,16 @@ mod heap;
 mod host;
 mod path;
 mod question;
+mod records;
 mod sys;
-mod told;
 mod want;
 
 pub use bus::{Bus, Controller};
 pub use fault::{Done, Fault};
-pub use host::{Host, Hubs};
+pub use host::{Host, Hubs, Options};
 pub use path::{Endpoint, Path};
-pub use question::{Attempt, Came, Feature, Packet, Question, Speed, Statuses, Target, Toggle, status};
-pub use told::{Cause, Device, Entry, Look, News, Refused, Request, Text};
+pub use question::{Attempt, Came, Feature, Ins, Packet, Question, Row, Speed, Statuses, Target, Toggle, status};
+pub use records::{Cause, Device, Entry, Look, News, Refused, Request, Text};
 pub use want::{Setup, Want};
 
 /// The page's blocks are tests of this crate.

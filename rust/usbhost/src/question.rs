@@ -54,6 +54,53 @@ impl Deref for Packet {
     }
 }
 
+/// Full packets, one after the other: 63 of 64 bytes at most.
+#[derive(Clone)]
+pub struct Row {
+    length: usize,
+    bytes: [u8; Row::MOST],
+}
+
+impl Row {
+    /// The most packets of a question.
+    pub const PACKETS: u8 = 64;
+
+    /// The most bytes before its last packet.
+    pub const MOST: usize = 63 * Packet::MOST;
+
+    /// No packets.
+    pub const EMPTY: Row = Row { length: 0, bytes: [0; Row::MOST] };
+
+    /// Adds the bytes of a full packet. Returns whether there was room.
+    pub fn push(&mut self, packet: &[u8]) -> bool {
+        let Some(room) = self.bytes.get_mut(self.length..self.length + packet.len()) else {
+            return false;
+        };
+        room.copy_from_slice(packet);
+        self.length += packet.len();
+        true
+    }
+
+    /// Leaves no packets.
+    pub fn clear(&mut self) {
+        self.length = 0;
+    }
+}
+
+impl Deref for Row {
+    type Target = [u8];
+
+    fn deref(&self) -> &[u8] {
+        &self.bytes[..self.length]
+    }
+}
+
+impl fmt::Debug for Row {
+    fn fmt(&self, f: &mut fmt::Formatter<'_>) -> fmt::Result {
+        fmt::Debug::fmt(&**self, f)
+    }
+}
+
 impl fmt::Debug for Packet {
     fn fmt(&self, f: &mut fmt::Formatter<'_>) -> fmt::Result {
         fmt::Debug::fmt(&**self, f)
@@ -161,11 +208,33 @@ pub enum Attempt {
     },
 }
 
+impl Attempt {
+    /// Where it goes.
+    pub fn to(&self) -> &Target {
+        let (Attempt::Setup { to, .. } | Attempt::Out { to, .. } | Attempt::In { to }) = self;
+        to
+    }
+}
+
+/// INs of one endpoint, one after the other.
+#[derive(Clone, Copy, Debug, PartialEq, Eq)]
+pub struct Ins {
+    /// Where they go. A full packet has its maximum.
+    pub to: Target,
+    /// The toggle of the first packet. Those of the others alternate.
+    pub toggle: Toggle,
+    /// The most packets, 1 to 64.
+    pub most: u8,
+}
+
 /// What a host asks of its controller.
 #[derive(Clone, Copy, Debug, PartialEq, Eq)]
 pub enum Question {
     /// One transaction attempt.
     Attempt(Attempt),
+    /// A row: INs of one endpoint, one after the other, until one brings no full packet of the toggle that is due. It
+    /// may end after any attempt, so one `Attempt::In` is a row too.
+    Ins(Ins),
     /// A feature of a root port, which is to be set (11.24.2.13) or cleared (11.24.2.2).
     Port {
         /// The port, from 1.
@@ -175,7 +244,7 @@ pub enum Question {
         /// The feature.
         feature: Feature,
     },
-    /// An endpoint begins again at DATA0, by SET_INTERFACE (9.1.1.5). Whoever keeps toggles sets that one.
+    /// An endpoint begins again at DATA0, by SET_INTERFACE (9.1.1.5). A controller that keeps toggles sets that one.
     Restart {
         /// The device's address.
         address: u8,
@@ -189,7 +258,7 @@ impl Question {
 
     /// The question of a record; `None` if it is none that this crate knows.
     pub(crate) fn of(record: &[u8; Question::LENGTH]) -> Option<Question> {
-        let [kind, first, second, flags, most, length, ..] = *record;
+        let [kind, first, second, flags, most, length, row, ..] = *record;
         let speed = match flags & 3 {
             0 => Speed::Full,
             1 => Speed::Low,
@@ -204,6 +273,7 @@ impl Question {
             3 => Question::Attempt(Attempt::In { to }),
             4 | 5 => Question::Port { port: first, set: kind == 4, feature: Feature::of(second)? },
             6 => Question::Restart { address: first, endpoint: Endpoint::new(second)? },
+            7 => Question::Ins(Ins { to, toggle, most: row }),
             _ => return None,
         })
     }

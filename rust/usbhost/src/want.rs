@@ -39,7 +39,7 @@ pub enum Want<'a> {
         /// The most packets.
         packets: u16,
     },
-    /// The halts of the first bulk endpoints cleared, where a transfer found them halted.
+    /// The halts of the first bulk endpoints cleared, if a transfer found them halted.
     ClearHalt {
         /// The device.
         path: Path,
@@ -98,7 +98,7 @@ pub enum Want<'a> {
         path: Path,
         /// The request.
         setup: Setup,
-        /// As many bytes as its length says.
+        /// The bytes: their number is its length.
         bytes: &'a [u8],
     },
     /// A port enumerated again, as if its connection had changed.
@@ -181,6 +181,15 @@ impl Want<'_> {
             | Want::ControlIn { path, .. }
             | Want::ControlOut { path, .. }
             | Want::Look { path } => Some(path),
+        }
+    }
+
+    /// The most bytes that a call moves.
+    pub(crate) fn moves(&self) -> u64 {
+        match *self {
+            Want::ControlIn { setup, .. } | Want::ControlOut { setup, .. } => u64::from(setup.length),
+            Want::Receive { packets, .. } | Want::ReceiveFrom { packets, .. } => 64 * u64::from(packets),
+            _ => self.bytes().len() as u64,
         }
     }
 

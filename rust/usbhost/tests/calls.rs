@@ -4,12 +4,12 @@ mod device;
 
 use device::Device;
 use usbhost::{
-    Bus, Came, Controller, Done, Endpoint, Entry, Fault, Host, Hubs, Look, Packet, Path, Question, Setup, Statuses,
-    Want,
+    Bus, Came, Cause, Controller, Done, Endpoint, Entry, Fault, Host, Hubs, Look, Options, Packet, Path, Question, Row,
+    Setup, Statuses, Want,
 };
 
 fn opened() -> Bus<Device> {
-    let mut bus = Bus::open(Device::default(), Hubs::Narrow).unwrap();
+    let mut bus = Bus::open(Device::default(), Options::default()).unwrap();
     bus.settle().unwrap();
     bus
 }
@@ -48,6 +48,68 @@ fn bytes_come_and_go() {
 }
 
 #[test]
+fn rows_bring_the_same_bytes() {
+    // How many attempts the controller makes in a row, less one, and how many rows 100 packets and 30 are then.
+    for (row, rows) in [(0, 130), (2, 44), (63, 3), (200, 3)] {
+        let mut bus = opened();
+        bus.controller_mut().row = row;
+        let before = bus.controller().attempts;
+        let bytes = bus.receive(at("1"), 100).unwrap();
+        assert!(bytes.len() == 6400 && bytes.iter().zip(0..).all(|(it, place)| usize::from(*it) == place / 64 + 1));
+        bus.controller_mut().full = 30;
+        assert_eq!(bus.receive(at("1"), 100).unwrap().len(), 29 * 64 + 2);
+        assert_eq!((bus.controller().attempts - before, bus.controller().rows), (130, rows), "{row}");
+    }
+}
+
+#[test]
+fn a_device_with_one_byte_too_many_is_too_large() {
+    for (bytes, cause) in [(38, Some(Cause::TooLarge)), (39, None)] {
+        let options = Options { hubs: Hubs::Wide, device_bytes: Some(bytes) };
+        let mut bus = Bus::open(Device::default(), options).unwrap();
+        bus.settle().unwrap();
+        match (bus.tree().unwrap().as_slice(), cause) {
+            ([Entry::Refused(it)], Some(cause)) => assert_eq!(it.cause, cause),
+            ([Entry::Device(_)], None) => {}
+            (entries, _) => panic!("{bytes}: {entries:?}"),
+        }
+    }
+}
+
+/// A device that answers NAK to each IN of endpoint 0, and how often it was asked.
+struct Late(Device, u32);
+
+impl Controller for Late {
+    fn roots(&self) -> u8 {
+        1
+    }
+    fn status(&mut self, port: u8) -> u32 {
+        self.0.status(port)
+    }
+    fn attempt(&mut self, attempt: &usbhost::Attempt) -> Came {
+        self.1 += 1;
+        match attempt {
+            // one in 256 is answered, so that the host never calls it busy
+            usbhost::Attempt::In { to } if to.endpoint == 0 && !self.1.is_multiple_of(256) => Came::Nak,
+            _ => self.0.attempt(attempt),
+        }
+    }
+    fn port(&mut self, port: u8, set: bool, feature: usbhost::Feature) {
+        self.0.port(port, set, feature);
+    }
+}
+
+#[test]
+fn a_late_device_does_not_hold_the_host() {
+    for (device_bytes, most) in [(Some(64), 2 * (4096 + 8)), (None, u32::MAX)] {
+        let options = Options { device_bytes, ..Options::default() };
+        let mut bus = Bus::open(Late(Device::default(), 0), options).unwrap();
+        bus.settle().unwrap();
+        assert!(bus.controller().1 <= most && bus.tree().unwrap().len() == 1, "{}", bus.controller().1);
+    }
+}
+
+#[test]
 fn polls_and_requests() {
     let (mut bus, reports) = (opened(), Endpoint::input(3).unwrap());
     assert_eq!(bus.poll(at("1"), reports), Ok(None));
@@ -71,8 +133,8 @@ fn faults_are_told() {
     assert_eq!(bus.look(at("1.1")), Err(Fault::NoPort));
     assert_eq!(bus.look(at("1.16")), Err(Fault::Value));
     assert_eq!(bus.controller().attempts, before);
-    assert_eq!(Host::open(0, Hubs::Wide, &[0; 7]).err(), Some(Fault::Roots));
-    assert_eq!(Host::open(8, Hubs::Wide, &[0; 7]).err(), Some(Fault::Roots));
+    assert_eq!(Host::open(0, Options::default(), &[0; 7]).err(), Some(Fault::Roots));
+    assert_eq!(Host::open(8, Options::default(), &[0; 7]).err(), Some(Fault::Roots));
 }
 
 #[test]
@@ -105,15 +167,17 @@ fn answer_all(host: &mut Host, device: &mut Device) -> usize {
     let mut count = 0;
     while let Some(question) = host.question().unwrap() {
         assert_eq!(host.question().unwrap(), Some(question));
+        let mut before = Row::EMPTY;
         let came = match question {
             Question::Attempt(attempt) => device.attempt(&attempt),
+            Question::Ins(ins) => device.ins(&ins, &mut before),
             Question::Port { port, set, feature } => {
                 device.port(port, set, feature);
                 Came::Nothing
             }
             Question::Restart { .. } => Came::Nothing,
         };
-        host.answer(&came, &statuses(device)).unwrap();
+        host.answer_row(&before, &came, &statuses(device)).unwrap();
         assert_eq!(host.answer(&came, &statuses(device)), Err(Fault::OutOfTurn));
         count += 1;
     }
@@ -123,7 +187,7 @@ fn answer_all(host: &mut Host, device: &mut Device) -> usize {
 #[test]
 fn questions_and_answers() {
     let mut device = Device::default();
-    let mut host = Host::open(1, Hubs::Narrow, &[0; 7]).unwrap();
+    let mut host = Host::open(1, Options::default(), &[0; 7]).unwrap();
     assert_eq!(host.done(), Err(Fault::OutOfTurn));
     assert_eq!(host.begin(&Want::Round, &[0; 7]), Err(Fault::OutOfTurn));
     assert_eq!(answer_all(&mut host, &mut device), 2);
@@ -159,7 +223,7 @@ fn too_much_is_not_taken() {
             self.0.port(port, set, feature);
         }
     }
-    let mut bus = Bus::open(Long(Device::default()), Hubs::Narrow).unwrap();
+    let mut bus = Bus::open(Long(Device::default()), Options::default()).unwrap();
     bus.settle().unwrap();
     let entries = bus.tree().unwrap();
     assert!(matches!(entries.as_slice(), [Entry::Refused(_)]), "{entries:?}");

@@ -1,5 +1,5 @@
 //! One device in memory, at root port 1: bulk IN 1 and OUT 2, interrupt IN 3.
-use usbhost::{Attempt, Came, Controller, Endpoint, Feature, Packet, Toggle, status};
+use usbhost::{Attempt, Came, Controller, Endpoint, Feature, Ins, Packet, Row, Toggle, status};
 
 const DESCRIPTOR: [u8; 18] = [18, 1, 0, 2, 0, 0, 0, 64, 0x34, 0x12, 0x78, 0x56, 0, 1, 0, 1, 0, 1];
 const CONFIGURATION: [u8; 39] = [
@@ -18,6 +18,12 @@ pub struct Device {
     pub took: Vec<u8>,
     /// What interrupt IN 3 gives next.
     pub report: Option<[u8; 8]>,
+    /// How many attempts the controller makes in a row at most, less one.
+    pub row: u8,
+    /// How many rows it made.
+    pub rows: u32,
+    /// After this number of packets bulk IN 1 gives a short one, of two bytes; 0: it gives none.
+    pub full: u32,
     address: u8,
     setup: [u8; 8],
     left: Vec<u8>,
@@ -64,7 +70,9 @@ impl Device {
             }
             1 => {
                 self.given = self.given.wrapping_add(1);
-                vec![self.given; 64]
+                let is_short = self.full == 1;
+                self.full = self.full.saturating_sub(1);
+                vec![self.given; if is_short { 2 } else { 64 }]
             }
             _ => match self.report.take() {
                 Some(report) => report.to_vec(),
@@ -127,6 +135,23 @@ impl Controller for Device {
     fn restart(&mut self, _address: u8, endpoint: Endpoint) {
         if endpoint.is_in() {
             self.is_one[usize::from(endpoint.number())] = false;
+        }
+    }
+
+    fn ins(&mut self, ins: &Ins, before: &mut Row) -> Came {
+        let (mut due, mut left) = (ins.toggle, ins.most.min(self.row + 1));
+        self.rows += 1;
+        loop {
+            let came = self.attempt(&Attempt::In { to: ins.to });
+            left -= 1;
+            match came {
+                Came::Data { toggle, data }
+                    if left > 0 && toggle == due && data.len() == usize::from(ins.to.most) && before.push(&data) =>
+                {
+                    due = due.flipped();
+                }
+                _ => return came,
+            }
         }
     }
 }

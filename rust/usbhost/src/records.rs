@@ -9,7 +9,7 @@ use crate::{Fault, Path};
 pub enum Cause {
     /// It gave no answer.
     Silent,
-    /// It answered NAK too often.
+    /// It returned NAK too often.
     Busy,
     /// It refused this request.
     Stalled(Request),
@@ -169,13 +169,13 @@ pub struct News {
 /// A record: its kind and its bytes.
 pub(crate) type Record<'a> = (u8, &'a [u8]);
 
-/// The records of what was told, in their order.
-pub(crate) fn records(mut told: &[u8]) -> impl Iterator<Item = Record<'_>> {
+/// The records of what was done, in their order.
+pub(crate) fn records(mut all: &[u8]) -> impl Iterator<Item = Record<'_>> {
     core::iter::from_fn(move || {
-        let (head, rest) = told.split_first_chunk::<5>()?;
+        let (head, rest) = all.split_first_chunk::<5>()?;
         let [kind, length @ ..] = *head;
         let (body, rest) = rest.split_at_checked(u32::from_le_bytes(length) as usize)?;
-        told = rest;
+        all = rest;
         Some((kind, body))
     })
 }
@@ -254,9 +254,9 @@ fn complete(entries: &mut [Entry], kind: u8, body: &[u8]) -> Result<(), Fault> {
 }
 
 /// The entries of a tree, by rising path.
-pub(crate) fn entries(told: &[u8]) -> Result<Vec<Entry>, Fault> {
+pub(crate) fn entries(all: &[u8]) -> Result<Vec<Entry>, Fault> {
     let mut entries = Vec::new();
-    for (kind, body) in records(told) {
+    for (kind, body) in records(all) {
         match kind {
             33 => push(&mut entries, Entry::Device(device_of(body).ok_or(Fault::Unknown(kind))?))?,
             36 => push(&mut entries, Entry::Refused(refused_of(body)?.ok_or(Fault::Unknown(kind))?))?,
@@ -268,12 +268,12 @@ pub(crate) fn entries(told: &[u8]) -> Result<Vec<Entry>, Fault> {
 }
 
 /// The bytes that were received, polled or read.
-pub(crate) fn data(told: &[u8]) -> Result<Option<Vec<u8>>, Fault> {
-    records(told).find(|it| it.0 == DATA).map(|it| vec_of(it.1)).transpose()
+pub(crate) fn data(all: &[u8]) -> Result<Option<Vec<u8>>, Fault> {
+    records(all).find(|it| it.0 == DATA).map(|it| vec_of(it.1)).transpose()
 }
 
-pub(crate) fn look(told: &[u8]) -> Option<Look> {
-    let (_, body) = records(told).find(|it| it.0 == LOOK)?;
+pub(crate) fn look(all: &[u8]) -> Option<Look> {
+    let (_, body) = records(all).find(|it| it.0 == LOOK)?;
     Some(match *body {
         [0, ..] => Look::Empty,
         [1, ..] => Look::Accepted,
@@ -282,8 +282,8 @@ pub(crate) fn look(told: &[u8]) -> Option<Look> {
     })
 }
 
-pub(crate) fn news(told: &[u8]) -> Option<News> {
-    let (_, body) = records(told).find(|it| it.0 == NEWS)?;
+pub(crate) fn news(all: &[u8]) -> Option<News> {
+    let (_, body) = records(all).find(|it| it.0 == NEWS)?;
     let (head, number) = body.split_first_chunk::<9>()?;
     Some(News {
         has_arrived: head[0] != 0,
