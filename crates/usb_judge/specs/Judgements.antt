@@ -1,7 +1,8 @@
 -- What a right listing is, and which judgement of a listing stands.
 use Rattle.std.specs.Prelude.{◌≡◌, ◌≤◌, ◌↔◌, ℕ, ◌++◌, List, [], length, true, IfSome, IsSomeAnd}
-use Rattle.std.specs.Prelude.{is_some, count_by, Contains}
+use Rattle.std.specs.Prelude.{is_some, count_by, Contains, IsSortedByKey}
 use Rattle.std.specs.List.{list_any}
+use Rattle.usb_port.specs.{path_cmp}
 use Rattle.usb_request.specs.{CONFIGURATION_LENGTH}
 use Rattle.usb_judge.specs.declared.listed.Claim.{Claim}
 use Rattle.usb_judge.specs.declared.listed.Claim.TheVariants.{Device, Refused}
@@ -88,3 +89,7 @@ pub record Judges (scene : Scene) (listing : List ListedPort) (judgements : List
   pub stands : (j : Judgement) → Contains judgements j → Stands scene listing j.path j.cause
   pub told : (j : Judgement) → Stands scene listing j.path j.cause → Contains judgements j
   pub right : judgements ≡ [] ↔ IsRight scene listing
+
+-- in the order of paths
+abbrev pub RisesByPath : List Judgement → Type 0
+RisesByPath judgements = IsSortedByKey (λ (j : Judgement). j.path) path_cmp judgements

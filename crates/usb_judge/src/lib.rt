@@ -2,7 +2,8 @@
 //!
 //! # What is proved
 //!
-//! - `judge` tells a judgement exactly where its cause stands (*Stands*, `specs/Judgements.antt`).
+//! - `judge` tells a judgement exactly where its cause stands (*Stands*, `specs/Judgements.antt`), in
+//!   the order of paths (*RisesByPath*).
 //! - It tells none exactly if the listing is right (*IsRight*): each device at a port of the root, or
 //!   of a hub that is listed, is listed or refused, and nothing else is. Each has its own descriptor,
 //!   speed and address, and takes no more power than its port gives.

@@ -2,7 +2,7 @@
 ghost use Rattle.std.specs.Prelude.{◌≡◌, ◌++◌, IfOk, OnOk, flat_map};
 ghost use Rattle.usb_judge.specs.Scenes.{scene_in};
 ghost use Rattle.usb_judge.specs.Verdicts.{told_at, told_for, told_lack};
-ghost use Rattle.usb_judge.specs.Judgements.{Judges};
+ghost use Rattle.usb_judge.specs.Judgements.{Judges, RisesByPath};
 
 use crate::judgement::{Cause, Judgement};
 use crate::listed::ListedPort;
@@ -29,7 +29,7 @@ const CAUSES: [Cause; 12] = [
 /// What is wrong with a listing, where these devices are plugged: nothing if it is right. If a path
 /// is that of several devices, the first of them counts.
 ///
-/// The judgements rise by path, and those of one path by cause.
+/// The judgements are in the order of paths, and those of one path in the order of causes.
 ///
 /// # Errors
 ///
@@ -39,7 +39,8 @@ pub fn judge(
     plugged: &[PluggedDevice<'_>],
     listing: &[ListedPort],
 ) -> Result<Vec<Judgement>, AllocError>
-    ensures { IfOk result (λ v. Judges (scene_in plugged.now) listing.now v.items) }
+    ensures verdict { IfOk result (λ v. Judges (scene_in plugged.now) listing.now v.items) }
+    ensures order { IfOk result (λ v. RisesByPath v.items) }
 {
     let mut judgements = Vec::new(alloc);
     judge_ports(&mut judgements, plugged, listing)?;
