@@ -2,6 +2,7 @@
 mod drawing;
 mod entry;
 mod explain;
+mod judge;
 mod page;
 mod pcap;
 mod status;

@@ -1,0 +1,5 @@
+pub mod Membership
+pub mod Told
+pub mod Parts
+pub mod Right
+pub mod Judging
