@@ -85,6 +85,15 @@ check_option() {
   given=$option
 }
 
+# Ends where the flag of `live` is given once more, or with a value.
+check_flag() {
+  [ -z "$flagged" ] || refuse_words "the argument '--wide-hubs' cannot be used multiple times" "$(usage_of live)"
+  [ "$1" = --wide-hubs ] ||
+    refuse_words "unexpected value '${1#*=}' for '--wide-hubs' found; no more were expected" \
+      "Usage: usbplan live --wide-hubs"
+  flagged=1
+}
+
 # Ends where a command's words are more than it has names for.
 check_room() {
   local command=$1
@@ -109,7 +118,7 @@ check_count() {
 
 # Answers the words of a command where they ask for help or are wrong.
 check_command() {
-  local command=$1 given='' value='' words=() names
+  local command=$1 given='' flagged='' value='' words=() names
   mapfile -t names < <(sed -n 's/^  \(<[A-Z]*>\)  .*/\1/p' "$help/$1.txt")
   shift
   while [ $# -gt 0 ]; do
@@ -121,9 +130,10 @@ check_command() {
         ;;
       *:-h | *:--help) tell_help "$command" ;;
       draw:--ascii) check_option draw --ascii ;;
+      live:--wide-hubs | live:--wide-hubs=*) check_flag "$1" ;;
       device:--ports | live:--limit | explain:--only)
         check_option "$command" "$1 <$(value_name "$1")>"
-        [[ $# -gt 1 && ! "$2" =~ ^(-h|--help|$1)$ ]] ||
+        [[ $# -gt 1 && ! "$2" =~ ^(-h|--help|--wide-hubs|$1)$ ]] ||
           refuse_words "a value is required for '$given' but none was supplied"
         [[ "$2" != -?* ]] || refuse_option "$command" "$2"
         check_value "$1" "$2"
