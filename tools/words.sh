@@ -20,6 +20,34 @@ refuse_words() {
   exit 2
 }
 
+# The commands that a word may mean, with what leads them in: those whose similarity by Jaro is over 0.7, the nearest last.
+similar_commands() {
+  WORD=$1 awk '
+    function jaro(a, b, _, n, m, reach, i, j, used, kept, count, from, turned) {
+      n = length(a); m = length(b)
+      reach = int((n > m ? n : m) / 2) - 1
+      for (i = 1; i <= n; i++)
+        for (j = (i - reach > 1 ? i - reach : 1); j <= m && j <= i + (reach > 0 ? reach : 0); j++)
+          if (!(j in used) && substr(a, i, 1) == substr(b, j, 1)) { used[j]; kept[++count] = substr(a, i, 1); break }
+      for (j = 1; j <= m; j++)
+        if (j in used && kept[++from] != substr(b, j, 1)) turned++
+      return count ? (count / n + count / m + (count - int(turned / 2)) / count) / 3 : 0
+    }
+    { near = jaro(ENVIRON["WORD"], $1); if (near > 0.7) print near, $1 }' < <(commands) | sort -s -n -k 1,1 | cut -d " " -f 2
+}
+
+# What is wrong with a word that is no command, and what it may mean.
+no_command() {
+  local names
+  names=$(similar_commands "$1" | sed "s/.*/'&'/" | paste -sd , | sed 's/,/, /g')
+  printf "unrecognized subcommand '%s'" "$1"
+  case "$names" in
+    '') ;;
+    *,*) printf '\n\n  tip: some similar subcommands exist: %s' "$names" ;;
+    *) printf '\n\n  tip: a similar subcommand exists: %s' "$names" ;;
+  esac
+}
+
 # How the words of a command go, as its help has it.
 usage_of() {
   grep -m 1 '^Usage: ' "$help/$1.txt"
@@ -31,6 +59,11 @@ help_with() {
   is_command "$1" || [ "$1" = help ] || refuse_words "unrecognized subcommand '$1'" "$(usage_of usbplan)"
   [ $# = 1 ] || refuse_words "unrecognized subcommand '$2'" "$(usage_of "$1")"
   tell_help "$1"
+}
+
+# The commands, a line each, as help has them.
+commands() {
+  sed -n '/^Commands:/,/^$/s/^  \([a-z]*\)  .*/\1/p' "$help/usbplan.txt"
 }
 
 is_command() {
@@ -161,8 +194,8 @@ check_command() {
 # Answers words that ask for no work of the program.
 answer_words() {
   local version why=
-  case "${1-}" in
-    '') ;;
+  [ $# -gt 0 ] || return 0
+  case "$1" in
     -h | --help) tell_help usbplan ;;
     -V | --version)
       version=$(sed -n 's/^const VERSION: &str = "\(.*\)";/\1/p' "$here/crates/usb_words/src/words.rt")
@@ -175,7 +208,7 @@ answer_words() {
     help) shift && help_with "$@" ;;
     -*) refuse_words "unexpected argument '$1' found" "$(usage_of usbplan)" ;;
     *)
-      is_command "$1" || refuse_words "unrecognized subcommand '$1'" "$(usage_of usbplan)"
+      is_command "$1" || refuse_words "$(no_command "$1")" "$(usage_of usbplan)"
       check_command "$@"
       ;;
   esac
