@@ -20,6 +20,34 @@ refuse_words() {
   exit 2
 }
 
+# The commands that a word may mean, with what leads them in: those whose similarity by Jaro is over 0.7, the nearest last.
+similar_commands() {
+  WORD=$1 awk '
+    function jaro(a, b, _, n, m, reach, i, j, used, kept, count, from, turned) {
+      n = length(a); m = length(b)
+      reach = int((n > m ? n : m) / 2) - 1
+      for (i = 1; i <= n; i++)
+        for (j = (i - reach > 1 ? i - reach : 1); j <= m && j <= i + (reach > 0 ? reach : 0); j++)
+          if (!(j in used) && substr(a, i, 1) == substr(b, j, 1)) { used[j]; kept[++count] = substr(a, i, 1); break }
+      for (j = 1; j <= m; j++)
+        if (j in used && kept[++from] != substr(b, j, 1)) turned++
+      return count ? (count / n + count / m + (count - int(turned / 2)) / count) / 3 : 0
+    }
+    { near = jaro(ENVIRON["WORD"], $1); if (near > 0.7) print near, $1 }' < <(commands) | sort -s -n -k 1,1 | cut -d " " -f 2
+}
+
+# What is wrong with a word that is no command, and what it may mean.
+no_command() {
+  local names
+  names=$(similar_commands "$1" | sed "s/.*/'&'/" | paste -sd , | sed 's/,/, /g')
+  printf "unrecognized subcommand '%s'" "$1"
+  case "$names" in
+    '') ;;
+    *,*) printf '\n\n  tip: some similar subcommands exist: %s' "$names" ;;
+    *) printf '\n\n  tip: a similar subcommand exists: %s' "$names" ;;
+  esac
+}
+
 # How the words of a command go, as its help has it.
 usage_of() {
   grep -m 1 '^Usage: ' "$help/$1.txt"
@@ -31,6 +59,11 @@ help_with() {
   is_command "$1" || [ "$1" = help ] || refuse_words "unrecognized subcommand '$1'" "$(usage_of usbplan)"
   [ $# = 1 ] || refuse_words "unrecognized subcommand '$2'" "$(usage_of "$1")"
   tell_help "$1"
+}
+
+# The commands, a line each, as help has them.
+commands() {
+  sed -n '/^Commands:/,/^$/s/^  \([a-z]*\)  .*/\1/p' "$help/usbplan.txt"
 }
 
 is_command() {
@@ -85,6 +118,15 @@ check_option() {
   given=$option
 }
 
+# Ends where the flag of `live` is given once more, or with a value.
+check_flag() {
+  [ -z "$flagged" ] || refuse_words "the argument '--wide-hubs' cannot be used multiple times" "$(usage_of live)"
+  [ "$1" = --wide-hubs ] ||
+    refuse_words "unexpected value '${1#*=}' for '--wide-hubs' found; no more were expected" \
+      "Usage: usbplan live --wide-hubs"
+  flagged=1
+}
+
 # Ends where a command's words are more than it has names for.
 check_room() {
   local command=$1
@@ -109,7 +151,7 @@ check_count() {
 
 # Answers the words of a command where they ask for help or are wrong.
 check_command() {
-  local command=$1 given='' value='' words=() names
+  local command=$1 given='' flagged='' value='' words=() names
   mapfile -t names < <(sed -n 's/^  \(<[A-Z]*>\)  .*/\1/p' "$help/$1.txt")
   shift
   while [ $# -gt 0 ]; do
@@ -121,9 +163,10 @@ check_command() {
         ;;
       *:-h | *:--help) tell_help "$command" ;;
       draw:--ascii) check_option draw --ascii ;;
+      live:--wide-hubs | live:--wide-hubs=*) check_flag "$1" ;;
       device:--ports | live:--limit | explain:--only)
         check_option "$command" "$1 <$(value_name "$1")>"
-        [[ $# -gt 1 && ! "$2" =~ ^(-h|--help|$1)$ ]] ||
+        [[ $# -gt 1 && ! "$2" =~ ^(-h|--help|--wide-hubs|$1)$ ]] ||
           refuse_words "a value is required for '$given' but none was supplied"
         [[ "$2" != -?* ]] || refuse_option "$command" "$2"
         check_value "$1" "$2"
@@ -151,8 +194,8 @@ check_command() {
 # Answers words that ask for no work of the program.
 answer_words() {
   local version why=
-  case "${1-}" in
-    '') ;;
+  [ $# -gt 0 ] || return 0
+  case "$1" in
     -h | --help) tell_help usbplan ;;
     -V | --version)
       version=$(sed -n 's/^const VERSION: &str = "\(.*\)";/\1/p' "$here/crates/usb_words/src/words.rt")
@@ -165,7 +208,7 @@ answer_words() {
     help) shift && help_with "$@" ;;
     -*) refuse_words "unexpected argument '$1' found" "$(usage_of usbplan)" ;;
     *)
-      is_command "$1" || refuse_words "unrecognized subcommand '$1'" "$(usage_of usbplan)"
+      is_command "$1" || refuse_words "$(no_command "$1")" "$(usage_of usbplan)"
       check_command "$@"
       ;;
   esac

@@ -1,0 +1,118 @@
+# shellcheck shell=bash
+# What `usbplan` does around the program, in a checkout and where it is installed: it names a file that cannot be read,
+# keeps the bytes of `pcap` off a terminal, and says what a person may want to know besides.
+
+# What is wrong with the file, in one line.
+refuse() {
+  echo "usbplan: '$1' $2" >&2
+  exit 4
+}
+
+# Keeps the bytes of `pcap` off a terminal.
+refuse_terminal() {
+  if [ "$#:${1-}" = 2:pcap ] && [ -t 1 ] && [[ "$2" != -?* ]]; then
+    echo "usbplan: pcap writes bytes, and no text: send them to a file" >&2
+    exit 4
+  fi
+}
+
+# The file that a command reads: the last of its words, if it has this number of them apart from its option; else `-`.
+last_word() {
+  local option=$1 count=$2 words=()
+  shift 3
+  while [ $# -gt 0 ]; do
+    case "$1" in
+      "$option") shift ;;
+      "$option"=*) ;;
+      *) words+=("$1") ;;
+    esac
+    shift || break
+  done
+  if [ ${#words[@]} = "$count" ]; then
+    printf '%s' "${words[-1]}"
+  else
+    printf '%s' -
+  fi
+}
+
+# Sets `file`: the file that the command reads, `-` if it reads none. Ends if it cannot be read.
+name_file() {
+  file=-
+  case "$#:${1-}" in
+    2:check | 2:tree | 2:draw | 2:run | 2:explain | 2:page | 2:pcap | 2:far) file=$2 ;;
+    3:draw) [ "$2" != --ascii ] || file=$3 ;;
+    [345]:device) file=$(last_word --ports 2 "$@") ;;
+    [34]:explain) file=$(last_word --only 1 "$@") ;;
+  esac
+  if [[ "$file" != -* ]]; then
+    if [ -d "$file" ]; then
+      [ "${1-}" = device ] || refuse "$file" "is a folder"
+      [ -e "$file/descriptors" ] || refuse "$file" "is a folder with no file 'descriptors'"
+    fi
+    [ -e "$file" ] || refuse "$file" "is not there"
+    [ -r "$file" ] || refuse "$file" "cannot be read"
+  fi
+}
+
+# Says on a terminal what the program waits for: the other side's lines, typed by a person.
+tell_wait() {
+  [ -t 0 ] && [ -t 2 ] || return 0
+  case "$1" in
+    live) echo "usbplan: waits for the answer to each line, as 'roots 2' to the first (see LIVE.md)" >&2 ;;
+    far) echo "usbplan: waits for the lines of a host, the first is 'usbplan live 1' (see LIVE.md)" >&2 ;;
+  esac
+}
+
+# Shows the line that a fault of `check` names. A mark is below its column, or below its value or unknown key if the line
+# has that key once.
+point_out() {
+  local fault=${1#"$file":} number mark line key found before='' value=''
+  [[ "$fault" =~ ^([0-9]+)(:([0-9]+))?:\ plan:\  ]] || return 0
+  number=${BASH_REMATCH[1]} mark=${BASH_REMATCH[3]}
+  line=$(sed -n "${number}p" "$file")
+  [ ${#line} -le 200 ] || return 0
+  if [ -n "$mark" ]; then
+    before=${line:0:mark-1} value=^
+  elif [[ "$fault" =~ ^[^$'\n']*$'\n'\ \ [^\`$'\n']*:\ (unknown\ key\ )?\`([a-z_]+)\` ]]; then
+    found=${BASH_REMATCH[1]}
+    key="(^|[^A-Za-z0-9_\"-])(${BASH_REMATCH[2]}) *= *(\"[^\"]*\"|[^],} ]+)"
+    if [[ "$line" =~ $key ]] && [[ ! "$line" =~ $key.*[,{]\ *${BASH_REMATCH[2]}\ *= ]]; then
+      [[ "$line" =~ $key ]] # its parts again
+      value=${BASH_REMATCH[0]#"${BASH_REMATCH[1]}"}
+      before=${line%%"${BASH_REMATCH[0]}"*}${BASH_REMATCH[1]}
+      if [ -n "$found" ]; then
+        value=${BASH_REMATCH[2]}
+      else
+        before+=${value%"${BASH_REMATCH[3]}"} value=${BASH_REMATCH[3]}
+      fi
+    fi
+  fi
+  printf '%s |\n%s | %s\n' "${number//?/ }" "$number" "$line"
+  [ -z "$value" ] || printf '%s | %s%s\n' "${number//?/ }" "${before//[^$'\t']/ }" "${value//?/^}"
+}
+
+# Runs `check`, and shows on a terminal the line that its fault names.
+serve_check() {
+  local text code=0
+  text=$("$@") || code=$?
+  printf '%s\n' "$text"
+  [ "$code" != 1 ] || point_out "$text" >&2
+  exit "$code"
+}
+
+# Runs the program. If it refuses a plan, one more line says how to see what is wrong with it: on a terminal, and in the
+# log of a CI.
+serve() {
+  local program=$1 code=0
+  shift
+  tell_wait "${1-}"
+  if [ "${1-}" = check ] && [ -t 1 ] && [[ "$file" != -* ]]; then
+    serve_check "$program" "$@"
+  fi
+  if { [ ! -t 2 ] && [ -z "${CI-}" ]; } || [[ "$file" == -* || ! "${1-}" =~ ^(tree|draw|run|page|far)$ ]]; then
+    exec "$program" "$@"
+  fi
+  "$program" "$@" || code=$?
+  [ "$code" != 1 ] || echo "usbplan: 'usbplan check $file' says what is wrong, and where" >&2
+  exit "$code"
+}
