@@ -204,7 +204,7 @@ fn attempt_of(record: &[u8; 72]) -> Option<Attempt>
 fn sent(record: &[u8; 72], count: usize) -> ArrayVec<u8, 64> {
     let mut bytes = ArrayVec::new();
     for byte in record.iter().skip(8).take(count) {
-        bytes.push(*byte);
+        let _ = bytes.try_push(*byte);
     }
     bytes
 }
@@ -632,8 +632,8 @@ fn refused_rows(rt: HostRuntime) -> Result<(), Fail> {
 /// A packet of this number of zeros, with DATA0.
 fn packet(count: usize, statuses: Statuses) -> Answer {
     let mut bytes = ArrayVec::new();
-    'bytes: for _ in 0..count.min(64) {
-        bytes.push(0);
+    for _ in 0..count {
+        let _ = bytes.try_push(0);
     }
     Answer {
         outcome: Outcome::Payload(Toggle::Zero, bytes),
@@ -754,12 +754,8 @@ fn too_much(rt: HostRuntime) -> Result<(), Fail> {
 
 /// 64 bytes of data.
 fn long(statuses: Statuses) -> Answer {
-    let mut bytes = ArrayVec::new();
-    'bytes: for _ in 0..64u8 {
-        bytes.push(0);
-    }
     Answer {
-        outcome: Outcome::Payload(Toggle::One, bytes),
+        outcome: Outcome::Payload(Toggle::One, ArrayVec::from([0; 64])),
         statuses,
     }
 }
