@@ -2,6 +2,7 @@
 ghost use Rattle.std.specs.Prelude.{IfSome};
 ghost use Rattle.usb_world.specs.PlainAttempts.{attempt_data};
 ghost use Rattle.usb_world.specs.Worlds.{IsAttempt};
+ghost use Rattle.usb_bus.specs.Rows.{IsDestination};
 
 use arrayvec::ArrayVec;
 use std::alloc::{AllocError, Global};
@@ -186,18 +187,27 @@ fn attempt_of(record: &[u8; 72]) -> Option<Attempt>
                 record[15],
             ],
         }),
-        2 => Some(Attempt::Out {
-            to,
-            toggle: if record[3] >= 4 {
-                Toggle::One
-            } else {
-                Toggle::Zero
-            },
-            bytes: sent(record, usize::from(record[5])),
-        }),
+        2 => out_of(to, record),
         3 | 7 => Some(Attempt::In { to }),
         _ => None,
     }
+}
+
+/// The OUT of a question's bytes; `None` if it has more data than the maximum.
+fn out_of(to: Destination, record: &[u8; 72]) -> Option<Attempt>
+    requires { IsDestination to }
+    ensures { IfSome result (λ attempt. IsAttempt (attempt_data attempt)) }
+{
+    let bytes = sent(record, usize::from(record[5]));
+    if bytes.len() > usize::from(to.max) {
+        return None;
+    }
+    let toggle = if record[3] >= 4 {
+        Toggle::One
+    } else {
+        Toggle::Zero
+    };
+    Some(Attempt::Out { to, toggle, bytes })
 }
 
 /// The first `count` bytes of a question's data.
