@@ -11,6 +11,8 @@
 //!
 //! - Each question has its reply, once and in order: each root port's new status, and the answer of
 //!   the plan's bus (*done*).
+//! - The replies to a row are those of its attempts, asked one by one, up to the first one that moves
+//!   no packet (*RowReplied*).
 //! - A question is answered and flushed before the next line is read (*InTurn*).
 //! - At a fault the lines before it were answered, and nothing more was. Each fault has its cause
 //!   (*CauseOf*).
@@ -22,6 +24,7 @@ mod attempt;
 mod far_end;
 mod fault;
 mod reply;
+mod row;
 mod serving;
 
 pub use far_end::FarEnd;

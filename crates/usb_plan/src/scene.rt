@@ -1,10 +1,10 @@
 //! What an event meets.
 
-ghost use Rattle.std.specs.Prelude.{◌≡◌, [], OnOk, map, option_map, position};
+ghost use Rattle.std.specs.Prelude.{◌≡◌, [], OnOk, map, nat_le, option_map, position};
 ghost use Rattle.std.specs.Str.{bytes_eq};
 ghost use Rattle.toml.specs.View.{view};
-ghost use Rattle.usb_plan.specs.Scene.{is_port, ports_at, ports_said, says_port};
-ghost use Rattle.usb_world.specs.PluggedDevices.{is_rooted, has_port, parent_has, device_indexed, spec_port_count, plugged_after};
+ghost use Rattle.usb_plan.specs.Scene.{is_port, ports_at, ports_said};
+ghost use Rattle.usb_world.specs.PluggedDevices.{is_rooted, device_indexed, spec_port_count, plugged_after};
 ghost use Rattle.usb_world.specs.Plans.{is_taken};
 
 use crate::plugged::Plugged;
@@ -90,39 +90,38 @@ impl<'a> Scene<'a> {
         path.numbers()[0] <= self.roots
     }
 
-    #[tactic(auto, unfolding(usb_world::specs::PluggedDevices::parent_has))]
-    fn parent_has(&self, parent: Option<PortPath>, port: u8) -> bool
-        ensures { result ≡ parent_has self.now.devices self.now.plugged parent port }
+    /// Whether the device of an index has the port.
+    fn device_has(&self, index: Option<usize>, port: u8) -> bool
+        ensures { result ≡ nat_le port (spec_port_count (device_indexed self.now.devices index)) }
     {
-        match parent {
-            None => true,
-            Some(parent) => {
-                port <= port_count(device_indexed(self.devices, self.plugged.device_at(&parent)))
-            }
-        }
+        port <= port_count(device_indexed(self.devices, index))
     }
 
-    /// Whether the table of the device at the parent's path says that there is the port.
-    #[tactic(auto, unfolding(crate::specs::Scene::says_port))]
-    fn says_port(&self, parent: Option<PortPath>, port: u8) -> bool
-        ensures { result ≡ says_port self.now.ports self.now.plugged parent port }
+    /// Whether the table of the device of an index says that there is the port.
+    fn table_says(&self, index: Option<usize>, port: u8) -> bool
+        ensures { result ≡ nat_le port (ports_at self.now.ports index) }
     {
-        match parent {
-            None => true,
-            Some(parent) => {
-                u64::from(port) <= ports_at(self.tables, self.plugged.device_at(&parent))
-            }
-        }
+        u64::from(port) <= ports_at(self.tables, index)
     }
 
     /// Whether the path is a root port, or a port that a plugged device has and its table says. Where hubs are not
     /// wide, one whose descriptor spells more than 7 ports has more than its table says.
+    #[tactic(auto, unfolding(crate::specs::Scene::says_port, usb_world::specs::PluggedDevices::parent_has))]
     pub(crate) fn has_port(&self, path: &PortPath) -> bool
         ensures { result ≡ is_port self.now path.now }
     {
-        self.is_rooted(path)
-            && (path.numbers().len() == 1 || self.parent_has(path.parent(), path.port()))
-            && self.says_port(path.parent(), path.port())
+        if !self.is_rooted(path) {
+            return false;
+        }
+        match path.parent() {
+            None => true,
+            Some(parent) => {
+                let index = self.plugged.device_at(&parent);
+                let is_root = path.numbers().len() == 1;
+                (is_root || self.device_has(index, path.port()))
+                    && self.table_says(index, path.port())
+            }
+        }
     }
 
     /// Whether something is plugged at the path.

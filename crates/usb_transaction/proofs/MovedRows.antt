@@ -8,8 +8,7 @@ use Rattle.std.specs.Int.{div_ceil}
 use Rattle.std.proofs.lemmas.Grind.{div_ceil_times}
 use Rattle.std.proofs.lemmas.List.{take_all}
 use Rattle.arrayvec.specs.ArrayVec.{ArrayVec}
-use Rattle.usb_packet.specs.{Toggle, flips, other, speed_has_pre, speed_is_low}
-use Rattle.usb_packet.specs.declared.Toggle.TheVariants.{Zero, One}
+use Rattle.usb_packet.specs.{Toggle, flips, other, speed_has_pre, speed_is_low, Zero, One}
 use Rattle.usb_world.specs.{Attempt, BusFault, Destination, IsAttempt, Outcome, World}
 use Rattle.usb_world.specs.declared.types.Outcome.TheVariants.{Payload, Ack}
 use Rattle.usb_tree.specs.{IsSettled}
@@ -19,9 +18,9 @@ use Rattle.usb_bus.specs.{is_full, none_came, none_taken, one_came, one_taken, o
 use Rattle.usb_bus.proofs.Interface.{went_none, went_then, went_wider}
 use Rattle.usb_transaction.specs.{AfterFirst, AskedFull, AsksIn, Bus, HeardOutcome, IsTarget, Moved}
 use Rattle.usb_transaction.specs.{RowCame, RowGone, RowKept, RowLost, RowSent, SendsOut, SentFull}
-use Rattle.usb_transaction.specs.{Target, TransFault, Transacted, heard_as}
-use Rattle.usb_transaction.specs.{in_attempt, none_asked, none_sent, one_asked, one_sent}
-use Rattle.usb_transaction.specs.{out_attempt, packed, transaction_bound}
+use Rattle.usb_transaction.specs.{Target, TransFault, Transacted, heard_as, in_attempt, none_asked}
+use Rattle.usb_transaction.specs.{none_sent, one_asked, one_sent, out_attempt, packed}
+use Rattle.usb_transaction.specs.{transaction_bound}
 use Rattle.usb_transaction.proofs.Calls.{asks_in, sends_out}
 use Rattle.usb_transaction.proofs.Trails.{trail_settled}
 use Rattle.usb_transaction.proofs.TransactionTries.{cut_at_once, stands_new, told_moved}
