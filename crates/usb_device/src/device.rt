@@ -69,6 +69,13 @@ impl Device {
         })
     }
 
+    /// What describes it.
+    pub fn spec(&self) -> &DeviceSpec
+        ensures { result.now ≡ self.now.own.spec }
+    {
+        self.own.spec()
+    }
+
     /// Its address: 0 until SET_ADDRESS has ended (9.4.6).
     pub fn address(&self) -> u8
         ensures { result ≡ self.now.own.registers.address }

@@ -335,6 +335,13 @@ impl FunctionState {
         self.taken.as_slice()
     }
 
+    /// What describes it.
+    pub fn spec(&self) -> &DeviceSpec
+        ensures { result.now ≡ self.now.spec }
+    {
+        &self.spec
+    }
+
     /// Whether it is a low-speed device; else it is a full-speed one.
     pub fn is_low(&self) -> bool
         ensures { result ≡ self.now.spec.low }

@@ -226,6 +226,13 @@ impl<T: Trace> SimBus<T> {
         self.losses.worst
     }
 
+    /// The ports of the root, with all that is plugged below them.
+    pub fn roots(&self) -> &Ports
+        ensures { result.now ≡ (world_of self.now).roots }
+    {
+        &self.roots
+    }
+
     /// The address and the configuration of the device at the path; None if none is there.
     pub fn registers(&self, path: &PortPath) -> Option<(u8, u8)>
         ensures { result ≡ option_map registers_of (device_at self.now path.now) }
