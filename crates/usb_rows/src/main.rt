@@ -1,6 +1,5 @@
 //! Runs the rows of `data/`: plans, each in both modes, explained, by a host over two pipes, and by
-//! a driver of records, and packets in digits. Prints a line for each that is not as expected, the
-//! number of rows, and the number of those that differ.
+//! a driver of records, and packets in digits. Prints what is not as expected.
 #![tactic(auto)]
 
 mod driven;
