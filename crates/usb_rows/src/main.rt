@@ -1,5 +1,6 @@
 //! Runs the rows of `data/`: plans, each in both modes, explained, by a host over two pipes, and by
-//! a driver of records, and packets in digits. Prints what is not as expected.
+//! a driver of records, and packets in digits. Prints a line for each that is not as expected, and
+//! both numbers.
 #![tactic(auto)]
 
 mod driven;
@@ -173,7 +174,7 @@ fn without_power(line: &str) -> &str {
         return line;
     };
     if power.ends_with(" mA") && hub.contains(" hub ") {
-        return line.get(..hub.len() + 6).unwrap_or(line);
+        return line.get(..hub.len().saturating_add(6)).unwrap_or(line);
     }
     line
 }
