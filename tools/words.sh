@@ -206,6 +206,7 @@ answer_words() {
       exit 2
       ;;
     help) shift && help_with "$@" ;;
+    test) ;; # read_test has seen to it
     -*) refuse_words "unexpected argument '$1' found" "$(usage_of usbplan)" ;;
     *)
       is_command "$1" || refuse_words "$(no_command "$1")" "$(usage_of usbplan)"
