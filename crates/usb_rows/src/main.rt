@@ -165,7 +165,8 @@ fn plan_in<R: Files + AllocGlobal>(rt: &R, name: &str) -> io::Result<Option<Plan
 /// Whether these are the expected lines, but for the bound and for the power of hubs' ports.
 fn is_all(told: &[u8], wanted: &str) -> bool {
     let told = str::from_utf8(told).unwrap_or("");
-    told.lines().eq(unbound(wanted).lines().map(without_power))
+    told.lines()
+        .eq(unbound(wanted).lines().map(|line| without_power(line)))
 }
 
 /// The line of a hub without the power that its ports give; any other as it is.
