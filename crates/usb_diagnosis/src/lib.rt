@@ -14,6 +14,7 @@
 //! `docs/PROVED.md` has the rest.
 #![tactic(auto)]
 
+mod block;
 mod checking;
 mod details;
 mod endpoints;
@@ -22,11 +23,13 @@ mod flaw;
 mod key;
 mod marks;
 mod nearest;
+mod others;
 mod path_slip;
 mod place;
 mod report;
 mod shown;
 mod slip;
+mod span;
 mod trouble;
 
 pub use checking::{CheckFault, Checked, Verdict, check, check_text};
