@@ -111,7 +111,7 @@ const VALUES: [Row; 21] = [
     },
     Row {
         text: "strings = \"a\\u2027\\u2028\\u2029b\"\n",
-        told: "p.toml:13:11: plan: device 2: bad value\n13 | strings = \"a\\u2027\\u2028\\u2029b\"\n   |           ^^^^^^^^^^^^^^^^^^^^^^\n  device 2 \"hub\", line 8: `strings` is \"a\\u{2027}\\u2028\\u2029b\"\n  allowed: at most 256 texts, each of two hexadecimal digits for each of at most 255 bytes\n",
+        told: "p.toml:13:11: plan: device 2: bad value\n13 | strings = \"a\\u2027\\u2028\\u2029b\"\n   |           ^^^^^^^^^^^^^^^^^^^^^^\n  device 2 \"hub\", line 8: `strings` is \"a\u{2027}\\u2028\\u2029b\"\n  allowed: at most 256 texts, each of two hexadecimal digits for each of at most 255 bytes\n",
     },
     Row {
         text: "strings = \"0123456789012345678901234567890123456789012345678901234567890\"\n",

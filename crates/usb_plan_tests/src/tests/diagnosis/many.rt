@@ -225,7 +225,7 @@ naks = 301
 p.toml:8:11: plan: device 1: bad hex
 8 | request = [{ type = 0xC0, request = 1, answer = "0" }]
   |           ^^^^^^^^^^^^^^^^^^^^^^^^^^^^^^^^^^^^^^^^^^^^
-  device 1 "a", line 3: `request` is [{ type = 192, request = 1, answer = "0" }]
+  device 1 "a", line 3: `request` is [{ answer = "0", request = 1, type = 192 }]
   request[0].answer, an odd number of digits: 1
   allowed: at most 64 tables, each with `type`, `request`, and what the device does about it
 "#,
