@@ -1,7 +1,7 @@
 -- The first endpoint descriptor that counts.
 use Rattle.std.proofs.Common.{◌≡◌, ℕ, zero, suc, ◌+◌, ◌-◌, ◌<◌, ◌≤◌, List, [], ◌∷◌, length, drop}
 use Rattle.std.proofs.Common.{get_or, Bool, true, false, cond, ◌&&◌, ◌==◌, nat_lt, Option, Some, None}
-use Rattle.std.proofs.Common.{refl, ap, sym, ◌∙◌, arith, length-drop}
+use Rattle.std.proofs.Common.{refl, ap, sym, ◌∙◌, arith, length-drop, if◌then◌else◌}
 use Rattle.std.proofs.lemmas.Bool.{ltb-false}
 use Rattle.std.proofs.lemmas.List.{drop-drop, drop_all}
 use Rattle.usb_request.specs.{ENDPOINT}

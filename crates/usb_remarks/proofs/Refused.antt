@@ -1,6 +1,6 @@
 -- A host refuses a device with a remark.
 use Rattle.std.proofs.Common.{◌≡◌, ◌⊎◌, inl, inr, ℕ, zero, suc, ◌==◌, ◌&&◌, not, Bool, true, false}
-use Rattle.std.proofs.Common.{List, [], take, slice_get, slice_index_or, Option, Some, None, is_some}
+use Rattle.std.proofs.Common.{List, [], ◌∷◌, take, slice_get, slice_index_or, Option, Some, None, is_some}
 use Rattle.std.proofs.Common.{Result, Ok, Err, is_ok, if◌then◌else◌, refl, ap, sym}
 use Rattle.std.specs.Option.{option_or, IfSome}
 use Rattle.usb_descriptor.specs.{DescriptorFault, configuration_count, configuration_value}
