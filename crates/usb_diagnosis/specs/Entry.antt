@@ -71,4 +71,4 @@ entry_in document place = entry_of document (array_place place)
 pub record IsEntry (document : Members) (place : Place) (entry : Entry) : Type 0 where
   pub at : entry.place ≡ place
   pub table : entry_in document place ≡ Some (table_view entry.table.now)
-  pub document : table_view entry.document.now ≡ document
+  pub within : table_view entry.document.now ≡ document

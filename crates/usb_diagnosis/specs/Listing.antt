@@ -1,6 +1,7 @@
 -- The faults of a text, one after the other.
 use Rattle.std.specs.Prelude.{◌≡◌, ◌≤◌, ℕ, Bool, codes, List, [], ◌++◌, length, flat_map, All, Some}
 use Rattle.std.specs.Prelude.{String, string_bytes, if◌then◌else◌}
+use Rattle.std.specs.Global.{Global}
 use Rattle.toml.specs.Data.{Members}
 use Rattle.usb_plan.specs.{PlanFault}
 use Rattle.usb_plan.specs.declared.fault.Place.{Place}
@@ -34,7 +35,8 @@ pub record IsBlock (file text : List ℕ) (document : Members) (lines : List ℕ
   pub begins : BeginsWith file text fault lines
 
 -- so do the lines on each fault but the first, of which there are at most 19
-pub record AreBlocks (file text : List ℕ) (document : Members) (blocks : List String) : Type 0 where
+pub record AreBlocks (file text : List ℕ) (document : Members) (blocks : List (String Global))
+    : Type 0 where
   pub few : length blocks ≤ 19
   pub each : All (λ block. IsBlock file text document (string_bytes block)) blocks
 
@@ -47,7 +49,7 @@ pub record ListsFaults (file text : List ℕ) (document : Members) (fault : Plan
     (lines : List ℕ) : Type 0 where
   pub first : List ℕ
   pub begins : BeginsWith file text fault first
-  pub blocks : List String
+  pub blocks : List (String Global)
   pub others : AreBlocks file text document blocks
   pub is_cut : Bool
   pub whole : lines ≡ first ++ flat_map string_bytes blocks ++ cut_line is_cut
