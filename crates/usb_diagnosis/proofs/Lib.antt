@@ -1,3 +1,4 @@
 pub mod BestSoFar
 pub mod KnownKeys
 pub mod PathSlips
+pub mod Blocks

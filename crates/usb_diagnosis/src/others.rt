@@ -211,6 +211,7 @@ fn has_known_keys(entry: &Entry<'_>) -> bool {
 }
 
 /// Adds the lines on a fault, if they are not those of the first fault, and there is room.
+#[tactic(auto, using(crate::proofs::Blocks::blocks_more))]
 fn push_found<'a>(
     alloc: Global,
     blocks: &mut Blocks,
