@@ -121,11 +121,15 @@ impl<'a> Entry<'a> {
         })
     }
 
-    pub(crate) fn place(&self) -> Place {
+    pub(crate) fn place(&self) -> Place
+        ensures { result ≡ self.now.place }
+    {
         self.place
     }
 
-    pub(crate) fn table(&self) -> &'a Table {
+    pub(crate) fn table(&self) -> &'a Table
+        ensures { result.now ≡ self.now.table.now }
+    {
         self.table
     }
 
