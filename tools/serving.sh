@@ -63,52 +63,12 @@ tell_wait() {
   esac
 }
 
-# Shows the line that a fault of `check` names. A mark is below its column, or below its value or unknown key if the line
-# has that key once.
-point_out() {
-  local fault=${1#"$file":} number mark line key found before='' value=''
-  [[ "$fault" =~ ^([0-9]+)(:([0-9]+))?:\ plan:\  ]] || return 0
-  number=${BASH_REMATCH[1]} mark=${BASH_REMATCH[3]}
-  line=$(sed -n "${number}p" "$file")
-  [ ${#line} -le 200 ] || return 0
-  if [ -n "$mark" ]; then
-    before=${line:0:mark-1} value=^
-  elif [[ "$fault" =~ ^[^$'\n']*$'\n'\ \ [^\`$'\n']*:\ (unknown\ key\ )?\`([a-z_]+)\` ]]; then
-    found=${BASH_REMATCH[1]}
-    key="(^|[^A-Za-z0-9_\"-])(${BASH_REMATCH[2]}) *= *(\"[^\"]*\"|[^],} ]+)"
-    if [[ "$line" =~ $key ]] && [[ ! "$line" =~ $key.*[,{]\ *${BASH_REMATCH[2]}\ *= ]]; then
-      [[ "$line" =~ $key ]] # its parts again
-      value=${BASH_REMATCH[0]#"${BASH_REMATCH[1]}"}
-      before=${line%%"${BASH_REMATCH[0]}"*}${BASH_REMATCH[1]}
-      if [ -n "$found" ]; then
-        value=${BASH_REMATCH[2]}
-      else
-        before+=${value%"${BASH_REMATCH[3]}"} value=${BASH_REMATCH[3]}
-      fi
-    fi
-  fi
-  printf '%s |\n%s | %s\n' "${number//?/ }" "$number" "$line"
-  [ -z "$value" ] || printf '%s | %s%s\n' "${number//?/ }" "${before//[^$'\t']/ }" "${value//?/^}"
-}
-
-# Runs `check`, and shows on a terminal the line that its fault names.
-serve_check() {
-  local text code=0
-  text=$("$@") || code=$?
-  printf '%s\n' "$text"
-  [ "$code" != 1 ] || point_out "$text" >&2
-  exit "$code"
-}
-
 # Runs the program. If it refuses a plan, one more line says how to see what is wrong with it: on a terminal, and in the
 # log of a CI.
 serve() {
   local program=$1 code=0
   shift
   tell_wait "${1-}"
-  if [ "${1-}" = check ] && [ -t 1 ] && [[ "$file" != -* ]]; then
-    serve_check "$program" "$@"
-  fi
   if { [ ! -t 2 ] && [ -z "${CI-}" ]; } || [[ "$file" == -* || ! "${1-}" =~ ^(tree|draw|run|page|far)$ ]]; then
     exec "$program" "$@"
   fi

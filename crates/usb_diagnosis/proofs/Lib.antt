@@ -1,3 +1,5 @@
 pub mod BestSoFar
 pub mod KnownKeys
 pub mod PathSlips
+pub mod Blocks
+pub mod Arrays

@@ -2,19 +2,23 @@
 
 ghost use Rattle.std.specs.Prelude.{◌≡◌, ◌≢◌, ◌≤◌, Err, IfOk, IsErrOf, IsUtf8, length, string_bytes, true};
 ghost use Rattle.std.specs.Str.{valid_up_to};
+ghost use Rattle.toml.specs.Parse.{parse_document};
+ghost use Rattle.toml.specs.View.{table_view};
 ghost use Rattle.usb_bus.specs.Watch.{inner_of, has_failed};
 ghost use Rattle.usb_plan.specs.declared.fault.PlanFault.TheVariants as plan;
-ghost use Rattle.usb_diagnosis.specs.Checking.{BeginsAt, BeginsWith, IsLed, TellsVerdict, WritesVerdict};
+ghost use Rattle.usb_diagnosis.specs.Checking.{BeginsAt, ListsIn, TellsVerdict, WritesVerdict};
+ghost use Rattle.usb_diagnosis.specs.Listing.{BeginsWith, IsLed, ListsFaults};
 ghost use Rattle.usb_diagnosis.specs.Place.{spot_behind};
 ghost use Rattle.usb_diagnosis.specs.Report.{first_line};
 
-use crate::details::{spot_of, trouble_lines};
-use crate::endpoints::trouble_within;
+use crate::block::{block_on, joined};
 use crate::entry::Entry;
 use crate::marks::Layout;
+use crate::others::{Subject, listed};
 use crate::place::{Spot, spot_behind};
 use crate::report::{first_line, place_of, plan_report};
-use crate::trouble::trouble_of;
+use crate::span::push_excerpt;
+use crate::trouble::{Trouble, trouble_of};
 use std::alloc::{AllocError, Global};
 use std::io::Write;
 use std::str;
@@ -75,19 +79,11 @@ impl From<WriteFailed> for CheckFault {
     }
 }
 
-/// The first line and the others.
-fn joined(first: String, rest: &str) -> Result<String, AllocError>
-    ensures { IfOk result (λ lines. IsLed (string_bytes first) (string_bytes lines)) }
-{
-    let mut lines = first;
-    lines.push_str(rest)?;
-    Ok(lines)
-}
-
 /// The lines on a text that is no TOML behind this front of it.
 fn garbled(
     alloc: Global,
     file: &str,
+    text: &str,
     before: &[u8],
     fault: PlanFault,
     why: &str,
@@ -95,31 +91,38 @@ fn garbled(
     ensures { IfOk result (λ lines.
         IsLed (first_line file.now (spot_behind before.now) fault) (string_bytes lines)) }
 {
-    let first = first_line(alloc, file, spot_behind(before), fault)?;
-    let rest = format!(in alloc; "  {why}\n")?;
+    let spot = spot_behind(before);
+    let first = first_line(alloc, file, spot, fault)?;
+    let mut rest = String::new(alloc);
+    push_excerpt(alloc, &mut rest, text, spot, 1)?;
+    let words = format!(in alloc; "  {why}\n")?;
+    rest.push_str(words.as_str())?;
     joined(first, rest.as_str())
 }
 
-/// The first line, and those on the trouble of the entry.
-fn lines_on(
+/// What of a document's entry makes its fault.
+fn trouble_in<'a>(entry: Option<&Entry<'a>>, fault: PlanFault) -> Option<Trouble<'a>> {
+    trouble_of(entry?, fault)
+}
+
+/// The lines on the fault of an entry, or on one of no entry.
+fn first_block<'a>(
     alloc: Global,
     file: &str,
-    text: &str,
-    entry: &Entry<'_>,
+    layout: &Layout<'_>,
+    entry: Option<&Entry<'a>>,
     fault: PlanFault,
 ) -> Result<String, AllocError>
-    ensures { IfOk result (λ lines. BeginsWith file.now text.now fault (string_bytes lines)) }
+    ensures { IfOk result (λ lines.
+        BeginsWith file.now layout.now.text.now fault (string_bytes lines)) }
 {
-    let layout = Layout::of(alloc, text)?;
-    let trouble = trouble_of(entry, fault);
-    let within = trouble.and_then(|trouble| trouble_within(trouble, fault));
-    let spot = spot_of(&layout, entry.place(), trouble, within.as_ref());
-    let first = first_line(alloc, file, spot, fault)?;
-    let rest = trouble_lines(alloc, &layout, entry, trouble, within.as_ref(), fault)?;
-    joined(first, rest.as_str())
+    match entry {
+        None => first_line(alloc, file, Spot::Unknown, fault),
+        Some(entry) => block_on(alloc, file, layout, entry, fault, trouble_of(entry, fault)),
+    }
 }
 
-/// The lines on a document with the fault.
+/// The lines on a document with the fault, and on what else is wrong with it.
 fn document_lines(
     alloc: Global,
     file: &str,
@@ -127,12 +130,21 @@ fn document_lines(
     document: &Table,
     fault: PlanFault,
 ) -> Result<String, AllocError>
-    ensures { IfOk result (λ lines. BeginsWith file.now text.now fault (string_bytes lines)) }
+    ensures { IfOk result (λ lines. ListsFaults file.now text.now (table_view document.now) fault
+        (string_bytes lines)) }
 {
-    match Entry::at(document, place_of(fault).unwrap_or(Place::Top)) {
-        None => first_line(alloc, file, Spot::Unknown, fault),
-        Some(entry) => lines_on(alloc, file, text, &entry, fault),
-    }
+    let layout = Layout::of(alloc, text)?;
+    let place = place_of(fault).unwrap_or(Place::Top);
+    let entry = Entry::at(document, place);
+    let first = first_block(alloc, file, &layout, entry.as_ref(), fault)?;
+    let subject = Subject {
+        file,
+        layout: &layout,
+        document,
+        place,
+        trouble: trouble_in(entry.as_ref(), fault),
+    };
+    listed(alloc, &subject, fault, first)
 }
 
 /// The lines on a text that is no plan.
@@ -142,7 +154,9 @@ fn refusal_lines(
     text: &str,
     fault: PlanFault,
 ) -> Result<String, AllocError>
-    ensures { IfOk result (λ lines. BeginsAt file.now text.now fault (string_bytes lines)) }
+    ensures begins { IfOk result (λ lines. BeginsAt file.now text.now fault (string_bytes lines)) }
+    ensures listed { IfOk result (λ lines.
+        ListsIn file.now text.now fault (string_bytes lines) (parse_document text.now)) }
 {
     match toml::table_from_str(alloc, text) {
         Ok(document) => document_lines(alloc, file, text, &document, fault),
@@ -150,7 +164,7 @@ fn refusal_lines(
             None => Err(AllocError),
             Some(span) => {
                 let before = &text.as_bytes()[..span.start];
-                garbled(alloc, file, before, fault, error.message())
+                garbled(alloc, file, text, before, fault, error.message())
             }
         },
     }
@@ -168,7 +182,7 @@ fn no_text_lines(
         BeginsAt file.now bytes.now plan.Syntax (string_bytes lines)) }
 {
     let before = &bytes[..error.valid_up_to()];
-    garbled(alloc, file, before, PlanFault::Syntax, "invalid UTF-8")
+    garbled(alloc, file, "", before, PlanFault::Syntax, "invalid UTF-8")
 }
 
 /// The verdict on a text, and its lines.
@@ -192,7 +206,8 @@ fn checked_text(alloc: Global, file: &str, text: &str) -> Result<Checked, AllocE
 
 /// What a text is, and the lines that say so. Those of a plan give the numbers of its devices,
 /// events and damages, and its bound, and a remark on each device that a host refuses for its bytes.
-/// Those of any other text begin with the file, the line and `read_plan`'s fault.
+/// Those of any other text begin with the file, the line and `read_plan`'s fault. Then come other
+/// faults of its entries, at most 19.
 ///
 /// # Errors
 ///

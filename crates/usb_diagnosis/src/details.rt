@@ -1,49 +1,69 @@
 //! The lines on an entry after the first one: which key, what stands there, what is allowed, and
 //! what was meant.
 
-ghost use Rattle.std.specs.Prelude.{◌≡◌, IfSome};
-ghost use Rattle.usb_diagnosis.specs.Place.{IsLineIn, IsSpotIn, spot_on};
-
 use crate::endpoints::Within;
 use crate::entry::{Entry, array_of, text_at};
 use crate::flaw::{are_hex_digits, is_word};
 use crate::key::{ENDPOINT_KEYS, PlanKey};
-use crate::marks::Layout;
+use crate::marks::{Anchor, Layout};
 use crate::nearest::nearest;
 use crate::path_slip::{path_slip, push_path_slip};
-use crate::place::Spot;
 use crate::shown::{letters_of, push_number, push_shown};
 use crate::slip::{digit_slip, push_slip};
+use crate::span::{Span, key_span, slip_span, value_span};
 use crate::trouble::{Trouble, is_known};
 use std::alloc::{AllocError, Global};
 use toml::{Table, Value};
 use usb_plan::{Place, PlanFault};
 
-/// The line where an entry begins.
-fn head_line(layout: &Layout<'_>, place: Place) -> Option<usize>
-    ensures { IfSome result (IsLineIn layout.now.text.now) }
-{
+/// Where an entry begins.
+fn head_at(layout: &Layout<'_>, place: Place) -> Option<Anchor> {
     let (array, number) = array_of(place)?;
-    match layout.entry_line(array, number) {
-        None => layout.top_line(array),
-        line => line,
+    match layout.entry_at(array, number) {
+        None => layout.top_at(array),
+        anchor => anchor,
     }
 }
 
-/// The line of a key of an entry.
-fn line_of_key(layout: &Layout<'_>, place: Place, key: &str) -> Option<usize>
-    ensures { IfSome result (IsLineIn layout.now.text.now) }
-{
+/// Where a key of an entry begins.
+fn key_at(layout: &Layout<'_>, place: Place, key: &str) -> Option<Anchor> {
     match array_of(place) {
-        None => layout.top_line(key),
-        Some((array, number)) => layout.key_line(array, number, key),
+        None => layout.top_at(key),
+        Some((array, number)) => layout.key_at(array, number, key),
     }
 }
 
-/// The line of the key that makes a fault in a table within an entry, if the table has a head.
-fn line_within(layout: &Layout<'_>, place: Place, within: &Within<'_>) -> Option<usize>
-    ensures { IfSome result (IsLineIn layout.now.text.now) }
-{
+/// What is marked of a value that is to be digits, or to have them.
+fn marked_digits(layout: &Layout<'_>, anchor: Anchor, key: PlanKey, value: &Value) -> Span {
+    match value.as_array() {
+        Some(_) if key == PlanKey::Requests => value_span(layout, anchor),
+        None => slip_span(layout, anchor, 0),
+        Some(values) => match first_undigital(values.as_slice()) {
+            None => value_span(layout, anchor),
+            Some((index, _)) => slip_span(layout, anchor, index),
+        },
+    }
+}
+
+/// What is marked of a key with its value.
+fn marked(layout: &Layout<'_>, anchor: Anchor, trouble: Trouble<'_>, fault: PlanFault) -> Span {
+    match (trouble, fault) {
+        (Trouble::Wrong(key, value), PlanFault::BadHex(_)) => {
+            marked_digits(layout, anchor, key, value)
+        }
+        (Trouble::Wrong(_, _), _) => value_span(layout, anchor),
+        _ => key_span(layout, anchor),
+    }
+}
+
+/// What is marked of a table within an entry, if the table has a head.
+fn span_within(
+    layout: &Layout<'_>,
+    place: Place,
+    within: Option<&Within<'_>>,
+    fault: PlanFault,
+) -> Option<Span> {
+    let within = within?;
     let inner = match within.trouble {
         Trouble::Unknown(key) => key,
         Trouble::Wrong(key, _) => key.name(),
@@ -51,52 +71,43 @@ fn line_within(layout: &Layout<'_>, place: Place, within: &Within<'_>) -> Option
     };
     let (array, number) = array_of(place)?;
     let table = within.index.saturating_add(1);
-    layout.line_within(array, number, PlanKey::Endpoints.name(), table, inner)
+    let anchor = layout.within_at(array, number, PlanKey::Endpoints.name(), table, inner)?;
+    Some(marked(layout, anchor, within.trouble, fault))
 }
 
-/// The line of the key that makes a fault.
-fn line_of_trouble(layout: &Layout<'_>, place: Place, trouble: Option<Trouble<'_>>) -> Option<usize>
-    ensures { IfSome result (IsLineIn layout.now.text.now) }
-{
-    match trouble {
-        Some(Trouble::Unknown(key)) => line_of_key(layout, place, key),
-        Some(Trouble::Wrong(key, _)) => line_of_key(layout, place, key.name()),
-        Some(Trouble::Missing(_)) | Some(Trouble::OneTooMany) | None => None,
-    }
+/// What is marked of an entry: its key, or the value at that.
+fn span_at_key(
+    layout: &Layout<'_>,
+    place: Place,
+    trouble: Option<Trouble<'_>>,
+    fault: PlanFault,
+) -> Option<Span> {
+    let trouble = trouble?;
+    let key = match trouble {
+        Trouble::Unknown(key) => key,
+        Trouble::Wrong(key, _) => key.name(),
+        Trouble::Missing(_) | Trouble::OneTooMany => return None,
+    };
+    let anchor = key_at(layout, place, key)?;
+    Some(marked(layout, anchor, trouble, fault))
 }
 
-fn spot_on(line: Option<usize>) -> Spot
-    ensures { result ≡ spot_on line }
-{
-    match line {
-        None => Spot::Unknown,
-        Some(line) => Spot::Line(line),
-    }
-}
-
-/// Where the trouble of a table within an entry stands.
-fn spot_within(layout: &Layout<'_>, place: Place, within: Option<&Within<'_>>) -> Option<usize>
-    ensures { IfSome result (IsLineIn layout.now.text.now) }
-{
-    line_within(layout, place, within?)
-}
-
-/// Where the trouble of an entry stands: at its key, and else where the entry begins.
-pub(crate) fn spot_of(
+/// What is marked of the trouble of an entry: what is at its key, and else where the entry begins.
+pub(crate) fn span_of(
     layout: &Layout<'_>,
     place: Place,
     trouble: Option<Trouble<'_>>,
     within: Option<&Within<'_>>,
-) -> Spot
-    ensures { IsSpotIn layout.now.text.now result }
-{
-    if let Some(line) = spot_within(layout, place, within) {
-        return Spot::Line(line);
+    fault: PlanFault,
+) -> Option<Span> {
+    if let Some(span) = span_within(layout, place, within, fault) {
+        return Some(span);
     }
-    match line_of_trouble(layout, place, trouble) {
-        None => spot_on(head_line(layout, place)),
-        line => spot_on(line),
+    if let Some(span) = span_at_key(layout, place, trouble, fault) {
+        return Some(span);
     }
+    let anchor = head_at(layout, place)?;
+    Some(key_span(layout, anchor))
 }
 
 /// Adds two blanks, the words for an entry, its name and its line:
@@ -115,9 +126,9 @@ fn push_head(
         push_shown(alloc, out, name)?;
         out.push_str("\"")?;
     }
-    if let Some(line) = head_line(layout, entry.place()) {
+    if let Some(anchor) = head_at(layout, entry.place()) {
         out.push_str(", line ")?;
-        push_number(alloc, out, line as u64)?;
+        push_number(alloc, out, layout.line(anchor.key) as u64)?;
     }
     out.push_str(": ")
 }
@@ -179,10 +190,18 @@ fn push_digit_line(
     out.push_str("\n")
 }
 
+/// The text of an array that is to be digits: a text itself, or what a request answers.
+fn digits_in(value: &Value) -> Option<&str> {
+    match value.as_table() {
+        None => value.as_str(),
+        Some(request) => text_at(request, "answer"),
+    }
+}
+
 /// The first text that is no digits, and its index.
 fn first_undigital<'a>(values: &'a [Value]) -> Option<(usize, &'a str)> {
     for (index, value) in values.iter().enumerate() {
-        if let Some(text) = value.as_str() {
+        if let Some(text) = digits_in(value) {
             if !are_hex_digits(text) {
                 return Some((index, text));
             }
@@ -207,7 +226,12 @@ fn push_digits(
     let Some((index, text)) = first_undigital(values.as_slice()) else {
         return Ok(());
     };
-    let place = format!(in alloc; "{}[{index}], ", key.name())?;
+    let part = if key == PlanKey::Requests {
+        ".answer"
+    } else {
+        ""
+    };
+    let place = format!(in alloc; "{}[{index}]{part}, ", key.name())?;
     push_digit_line(alloc, out, place.as_str(), text)
 }
 

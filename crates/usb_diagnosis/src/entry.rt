@@ -1,9 +1,10 @@
 //! The entry of a plan's document in which a fault stands.
 
-ghost use Rattle.std.specs.Prelude.{◌≡◌, codes, map, option_map};
+ghost use Rattle.std.specs.Prelude.{◌≡◌, codes, map, option_map, IfSome};
 ghost use Rattle.toml.specs.Data.{get_member};
 ghost use Rattle.toml.specs.View.{view, table_view};
-ghost use Rattle.usb_diagnosis.specs.Entry.{entry_keys, value_flag, value_text, wide_in};
+ghost use Rattle.usb_diagnosis.specs.Entry.{IsEntry, array_place, entry_keys, table_numbered, value_flag, value_text, wide_in};
+ghost use Rattle.usb_plan.specs.Plan.{values_at};
 ghost use Rattle.usb_diagnosis.specs.Key.{key_name};
 
 use crate::key::{DAMAGE_KEYS, DEVICE_KEYS, PlanKey, TOP_KEYS, WIDE_DEVICE_KEYS, keys_with};
@@ -23,7 +24,9 @@ pub(crate) struct Entry<'a> {
 }
 
 /// The array of a place, and which of its entries stands there, counted from 1.
-pub(crate) fn array_of(place: Place) -> Option<(&'static str, usize)> {
+pub(crate) fn array_of(place: Place) -> Option<(&'static str, usize)>
+    ensures { option_map (λ a. (a.0.now, a.1)) result ≡ array_place place }
+{
     match place {
         Place::Top => None,
         Place::Device(number) => Some(("device", number)),
@@ -32,9 +35,19 @@ pub(crate) fn array_of(place: Place) -> Option<(&'static str, usize)> {
     }
 }
 
+/// The value at a key.
+pub(crate) fn value_at<'a>(table: &'a Table, key: &str) -> Option<&'a Value>
+    ensures { option_map (λ v. view v.now) result ≡ get_member key.now (table_view table.now) }
+{
+    table.get(key)
+}
+
 /// The values of an array at the top, none where there is no such array.
-fn values_at<'a>(document: &'a Table, key: &str) -> &'a [Value] {
-    match document.get(key) {
+#[tactic(auto, using(crate::proofs::Arrays::data_list_view), unfolding(usb_plan::specs::Plan::values_at))]
+pub(crate) fn values_at<'a>(document: &'a Table, key: &str) -> &'a [Value]
+    ensures { map view result.now ≡ values_at (get_member key.now (table_view document.now)) }
+{
+    match value_at(document, key) {
         None => &[],
         Some(value) => match value.as_array() {
             None => &[],
@@ -43,11 +56,18 @@ fn values_at<'a>(document: &'a Table, key: &str) -> &'a [Value] {
     }
 }
 
-/// The value at a key.
-pub(crate) fn value_at<'a>(table: &'a Table, key: &str) -> Option<&'a Value>
-    ensures { option_map (λ v. view v.now) result ≡ get_member key.now (table_view table.now) }
+/// The table of this number, counted from 1.
+fn table_numbered(values: &[Value], number: usize) -> Option<&Table>
+    ensures { option_map (λ t. table_view t.now) result
+        ≡ table_numbered number (map view values.now) }
 {
-    table.get(key)
+    if number == 0 {
+        return None;
+    }
+    match values.get(number - 1) {
+        None => None,
+        Some(value) => value.as_table(),
+    }
 }
 
 /// The text at a key, where it is one.
@@ -76,7 +96,9 @@ fn flag_at(table: &Table, key: &str) -> bool
 
 impl<'a> Entry<'a> {
     /// The entry at a place of a document.
-    pub(crate) fn at(document: &'a Table, place: Place) -> Option<Self> {
+    pub(crate) fn at(document: &'a Table, place: Place) -> Option<Self>
+        ensures { IfSome result (IsEntry (table_view document.entry.now) place) }
+    {
         let devices = values_at(document, "device");
         let Some((array, number)) = array_of(place) else {
             return Some(Entry {
@@ -88,21 +110,26 @@ impl<'a> Entry<'a> {
             });
         };
         let values = values_at(document, array);
-        let index = number.checked_sub(1)?;
+        let table = table_numbered(values, number)?;
+        let earlier = &values[..values.len().min(number.saturating_sub(1))];
         Some(Entry {
             place,
-            table: values.get(index)?.as_table()?,
-            earlier: values.get(..index)?,
+            table,
+            earlier,
             devices,
             document,
         })
     }
 
-    pub(crate) fn place(&self) -> Place {
+    pub(crate) fn place(&self) -> Place
+        ensures { result ≡ self.now.place }
+    {
         self.place
     }
 
-    pub(crate) fn table(&self) -> &'a Table {
+    pub(crate) fn table(&self) -> &'a Table
+        ensures { result.now ≡ self.now.table.now }
+    {
         self.table
     }
 
@@ -181,6 +208,15 @@ impl<'a> Entry<'a> {
             PlanKey::Bit => self.text(PlanKey::How) == Some("flip"),
             PlanKey::Bytes if self.text(PlanKey::Do) == Some("control") => self.writes_bytes(),
             _ => key.example().is_some(),
+        }
+    }
+
+    /// Whether exactly as many entries as a plan may have are before it.
+    pub(crate) fn is_first_too_many(&self) -> bool {
+        match self.place {
+            Place::Top => false,
+            Place::Device(number) => number == 128,
+            Place::Event(number) | Place::Damage(number) => number == 10_001,
         }
     }
 

@@ -4,18 +4,26 @@
 //! statement.
 
 ghost use Rattle.std.specs.Prelude.{◌≡◌, ◌≤◌, length, IfOk, IfSome};
-ghost use Rattle.usb_diagnosis.specs.Place.{IsLineIn};
+ghost use Rattle.usb_diagnosis.specs.Place.{IsLineIn, IsSpotIn};
 
-use crate::place::line_behind;
+use crate::place::{Spot, line_behind, spot_behind};
 use std::alloc::{AllocError, Global};
 use toml_parser::text::{byte_at, first, skip, skip_blank, skip_ws};
 use toml_parser::{Key, ParseError, dotted_key, quoted, starts_string};
 
+/// Where something of a text begins: how many bytes are before it.
+#[derive(Clone, Copy, Debug)]
+pub(crate) struct Anchor {
+    /// The key, or the head of a table.
+    pub(crate) key: usize,
+    /// The value at the key; of a head, the head again.
+    pub(crate) value: usize,
+}
+
 /// A statement of a document.
 #[derive(Debug, Drop)]
 struct Mark {
-    /// How many bytes of the text are before it.
-    at: usize,
+    anchor: Anchor,
     /// It begins an entry of the array at its path.
     begins: bool,
     /// The first three keys of the path of what it defines, from the top.
@@ -74,50 +82,59 @@ impl<'a> Layout<'a> {
         Ok(Layout { text, marks })
     }
 
-    /// The line of a statement.
-    fn line(&self, mark: &Mark) -> usize
+    /// The text.
+    pub(crate) fn text(&self) -> &'a str
+        ensures { result.now ≡ self.now.text.now }
+    {
+        self.text
+    }
+
+    /// The line of what begins after this number of bytes, at most all.
+    pub(crate) fn line(&self, at: usize) -> usize
         ensures { IsLineIn self.now.text.now result }
     {
-        let at = mark.at.min(self.text.len());
+        let at = at.min(self.text.len());
         line_behind(&self.text.as_bytes()[..at])
     }
 
-    /// The line of the first statement on a key at the top.
-    pub(crate) fn top_line(&self, key: &str) -> Option<usize>
-        ensures { IfSome result (IsLineIn self.now.text.now) }
+    /// The line and the column of what begins after this number of bytes, at most all.
+    pub(crate) fn spot(&self, at: usize) -> Spot
+        ensures { IsSpotIn self.now.text.now result }
     {
-        let mark = self.marks.iter().find(|mark| mark.is_below(key))?;
-        Some(self.line(mark))
+        let at = at.min(self.text.len());
+        spot_behind(&self.text.as_bytes()[..at])
     }
 
-    /// The line where an entry of the array begins.
-    pub(crate) fn entry_line(&self, array: &str, number: usize) -> Option<usize>
-        ensures { IfSome result (IsLineIn self.now.text.now) }
-    {
+    /// Where the first statement on a key at the top begins.
+    pub(crate) fn top_at(&self, key: &str) -> Option<Anchor> {
+        let mark = self.marks.iter().find(|mark| mark.is_below(key))?;
+        Some(mark.anchor)
+    }
+
+    /// Where an entry of the array begins.
+    pub(crate) fn entry_at(&self, array: &str, number: usize) -> Option<Anchor> {
         let mut begun = 0usize;
         for mark in &self.marks {
             if mark.begins(array) {
                 begun = begun.saturating_add(1);
                 if begun == number {
-                    return Some(self.line(mark));
+                    return Some(mark.anchor);
                 }
             }
         }
         None
     }
 
-    /// The line of the inner key of a table that stands, with a head of its own, at the key of an entry of
-    /// the array, or that of the head. Both are counted from 1.
-    pub(crate) fn line_within(
+    /// Where the inner key of a table that stands, with a head of its own, at the key of an entry of the array, begins,
+    /// or else that head. Both are counted from 1.
+    pub(crate) fn within_at(
         &self,
         array: &str,
         number: usize,
         key: &str,
         table: usize,
         inner: &str,
-    ) -> Option<usize>
-        ensures { IfSome result (IsLineIn self.now.text.now) }
-    {
+    ) -> Option<Anchor> {
         let mut begun = 0usize;
         let mut tables = 0usize;
         let mut head = None;
@@ -127,25 +144,23 @@ impl<'a> Layout<'a> {
             } else if begun == number && mark.begins_within(array, key) {
                 tables = tables.saturating_add(1);
                 if tables == table {
-                    head = Some(self.line(mark));
+                    head = Some(mark.anchor);
                 }
             } else if begun == number && tables == table && mark.defines_within(array, key, inner) {
-                return Some(self.line(mark));
+                return Some(mark.anchor);
             }
         }
         head
     }
 
-    /// The line of a key of an entry of the array.
-    pub(crate) fn key_line(&self, array: &str, number: usize, key: &str) -> Option<usize>
-        ensures { IfSome result (IsLineIn self.now.text.now) }
-    {
+    /// Where the key of an entry of the array begins.
+    pub(crate) fn key_at(&self, array: &str, number: usize, key: &str) -> Option<Anchor> {
         let mut begun = 0usize;
         for mark in &self.marks {
             if mark.begins(array) {
                 begun = begun.saturating_add(1);
             } else if begun == number && mark.defines(array, key) {
-                return Some(self.line(mark));
+                return Some(mark.anchor);
             }
         }
         None
@@ -240,6 +255,17 @@ fn read_statement(alloc: Global, start: &str) -> Result<(Statement, &str), Parse
     Ok((Statement { opening, key }, after_key))
 }
 
+/// Where the value begins, of a text of so many bytes and the rest of it after the key.
+fn value_at(total: usize, after_key: &str) -> usize {
+    let sign = skip_ws(after_key);
+    let value = if first(sign) == b'=' {
+        skip_ws(skip(sign, 1))
+    } else {
+        sign
+    };
+    total.saturating_sub(value.len())
+}
+
 /// Whether a key of an inline table can begin with the byte.
 fn begins_key(byte: u8) -> bool {
     !matches!(
@@ -262,7 +288,7 @@ fn expects_key(expected: bool, depth: usize, byte: u8) -> bool {
 fn push_inline(
     alloc: Global,
     marks: &mut Vec<Mark>,
-    at: usize,
+    anchor: Anchor,
     array: &str,
     key: Option<&str>,
 ) -> Result<(), AllocError> {
@@ -272,7 +298,11 @@ fn push_inline(
         push_part(alloc, &mut path, key)?;
     }
     let begins = key.is_none();
-    marks.push(Mark { at, begins, path })?;
+    marks.push(Mark {
+        anchor,
+        begins,
+        path,
+    })?;
     Ok(())
 }
 
@@ -300,7 +330,9 @@ fn push_entries(
         let at = total.saturating_sub(rest.len());
         if expected && begins_key(byte) {
             let (key, after) = dotted_key(alloc, rest)?;
-            push_inline(alloc, marks, at, array, Some(first_name(&key)))?;
+            let value = value_at(total, after);
+            let anchor = Anchor { key: at, value };
+            push_inline(alloc, marks, anchor, array, Some(first_name(&key)))?;
             rest = after;
             expected = false;
         } else if starts_string(rest) {
@@ -313,7 +345,8 @@ fn push_entries(
             return Ok(());
         } else {
             if depth == 1 && byte == b'{' {
-                push_inline(alloc, marks, at, array, None)?;
+                let anchor = Anchor { key: at, value: at };
+                push_inline(alloc, marks, anchor, array, None)?;
             }
             depth = depth_after(depth, byte);
             expected = expects_key(expected, depth, byte);
@@ -353,8 +386,13 @@ fn push_statement<'a>(
         *table = path.clone()?;
     }
     let at_top = path.len() == 1;
+    let key = total.saturating_sub(start.len());
+    let value = match statement.opening {
+        Opening::Pair => value_at(total, after_key),
+        Opening::Table | Opening::Entry => key,
+    };
     marks.push(Mark {
-        at: total.saturating_sub(start.len()),
+        anchor: Anchor { key, value },
         begins: statement.opening == Opening::Entry,
         path,
     })?;

@@ -141,6 +141,17 @@ fn path_in(wide: bool, text: &str) -> Option<PortPath>
     }
 }
 
+/// Whether the text is a bad path whatever is plugged: it is no path, or its first number is above that of root ports.
+pub(crate) fn is_no_path(entry: &Entry<'_>, text: &str) -> bool {
+    match path_in(entry.wide_hubs(), text) {
+        None => true,
+        Some(path) => {
+            let roots = count_at(entry.document(), "roots");
+            roots > 0 && u64::from(path.numbers()[0]) > roots
+        }
+    }
+}
+
 /// Why the text is a bad path for the entry.
 pub(crate) fn path_slip<'a>(entry: &Entry<'a>, text: &str) -> PathSlip<'a>
     ensures { IsPathSlip (wide_in (table_view entry.now.document.now)) text.now result }

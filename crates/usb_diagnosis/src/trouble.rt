@@ -30,7 +30,7 @@ pub(crate) enum Trouble<'a> {
 }
 
 /// How the value at a key of the entry fails what is allowed there.
-fn flaw_at(key: PlanKey, value: &Value) -> Option<Flaw> {
+pub(crate) fn flaw_at(key: PlanKey, value: &Value) -> Option<Flaw> {
     match key.kind() {
         Kind::Endpoints => endpoints_flaw(value),
         _ => flaw_of(key, value),
@@ -106,7 +106,7 @@ fn missing_key(entry: &Entry<'_>) -> Option<PlanKey>
     None
 }
 
-fn is_named(value: &Value, name: &str) -> bool {
+pub(crate) fn is_named(value: &Value, name: &str) -> bool {
     match value.as_table() {
         None => false,
         Some(table) => text_at(table, "name") == Some(name),
@@ -114,7 +114,7 @@ fn is_named(value: &Value, name: &str) -> bool {
 }
 
 /// Whether the name is empty or one of an earlier device.
-fn is_taken_name(entry: &Entry<'_>, name: &str) -> bool {
+pub(crate) fn is_taken_name(entry: &Entry<'_>, name: &str) -> bool {
     name.is_empty() || entry.earlier().iter().any(|device| is_named(device, name))
 }
 
@@ -124,7 +124,7 @@ fn has_hub_class(digits: &str) -> bool {
 }
 
 /// Whether the device's descriptor can be read, and has another class than that of hubs.
-fn has_other_class(entry: &Entry<'_>) -> bool {
+pub(crate) fn has_other_class(entry: &Entry<'_>) -> bool {
     match entry.text(PlanKey::Descriptor) {
         None => false,
         Some(digits) => are_hex_digits(digits) && !has_hub_class(digits),
@@ -151,14 +151,14 @@ fn device_trouble<'a>(entry: &Entry<'a>) -> Option<Trouble<'a>>
 }
 
 /// The attempt of the last damage before the entry, 0 with none.
-fn last_attempt(entry: &Entry<'_>) -> i64 {
+pub(crate) fn last_attempt(entry: &Entry<'_>) -> i64 {
     match entry.earlier().last() {
         None => 0,
         Some(value) => number_at(value.as_table(), "attempt"),
     }
 }
 
-fn number_at(table: Option<&Table>, key: &str) -> i64 {
+pub(crate) fn number_at(table: Option<&Table>, key: &str) -> i64 {
     match table {
         None => 0,
         Some(table) => match table.get(key) {

@@ -2,6 +2,7 @@
 mod devices;
 mod entries;
 mod events;
+mod many;
 mod remarks;
 mod syntax;
 mod top;
@@ -12,7 +13,7 @@ use std::process::Abort;
 use usb_diagnosis::{Verdict, check_text};
 use usb_plan::read_plan;
 
-/// A text, and all that is reported of it.
+/// A text, and all that is reported of it, or what is reported of its first fault.
 struct Row {
     text: &'static str,
     told: &'static str,
@@ -33,7 +34,9 @@ fn check_rows(
         let mut text = String::from_str(alloc, before)?;
         text.push_str(row.text)?;
         let checked = check_text(alloc, "p.toml", text.as_bytes())?;
-        assert_eq!(rt; checked.lines.as_str(), row.told, "of {}", row.text);
+        let others = checked.lines.strip_prefix(row.told).unwrap_or("none");
+        let is_told = others.is_empty() || others.starts_with("p.toml:");
+        assert!(rt; is_told, "of {}: {}", row.text, checked.lines);
         check_verdict(rt, alloc, text.as_str(), checked.verdict, row)?;
     }
     Ok(())

@@ -7,27 +7,27 @@ use usb_plan::PlanFault;
 const ROWS: [Row; 6] = [
     Row {
         text: "limit = \n",
-        told: "p.toml:1:9: plan: syntax\n  invalid value, expected a string, number, boolean, date-time, array or inline table\n",
+        told: "p.toml:1:9: plan: syntax\n1 | limit = \n  |         ^\n  invalid value, expected a string, number, boolean, date-time, array or inline table\n",
     },
     Row {
         text: "limit = 1\nroots 1\n",
-        told: "p.toml:2:7: plan: syntax\n  key with no value, expected `=`\n",
+        told: "p.toml:2:7: plan: syntax\n2 | roots 1\n  |       ^\n  key with no value, expected `=`\n",
     },
     Row {
         text: "# äöü\nname = \"äöü\" x\n",
-        told: "p.toml:2:14: plan: syntax\n  unexpected key or value, expected newline, `#`\n",
+        told: "p.toml:2:14: plan: syntax\n2 | name = \"äöü\" x\n  |              ^\n  unexpected key or value, expected newline, `#`\n",
     },
     Row {
         text: "limit = 10000000000000000000\n",
-        told: "p.toml:1:9: plan: syntax\n  number out of range\n",
+        told: "p.toml:1:9: plan: syntax\n1 | limit = 10000000000000000000\n  |         ^\n  number out of range\n",
     },
     Row {
         text: "limit = 1\nroots = 1\nlimit = 2\n",
-        told: "p.toml:3:1: plan: syntax\n  duplicate key\n",
+        told: "p.toml:3:1: plan: syntax\n3 | limit = 2\n  | ^\n  duplicate key\n",
     },
     Row {
         text: "limit = 1\n[[device]]\nname = 'a'\n[[device]\n",
-        told: "p.toml:4:10: plan: syntax\n  unclosed array table, expected `]]`\n",
+        told: "p.toml:4:10: plan: syntax\n4 | [[device]\n  |          ^\n  unclosed array table, expected `]]`\n",
     },
 ];
 
