@@ -11,7 +11,7 @@ use Rattle.usb_world.specs.declared.event.Ask.{Ask}
 use Rattle.usb_world.specs.{Attempt, Outcome, World, roots_of, EventEnds, after, attempt, event}
 use Rattle.usb_world.specs.{outcome_in, root_call}
 use Rattle.usb_bus.specs.{lines_between, next_due, step_lines, Attempts, TakesEvent}
-use Rattle.usb_wire.specs.{Answer, Done, RootsAndRows, Question}
+use Rattle.usb_wire.specs.{Answer, Done, Roots, Question}
 use Rattle.usb_wire.specs.declared.question.Question.TheVariants.{Hello}
 use Rattle.usb_far.specs.{LongSend, Far, IsDone, Played, SendsTooMuch, attempt_done, call_done}
 use Rattle.usb_far.specs.{came_in, done, due_answer, hello_done, is_poll, outcome_answer}
@@ -126,11 +126,11 @@ endpoint_restarted old new far same = record {
 }
 
 pub hello_answered : (f : Played) (q : Question) (roots : ℕ) → q ≡ Hello
-    → roots ≡ roots_of f.far.world → IsDone (done q f.far) f (RootsAndRows roots) f
+    → roots ≡ roots_of f.far.world → IsDone (done q f.far) f (Roots roots) f
 unfolding hello_done
 hello_answered f q roots is count =
-    subst (λ r. IsDone (done r f.far) f (RootsAndRows roots) f) (sym is) (record {
-      answered = sym (ap (λ n. Some (RootsAndRows n)) count);
+    subst (λ r. IsDone (done r f.far) f (Roots roots) f) (sym is) (record {
+      answered = sym (ap (λ n. Some (Roots n)) count);
       made = λ (by : false ≡ true). absurd (false≢true by);
       far = refl;
       traced = Appends-nil f.trace.bytes;

@@ -11,7 +11,6 @@ ghost use Rattle.usb_far.specs.FarEnd.{IsEventGivenUp, IsGivenUp, HasNoPort, IsD
 
 use crate::attempt::{answer_of, in_attempt, is_poll, out_attempt, setup_attempt};
 use crate::fault::FarFault;
-use crate::row::first_of;
 use arrayvec::ArrayVec;
 use std::alloc::{AllocError, Global};
 use std::io::Write;
@@ -23,8 +22,7 @@ use usb_request::feature::{
 };
 use usb_sim::{Ask, Plan, SentBytes, SimBus, Trace, Tracer, WriteRequest};
 use usb_wire::{
-    Answer, ControlWrite, DataPacket, Endpoint, Question, SEND_LIMIT, SEND_ROOM, SEND_TO_LIMIT,
-    WRITE_LIMIT,
+    Answer, ControlWrite, Endpoint, Question, SEND_LIMIT, SEND_ROOM, SEND_TO_LIMIT, WRITE_LIMIT,
 };
 
 /// The statuses of root ports, port 1 first.
@@ -81,50 +79,34 @@ impl<W: Write + Drop> FarEnd<Tracer<W>> {
 impl<T: Trace> FarEnd<T> {
     ghost use Rattle.usb_far.specs.FarEnd.{far_of, played_of};
 
-    /// Does what is asked, and answers it; of a row, its first attempt.
-    pub(crate) fn answer(&mut self, question: &Question) -> Result<Answer, FarFault>
-        requires { IsQuestion question.now }
+    /// Does what is asked, and answers it.
+    pub(crate) fn answer(&mut self, question: Question) -> Result<Answer, FarFault>
+        requires { IsQuestion question }
         ensures done { IfOk result (λ answer.
-            IsDone (done question.now (far_of self.old)) (played_of self.old) answer
+            IsDone (done question (far_of self.old)) (played_of self.old) answer
             (played_of self.new)) }
         ensures fault { IfErr result (λ fault.
-            IsUnanswered question.now (played_of self.old) fault (played_of self.new)) }
+            IsUnanswered question (played_of self.old) fault (played_of self.new)) }
     {
         match question {
-            Question::Hello => Ok(Answer::RootsAndRows(self.bus.root_ports())),
+            Question::Hello => Ok(Answer::Roots(self.bus.root_ports())),
             Question::Setup {
                 speed,
                 endpoint,
                 setup,
-            } => self.attempt(&setup_attempt(*speed, *endpoint, *setup)),
+            } => self.attempt(&setup_attempt(speed, endpoint, setup)),
             Question::Out {
                 speed,
                 endpoint,
-                sent: DataPacket { toggle, bytes },
-            } => self.attempt(&out_attempt(*speed, *endpoint, *toggle, bytes.as_slice())),
-            Question::Outs {
-                speed,
-                endpoint,
-                most,
-                toggle,
-                bytes,
-            } => {
-                let packet = first_of(bytes.as_slice(), *most);
-                self.attempt(&out_attempt(*speed, *endpoint, *toggle, packet))
-            }
+                sent,
+            } => self.attempt(&out_attempt(speed, endpoint, sent)),
             Question::In {
                 speed,
                 endpoint,
                 most,
-            }
-            | Question::Ins {
-                speed,
-                endpoint,
-                most,
-                ..
-            } => self.attempt(&in_attempt(*speed, *endpoint, *most)),
-            Question::Port { number, call } => self.call(*number, *call),
-            Question::Restart { endpoint, is_in } => Ok(self.restart(*endpoint, *is_in)),
+            } => self.attempt(&in_attempt(speed, endpoint, most)),
+            Question::Port { number, call } => self.call(number, call),
+            Question::Restart { endpoint, is_in } => Ok(self.restart(endpoint, is_in)),
             Question::Wait => self.wait(),
         }
     }

@@ -17,7 +17,6 @@ mod attempt;
 mod far_end;
 mod fault;
 mod reply;
-mod row;
 mod serving;
 
 pub use far_end::FarEnd;

@@ -6,7 +6,7 @@ use Rattle.std.proofs.lemmas.Bool.{cases_lt}
 use Rattle.std.proofs.lemmas.Grind.{not_there}
 use Rattle.usb_enum.specs.{usual_options}
 use Rattle.usb_port.specs.{PortCall}
-use Rattle.usb_world.specs.{BusFault, Destination, Outcome, destination_of}
+use Rattle.usb_world.specs.{BusFault, Outcome, destination_of}
 use Rattle.usb_world.specs.declared.types.Attempt.{Attempt}
 use Rattle.usb_world.specs.declared.types.Attempt.TheVariants as attempt
 use Rattle.usb_wire.specs.{Answer, Question}
@@ -18,13 +18,7 @@ use Rattle.usb_stream.specs.{AsksNoQuestion, AsksOnce, AttemptsByLine, AttemptsB
 use Rattle.usb_stream.specs.{Restarts, restart_of}
 use Rattle.usb_stream.specs.{SaysHello, WritesLines, bus_fault, greeted, kept_of, question_for}
 use Rattle.usb_stream.specs.{roots_if, streams, unasked, unread_of, written_of, StreamBus}
-use Rattle.usb_stream.specs.{LiveFault, HearsMore, InsByLine, OutsByLine, RefusesRow, RowBy}
-use Rattle.usb_stream.specs.{RowEndsBy, RowHeard, RowPlan, StepBy, ins_plan, none_heard, one_heard}
-use Rattle.usb_stream.specs.{outs_plan, was_asked}
-use Rattle.usb_bus.specs.{RowDone, RowEnd, Whole, Answered, Faulted}
-use Rattle.usb_packet.specs.{Toggle}
-use Rattle.std.proofs.Common.{length}
-use Rattle.std.specs.Int.{div_ceil}
+use Rattle.usb_stream.specs.{LiveFault}
 use Rattle.usb_text.specs.{lines_text, listing_lines}
 use Rattle.usb_live.specs.{LiveCourse, LiveHost, CourseTo, EndsBy, EndsLiveAs, IsShown, StandsAtStage, Lives}
 use Rattle.usb_live.specs.{is_nothing, is_wait, listed, owed_by, owed_left, owes, questions_in}
@@ -97,24 +91,6 @@ asked_on r0 r1 w0 w1 j k q result c sound plain h =
       at = tt;
     }
 
--- one more answer of a row was heard, which uses none of the questions
-none_used : (r0 r1 : Pipe) (w0 w1 : OutPipe) (j : Kept) (result : Result Answer LiveFault)
-    (k : Kept) → HearsMore (streams r0 r1 w0 w1) j result k → k.left ≡ j.left
-none_used r0 r1 w0 w1 j (Ok got) k h = h.left
-none_used r0 r1 w0 w1 j (Err f) k h = h.left
-
-heard_on : {st : Stage} {o : Owed} {host : LiveHost} {m : ℕ} {u : Pipe} {b : OutPipe}
-    (r0 r1 : Pipe) (w0 w1 : OutPipe) (j k : Kept) (result : Result Answer LiveFault)
-    → CourseTo st o host m u b r0 w0 j → j.fault ≡ None
-    → HearsMore (streams r0 r1 w0 w1) j result k → CourseTo Asks o host m u b r1 w1 k
-heard_on r0 r1 w0 w1 j k result c sound h = record {
-  asked = c.asked;
-  course = LiveCourse.heard result c.course sound h;
-  few = ap (λ (n : ℕ). c.asked + n) (none_used r0 r1 w0 w1 j result k h) ∙ c.few;
-  numbered = c.numbered;
-  at = tt;
-}
-
 -- what is wanted was asked
 wanted_on : {st : Stage} {host : LiveHost} {m : ℕ} {u : Pipe} {b : OutPipe} (r0 r1 : Pipe) (w0 w1 : OutPipe)
     (j k : Kept)
@@ -162,75 +138,6 @@ attempts_on r0 r1 w0 w1 j k q most (Ok outcome) plain c sound h =
 attempts_on r0 r1 w0 w1 j k q most (Err told) plain c sound h =
     asked_on r0 r1 w0 w1 j k q (Err h.f) c sound plain h.asked
 
--- ---- rows
-
--- none of its questions asks what is wanted
-abbrev IsPlain : RowPlan → Type 0
-IsPlain plan = (n : ℕ) → is_wait (plan.ask n) ≡ false
-
-step_by : {st : Stage} {o : Owed} {host : LiveHost} {m : ℕ} {u : Pipe} {b : OutPipe} (ahead : Bool)
-    (r0 r1 : Pipe) (w0 w1 : OutPipe) (j k : Kept) (q : Question)
-    (result : Result Answer LiveFault) → is_wait q ≡ false
-    → CourseTo st o host m u b r0 w0 j → j.fault ≡ None
-    → StepBy ahead q (streams r0 r1 w0 w1) j result k → CourseTo Asks o host m u b r1 w1 k
-step_by true r0 r1 w0 w1 j k q result plain c sound h =
-    heard_on r0 r1 w0 w1 j k result c sound h
-step_by false r0 r1 w0 w1 j k q result plain c sound h =
-    asked_on r0 r1 w0 w1 j k q result c sound plain h
-
-step_sound : (ahead : Bool) (r0 r1 : Pipe) (w0 w1 : OutPipe) (j k : Kept) (q : Question)
-    (got : Answer) → StepBy ahead q (streams r0 r1 w0 w1) j (Ok got) k → k.fault ≡ None
-step_sound true r0 r1 w0 w1 j k q got h = h.sound
-step_sound false r0 r1 w0 w1 j k q got h = h.sound
-
--- a course with no fault
-record SoundCourse (o : Owed) (host : LiveHost) (m : ℕ) (u : Pipe) (b : OutPipe) (r : Pipe)
-    (w : OutPipe) (k : Kept) : Type 0 where
-  course : CourseTo Asks o host m u b r w k
-  sound : k.fault ≡ None
-
-row_heard_on : {o : Owed} {host : LiveHost} {m : ℕ} {u : Pipe} {b : OutPipe} (plan : RowPlan)
-    (r0 : Pipe) (w0 : OutPipe) (j : Kept) (n : ℕ) (got : List ℕ) (r : Pipe) (w : OutPipe)
-    (k : Kept) → IsPlain plan → SoundCourse o host m u b r0 w0 j
-    → RowHeard plan r0 w0 j n got r w k → SoundCourse o host m u b r w k
-row_heard_on plan r0 w0 j n got r w k plain c none_heard = c
-row_heard_on plan r0 w0 j n got r w k plain c
-    (one_heard {n = before} {r = r1} {left = r} {w = w1} {now = w} {j = i} {k = k} answer h step moves)
-    =
-    let so = row_heard_on plan r0 w0 j before _ r1 w1 i plain c h in
-    record {
-      course = step_by (was_asked before i.ahead) r1 r w1 w i k (plan.ask before) (Ok answer)
-          (plain before) so.course so.sound step;
-      sound = step_sound (was_asked before i.ahead) r1 r w1 w i k (plan.ask before) answer step;
-    }
-
-row_ends_on : {o : Owed} {host : LiveHost} {m : ℕ} {u : Pipe} {b : OutPipe} (plan : RowPlan)
-    (moved most : ℕ) (r0 r1 : Pipe) (w0 w1 : OutPipe) (j k : Kept) (end : RowEnd) → IsPlain plan
-    → SoundCourse o host m u b r0 w0 j
-    → RowEndsBy plan moved most (streams r0 r1 w0 w1) j end k → CourseTo Asks o host m u b r1 w1 k
-row_ends_on plan moved most r0 r1 w0 w1 j k Whole plain c h =
-    course_nothing_asked r0 r1 w0 w1 j k c.course h.1
-row_ends_on plan moved most r0 r1 w0 w1 j k (Answered outcome) plain c h =
-    step_by (was_asked moved j.ahead) r0 r1 w0 w1 j k (plan.ask moved) (Ok h.1.answer)
-    (plain moved) c.course c.sound h.1.asked
-row_ends_on plan moved most r0 r1 w0 w1 j k (Faulted told) plain c h =
-    step_by (was_asked moved j.ahead) r0 r1 w0 w1 j k (plan.ask moved) (Err h.1.f)
-    (plain moved) c.course c.sound h.1.asked
-
-row_by : {st : Stage} {o : Owed} {host : LiveHost} {m : ℕ} {u : Pipe} {b : OutPipe}
-    (plan : RowPlan) (most : ℕ) (r0 r1 : Pipe) (w0 w1 : OutPipe) (j k : Kept) (done : RowDone)
-    (got : List ℕ) → IsPlain plan → CourseTo st o host m u b r0 w0 j → j.fault ≡ None
-    → RowBy plan most (streams r0 r1 w0 w1) j done got k → CourseTo Asks o host m u b r1 w1 k
-row_by plan most r0 r1 w0 w1 j k done got plain c sound h =
-    let on = row_heard_on plan r0 w0 j done.moved got h.mid h.between h.kept plain
-    (record { course = on_asks c; sound = sound }) h.heard in
-    row_ends_on plan done.moved most h.mid r1 h.between w1 h.kept k done.end plain on h.ends
-
-plain_if : (b : Bool) (p q : Question) → is_wait p ≡ false → is_wait q ≡ false
-    → is_wait (if b then p else q) ≡ false
-plain_if true p q first second = first
-plain_if false p q first second = second
-
 -- ---- one call, of a bus that may have a fault
 
 -- behind a fault nothing goes on
@@ -262,40 +169,6 @@ attempt_on rem con host m u b old new st ow a result again asks c =
     (λ e. attempts_on (unread_of rem old) (unread_of rem new) (written_of con old)
     (written_of con new) (kept_of old) (kept_of new) (question_for a)
     (destination_of a).max result (attempt_plain a) c e (asks e)) c
-
-pub ins_on : {R W : Type 0} (rem : R → Option (List ℕ)) (con : W → Option (List ℕ))
-    (host : LiveHost) (m : ℕ)
-    (u : Pipe) (b : OutPipe) (old new : StreamBus R W) (st : Stage)
-    (ow : Owed) (to : Destination) (first : Toggle) (most : ℕ) (done : RowDone) (got : List ℕ)
-    → ((f : LiveFault) → (kept_of old).fault ≡ Some f → RefusesRow most f old done new)
-    → ((kept_of old).fault ≡ None → InsByLine to first most
-    (streams (unread_of rem old) (unread_of rem new) (written_of con old)
-    (written_of con new)) (kept_of old) done got (kept_of new))
-    → CourseTo st ow host m u b (unread_of rem old) (written_of con old) (kept_of old)
-    → CourseTo Asks ow host m u b (unread_of rem new) (written_of con new) (kept_of new)
-ins_on rem con host m u b old new st ow to first most done got again asks c =
-    by_fault rem con host m u b old new st ow (kept_of old).fault refl (λ f e. (again f e).0)
-    (λ e. row_by (ins_plan (kept_of old).rows to first most) most (unread_of rem old)
-    (unread_of rem new) (written_of con old) (written_of con new) (kept_of old) (kept_of new) done
-    got (λ n. plain_if _ _ _ refl refl) c e (asks e)) c
-
-pub outs_on : {R W : Type 0} (rem : R → Option (List ℕ)) (con : W → Option (List ℕ))
-    (host : LiveHost) (m : ℕ)
-    (u : Pipe) (b : OutPipe) (old new : StreamBus R W) (st : Stage)
-    (ow : Owed) (to : Destination) (first : Toggle) (total : List ℕ) (done : RowDone)
-    → ((f : LiveFault) → (kept_of old).fault ≡ Some f
-    → RefusesRow (length total) f old done new)
-    → ((kept_of old).fault ≡ None → OutsByLine to first total
-    (streams (unread_of rem old) (unread_of rem new) (written_of con old)
-    (written_of con new)) (kept_of old) done (kept_of new))
-    → CourseTo st ow host m u b (unread_of rem old) (written_of con old) (kept_of old)
-    → CourseTo Asks ow host m u b (unread_of rem new) (written_of con new) (kept_of new)
-outs_on rem con host m u b old new st ow to first total done again asks c =
-    by_fault rem con host m u b old new st ow (kept_of old).fault refl (λ f e. (again f e).0)
-    (λ e. let (got, row) = asks e in
-    row_by (outs_plan (kept_of old).rows to first total) (div_ceil (length total) to.max)
-    (unread_of rem old) (unread_of rem new) (written_of con old) (written_of con new) (kept_of old)
-    (kept_of new) done got (λ n. plain_if _ _ _ refl refl) c e row) c
 
 beyond_or : (p roots : ℕ) {T : Type 0} → (1 ≤ suc p → suc p ≤ roots → T) → (roots < suc p → T)
     → (roots < suc p) ⊎ (suc p ≤ roots) → T
@@ -553,7 +426,6 @@ left_roots roots k = left_if (nat_lt roots 1) (nat_lt 7 roots) k (record k { roo
 
 left_greeted : (result : Result Answer LiveFault) (k : Kept) → (greeted result k).left ≡ k.left
 left_greeted (Ok (answer.Roots roots)) k = left_roots roots k
-left_greeted (Ok (answer.RootsAndRows roots)) k = left_roots roots k
 left_greeted (Ok _) k = refl
 left_greeted (Err f) k = refl
 

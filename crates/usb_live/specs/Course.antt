@@ -16,8 +16,7 @@ use Rattle.usb_run.specs.{Item, Listing, Sent, Received, Cleared, Read, Written,
 use Rattle.usb_run.specs.{SentTo, ReceivedFrom, Polled, ClearedOf, InterfaceSet}
 use Rattle.usb_run.specs.{item_lines, number_of}
 use Rattle.usb_run.specs.declared.runs.Item.TheVariants.{News}
-use Rattle.usb_stream.specs.{AskedWell, AsksNoQuestion, AsksOnce, HearsMore, Kept, WritesLines}
-use Rattle.usb_stream.specs.{greeted}
+use Rattle.usb_stream.specs.{AskedWell, AsksNoQuestion, AsksOnce, Kept, WritesLines, greeted}
 use Rattle.usb_stream.specs.{questions, streams, unasked, LiveFault}
 use Rattle.usb_live.specs.declared.end.LiveEnd.{LiveEnd}
 use Rattle.usb_live.specs.declared.end.LiveEnd.TheVariants.{Line, Memory, Rounds}
@@ -135,8 +134,7 @@ listed count item (Ok done) = number_of item count
 listed count item (Err f) = count
 
 -- so many questions were asked, from the hello on, each was answered by the lines that were read
--- next or left a fault, a row of attempts also by more lines behind those, as many as it may have at
--- most (`ahead`), and items were told between them: behind what was wanted the one that this
+-- next or left a fault, and items were told between them: behind what was wanted the one that this
 -- owes, once, and before it is asked again what is wanted; behind a fault nothing was asked or
 -- told. So many listings were told, numbered from 1 on
 pub data LiveCourse (host : LiveHost) (unread : Pipe) (before : OutPipe) : Owed → ℕ → Pipe → OutPipe
@@ -150,11 +148,6 @@ pub data LiveCourse (host : LiveHost) (unread : Pipe) (before : OutPipe) : Owed 
       → LiveCourse host unread before o m r w j n → j.fault ≡ None → is_wait q ≡ false
       → AsksOnce q (streams r left w now) j result k
       → LiveCourse host unread before o m left now k (n + questions_in result)
-  heard : {o : Owed} {m : ℕ} {r left : Pipe} {w now : OutPipe} {j k : Kept} {n : ℕ}
-      (result : Result Answer LiveFault)
-      → LiveCourse host unread before o m r w j n → j.fault ≡ None
-      → HearsMore (streams r left w now) j result k
-      → LiveCourse host unread before o m left now k n
   wanted : {m : ℕ} {r left : Pipe} {w now : OutPipe} {j k : Kept} {n : ℕ}
       (result : Result Answer LiveFault)
       → LiveCourse host unread before owed.Nothing m r w j n → j.fault ≡ None
