@@ -75,16 +75,16 @@ value_name() {
   [ "$1" = --only ] && echo WHAT || echo N
 }
 
-# Ends where a text names no selection of `explain`: all, setup, damage, or an address, 0 to 127.
+# Ends where a text names no selection of `explain`: all, setup, damage, a path, or an address, 0 to 127.
 check_selection() {
-  local number
+  local number why="it is a path as path:1.2, an address as address:5, setup, damage or all"
   [[ ! "$1" =~ ^(all|setup|damage)$ ]] || return 0
+  [[ ! "$1" =~ ^path:([1-9]|1[0-5])(\.([1-9]|1[0-5])){0,6}$ ]] || return 0
   if [[ "$1" =~ ^address:\+?0*([0-9]{1,3})$ ]]; then
     number=${BASH_REMATCH[1]}
     [ "$number" -gt 127 ] || return 0
   fi
-  refuse_words "invalid value '$1' for '--only <WHAT>': it is an address as address:5, setup, damage or all" \
-    "$(usage_of explain)"
+  refuse_words "invalid value '$1' for '--only <WHAT>': $why" "$(usage_of explain)"
 }
 
 # Ends where the value of an option is not one: a number of 64 bits, of `--ports` 1 to 7.
@@ -206,6 +206,7 @@ answer_words() {
       exit 2
       ;;
     help) shift && help_with "$@" ;;
+    test) ;; # read_test has seen to it
     -*) refuse_words "unexpected argument '$1' found" "$(usage_of usbplan)" ;;
     *)
       is_command "$1" || refuse_words "$(no_command "$1")" "$(usage_of usbplan)"

@@ -1,5 +1,5 @@
 # fish completion for usbplan
-set -l commands packet check tree draw run explain page pcap device far live help
+set -l commands packet check tree draw run explain page pcap device far live test help
 complete -c usbplan -s h -l help -d 'Print help'
 complete -c usbplan -n '__fish_use_subcommand' -s V -l version -d 'Print version'
 complete -c usbplan -n '__fish_use_subcommand' -f -a packet -d 'Print the packet that bytes spell'
@@ -13,6 +13,7 @@ complete -c usbplan -n '__fish_use_subcommand' -f -a pcap -d 'Write the packets 
 complete -c usbplan -n '__fish_use_subcommand' -f -a device -d 'Write the table of a plan for a real device'
 complete -c usbplan -n '__fish_use_subcommand' -f -a far -d 'Answer a host as the devices of a plan would'
 complete -c usbplan -n '__fish_use_subcommand' -f -a live -d 'Run the host against another program'
+complete -c usbplan -n '__fish_use_subcommand' -f -a test -d 'Compare what the plans of a folder write with texts'
 complete -c usbplan -n '__fish_use_subcommand' -f -a help -d 'Print help'
 complete -c usbplan -n '__fish_seen_subcommand_from help' -f -a "$commands"
 complete -c usbplan -n '__fish_seen_subcommand_from draw' -l ascii -d 'Plain letters'
@@ -20,3 +21,5 @@ complete -c usbplan -n '__fish_seen_subcommand_from device' -x -l ports -a '1 2 
 complete -c usbplan -n '__fish_seen_subcommand_from live' -x -l limit -d 'Most questions'
 complete -c usbplan -n '__fish_seen_subcommand_from live' -l wide-hubs -d 'Hubs of up to 15 ports'
 complete -c usbplan -n '__fish_seen_subcommand_from explain' -x -l only -a 'all setup damage' -d 'What of the run'
+complete -c usbplan -n '__fish_seen_subcommand_from test' -l accept -d 'Write the texts anew'
+complete -c usbplan -n '__fish_seen_subcommand_from test' -f -a '(__fish_complete_directories)'

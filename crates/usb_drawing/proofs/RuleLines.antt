@@ -1,17 +1,18 @@
 -- No rule that is told has a newline.
-use Rattle.std.proofs.Common.{refl, ℕ, ◌-◌, ◌==◌, ◌||◌, not, Bool, true, false, List, [], ◌++◌, length, drop, Option, None}
+use Rattle.std.proofs.Common.{refl, ℕ, ◌+◌, ◌*◌, ◌-◌, ◌%◌, ◌==◌, ◌||◌, not, Bool, true, false, List, [], ◌++◌, length, drop, Option, None}
 use Rattle.std.proofs.Common.{Some, get_or, nat_lt, slice_index_or, codes, decimal}
 use Rattle.usb_descriptor.specs.{DescriptorFault}
 use Rattle.usb_descriptor.specs.declared.fault.DescriptorFault.TheVariants as flaw
-use Rattle.usb_device.specs.{Spec}
-use Rattle.usb_enum.specs.{Cause, Finding}
+use Rattle.usb_device.specs.{Spec, hub_ports}
+use Rattle.usb_enum.specs.{Cause, Finding, text_read}
 use Rattle.usb_enum.specs.declared.finding.Finding.TheVariants.{Device, Refused}
 use Rattle.usb_remarks.specs.{Remark, TextRemark, config_words, count_words, cut_words}
 use Rattle.usb_remarks.specs.{descriptor_words, device_words, given_words, head_words, hub_bytes}
 use Rattle.usb_remarks.specs.{hub_words, index_words, is_count, item_rule, item_words, key_words, length_rule}
 use Rattle.usb_remarks.specs.{missing_words, packet_rule, passing_words, portless_words, ports_rule, ports_words}
 use Rattle.usb_remarks.specs.{remark_of, remark_words, repeated_words, rule_words, said_total}
-use Rattle.usb_remarks.specs.{small_words, text_words}
+use Rattle.usb_remarks.specs.{address_rule, endpoint_words, first_endpoint, is_status_address}
+use Rattle.usb_remarks.specs.{lacking_words, size_rule, small_words, status_words, text_words}
 use Rattle.usb_remarks.specs.declared.remark.Remark.TheVariants as remark
 use Rattle.usb_remarks.specs.declared.text.TextRemark.TheVariants as part
 use Rattle.usb_drawing.specs.{is_cause_of, rule_if, rule_of, rule_text}
@@ -177,6 +178,41 @@ given : (wide : Bool) (bytes : List ℕ) (fault : DescriptorFault)
 given wide bytes fault = no_line_feed-append (key_words (codes "hub_descriptor"))
     (hub_words wide bytes fault) (key (codes "hub_descriptor") refl) (hub wide bytes fault)
 
+-- Status endpoints
+
+address : (wide : Bool) → HasNoLineFeed (address_rule wide)
+address true = refl
+address false = refl
+
+size : (many : Bool) → HasNoLineFeed (size_rule many)
+size true = refl
+size false = refl
+
+endpoint : (wide many : Bool) (at : ℕ) (e : List ℕ) → HasNoLineFeed (endpoint_words wide many at e)
+unfolding endpoint_words
+endpoint wide many at e =
+    choice (not (is_status_address wide (get_or e 2 0))) _ _
+    (one_rule (at + 2) (codes "bEndpointAddress is ") (get_or e 2 0) (address_rule wide) refl
+    (address wide))
+    (choice (not (get_or e 3 0 % 4 == 3)) _ _
+    (one_rule (at + 3) (codes "bmAttributes is ") (get_or e 3 0)
+    (codes ", of an interrupt endpoint it is 3") refl refl)
+    (one_rule (at + 4) (codes "wMaxPacketSize is ") (get_or e 4 0 + 256 * get_or e 5 0)
+    (size_rule many) refl (size many)))
+
+lacking : (wide many : Bool) (text : List ℕ) (o : Option ℕ)
+    → HasNoLineFeed (lacking_words wide many text o)
+lacking wide many text None = one_rule 4 (codes "bNumInterfaces is ") (get_or text 4 0)
+    (codes ", of a hub one has a status endpoint") refl refl
+lacking wide many text (Some at) = endpoint wide many at (drop at text)
+
+status : (wide : Bool) (spec : Spec) → HasNoLineFeed (status_words wide spec)
+status wide spec =
+    let text = text_read (slice_index_or spec.configs 0 []) in
+    no_line_feed-append (index_words 0)
+    (lacking_words wide (nat_lt 7 (hub_ports spec.hub)) text (first_endpoint text)) (index 0)
+    (lacking wide (nat_lt 7 (hub_ports spec.hub)) text (first_endpoint text))
+
 told : (wide : Bool) (spec : Spec) (r : Remark) → HasNoLineFeed (remark_words wide spec r)
 unfolding remark_words
 told wide spec (remark.Device fault) = in_descriptor spec fault
@@ -185,6 +221,7 @@ told wide spec (remark.Repeated n) = again spec.configs n
 told wide spec (remark.Missing n) = missing spec.descriptor n
 told wide spec remark.NoPorts = portless spec.descriptor
 told wide spec (remark.Hub fault) = given wide (hub_bytes spec.hub) fault
+told wide spec remark.Status = status wide spec
 
 -- What is drawn
 

@@ -44,6 +44,7 @@ is_cause_of (remark.Repeated index) cause = is_bad_configuration index cause
 is_cause_of (remark.Missing index) cause = is_stalled_config cause
 is_cause_of remark.NoPorts cause = is_bad_hub cause
 is_cause_of (remark.Hub fault) cause = is_bad_hub cause
+is_cause_of remark.Status cause = is_bad_hub cause
 
 -- what is said of a remark on a device that is refused for a cause, by a host that takes wide hubs
 -- or not

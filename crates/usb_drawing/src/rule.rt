@@ -80,7 +80,7 @@ fn is_cause_of(remark: Remark, cause: Cause) -> bool
         Remark::Device(_) => matches!(cause, Cause::BadDevice),
         Remark::Text(index, _) | Remark::Repeated(index) => is_bad_configuration(index, cause),
         Remark::Missing(_) => matches!(cause, Cause::Stalled(Request::Config)),
-        Remark::NoPorts | Remark::Hub(_) => matches!(cause, Cause::BadHub),
+        Remark::NoPorts | Remark::Hub(_) | Remark::Status => matches!(cause, Cause::BadHub),
     }
 }
 

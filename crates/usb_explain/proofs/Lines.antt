@@ -13,66 +13,82 @@ use Rattle.usb_bus.proofs.Interface.{front_after_first}
 use Rattle.usb_pcap.specs.{IsAttemptLine, IsRunLine, IsTold, TracedAttempt, longest, next_number}
 use Rattle.usb_pcap.specs.{read_attempt}
 use Rattle.usb_explain.specs.{BeginsOtherwise, BegunLine, ExplainFault, ExplainedInPart, ExplainedTo}
-use Rattle.usb_explain.specs.{ExplainsText, IsExplained, KeepsLine, Kept, Only, Reaches, ReachesOr}
-use Rattle.usb_explain.specs.{kept_attempt, kept_of, kept_text, kept_told, line_text}
+use Rattle.usb_explain.specs.{ExplainsText, IsExplained, KeepsLine, Kept, Known, Only, Reaches}
+use Rattle.usb_explain.specs.{ReachesOr, after_attempt, after_read, after_told, kept_attempt}
+use Rattle.usb_explain.specs.{kept_of, kept_text, kept_told, known_after, line_text, nothing_known}
 use Rattle.usb_explain.specs.declared.explaining.ExplainFault.TheVariants.{Line as bad_line, Read}
 use Rattle.usb_explain.specs.declared.explaining.ExplainFault.TheVariants.{TooLong, Write}
 
 -- ---- a line
 
-pub keeps_attempt_line : (only : Only) (line : List ℕ) (a : TracedAttempt) (k : Kept)
-    → length line ≤ longest → IsAttemptLine line a → Some a ≡ read_attempt line
-    → k ≡ kept_attempt only a → KeepsLine only line (Some k)
-keeps_attempt_line only line a k few of read e =
-    (inr (a, (few, of)), e ∙ ap (kept_of only) read)
+pub keeps_attempt_line : (only : Only) (line : List ℕ) (a : TracedAttempt) (kept : Kept)
+    (old new : Known) → length line ≤ longest → IsAttemptLine line a → Some a ≡ read_attempt line
+    → kept ≡ kept_attempt only old a.exchange → new ≡ after_attempt a.exchange old
+    → KeepsLine only old line (Some kept) new
+keeps_attempt_line only line a kept old new few of read e told = (
+  inr (a, (few, of)),
+  e ∙ ap (kept_of only old) read,
+  told ∙ ap (λ r. after_read r line old) read,
+)
 
-pub keeps_told_line : (only : Only) (line : List ℕ) (told : Bool) (k : Kept)
-    → Decides told (IsTold line) → told ≡ true → None ≡ read_attempt line → k ≡ kept_told only
-    → KeepsLine only line (Some k)
-keeps_told_line only line told k decides is read e =
-    (inl (decides.0 is), e ∙ ap (kept_of only) read)
+pub keeps_told_line : (only : Only) (line : List ℕ) (told : Bool) (kept : Kept) (old new : Known)
+    → Decides told (IsTold line) → told ≡ true → None ≡ read_attempt line → kept ≡ kept_told only
+    → new ≡ after_told line old → KeepsLine only old line (Some kept) new
+keeps_told_line only line told kept old new decides is read e after = (
+  inl (decides.0 is),
+  e ∙ ap (kept_of only old) read,
+  after ∙ ap (λ r. after_read r line old) read,
+)
 
-pub keeps_no_line : (only : Only) (line : List ℕ) (told : Bool) → Decides told (IsTold line)
-    → told ≡ false → ((a : TracedAttempt) → IsAttemptLine line a → None ≡ Some a)
-    → KeepsLine only line None
-keeps_no_line only line told decides fails each (inl is) = let found = decides.1 is in absurd (cc)
-keeps_no_line only line told decides fails each (inr (a, (few, of))) =
+pub keeps_no_line : (only : Only) (line : List ℕ) (told : Bool) (old new : Known)
+    → Decides told (IsTold line) → told ≡ false
+    → ((a : TracedAttempt) → IsAttemptLine line a → None ≡ Some a)
+    → KeepsLine only old line None new
+keeps_no_line only line told old new decides fails each (inl is) = let found = decides.1 is in
+    absurd (cc)
+keeps_no_line only line told old new decides fails each (inr (a, (few, of))) =
     let found = each a of in absurd (cc)
 
-pub kept_gives : (only : Only) (line slice : List ℕ) (k : Kept) → slice ≡ line
-    → KeepsLine only slice (Some k)
-    → IsRunLine line × (kept_text k slice ≡ line_text only line)
-kept_gives only line slice k e (is, same) = (
+pub kept_gives : (only : Only) (line slice : List ℕ) (kept : Kept) (old new : Known)
+    → slice ≡ line → KeepsLine only old slice (Some kept) new
+    → IsRunLine line × (kept_text kept slice ≡ line_text only old line)
+    × (new ≡ known_after line old)
+kept_gives only line slice kept old new e (is, same, after) = (
   subst IsRunLine e is,
-  ap (λ (q : Kept). kept_text q slice) same ∙ ap (line_text only) e,
+  ap (λ (q : Kept). kept_text q slice) same ∙ ap (line_text only old) e,
+  after ∙ ap (λ l. known_after l old) e,
 )
 
 -- ---- byte after byte
 
 pub reaches_first : (only : Only) (w : Option (List ℕ)) (s : BegunLine) → s.number ≡ 1
-    → s.bytes.items ≡ [] → Reaches only w w [] s
-reaches_first only w s number bytes = record {
+    → s.bytes.items ≡ [] → s.known ≡ nothing_known → Reaches only w w [] s
+reaches_first only w s number bytes known = record {
   n = 0;
   went = record {
     front = [];
     out = [];
+    known = nothing_known;
     split = sym bytes;
     explained = IsExplained.no_line;
     gone = Appends-nil w;
   };
   one = subst (λ l. All (λ c. c ≢ 10) l) (sym bytes) (All-nil _);
   number = number;
+  known = known;
 }
 
 -- one byte more
 pub reaches_more : (only : Only) (w now : Option (List ℕ)) (text : List ℕ) (b : ℕ)
     (s t : BegunLine) → b ≢ 10 → Reaches only w now text s → t.number ≡ s.number
-    → t.bytes.items ≡ s.bytes.items ++ b ∷ [] → Reaches only w now (text ++ b ∷ []) t
-reaches_more only w now text b s t differs h number bytes = record {
+    → t.bytes.items ≡ s.bytes.items ++ b ∷ [] → t.known ≡ s.known
+    → Reaches only w now (text ++ b ∷ []) t
+reaches_more only w now text b s t differs h number bytes known = record {
   n = h.n;
   went = record {
     front = h.went.front;
     out = h.went.out;
+    known = h.went.known;
     split = ap (λ l. l ++ b ∷ []) h.went.split
         ∙ append_assoc h.went.front s.bytes.items (b ∷ [])
         ∙ ap (λ l. h.went.front ++ l) (sym bytes);
@@ -82,6 +98,7 @@ reaches_more only w now text b s t differs h number bytes = record {
   one = subst (λ l. All (λ c. c ≢ 10) l) (sym bytes)
       (All-push (λ x. x ≢ 10) s.bytes.items b h.one differs);
   number = number ∙ h.number;
+  known = known ∙ h.known;
 }
 
 -- a byte too many
@@ -97,6 +114,7 @@ went_long only w now text b s t differs full h =
       record {
         front = h.went.front;
         out = h.went.out;
+        known = h.went.known;
         split = ap (λ l. l ++ b ∷ []) h.went.split
             ∙ append_assoc h.went.front s.bytes.items (b ∷ []);
         explained = h.went.explained;
@@ -117,6 +135,7 @@ went_other only w now text s t h fails = (
   record {
     front = h.went.front;
     out = h.went.out;
+    known = h.went.known;
     split = ap (λ l. l ++ 10 ∷ []) h.went.split
         ∙ append_assoc h.went.front s.bytes.items (10 ∷ []);
     explained = h.went.explained;
@@ -127,12 +146,15 @@ went_other only w now text s t h fails = (
 
 explained_more : (only : Only) (w now : Option (List ℕ)) (text : List ℕ) (s : BegunLine)
     (h : Reaches only w now text s) → length s.bytes.items ≤ longest → IsRunLine s.bytes.items
-    → IsExplained only (h.n + 1) (text ++ 10 ∷ []) (h.went.out ++ line_text only s.bytes.items)
+    → IsExplained only (h.n + 1) (known_after s.bytes.items h.went.known) (text ++ 10 ∷ [])
+    (h.went.out ++ line_text only h.went.known s.bytes.items)
 explained_more only w now text s h few is =
-    subst (λ t. IsExplained only (h.n + 1) t (h.went.out ++ line_text only s.bytes.items))
+    let k = known_after s.bytes.items h.went.known in
+    let out = h.went.out ++ line_text only h.went.known s.bytes.items in
+    subst (λ t. IsExplained only (h.n + 1) k t out)
     (sym (ap (λ l. l ++ 10 ∷ []) h.went.split
     ∙ append_assoc h.went.front s.bytes.items (10 ∷ [])))
-    (subst (λ t. IsExplained only (h.n + 1) t (h.went.out ++ line_text only s.bytes.items))
+    (subst (λ t. IsExplained only (h.n + 1) k t out)
     (append_assoc h.went.front s.bytes.items (10 ∷ []))
     (IsExplained.next_line s.bytes.items (h.one, few, is) h.went.explained))
 
@@ -143,34 +165,42 @@ number_next n k m e f = omega arith
 -- it has ended and went out
 pub reaches_next : (only : Only) (w mid now : Option (List ℕ)) (text : List ℕ) (s t : BegunLine)
     → Reaches only w mid text s → length s.bytes.items ≤ longest → IsRunLine s.bytes.items
-    → Appends mid now (line_text only s.bytes.items) → t.number ≡ min (s.number + 1) (2 ^ 64 - 1)
-    → t.bytes.items ≡ [] → Reaches only w now (text ++ 10 ∷ []) t
-reaches_next only w mid now text s t h few is gone number bytes = record {
+    → Appends mid now (line_text only s.known s.bytes.items)
+    → t.number ≡ min (s.number + 1) (2 ^ 64 - 1) → t.bytes.items ≡ []
+    → t.known ≡ known_after s.bytes.items s.known → Reaches only w now (text ++ 10 ∷ []) t
+reaches_next only w mid now text s t h few is gone number bytes known = record {
   n = h.n + 1;
   went = record {
     front = text ++ 10 ∷ [];
-    out = h.went.out ++ line_text only s.bytes.items;
+    out = h.went.out ++ line_text only h.went.known s.bytes.items;
+    known = known_after s.bytes.items h.went.known;
     split = sym (append-nil (text ++ 10 ∷ [])) ∙ ap (λ l. (text ++ 10 ∷ []) ++ l) (sym bytes);
     explained = explained_more only w mid text s h few is;
-    gone = Appends-trans w mid now h.went.out (line_text only s.bytes.items) h.went.gone gone;
+    gone = Appends-trans w mid now h.went.out (line_text only h.went.known s.bytes.items)
+        h.went.gone
+        (subst (λ k. Appends mid now (line_text only k s.bytes.items)) h.known gone);
   };
   one = subst (λ l. All (λ c. c ≢ 10) l) (sym bytes) (All-nil _);
   number = number_next h.n s.number t.number h.number number;
+  known = known ∙ ap (known_after s.bytes.items) h.known;
 }
 
 -- it has ended, and went out in part
 pub went_in_part : (only : Only) (w mid now : Option (List ℕ)) (text : List ℕ) (s : BegunLine)
     → Reaches only w mid text s → length s.bytes.items ≤ longest → IsRunLine s.bytes.items
-    → AppendsFront mid now (line_text only s.bytes.items)
+    → AppendsFront mid now (line_text only s.known s.bytes.items)
     → ExplainedInPart only w now (text ++ 10 ∷ [])
 went_in_part only w mid now text s h few is gone = record {
   n = h.n + 1;
   front = text ++ 10 ∷ [];
   rest = [];
-  out = h.went.out ++ line_text only s.bytes.items;
+  out = h.went.out ++ line_text only h.went.known s.bytes.items;
+  known = known_after s.bytes.items h.went.known;
   split = sym (append-nil (text ++ 10 ∷ []));
   explained = explained_more only w mid text s h few is;
-  gone = front_after_first w mid now h.went.out (line_text only s.bytes.items) h.went.gone gone;
+  gone = front_after_first w mid now h.went.out (line_text only h.went.known s.bytes.items)
+      h.went.gone
+      (subst (λ k. AppendsFront mid now (line_text only k s.bytes.items)) h.known gone);
 }
 
 -- ---- the text goes on
@@ -180,6 +210,7 @@ to_more : (only : Only) (w now : Option (List ℕ)) (text rest more : List ℕ) 
 to_more only w now text rest more n h = record {
   front = h.front;
   out = h.out;
+  known = h.known;
   split = ap (λ l. l ++ more) h.split ∙ append_assoc h.front rest more;
   explained = h.explained;
   gone = h.gone;
@@ -200,6 +231,7 @@ part_more only w now text more h = record {
   front = h.front;
   rest = h.rest ++ more;
   out = h.out;
+  known = h.known;
   split = ap (λ l. l ++ more) h.split ∙ append_assoc h.front h.rest more;
   explained = h.explained;
   gone = h.gone;

@@ -2,8 +2,10 @@
 ghost use Rattle.std.specs.Prelude.{◌≡◌, ◌≢◌, ◌≤◌, ℕ, List, Option, [], ◌∷◌, ◌++◌, length, true, Err, IfSome, IsErrOf};
 ghost use Rattle.usb_bus.specs.Watch.{inner_of, has_failed};
 ghost use Rattle.usb_explain.specs.Explained.{ExplainsText, KeepsLine, Reaches, ReachesOr};
+ghost use Rattle.usb_explain.specs.Places.{nothing_known};
 ghost use Rattle.usb_pcap.specs.Capture.{longest};
 
+use crate::known::Known;
 use crate::only::{Kept, Only, kept_attempt, kept_told};
 use crate::words::put_kept;
 use arrayvec::ArrayVec;
@@ -39,11 +41,14 @@ pub(crate) struct BegunLine {
     number: u64,
     /// Its bytes so far.
     bytes: ArrayVec<u8, MOST>,
+    /// What the lines before tell.
+    known: Known,
 }
 
 /// Reads the text of a run and writes its lines again. Behind each attempt that is a SETUP with eight
-/// bytes in a DATA0 (8.5.3) it writes four spaces and the request in words (9.4, 11.24.2). Damage
-/// changes no words. Any `only` but `All` leaves out all lines but those of its attempts.
+/// bytes in a DATA0 (8.5.3) it writes four spaces and the request in words (9.4, 11.24.2). Those to
+/// address 0 end with the path of the device, if the lines before tell it. Damage changes no words.
+/// Any `only` but `All` leaves out all lines but those of its attempts.
 ///
 /// # Errors
 ///
@@ -55,14 +60,14 @@ pub(crate) struct BegunLine {
 /// - `Read`: the reader failed.
 /// - `Write`: the writer failed.
 pub fn explain<R: Read, W: Write>(
-    only: Only,
+    only: Only<'_>,
     reader: &mut Watched<R>,
     writer: &mut Watched<W>,
 ) -> Result<(), ExplainFault>
     ensures read { IsErrOf result ExplainFault.Read → has_failed reader.new ≡ true }
     ensures write { IsErrOf result ExplainFault.Write → has_failed writer.new ≡ true }
     ensures explains { IfSome (R.remaining (inner_of reader.old)) (λ text.
-        ExplainsText only (W.contents (inner_of writer.old)) (W.contents (inner_of writer.new))
+        ExplainsText only.entry (W.contents (inner_of writer.old)) (W.contents (inner_of writer.new))
         text result) }
 {
     let mut line = BegunLine::first();
@@ -85,10 +90,12 @@ impl BegunLine {
     fn first() -> Self
         ensures number { result.number ≡ 1 }
         ensures bytes { result.bytes.items ≡ [] }
+        ensures known { result.known ≡ nothing_known }
     {
         BegunLine {
             number: 1,
             bytes: ArrayVec::new(),
+            known: Known::nothing(),
         }
     }
 
@@ -108,13 +115,13 @@ impl BegunLine {
     /// Takes what was read.
     fn take_piece<W: Write>(
         &mut self,
-        only: Only,
+        only: Only<'_>,
         piece: &[u8],
         writer: &mut Watched<W>,
     ) -> Result<(), ExplainFault>
         ensures reaches { (w : Option (List ℕ)) (text : List ℕ)
-            → Reaches only w (W.contents (inner_of writer.old)) text self.old
-            → ReachesOr only w (W.contents (inner_of writer.new)) (text ++ piece.now) result
+            → Reaches only.entry w (W.contents (inner_of writer.old)) text self.old
+            → ReachesOr only.entry w (W.contents (inner_of writer.new)) (text ++ piece.now) result
             self.new }
         ensures write { IsErrOf result ExplainFault.Write → has_failed writer.new ≡ true }
     {
@@ -129,13 +136,13 @@ impl BegunLine {
     /// Takes a byte.
     fn take<W: Write>(
         &mut self,
-        only: Only,
+        only: Only<'_>,
         byte: u8,
         writer: &mut Watched<W>,
     ) -> Result<(), ExplainFault>
         ensures reaches { (w : Option (List ℕ)) (text : List ℕ)
-            → Reaches only w (W.contents (inner_of writer.old)) text self.old
-            → ReachesOr only w (W.contents (inner_of writer.new)) (text ++ byte ∷ []) result
+            → Reaches only.entry w (W.contents (inner_of writer.old)) text self.old
+            → ReachesOr only.entry w (W.contents (inner_of writer.new)) (text ++ byte ∷ []) result
             self.new }
         ensures write { IsErrOf result ExplainFault.Write → has_failed writer.new ≡ true }
     {
@@ -150,15 +157,19 @@ impl BegunLine {
     }
 
     /// Writes what is kept of the line, which has ended, and goes on to the next one.
-    fn close<W: Write>(&mut self, only: Only, writer: &mut Watched<W>) -> Result<(), ExplainFault>
+    fn close<W: Write>(
+        &mut self,
+        only: Only<'_>,
+        writer: &mut Watched<W>,
+    ) -> Result<(), ExplainFault>
         ensures reaches { (w : Option (List ℕ)) (text : List ℕ)
-            → Reaches only w (W.contents (inner_of writer.old)) text self.old
-            → ReachesOr only w (W.contents (inner_of writer.new)) (text ++ 10 ∷ []) result
+            → Reaches only.entry w (W.contents (inner_of writer.old)) text self.old
+            → ReachesOr only.entry w (W.contents (inner_of writer.new)) (text ++ 10 ∷ []) result
             self.new }
         ensures write { IsErrOf result ExplainFault.Write → has_failed writer.new ≡ true }
     {
         let line = self.bytes.as_slice();
-        let Some(kept) = kept_line(only, line) else {
+        let Some(kept) = kept_line(only, &mut self.known, line) else {
             return Err(ExplainFault::Line(self.number));
         };
         match put_kept(writer, line, kept) {
@@ -172,15 +183,20 @@ impl BegunLine {
     }
 }
 
-/// What is kept of a line; None for a line that no run writes.
-fn kept_line(only: Only, line: &[u8]) -> Option<Kept>
+/// What is kept of a line, which is told; None for a line that no run writes.
+fn kept_line(only: Only<'_>, known: &mut Known, line: &[u8]) -> Option<Kept>
     requires { length line.now ≤ longest }
-    ensures { KeepsLine only line.now result }
+    ensures { KeepsLine only.entry known.old line.now result known.new }
 {
     match read_attempt(line) {
-        Some(attempt) => Some(kept_attempt(only, &attempt)),
+        Some(attempt) => {
+            let kept = kept_attempt(only, known, &attempt.exchange);
+            known.take(&attempt.exchange);
+            Some(kept)
+        }
         None => {
             if is_told(line) {
+                known.tell(line);
                 Some(kept_told(only))
             } else {
                 None

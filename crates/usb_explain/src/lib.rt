@@ -3,16 +3,18 @@
 //! # What is proved
 //!
 //! - *The text* (`explain`, `IsExplained`): each line that was read and not left out, in order, and
-//!   after a SETUP the words of its request. At a fault it is that of the whole lines before, or a
-//!   prefix if the writer failed.
-//! - *The words*: those of the first row of one table that fits (`specs/Table.antt`).
+//!   after a SETUP the words of its request, those of the first row of one table that fits. At a
+//!   fault it is that of the whole lines before, or a prefix if the writer failed.
+//! - *The path* (`path_of`, `specs/Places.antt`): the port that a hub has reset right before, or the
+//!   only root port that a plug names.
 //! - It stops at the first line that no run writes, that is too long, or that nothing ends.
 //!
-//! *Only tested*: that the lines which a run writes are read.
+//! *Only tested*: that the lines which a run writes are read, and that the host means these paths.
 #![tactic(auto)]
 
 mod explaining;
 mod field;
+mod known;
 mod only;
 mod phrase;
 mod table;

@@ -3,6 +3,7 @@ mod drawing;
 mod entry;
 mod explain;
 mod judge;
+mod listing;
 mod page;
 mod pcap;
 mod status;

@@ -5,7 +5,8 @@
 //! - `judge` returns a judgement exactly if its cause holds (*Stands*, `specs/Judgements.antt`), in
 //!   the order of paths.
 //! - It returns none exactly if the listing is right (*IsRight*). Of a world that has these
-//!   devices, that is *IsRightIn* (`judged_world`).
+//!   devices, that is *IsRightIn* (`judged_world`). What has no path (*names_port*) counts as not
+//!   there.
 //!
 //! Policy is not judged: which device is refused, and which configuration is chosen among those
 //! that the port can give power.

@@ -45,7 +45,8 @@ pub facts_told : (spec : Spec) → is_hub_device spec.descriptor ≡ true → fa
 facts_told spec is = rw is refl
 
 ports_told : (spec : Spec) (o : Option HubFacts) → o ≡ facts_of spec
-    → IfSome (option_map (λ (facts : HubFacts). facts.ports) o) (λ ports. ports ≡ hub_ports spec.hub)
+    → IfSome (option_map (λ (facts : HubFacts). facts.ports) o)
+    (λ ports. ports ≡ hub_ports spec.hub)
 ports_told spec o is = subst (λ x. IfSome (option_map (λ (facts : HubFacts). facts.ports) x)
     (λ ports. ports ≡ hub_ports spec.hub)) (sym is) (by_test (is_hub_device spec.descriptor))
   where
@@ -109,7 +110,8 @@ module _ (options : HostOptions) (tier supply : ℕ) (device : Accepted) (s : St
 
   -- the configuration that it has is the one that is listed
   has_configuration : configuration_in s ≡ Some (configuration_of device)
-  has_configuration = ap (λ n. if n == 0 then None else Some (text_of s.spec s.registers)) configured
+  has_configuration =
+      ap (λ n. if n == 0 then None else Some (text_of s.spec s.registers)) configured
       ∙ ap (λ b. if b then None else Some (text_of s.spec s.registers))
       (zero_not (slice_index chosen.text 5) chosen.read.some)
       ∙ ap (λ t. Some t) text_same

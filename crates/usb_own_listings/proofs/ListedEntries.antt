@@ -101,7 +101,8 @@ module _ (es : Entries) (listing : List ListedPort) (same : ListsEntries es list
   port_is port (k, less, at) =
       let inside : k < length es = subst (λ n. k < n) (as_long es listing same) less in
       let e = get_or es k no_entry in
-      let stands : get_or listing k no_port ≡ port = get_or_default listing k no_port port less ∙ at in
+      let stands : get_or listing k no_port ≡ port =
+      get_or_default listing k no_port port less ∙ at in
       record {
         path = e.0;
         finding = e.1;

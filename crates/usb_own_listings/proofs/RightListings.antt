@@ -2,13 +2,14 @@
 use Rattle.std.proofs.Common.{◌≡◌, ◌≤◌, ◌∙◌, refl, sym, ap, subst, arith, ℕ}
 use Rattle.std.proofs.Common.{true, false, inl, inr, List, [], ◌∷◌, length, Option, None, Some}
 use Rattle.std.proofs.Common.{is_some, nat_lt, option_map, IsSome, IsSomeAnd, IfSome}
-use Rattle.std.specs.Prelude.{Contains, count_by}
-use Rattle.std.specs.List.{list_any}
+use Rattle.std.specs.Prelude.{◌&&◌, All, Bool, Contains, count_by, if◌then◌else◌, nat_le}
+use Rattle.std.specs.List.{list_all, list_any}
 use Rattle.std.specs.Str.{bytes_eq}
-use Rattle.std.proofs.lemmas.Bool.{and_from, and_parts, eqb-true, lt-ltb}
+use Rattle.std.proofs.lemmas.Bool.{and_from, and_parts, eqb-true, le-leb, lt-ltb}
+use Rattle.std.proofs.lemmas.List.Elements.{All-head, All-tail}
 use Rattle.std.proofs.lemmas.Option.{same_Some}
 use Rattle.std.proofs.lemmas.Slice.Eq.{bytes_eq-Decides}
-use Rattle.usb_port.specs.{PortState, parent_of, port_on_hub}
+use Rattle.usb_port.specs.{IsPath, IsPortNumber, PortState, parent_of, port_on_hub}
 use Rattle.usb_port.proofs.Interface.{rejoined}
 use Rattle.usb_device.specs.{State, port_there, reach, state_there}
 use Rattle.usb_world.specs.{Consistent, World, roots_of, spec_of}
@@ -24,7 +25,9 @@ use Rattle.usb_judge.specs.declared.listed.Claim.TheVariants as claim
 use Rattle.usb_judge.specs.declared.listed.ListedPort.{ListedPort}
 use Rattle.usb_judge.specs as judge
 use Rattle.usb_judge.specs.{IsRightIn, IsRightOf, claims_address, given_below, gives_address}
+use Rattle.usb_judge.specs.{is_port_number, names_port}
 use Rattle.usb_judge.specs.{has_hub, is_accepted_at, is_listed_at, is_open, scene_of, state_seen}
+use Rattle.usb_own_listings.specs.{HavePaths}
 use Rattle.usb_own_listings.specs.{ListsEntries, SaidDevice, SaidPort, claim_of_entry, claim_said}
 use Rattle.usb_own_listings.specs.{device_of_entry, device_said, port_of_entry, port_said}
 use Rattle.usb_own_listings.proofs.Devices.{facts_told, is_hub, is_powered, is_so}
@@ -60,6 +63,27 @@ never : (o : Option PortState) → IsSomeAnd o (λ b. b.enable ≡ true)
 never None on off = absurd on
 never (Some b) on off = cc (on, off)
 
+-- Paths
+
+all_three : (x y z : Bool) → x ≡ true → y ≡ true → z ≡ true → (x && y && z) ≡ true
+all_three true true z h i j = j
+all_three true false z h i j = absurd (cc i)
+all_three false y z h i j = absurd (cc h)
+
+all_numbers : (path : List ℕ) → All IsPortNumber path → list_all is_port_number path ≡ true
+all_numbers [] all = refl
+all_numbers (n ∷ path) all =
+    let here : IsPortNumber n = All-head IsPortNumber n path all in
+    and_from (is_port_number n) (list_all is_port_number path)
+    (and_from (nat_le 1 n) (nat_le n 15) (le-leb 1 n here.0) (le-leb n 15 here.1))
+    (all_numbers path (All-tail IsPortNumber n path all))
+
+-- the path of a port names it
+path_named : (path : List ℕ) → IsPath path → names_port path ≡ true
+path_named path is = all_three (nat_le 1 (length path)) (nat_le (length path) 7)
+    (list_all is_port_number path) (le-leb 1 (length path) is.0) (le-leb (length path) 7 is.1)
+    (all_numbers path is.2)
+
 -- What a claim says
 
 accepted_as : (c : Claim) → judge.is_accepted c ≡ is_some (claim_said c)
@@ -80,7 +104,7 @@ refused_claims (claim.Device listed) address said gives = absurd (cc said)
 refused_claims claim.Refused address said gives = absurd (cc gives)
 
 module _ (options : HostOptions) (w : World) (entries : Entries) (sane : Consistent w.roots)
-    (m : Matches options w entries) (listing : List ListedPort)
+    (paths : HavePaths entries) (m : Matches options w entries) (listing : List ListedPort)
     (same : ListsEntries entries listing) where
   -- Each field of what is found
 
@@ -127,7 +151,7 @@ module _ (options : HostOptions) (w : World) (entries : Entries) (sane : Consist
   claim_right : (path : List ℕ) (f : Finding) (s : State) → finding_at path entries ≡ Some f
       → state_there w.roots path ≡ Some s
       → (c : Claim) → claim_said c ≡ claim_of_entry f
-      → IsRightOf c (state_seen (reach w.roots path) (given_below w (parent_of path)) s)
+      → IsRightOf c (state_seen (reach w.roots path) (given_below w.roots (parent_of path)) s)
   claim_right path (Device device) s at stands (claim.Device listed) said =
       let supply : ℕ = supply_at (tree_in w) path in
       let found = found_at path device s at stands in
@@ -149,11 +173,15 @@ module _ (options : HostOptions) (w : World) (entries : Entries) (sane : Consist
 
   there_at : (path : List ℕ) (f : Finding) → finding_at path entries ≡ Some f
       → (c : Claim) → claim_said c ≡ claim_of_entry f → IsSomeAnd (scene_of w path) (IsRightOf c)
-  there_at path f at c said = by_state (state_there w.roots path) refl (m.lists.nothing_else path f at).1
+  there_at path f at c said =
+      subst (λ b. IsSomeAnd (if b then option_map (state_seen (reach w.roots path)
+      (given_below w.roots (parent_of path))) (state_there w.roots path) else None) (IsRightOf c))
+      (sym (path_named path (paths path f at)))
+      (by_state (state_there w.roots path) refl (m.lists.nothing_else path f at).1)
     where
       by_state : (o : Option State) → state_there w.roots path ≡ o → IsSome (option_map spec_of o)
-          → IsSomeAnd (option_map (state_seen (reach w.roots path) (given_below w (parent_of path)))
-          o) (IsRightOf c)
+          → IsSomeAnd (option_map (state_seen (reach w.roots path)
+          (given_below w.roots (parent_of path))) o) (IsRightOf c)
       by_state None stands some = absurd (cc some)
       by_state (Some s) stands some = claim_right path f s at stands c said
 
@@ -163,8 +191,8 @@ module _ (options : HostOptions) (w : World) (entries : Entries) (sane : Consist
       let e : IsPortOf port entries = port_is entries listing same port has in
       subst (λ p. IsSomeAnd (scene_of w p) (IsRightOf port.claim))
       (sym (ap (λ (said : SaidPort). said.0) e.is))
-      (there_at e.path e.finding (finding_of e.path e.finding entries m.lists.rises e.has) port.claim
-      (ap (λ (said : SaidPort). said.1) e.is))
+      (there_at e.path e.finding (finding_of e.path e.finding entries m.lists.rises e.has)
+      port.claim (ap (λ (said : SaidPort). said.1) e.is))
 
   -- Hubs
 
@@ -270,14 +298,15 @@ module _ (options : HostOptions) (w : World) (entries : Entries) (sane : Consist
   each : (path : List ℕ) → is_some (scene_of w path) ≡ true
       → is_open listing path ≡ true
       → list_any (is_listed_at path) listing ≡ true
-  each path some opens = by_state (state_there w.roots path) refl some
+  each path some opens = by_state (names_port path) (state_there w.roots path) refl some
     where
-      by_state : (o : Option State) → state_there w.roots path ≡ o
-          → is_some (option_map (state_seen (reach w.roots path)
-          (given_below w (parent_of path))) o) ≡ true
+      by_state : (b : Bool) (o : Option State) → state_there w.roots path ≡ o
+          → is_some (if b then option_map (state_seen (reach w.roots path)
+          (given_below w.roots (parent_of path))) o else None) ≡ true
           → list_any (is_listed_at path) listing ≡ true
-      by_state None stands h = absurd (cc h)
-      by_state (Some s) stands h = each_at path s stands opens
+      by_state true (Some s) stands h = each_at path s stands opens
+      by_state true None stands h = absurd (cc h)
+      by_state false o stands h = absurd (cc h)
 
   -- Nothing is listed twice
 

@@ -70,7 +70,8 @@ enabled_at : (k : Ports) (i : ℕ) (p : List ℕ) → reach_at k i p ≡ true
 unfolding reach_at port_at
 enabled_at (vacant b k) (suc i) p h = enabled_at k i p h
 enabled_at (taken b s a k) zero [] h = h
-enabled_at (taken b s a k) zero (suc j ∷ p) h = enabled_at a j p (both b.enable (reach_at a j p) h).1
+enabled_at (taken b s a k) zero (suc j ∷ p) h =
+    enabled_at a j p (both b.enable (reach_at a j p) h).1
 enabled_at (taken b s a k) (suc i) p h = enabled_at k i p h
 enabled_at k i p h = false_true h
 
@@ -80,7 +81,8 @@ enabled_there k (suc i ∷ p) h = enabled_at k i p h
 enabled_there k _ h = false_true h
 
 -- what a port gives is what the listing's own table says
-pub same_supply : (w : World) (o : Option (List ℕ)) → supply_below (tree_in w) o ≡ given_below w o
+pub same_supply : (w : World) (o : Option (List ℕ)) → supply_below (tree_in w) o
+    ≡ given_below w.roots o
 same_supply w None = refl
 same_supply w (Some hub) = by_state (state_there w.roots hub)
   where

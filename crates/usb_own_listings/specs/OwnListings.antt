@@ -3,7 +3,8 @@ use Rattle.std.specs.Prelude.{◌≡◌, ℕ, Bool, List, map, Option, None, Som
 use Rattle.std.specs.Global.{Vec}
 use Rattle.usb_enum.specs.{Accepted, Finding, HubFacts, configuration_of}
 use Rattle.usb_enum.specs.declared.finding.Finding.TheVariants.{Device, Refused}
-use Rattle.usb_table.specs.{Entries}
+use Rattle.usb_port.specs.{IsPath}
+use Rattle.usb_table.specs.{Entries, finding_at}
 use Rattle.usb_judge.specs.declared.listed.Claim.{Claim}
 use Rattle.usb_judge.specs.declared.listed.Claim.TheVariants as claim
 use Rattle.usb_judge.specs.declared.listed.ListedDevice.{ListedDevice}
@@ -62,6 +63,11 @@ port_of_entry entry = (entry.0, claim_of_entry entry.1)
 -- of each entry, in the order of paths
 abbrev pub ports_of_entries : Entries → List SaidPort
 ports_of_entries entries = map port_of_entry entries
+
+-- each path is one of a port, as those of a host's table are (*Agrees*, usb_host)
+abbrev pub HavePaths : Entries → Type 0
+HavePaths entries = (path : List ℕ) (finding : Finding) → finding_at path entries ≡ Some finding
+    → IsPath path
 
 -- a listing says what the entries say
 abbrev pub ListsEntries : Entries → List ListedPort → Type 0

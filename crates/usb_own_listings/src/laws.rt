@@ -13,22 +13,22 @@ ghost use Rattle.usb_judge.specs.declared.plugged.PluggedDevice.{PluggedDevice};
 ghost use Rattle.usb_judge.specs.Scenes.{scene_in};
 ghost use Rattle.usb_judge.specs.Judgements.{Judges};
 ghost use Rattle.usb_judge.specs.Worlds.{ArePlugged, IsRightIn};
-ghost use Rattle.usb_own_listings.specs.OwnListings.{ListsEntries};
+ghost use Rattle.usb_own_listings.specs.OwnListings.{HavePaths, ListsEntries};
 
 /// If a host's entries match a world whose ports are consistent, a listing that says what they say is right in it.
 ///
-/// A host that has settled after fair damage knows both: `Settled` of `usb_run` has `matches`, and `order` among what
-/// the host knows.
+/// The table of each host has paths of ports (*Agrees*, usb_host). One that has settled after fair damage knows the rest:
+/// `Settled` of `usb_run` has `matches`, and `order` among what the host knows.
 pub fn own_listings_are_right()
     ensures { (options : HostOptions) (w : World) (entries : Entries) → Consistent w.roots
-        → Matches options w entries
+        → HavePaths entries → Matches options w entries
         → (listing : List ListedPort) → ListsEntries entries listing → IsRightIn w listing }
 {}
 
 /// So there is no judgement of it, where what is plugged in that world is given.
 pub fn own_listings_stand()
     ensures { (options : HostOptions) (w : World) (entries : Entries) → Consistent w.roots
-        → Matches options w entries
+        → HavePaths entries → Matches options w entries
         → (listing : List ListedPort) → ListsEntries entries listing
         → (plugged : List PluggedDevice) → ArePlugged plugged w → (judgements : List Judgement)
         → Judges (scene_in plugged) listing judgements → judgements ≡ [] }

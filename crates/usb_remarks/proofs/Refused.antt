@@ -1,18 +1,21 @@
 -- A host refuses a device with a remark.
 use Rattle.std.proofs.Common.{◌≡◌, ◌⊎◌, inl, inr, ℕ, zero, suc, ◌==◌, ◌&&◌, not, Bool, true, false}
-use Rattle.std.proofs.Common.{List, [], take, slice_get, slice_index_or, Option, Some, None, is_some}
+use Rattle.std.proofs.Common.{List, [], ◌∷◌, take, slice_get, slice_index_or, Option, Some, None, is_some}
 use Rattle.std.proofs.Common.{Result, Ok, Err, is_ok, if◌then◌else◌, refl, ap, sym}
 use Rattle.std.specs.Option.{option_or, IfSome}
 use Rattle.usb_descriptor.specs.{DescriptorFault, configuration_count, configuration_value}
-use Rattle.usb_descriptor.specs.{device_head_of, device_spelled, hub_spelled, status_endpoint_of}
+use Rattle.usb_descriptor.specs.{config_head_of, config_of, device_head_of, device_spelled}
+use Rattle.usb_descriptor.specs.{hub_spelled, status_endpoint_of}
 use Rattle.usb_device.specs.{Hub, Spec, hub_ports}
 use Rattle.usb_enum.specs.{BadConfiguration, BadHub, Cause, any_has_value}
 use Rattle.usb_enum.specs.{choice_of, config_fault, first_fault, gives_hub, holds_changes, is_good_text}
 use Rattle.usb_enum.specs.{is_device, is_hub_device, read_verdict, set_verdict, text_fault, text_read}
 use Rattle.usb_enum.specs.{texts_below, texts_of, usual_options, verdict}
 use Rattle.usb_remarks.specs.{IsRefused, Remark, TextRemark, at_index, config_remark, configs_remark}
-use Rattle.usb_remarks.specs.{device_remark, hub_remark, remark_of, text_remark, unless_repeated}
-use Rattle.usb_remarks.specs.{spelled_remark, with_text}
+use Rattle.usb_remarks.specs.{device_remark, has_status, hub_remark, lack_status, remark_of}
+use Rattle.usb_remarks.specs.{spelled_remark, status_remark, text_remark, unless_repeated}
+use Rattle.usb_remarks.specs.{whole_hub_remark, with_text}
+use Rattle.usb_remarks.specs.declared.remark.Remark.TheVariants as remark
 use Rattle.usb_remarks.proofs.Readers.{remarked_bad}
 
 unless_err : (b : Bool) (cause : Cause) (r : Result ℕ Cause) → is_ok r ≡ false
@@ -122,6 +125,45 @@ hub_bad wide spec (Some hub) r h = spelled (not spec.stalls.hub) (not spec.stall
     spelled true false (Err fault) h = refl
     spelled false b (Err fault) h = refl
 
+-- none of these texts, and no other one, has a status endpoint
+lacking_at : (wide : Bool) (ports : ℕ) (texts : List (List ℕ)) (chosen : ℕ)
+    → lack_status wide ports texts ≡ true
+    → has_status wide ports (slice_index_or texts chosen []) ≡ false
+unfolding status_endpoint_of config_of config_head_of
+lacking_at true ports [] chosen h = refl
+lacking_at false ports [] chosen h = refl
+lacking_at wide ports (text ∷ texts) zero h = first (has_status wide ports text) _ h
+  where
+    first : (a b : Bool) → (not a && b) ≡ true → a ≡ false
+    first true b h = absurd cc
+    first false b h = refl
+lacking_at wide ports (text ∷ texts) (suc chosen) h = lacking_at wide ports texts chosen
+    (later (has_status wide ports text) _ h)
+  where
+    later : (a b : Bool) → (not a && b) ≡ true → b ≡ true
+    later true b h = absurd cc
+    later false b h = h
+
+set_lacking : (wide : Bool) (spec : Spec) (texts : List (List ℕ)) (choice : Option ℕ)
+    → is_hub_device spec.descriptor ≡ true
+    → lack_status wide (hub_ports spec.hub) texts ≡ true
+    → is_ok (set_verdict wide spec texts choice) ≡ false
+set_lacking wide spec texts None hub bad = refl
+set_lacking wide spec texts (Some chosen) hub bad = unless_err spec.stalls.set_config _ _
+    (rw (hub, lacking_at wide (hub_ports spec.hub) texts chosen bad) refl)
+
+lacking_read : (wide : Bool) (spec : Spec) (supply : ℕ) (o : Option Cause) (r : Remark)
+    → is_hub_device spec.descriptor ≡ true → status_remark wide spec ≡ Some r
+    → is_ok (read_verdict wide spec supply o) ≡ false
+lacking_read wide spec supply (Some cause) r hub h = refl
+lacking_read wide spec supply None r hub h = set_lacking wide spec (texts_of spec)
+    (choice_of supply (texts_of spec)) hub (lack (lack_status wide (hub_ports spec.hub)
+    (texts_of spec)) h)
+  where
+    lack : (b : Bool) → (if b then Some remark.Status else None) ≡ Some r → b ≡ true
+    lack true h = refl
+    lack false h = absurd cc
+
 set_bad : (wide : Bool) (spec : Spec) (texts : List (List ℕ)) (choice : Option ℕ)
     → is_hub_device spec.descriptor ≡ true → gives_hub wide spec spec.hub ≡ false
     → is_ok (set_verdict wide spec texts choice) ≡ false
@@ -141,10 +183,19 @@ bad_hub_read wide spec supply (Some cause) hub bad = refl
 bad_hub_read wide spec supply None hub bad = set_bad wide spec (texts_of spec)
     (choice_of supply (texts_of spec)) hub bad
 
-hub_remarked : (wide b : Bool) (hub : Option Hub) (r : Remark) → (if b then hub_remark wide hub else None)
-    ≡ Some r → (b ≡ true) × (hub_remark wide hub ≡ Some r)
-hub_remarked wide true hub r h = (refl, h)
-hub_remarked wide false hub r h = absurd cc
+hub_remarked : (b : Bool) (o : Option Remark) (r : Remark) → (if b then o else None) ≡ Some r
+    → (b ≡ true) × (o ≡ Some r)
+hub_remarked true o r h = (refl, h)
+hub_remarked false o r h = absurd cc
+
+whole_bad : (wide : Bool) (spec : Spec) (supply : ℕ) (o : Option Cause) (r : Remark)
+    → is_hub_device spec.descriptor ≡ true → whole_hub_remark wide spec ≡ Some r
+    → is_ok (read_verdict wide spec supply o) ≡ false
+whole_bad wide spec supply o r hub h =
+    elim (either_some (hub_remark wide spec.hub) (status_remark wide spec) r h) [
+      | inl given ↦ bad_hub_read wide spec supply o hub (hub_bad wide spec spec.hub r given)
+      | inr status ↦ lacking_read wide spec supply o r hub status
+    ]
 
 -- A device with a remark
 
@@ -161,8 +212,9 @@ remarked_refused wide spec r is tier supply =
         later_bad spec wide tier supply (elim (either_some (configs_remark spec.configs
         (configuration_count spec.descriptor)) _ r h) [
           | inl config ↦ read_bad wide spec supply _ (configs_bad spec _ r config)
-          | inr hub ↦ (let parts = hub_remarked wide (is_hub_device spec.descriptor) spec.hub r hub in
-              bad_hub_read wide spec supply _ parts.0 (hub_bad wide spec spec.hub r parts.1))
+          | inr hub ↦ (let parts = hub_remarked (is_hub_device spec.descriptor)
+              (whole_hub_remark wide spec) r hub in
+              whole_bad wide spec supply _ r parts.0 parts.1)
         ])
 
 pub refused_if : (wide : Bool) (spec : Spec) (o : Option Remark) → o ≡ remark_of wide spec

@@ -1,15 +1,17 @@
 -- Remarks in words.
 use Rattle.std.specs.Prelude.{ℕ, ◌+◌, ◌*◌, ◌-◌, ◌==◌, ◌&&◌, ◌||◌, not, Bool, codes, drop, List, []}
 use Rattle.std.specs.Prelude.{◌++◌, length, get_or, slice_index_or, decimal, Option, Some, None}
-use Rattle.std.specs.Prelude.{nat_le, nat_lt, if◌then◌else◌}
-use Rattle.usb_request.specs.{ENDPOINT, INTERFACE}
+use Rattle.std.specs.Prelude.{◌%◌, nat_le, nat_lt, if◌then◌else◌}
+use Rattle.usb_request.specs.{ENDPOINT, INTERFACE, STATUS_ENDPOINT}
 use Rattle.usb_descriptor.specs.{DescriptorFault, most_ports}
 use Rattle.usb_descriptor.specs.declared.fault.DescriptorFault.TheVariants as flaw
-use Rattle.usb_device.specs.{Hub, Spec}
+use Rattle.usb_device.specs.{Hub, Spec, hub_ports}
+use Rattle.usb_enum.specs.{text_read}
 use Rattle.usb_remarks.specs.declared.remark.Remark.{Remark}
 use Rattle.usb_remarks.specs.declared.remark.Remark.TheVariants as remark
 use Rattle.usb_remarks.specs.declared.text.TextRemark.{TextRemark}
 use Rattle.usb_remarks.specs.declared.text.TextRemark.TheVariants as part
+use Rattle.usb_remarks.specs.Remarks.{first_endpoint}
 
 -- the byte, the field with its value, and the rule
 abbrev pub rule_words : ℕ → List ℕ → ℕ → List ℕ → List ℕ
@@ -158,6 +160,42 @@ portless_words bytes = key_words (codes "descriptor") ++ rule_words 4 (codes "bD
 abbrev pub given_words : Bool → List ℕ → DescriptorFault → List ℕ
 given_words wide bytes fault = key_words (codes "hub_descriptor") ++ hub_words wide bytes fault
 
+-- a status endpoint may have this address
+abbrev pub is_status_address : Bool → ℕ → Bool
+is_status_address wide address = address == STATUS_ENDPOINT ||
+    (wide && nat_le 129 address && nat_le address 143)
+
+abbrev pub address_rule : Bool → List ℕ
+address_rule wide = if wide then codes ", of a hub's status endpoint it is 129 to 143" else codes
+    ", of a hub's status endpoint it is 129, or to 143 with `wide_hubs`"
+
+abbrev pub size_rule : Bool → List ℕ
+size_rule many = if many then codes ", of a hub with more than 7 ports it is 2 to 64" else codes
+    ", of a hub's status endpoint it is 1 to 64"
+
+-- of an endpoint descriptor that begins at this byte, and is not that of a status endpoint
+unfoldable pub endpoint_words : Bool → Bool → ℕ → List ℕ → List ℕ
+endpoint_words wide many at endpoint =
+    if not (is_status_address wide (get_or endpoint 2 0))
+    then rule_words (at + 2) (codes "bEndpointAddress is ") (get_or endpoint 2 0)
+    (address_rule wide)
+    else if not (get_or endpoint 3 0 % 4 == 3)
+    then rule_words (at + 3) (codes "bmAttributes is ") (get_or endpoint 3 0)
+    (codes ", of an interrupt endpoint it is 3")
+    else rule_words (at + 4) (codes "wMaxPacketSize is ")
+    (get_or endpoint 4 0 + 256 * get_or endpoint 5 0) (size_rule many)
+
+-- of a text whose first endpoint begins at this byte
+abbrev pub lacking_words : Bool → Bool → List ℕ → Option ℕ → List ℕ
+lacking_words wide many text None = rule_words 4 (codes "bNumInterfaces is ") (get_or text 4 0)
+    (codes ", of a hub one has a status endpoint")
+lacking_words wide many text (Some at) = endpoint_words wide many at (drop at text)
+
+-- of a hub without a status endpoint
+abbrev pub status_words : Bool → Spec → List ℕ
+status_words wide spec = let text = text_read (slice_index_or spec.configs 0 []) in
+    index_words 0 ++ lacking_words wide (nat_lt 7 (hub_ports spec.hub)) text (first_endpoint text)
+
 -- a remark on a device, for a host that takes wide hubs or not: the key with the bytes, the byte, the
 -- field with its value, and the rule
 unfoldable pub remark_words : Bool → Spec → Remark → List ℕ
@@ -167,3 +205,4 @@ remark_words wide spec (remark.Repeated index) = repeated_words spec.configs ind
 remark_words wide spec (remark.Missing index) = missing_words spec.descriptor index
 remark_words wide spec remark.NoPorts = portless_words spec.descriptor
 remark_words wide spec (remark.Hub fault) = given_words wide (hub_bytes spec.hub) fault
+remark_words wide spec remark.Status = status_words wide spec

@@ -1,14 +1,15 @@
 //! Why a host refuses a device for its bytes alone.
-ghost use Rattle.std.specs.Prelude.{◌≡◌, ◌==◌, map, option_copied, IfNone, IfSome};
-ghost use Rattle.std.specs.List.{list_any};
+ghost use Rattle.std.specs.Prelude.{◌≡◌, ◌==◌, if◌then◌else◌, map, None, not, option_copied, Some, IfNone, IfSome};
+ghost use Rattle.std.specs.List.{list_all, list_any};
 ghost use Rattle.usb_descriptor.specs.Config.{configuration_value};
 ghost use Rattle.usb_enum.specs.Text.{any_has_value};
-ghost use Rattle.usb_enum.specs.Verdicts.{text_read};
+ghost use Rattle.usb_device.specs.{hub_ports};
+ghost use Rattle.usb_enum.specs.Verdicts.{text_read, texts_below};
 ghost use Rattle.usb_remarks.specs.Refusing.{BlamesNoDescriptor, IsRefused};
-ghost use Rattle.usb_remarks.specs.Remarks.{config_remark, configs_remark, hub_remark, remark_of};
+ghost use Rattle.usb_remarks.specs.Remarks.{config_remark, configs_remark, has_status, hub_remark, lack_status, remark_of};
 
-use crate::text::{TextRemark, text_remark, value_of};
-use usb_descriptor::{DescriptorFault, read_device, read_hub};
+use crate::text::{TextRemark, text_read, text_remark, value_of};
+use usb_descriptor::{DescriptorFault, read_config, read_device, read_hub};
 use usb_device::{Bytes, DeviceSpec, HubSpec};
 use usb_request::class_code::HUB_CLASS;
 use usb_request::descriptor_length::{DEVICE_LENGTH, HUB_LENGTH};
@@ -28,6 +29,9 @@ pub enum Remark {
     NoPorts,
     /// It has the class of hubs, and its hub descriptor is none.
     Hub(DescriptorFault),
+    /// It has the class of hubs, and no configuration has a status endpoint that a host uses, with
+    /// room for the changes of its ports.
+    Status,
 }
 
 fn some_has_value(texts: &[Bytes<65535>], value: u8) -> bool
@@ -88,6 +92,60 @@ fn hub_remark(hub: Option<&HubSpec>, wide: bool) -> Option<Remark>
     }
 }
 
+/// Whether the text of a configuration has a status endpoint that holds the changes of so many
+/// ports (section 11.12.4).
+#[tactic(auto, unfolding(usb_descriptor::specs::Choice::status_endpoint_of))]
+fn has_status(wide: bool, ports: u8, text: &[u8]) -> bool
+    ensures { result ≡ has_status wide ports text.now }
+{
+    match read_config(text) {
+        Err(_) => false,
+        Ok(config) => match config.status_endpoint(wide) {
+            None => false,
+            Some((_, most)) => ports / 8 + 1 <= most,
+        },
+    }
+}
+
+fn all_lack_status(wide: bool, ports: u8, configs: &[Bytes<65535>]) -> bool
+    ensures { result
+        ≡ list_all (λ text. not (has_status wide ports (text_read text))) configs.now }
+{
+    configs.iter().all(|text| !has_status(wide, ports, text_read(text.as_slice())))
+}
+
+/// Whether none of the texts that a host reads has such a status endpoint.
+#[tactic(auto, using(crate::proofs::Values::all_lacking))]
+fn lack_status(wide: bool, ports: u8, configs: &[Bytes<65535>]) -> bool
+    ensures { result ≡ lack_status wide ports (map text_read configs.now) }
+{
+    all_lack_status(wide, ports, configs)
+}
+
+/// How many ports a device has.
+fn ports_of(hub: Option<&HubSpec>) -> u8
+    ensures { result ≡ hub_ports (option_copied hub.entry) }
+{
+    match hub {
+        None => 0,
+        Some(hub) => hub.ports(),
+    }
+}
+
+/// What is wrong with so many configurations of a hub.
+fn status_remark(spec: &DeviceSpec, wide: bool, count: usize) -> Option<Remark>
+    ensures { result ≡ (if lack_status wide (hub_ports spec.now.hub) (texts_below spec.now count)
+        then Some Remark.Status else None) }
+{
+    let configs = spec.configs();
+    let read = &configs[..configs.len().min(count)];
+    if lack_status(wide, ports_of(spec.hub()), read) {
+        Some(Remark::Status)
+    } else {
+        None
+    }
+}
+
 /// The first rule that the bytes of a device break.
 #[tactic(auto, unfolding(crate::specs::Remarks::remark_of))]
 fn first_remark(spec: &DeviceSpec, wide: bool) -> Option<Remark>
@@ -99,11 +157,15 @@ fn first_remark(spec: &DeviceSpec, wide: bool) -> Option<Remark>
         Err(fault) => return Some(Remark::Device(fault)),
         Ok(device) => device,
     };
-    let remark = configs_remark(spec.configs(), usize::from(device.configurations()));
+    let count = usize::from(device.configurations());
+    let remark = configs_remark(spec.configs(), count);
     if remark.is_some() || device.class() != HUB_CLASS {
         return remark;
     }
-    hub_remark(spec.hub(), wide)
+    match hub_remark(spec.hub(), wide) {
+        None => status_remark(spec, wide, count),
+        remark => remark,
+    }
 }
 
 /// Why a host refuses the device for its bytes alone: the first rule that they break. None if it

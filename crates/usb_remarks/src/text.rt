@@ -1,9 +1,9 @@
 //! The text of a configuration, as a host reads it (sections 9.4.3, 9.6.3).
-ghost use Rattle.std.specs.Prelude.{◌≡◌, take, true, IfNone, IfSome};
+ghost use Rattle.std.specs.Prelude.{◌≡◌, ◌<◌, get_or, length, take, true, IfNone, IfSome};
 ghost use Rattle.usb_descriptor.specs.Config.{configuration_value, front_fault};
 ghost use Rattle.usb_enum.specs.Verdicts.{is_good_text, text_read};
 ghost use Rattle.usb_remarks.specs.Refusing.{IsOwn};
-ghost use Rattle.usb_remarks.specs.Remarks.{is_too_small, item_remark, text_remark, whole_remark};
+ghost use Rattle.usb_remarks.specs.Remarks.{counts_behind, first_endpoint, is_too_small, item_remark, text_remark, whole_remark};
 
 use usb_descriptor::{DescriptorFault, config_head};
 use usb_request::descriptor_length::{CONFIGURATION_LENGTH, ENDPOINT_LENGTH, INTERFACE_LENGTH};
@@ -103,7 +103,7 @@ pub(crate) fn text_remark(text: &[u8]) -> Option<TextRemark>
 
 /// What a host reads of it: as many bytes as its descriptor says.
 #[tactic(auto, unfolding(usb_enum::specs::Verdicts::text_read))]
-fn text_read(text: &[u8]) -> &[u8]
+pub(crate) fn text_read(text: &[u8]) -> &[u8]
     ensures { result.now ≡ text_read text.now }
 {
     match config_head(head_of(text)) {
@@ -120,4 +120,47 @@ pub(crate) fn value_of(text: &[u8]) -> u8
         None => 0,
         Some(value) => *value,
     }
+}
+
+/// A byte of a text, 0 after its end.
+pub(crate) fn byte_at(bytes: &[u8], at: usize) -> u8
+    ensures { result ≡ get_or bytes.now at 0 }
+{
+    match bytes.get(at) {
+        None => 0,
+        Some(byte) => *byte,
+    }
+}
+
+/// Whether endpoints count after the item: the last interface has alternate setting 0.
+fn counts_behind(counts: bool, item: &[u8]) -> bool
+    ensures { result ≡ counts_behind counts item.now }
+{
+    if byte_at(item, 1) == INTERFACE {
+        byte_at(item, 3) == 0
+    } else {
+        counts
+    }
+}
+
+/// Where the first endpoint descriptor begins that counts, in the text of a configuration.
+#[tactic(auto, unfolding(crate::specs::Remarks::first_endpoint))]
+pub(crate) fn first_endpoint(text: &[u8]) -> Option<usize>
+    ensures value { result ≡ first_endpoint text.now }
+    ensures bound { IfSome result (λ at. at < length text.now) }
+{
+    let mut at = CONFIGURATION_LENGTH;
+    let mut counts = false;
+    'items: while at < text.len() {
+        let rest = &text[at..];
+        if rest[0] < 2 {
+            return None;
+        }
+        if counts && byte_at(rest, 1) == ENDPOINT {
+            return Some(at);
+        }
+        counts = counts_behind(counts, rest);
+        at += usize::from(rest[0]);
+    }
+    None
 }

@@ -1,13 +1,16 @@
 //! Remarks in words.
-ghost use Rattle.std.specs.Prelude.{◌≡◌, ◌++◌, [], drop, get_or, decimal, OnOk, string_bytes, slice_index_or};
-ghost use Rattle.usb_remarks.specs.Words.{config_words, count_words, cut_words, descriptor_words, device_words, given_words, head_words, hub_bytes, hub_words, index_words, is_count, item_rule, item_words, key_words, length_rule, missing_words, packet_rule, passing_words, portless_words, ports_rule, ports_words, remark_words, repeated_words, rule_words, said_total, small_words, text_words};
+ghost use Rattle.std.specs.Prelude.{◌≡◌, ◌<◌, ◌^◌, ◌++◌, [], drop, get_or, decimal, nat_lt, OnOk, string_bytes, slice_index_or};
+ghost use Rattle.usb_device.specs.{hub_ports};
+ghost use Rattle.usb_remarks.specs.Remarks.{first_endpoint};
+ghost use Rattle.usb_remarks.specs.Words.{address_rule, config_words, count_words, cut_words, descriptor_words, device_words, endpoint_words, given_words, head_words, hub_bytes, hub_words, index_words, is_count, is_status_address, item_rule, item_words, key_words, lacking_words, length_rule, missing_words, packet_rule, passing_words, portless_words, ports_rule, ports_words, remark_words, repeated_words, rule_words, said_total, size_rule, small_words, status_words, text_words};
 
 use crate::remark::Remark;
-use crate::text::TextRemark;
+use crate::text::{TextRemark, byte_at, first_endpoint, text_read};
 use std::alloc::{AllocError, Global};
 use usb_descriptor::DescriptorFault;
 use usb_device::{Bytes, DeviceSpec};
 use usb_request::descriptor_type::{ENDPOINT, INTERFACE};
+use usb_request::endpoint_address::STATUS_ENDPOINT;
 
 const DEVICE_SHORT: &str = " bytes, a device descriptor has 18";
 
@@ -29,15 +32,9 @@ const HEAD_SIZE: &str = ", of a configuration it is 9";
 
 const HUB_SHORT: &str = " bytes, a hub descriptor has 9";
 
-/// A byte of a text, 0 after its end.
-fn byte_at(bytes: &[u8], at: usize) -> u8
-    ensures { result ≡ get_or bytes.now at 0 }
-{
-    match bytes.get(at) {
-        None => 0,
-        Some(byte) => *byte,
-    }
-}
+const NO_ENDPOINT: &str = ", of a hub one has a status endpoint";
+
+const OTHER_KIND: &str = ", of an interrupt endpoint it is 3";
 
 fn push_number(alloc: Global, out: &mut String, number: usize) -> Result<(), AllocError>
     ensures { OnOk result (string_bytes out.new ≡ string_bytes out.old ++ decimal number) }
@@ -494,6 +491,128 @@ fn push_given(
     push_hub(alloc, out, bytes, wide, fault)
 }
 
+/// Whether a status endpoint may have this address.
+fn is_status_address(wide: bool, address: u8) -> bool
+    ensures { result ≡ is_status_address wide address }
+{
+    address == STATUS_ENDPOINT || (wide && 129 <= address && address <= 143)
+}
+
+/// The addresses that a status endpoint may have.
+fn address_rule(wide: bool) -> &'static str
+    ensures { result.now ≡ address_rule wide }
+{
+    if wide {
+        ", of a hub's status endpoint it is 129 to 143"
+    } else {
+        ", of a hub's status endpoint it is 129, or to 143 with `wide_hubs`"
+    }
+}
+
+/// The packets that a status endpoint may have, of a hub of more than seven ports or not.
+fn size_rule(many: bool) -> &'static str
+    ensures { result.now ≡ size_rule many }
+{
+    if many {
+        ", of a hub with more than 7 ports it is 2 to 64"
+    } else {
+        ", of a hub's status endpoint it is 1 to 64"
+    }
+}
+
+/// Adds why an endpoint that begins at this byte is no status endpoint.
+#[tactic(auto, unfolding(crate::specs::Words::endpoint_words))]
+fn push_endpoint(
+    alloc: Global,
+    out: &mut String,
+    wide: bool,
+    many: bool,
+    at: usize,
+    endpoint: &[u8],
+) -> Result<(), AllocError>
+    requires { at < 2 ^ 63 }
+    ensures { OnOk result (string_bytes out.new
+        ≡ string_bytes out.old ++ endpoint_words wide many at endpoint.now) }
+{
+    let address = byte_at(endpoint, 2);
+    let kind = byte_at(endpoint, 3);
+    let most = usize::from(byte_at(endpoint, 4)) + 256 * usize::from(byte_at(endpoint, 5));
+    if !is_status_address(wide, address) {
+        let rule = address_rule(wide);
+        push_rule(
+            alloc,
+            out,
+            at + 2,
+            "bEndpointAddress is ",
+            usize::from(address),
+            rule,
+        )
+    } else if kind % 4 != 3 {
+        push_rule(
+            alloc,
+            out,
+            at + 3,
+            "bmAttributes is ",
+            usize::from(kind),
+            OTHER_KIND,
+        )
+    } else {
+        push_rule(
+            alloc,
+            out,
+            at + 4,
+            "wMaxPacketSize is ",
+            most,
+            size_rule(many),
+        )
+    }
+}
+
+/// Adds that a text has no status endpoint.
+fn push_lacking(
+    alloc: Global,
+    out: &mut String,
+    wide: bool,
+    many: bool,
+    text: &[u8],
+) -> Result<(), AllocError>
+    ensures { OnOk result (string_bytes out.new
+        ≡ string_bytes out.old ++ lacking_words wide many text.now (first_endpoint text.now)) }
+{
+    match first_endpoint(text) {
+        None => {
+            let interfaces = usize::from(byte_at(text, 4));
+            push_rule(alloc, out, 4, "bNumInterfaces is ", interfaces, NO_ENDPOINT)
+        }
+        Some(at) => push_endpoint(alloc, out, wide, many, at, rest_at(text, at)),
+    }
+}
+
+/// Whether a device has more than seven ports.
+fn has_many_ports(spec: &DeviceSpec) -> bool
+    ensures { result ≡ nat_lt 7 (hub_ports spec.now.hub) }
+{
+    match spec.hub() {
+        None => false,
+        Some(hub) => hub.ports() > 7,
+    }
+}
+
+/// Adds that a hub has no status endpoint.
+fn push_status(
+    alloc: Global,
+    out: &mut String,
+    spec: &DeviceSpec,
+    wide: bool,
+) -> Result<(), AllocError>
+    ensures { OnOk result
+        (string_bytes out.new ≡ string_bytes out.old ++ status_words wide spec.now) }
+{
+    push_index(alloc, out, 0)?;
+    let text = text_read(config_at(spec.configs(), 0));
+    push_lacking(alloc, out, wide, has_many_ports(spec), text)
+}
+
 /// Adds a remark on the device: the key with the bytes, the byte, the field with its value, and the
 /// rule. It is that of a host which takes hubs of 8 to 15 ports, or not. For example `configs[0], byte 2: wTotalLength is 34, the text has 25 bytes`.
 ///
@@ -518,5 +637,6 @@ pub fn push_remark(
         Remark::Missing(index) => push_missing(alloc, out, spec.descriptor(), index),
         Remark::NoPorts => push_portless(alloc, out, spec.descriptor()),
         Remark::Hub(fault) => push_given(alloc, out, hub_bytes(spec), wide, fault),
+        Remark::Status => push_status(alloc, out, spec, wide),
     }
 }

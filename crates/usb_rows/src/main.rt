@@ -1,9 +1,14 @@
-//! Runs the rows of `data/`: plans, each in both modes, explained, and by a host over two pipes,
-//! and packets in digits. Prints a line for each that is not as expected, and both numbers.
+//! Runs the rows of `data/`: plans, each in both modes, explained, by a host over two pipes, and by
+//! a driver of records, and packets in digits. Prints a line for each that is not as expected, and
+//! both numbers.
 #![tactic(auto)]
 
+mod driven;
+mod listed;
 mod live;
+mod record;
 
+use driven::told_of;
 use live::course_of;
 use std::alloc::{AllocError, Global};
 use std::rt::Files;
@@ -12,6 +17,7 @@ use usb_bus::Watched;
 use usb_explain::{Only, explain};
 use usb_run::Mode;
 use usb_serve::{ServeFault, plan_of, serve};
+use usb_sim::Plan;
 use usb_text::packet_line;
 
 /// A line for each row of a plan: its NAME. The plan is NAME.toml; NAME.run.txt and NAME.tree.txt are what is written
@@ -20,6 +26,9 @@ const NAMES: &str = "names.txt";
 
 /// A line for each packet: digits, and after a tab each its lines or the fault that is reported.
 const PACKETS: &str = "packets.tsv";
+
+/// The most events of a plan that is driven: each question is made on a copy of the host.
+const MOST_EVENTS: usize = 100;
 
 /// How many rows there were, and how many of them differed.
 #[derive(Drop)]
@@ -50,8 +59,9 @@ fn serve_plans<R: Files + Print + AllocGlobal>(rt: &R, tally: &mut Tally) -> io:
         let run = is_as_wanted(rt, name, Mode::Run)?;
         let tree = is_as_wanted(rt, name, Mode::Tree)?;
         let live = is_told_live(rt, name)?;
+        let driven = is_driven(rt, name)?;
         let explained = is_explained(rt, name)?;
-        tally.count(run && tree && live && explained);
+        tally.count(run && tree && live && driven && explained);
     }
     Ok(())
 }
@@ -92,13 +102,8 @@ fn is_as_wanted<R: Files + Print + AllocGlobal>(
 /// Rows that do not end well are left out.
 fn is_told_live<R: Files + Print + AllocGlobal>(rt: &R, name: &str) -> io::Result<bool> {
     let alloc = rt.alloc();
-    let status = fs::read_to_string(rt, format!(in alloc; "{name}.status")?)?;
-    if !wanted_fault(status.as_str()).is_empty() {
+    let Some(plan) = plan_in(rt, name)? else {
         return Ok(true);
-    }
-    let mut plan = Watched::new(fs::open(rt, format!(in alloc; "{name}.toml")?)?);
-    let Ok(plan) = plan_of(alloc, &mut plan) else {
-        return Ok(false);
     };
     let wanted = fs::read_to_string(rt, format!(in alloc; "{name}.tree.txt")?)?;
     let course = course_of(alloc, &plan)?;
@@ -113,6 +118,66 @@ fn is_told_live<R: Files + Print + AllocGlobal>(rt: &R, name: &str) -> io::Resul
         return Ok(false);
     }
     Ok(true)
+}
+
+/// Whether a driver before the simulated bus of a row's plan reports what is expected in mode Tree,
+/// but for the bound and for the power of hubs' ports: with single INs, and with rows of them.
+/// Rows that do not end well are left out, and plans of many events.
+fn is_driven<R: Files + Print + AllocGlobal>(rt: &R, name: &str) -> io::Result<bool> {
+    let alloc = rt.alloc();
+    let Some(plan) = plan_in(rt, name)? else {
+        return Ok(true);
+    };
+    if plan.events().len() > MOST_EVENTS {
+        return Ok(true);
+    }
+    let wanted = fs::read_to_string(rt, format!(in alloc; "{name}.tree.txt")?)?;
+    'rows: for row in [1u8, 64] {
+        match told_of(alloc, &plan, row) {
+            Ok(told) if is_all(told.as_slice(), wanted.as_str()) => {}
+            Ok(_) => {
+                println!(rt; "{name} driven: told otherwise")?;
+                return Ok(false);
+            }
+            Err(fault) => {
+                println!(rt; "{name} driven: {fault}")?;
+                return Ok(false);
+            }
+        }
+    }
+    Ok(true)
+}
+
+/// The plan of a row that ends well; `None` of any other.
+fn plan_in<R: Files + AllocGlobal>(rt: &R, name: &str) -> io::Result<Option<Plan>> {
+    let alloc = rt.alloc();
+    let status = fs::read_to_string(rt, format!(in alloc; "{name}.status")?)?;
+    if !wanted_fault(status.as_str()).is_empty() {
+        return Ok(None);
+    }
+    let mut plan = Watched::new(fs::open(rt, format!(in alloc; "{name}.toml")?)?);
+    match plan_of(alloc, &mut plan) {
+        Ok(plan) => Ok(Some(plan)),
+        Err(_) => Ok(None),
+    }
+}
+
+/// Whether these are the expected lines, but for the bound and for the power of hubs' ports.
+fn is_all(told: &[u8], wanted: &str) -> bool {
+    let told = str::from_utf8(told).unwrap_or("");
+    told.lines()
+        .eq(unbound(wanted).lines().map(|line| without_power(line)))
+}
+
+/// The line of a hub without the power that its ports give; any other as it is.
+fn without_power(line: &str) -> &str {
+    let Some((hub, power)) = line.split_once(" ports ") else {
+        return line;
+    };
+    if power.ends_with(" mA") && hub.contains(" hub ") {
+        return line.get(..hub.len().saturating_add(6)).unwrap_or(line);
+    }
+    line
 }
 
 /// Whether a line has what a refused device said, which a controller side is not told.

@@ -180,7 +180,7 @@ fn no_command(alloc: Global) -> Result<Error, AllocError> {
 fn no_selection(alloc: Global, text: &str) -> Result<Error, AllocError> {
     let message = format!(in alloc;
         "invalid value '{text}' for '--only <WHAT>': \
-         it is an address as address:5, setup, damage or all"
+         it is a path as path:1.2, an address as address:5, setup, damage or all"
     )?;
     let mut explain = explain_command(alloc)?.bin_name("usbplan explain")?;
     explain.error(ErrorKind::ValueValidation, message.as_str())
@@ -381,7 +381,7 @@ fn only<'a>(alloc: Global) -> Arg<'a>
         .action(ArgAction::Set)
         .value_name("WHAT")
         .default_value("all")
-        .help("Prints only the attempts to an address as address:5, those of setup or of damage")
+        .help("Prints only the attempts to path:1.2 or to address:5, those of setup or of damage")
 }
 
 /// The command that makes the entry of a device.

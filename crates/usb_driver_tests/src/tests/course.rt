@@ -1,22 +1,13 @@
 //! Whole courses: a driver whose questions go to a simulated bus by their bytes, and its records.
-ghost use Rattle.std.specs.Prelude.{IfSome};
-ghost use Rattle.usb_world.specs.PlainAttempts.{attempt_data};
-ghost use Rattle.usb_world.specs.Worlds.{IsAttempt};
-ghost use Rattle.usb_bus.specs.Rows.{IsDestination};
-
 use arrayvec::ArrayVec;
 use std::alloc::{AllocError, Global};
 use std::test::Fail;
-use usb_bus::{Bus, Destination, Speed};
 use usb_driver::{
-    Answer, Attempt, Bytes, Driver, DriverFault, EndpointAddress, HostOptions, Outcome, PortPath,
-    Statuses, Toggle, Want,
+    Answer, Bytes, Driver, DriverFault, EndpointAddress, HostOptions, Outcome, PortPath, Statuses,
+    Toggle, Want,
 };
 use usb_plan::read_plan;
-use usb_request::feature::{
-    C_PORT_CONNECTION, C_PORT_ENABLE, C_PORT_RESET, PORT_ENABLE, PORT_POWER, PORT_RESET,
-};
-use usb_sim::{SimBus, Untraced};
+use usb_testdriver::{Course, statuses};
 
 /// A device that answers SET_ADDRESS by STALL, and one that is accepted.
 const REFUSED: &str = r#"
@@ -160,216 +151,14 @@ const READERS_TOLD: &str =
     34 0902200001010080640904000002080650000705810208000007050202400000\n\
     32 00\n";
 
-/// The attempt that a question's bytes ask for, and the first of a row; `None` if it is none.
-fn attempt_of(record: &[u8; 72]) -> Option<Attempt>
-    ensures { IfSome result (λ attempt. IsAttempt (attempt_data attempt)) }
-{
-    let speed = match record[3] % 4 {
-        0 => Speed::Full,
-        1 => Speed::Low,
-        3 => Speed::LowBelowHub,
-        _ => return None,
-    };
-    let to = Destination {
-        address: record[1],
-        number: record[2],
-        speed,
-        max: record[4],
-    };
-    if to.address > 127 || to.number > 15 || to.max < 1 || to.max > 64 || record[5] > to.max {
-        return None;
-    }
-    match record[0] {
-        1 => Some(Attempt::Setup {
-            to,
-            bytes: [
-                record[8], record[9], record[10], record[11], record[12], record[13], record[14],
-                record[15],
-            ],
-        }),
-        2 => out_of(to, record),
-        3 | 7 => Some(Attempt::In { to }),
-        _ => None,
-    }
-}
-
-/// The OUT of a question's bytes; `None` if it has more data than the maximum.
-fn out_of(to: Destination, record: &[u8; 72]) -> Option<Attempt>
-    requires { IsDestination to }
-    ensures { IfSome result (λ attempt. IsAttempt (attempt_data attempt)) }
-{
-    let bytes = sent(record, usize::from(record[5]));
-    if bytes.len() > usize::from(to.max) {
-        return None;
-    }
-    let toggle = if record[3] >= 4 {
-        Toggle::One
-    } else {
-        Toggle::Zero
-    };
-    Some(Attempt::Out { to, toggle, bytes })
-}
-
-/// The first `count` bytes of a question's data.
-fn sent(record: &[u8; 72], count: usize) -> ArrayVec<u8, 64> {
-    let mut bytes = ArrayVec::new();
-    for byte in record.iter().skip(8).take(count) {
-        let _ = bytes.try_push(*byte);
-    }
-    bytes
-}
-
-fn statuses(bus: &SimBus<Untraced>) -> Statuses {
-    let mut all = [[0; 4]; 7];
-    for port in 1..bus.root_ports() + 1 {
-        all[usize::from(port) - 1] = bus.root_status(port);
-    }
-    all
-}
-
-/// Does what a question's bytes say, and returns what came of it.
-fn put(bus: &mut SimBus<Untraced>, record: &[u8; 72]) -> Answer {
-    let mut outcome = Outcome::Nothing;
-    if let Some(attempt) = attempt_of(record) {
-        if let Ok(came) = bus.attempt(&attempt) {
-            outcome = came;
-        }
-    } else {
-        call(bus, record[0], record[1], record[2]);
-    }
-    Answer {
-        outcome,
-        statuses: statuses(bus),
-    }
-}
-
-/// Makes at most `most` attempts of a row. Returns the bytes of the full packets before the last
-/// attempt, and what came of that.
-fn put_row(
-    alloc: Global,
-    bus: &mut SimBus<Untraced>,
-    record: &[u8; 72],
-    most: u8,
-) -> Result<(Vec<u8>, Answer), AllocError> {
-    let mut before = Vec::new(alloc);
-    let mut last = put(bus, record);
-    let mut due = if record[3] >= 4 {
-        Toggle::One
-    } else {
-        Toggle::Zero
-    };
-    'packets: for _ in 1..record[6].min(most) {
-        match &last.outcome {
-            Outcome::Payload(given, bytes)
-                if due.is_same(*given) && bytes.len() == usize::from(record[4]) => {
-                before.extend_from_slice(bytes.as_slice())?;
-            }
-            _ => return Ok((before, last)),
-        }
-        due = due.other();
-        last = put(bus, record);
-    }
-    Ok((before, last))
-}
-
-/// Does a call at a root port, or begins an endpoint again.
-fn call(bus: &mut SimBus<Untraced>, kind: u8, first: u8, second: u8) {
-    let feature = u16::from(second);
-    let is_port = first >= 1 && first <= bus.root_ports();
-    if kind == 4 && is_port && matches!(feature, PORT_POWER | PORT_RESET) {
-        bus.root_set(first, feature);
-    }
-    if kind == 5
-        && is_port
-        && matches!(
-            feature,
-            PORT_ENABLE | PORT_POWER | C_PORT_CONNECTION | C_PORT_ENABLE | C_PORT_RESET
-        )
-    {
-        bus.root_clear(first, feature);
-    }
-    let number = second % 128;
-    if kind == 6 && first <= 127 && number >= 1 && number <= 15 {
-        bus.restart_endpoint(first, number, second >= 128);
-    }
-}
-
-/// A driver and the bus that its questions go to.
-#[derive(Drop)]
-struct Course {
-    alloc: Global,
-    driver: Driver,
-    bus: SimBus<Untraced>,
-    /// The most attempts that the controller makes of a row. Of one, it answers as to any question.
-    row: u8,
-    /// The number of questions of the last call.
-    questions: u16,
-}
-
-impl Course {
-    /// Answers questions until the call is done.
-    fn finish(&mut self) -> Result<(), DriverFault> {
-        'questions: for asked in 0..10000u16 {
-            let Some(question) = self.driver.question()? else {
-                self.questions = asked;
-                return Ok(());
-            };
-            self.put(&question.bytes())?;
-        }
-        Err(DriverFault::OutOfTurn)
-    }
-
-    /// Does what a question's bytes say, and answers it.
-    fn put(&mut self, record: &[u8; 72]) -> Result<(), DriverFault> {
-        if record[0] != 7 || self.row == 1 {
-            let answer = put(&mut self.bus, record);
-            return self.driver.answer(answer);
-        }
-        let (before, last) = put_row(self.alloc, &mut self.bus, record, self.row)?;
-        self.driver.answer_row(before.as_slice(), last)
-    }
-
-    /// Makes a call.
-    fn call(&mut self, want: Want) -> Result<(), DriverFault> {
-        self.driver.begin(want, statuses(&self.bus))?;
-        self.finish()
-    }
-
-    /// Makes rounds until one is quiet.
-    fn settle(&mut self) -> Result<(), DriverFault> {
-        'rounds: for _ in 0..100u8 {
-            self.call(Want::Round)?;
-            if self.driver.told() == [32, 1, 0, 0, 0, 1].as_slice() {
-                return Ok(());
-            }
-        }
-        Err(DriverFault::OutOfTurn)
-    }
-}
-
 /// The course of a plan, whose events have all come, and each of them was followed by rounds.
 fn course_of(alloc: Global, plan: &str, device_bytes: Option<usize>) -> Result<Course, Fail> {
     let plan = read_plan(alloc, plan)?;
-    let bus = SimBus::untraced(alloc, &plan)?;
-    let options = HostOptions {
-        wide_hubs: false,
-        device_bytes,
-    };
-    let driver = Driver::open(alloc, bus.root_ports(), options, statuses(&bus))?;
-    let mut course = Course {
-        alloc,
-        driver,
-        bus,
-        row: 1,
-        questions: 0,
-    };
-    course.finish()?;
+    let mut course = Course::open(alloc, &plan, device_bytes, 1)?;
     'events: for _ in 0..100u8 {
-        course.settle()?;
-        if course.bus.events_left() == 0 {
+        if course.next_event()?.is_none() {
             break 'events;
         }
-        course.bus.apply_next_event()?;
     }
     Ok(course)
 }
@@ -473,7 +262,7 @@ struct RowOfIns {
     row: u8,
     path: &'static str,
     packets: u16,
-    questions: u16,
+    questions: u32,
 }
 
 const ROWS_OF_INS: &[RowOfIns] = &[
@@ -554,16 +343,6 @@ struct RefusedRow {
 
 /// Of a row of three INs, 8 bytes each.
 const REFUSED_ROWS: &[RefusedRow] = &[
-    RefusedRow {
-        before: 7,
-        last: 8,
-        fault: DriverFault::Length,
-    },
-    RefusedRow {
-        before: 17,
-        last: 0,
-        fault: DriverFault::Length,
-    },
     // three packets, and one more
     RefusedRow {
         before: 24,
@@ -628,6 +407,15 @@ fn refused_rows(rt: HostRuntime) -> Result<(), Fail> {
             Some(row.fault)
         );
         assert_eq!(rt; question_of(&mut course.driver)?, asked);
+    }
+    // the packets are cut at each byte within one
+    for end in 1..24usize {
+        if end % 8 != 0 {
+            let before = bytes.get(..end).unwrap_or(&[]);
+            let fault = course.driver.answer_row(before, packet(1, shown)).err();
+            assert_eq!(rt; fault, Some(DriverFault::Length));
+            assert_eq!(rt; question_of(&mut course.driver)?, asked);
+        }
     }
     // DATA0 and DATA1 came, and a short packet with DATA0
     course.driver.answer_row(&[0x2a; 16], packet(1, shown))?;

@@ -15,6 +15,8 @@ struct WantRow {
     setup: [u8; 8],
     bytes: &'static [u8],
     said: &'static str,
+    /// What is read with none of its data, with their first byte, and so on.
+    cut: &'static [&'static str],
 }
 
 /// A round, and all others with what they change of it.
@@ -27,6 +29,7 @@ const ROUND: WantRow = WantRow {
     setup: [0; 8],
     bytes: &[],
     said: "round",
+    cut: &[],
 };
 
 /// GET_DESCRIPTOR of 18 bytes of the device descriptor (9.4.3).
@@ -47,6 +50,7 @@ const WANTS: &[WantRow] = &[
         path: &[1, 15],
         bytes: &[7, 8, 9],
         said: "send 1.15 7 8 9",
+        cut: &["send 1.15", "send 1.15 7", "send 1.15 7 8"],
         ..ROUND
     },
     WantRow {
@@ -66,7 +70,9 @@ const WANTS: &[WantRow] = &[
         kind: 21,
         path: &[1, 2, 3, 4, 5, 6, 7],
         at: 2,
-        said: "send to 1.2.3.4.5.6.7 2",
+        bytes: &[0, 255],
+        said: "send to 1.2.3.4.5.6.7 2 0 255",
+        cut: &["send to 1.2.3.4.5.6.7 2", "send to 1.2.3.4.5.6.7 2 0"],
         ..ROUND
     },
     WantRow {
@@ -112,6 +118,7 @@ const WANTS: &[WantRow] = &[
         setup: CLASS_OUT,
         bytes: &[1, 2],
         said: "control out 1 2 1 2",
+        cut: &["no such number in a record", "no such number in a record"],
         ..ROUND
     },
     WantRow {
@@ -140,6 +147,7 @@ const WANTS: &[WantRow] = &[
     WantRow {
         bytes: &[1],
         said: "wrong length of a record",
+        cut: &["round"],
         ..ROUND
     },
     // no path, or the path of a kind that has none
@@ -194,6 +202,7 @@ const WANTS: &[WantRow] = &[
         setup: CLASS_OUT,
         bytes: &[1],
         said: "no such number in a record",
+        cut: &["no such number in a record"],
         ..ROUND
     },
     // a field that is not used
@@ -311,34 +320,46 @@ const SHOWN: Statuses = [
     [24, 25, 26, 27],
 ];
 
+/// What is read of a record, in words: a want, or why it is none.
+fn read(alloc: Global, record: &[u8]) -> Result<String, AllocError> {
+    match Want::read(alloc, record) {
+        Ok((want, statuses)) if statuses == SHOWN => said(alloc, &want),
+        Ok(_) => format!(in alloc; "other statuses"),
+        Err(fault) => format!(in alloc; "{fault}"),
+    }
+}
+
+/// What is read of a record that was cut at a byte.
+fn read_cut(alloc: Global, record: &[u8], end: usize) -> Result<String, AllocError> {
+    read(alloc, record.get(..end).unwrap_or(&[]))
+}
+
 /// Each want is read as it is, and what is none has its fault.
 #[test]
 fn wants(rt: HostRuntime) -> Result<(), Fail> {
     let alloc = rt.alloc();
     for row in WANTS {
         let record = record_of(alloc, row)?;
-        match Want::read(alloc, record.as_slice()) {
-            Ok(read) => {
-                let statuses = read.1;
-                assert_eq!(rt; said(alloc, &read.0)?.as_str(), row.said);
-                assert_eq!(rt; statuses, SHOWN);
-            }
-            Err(fault) => assert_eq!(rt; format!(in alloc; "{fault}")?.as_str(), row.said),
-        }
+        assert_eq!(rt; read(alloc, record.as_slice())?.as_str(), row.said);
     }
     Ok(())
 }
 
-/// A record that is cut at any byte of its head has the wrong length.
+/// A record that is cut at any byte of its head has the wrong length. Behind that, a want has fewer
+/// data.
 #[test]
 fn cut_wants(rt: HostRuntime) -> Result<(), Fail> {
     let alloc = rt.alloc();
     for row in WANTS {
         let record = record_of(alloc, row)?;
+        assert_eq!(rt; row.cut.len(), row.bytes.len());
         for end in 0..52usize {
-            let cut = record.as_slice().get(..end).unwrap_or(&[]);
-            let fault = Want::read(alloc, cut).err();
-            assert_eq!(rt; fault, Some(DriverFault::Length));
+            let read = read_cut(alloc, record.as_slice(), end)?;
+            assert_eq!(rt; read.as_str(), "wrong length of a record");
+        }
+        for (count, said) in row.cut.iter().enumerate() {
+            let read = read_cut(alloc, record.as_slice(), count.saturating_add(52))?;
+            assert_eq!(rt; read.as_str(), *said);
         }
     }
     Ok(())
@@ -460,7 +481,7 @@ fn answers(rt: HostRuntime) -> Result<(), Fail> {
             }
             Err(fault) => assert_eq!(rt; format!(in alloc; "{fault}")?.as_str(), row.said),
         }
-        for end in 0..32usize {
+        for end in 0..record.len() {
             let cut = record.as_slice().get(..end).unwrap_or(&[]);
             assert_eq!(rt; Answer::read(cut).err(), Some(DriverFault::Length));
         }

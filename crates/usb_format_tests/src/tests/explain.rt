@@ -5,9 +5,10 @@ use std::test::Fail;
 use std::{io, str};
 use usb_bus::Watched;
 use usb_explain::{ExplainFault, Only, explain};
+use usb_port::PortPath;
 
 /// What is written of a text, and the fault.
-fn explained(alloc: Global, only: Only, text: &str) -> (Vec<u8>, Option<ExplainFault>) {
+fn explained(alloc: Global, only: Only<'_>, text: &str) -> (Vec<u8>, Option<ExplainFault>) {
     let mut reader = Watched::new(text.as_bytes());
     let mut writer = Watched::new(Vec::new(alloc));
     let result = explain(only, &mut reader, &mut writer);
@@ -212,14 +213,14 @@ const RUN: &[(&str, &str, &str)] = &[
     ("plug 1 hub", "", ""),
     (
         "1 SETUP 0.0 / DATA0 8006000100000800 / ACK",
-        "    GET_DESCRIPTOR device, 8 bytes",
+        "    GET_DESCRIPTOR device, 8 bytes, path 1",
         "S",
     ),
     ("2 IN 0.0 / DATA1 1201100109000008 / ACK [lost]", "", "D"),
     ("3 OUT 0.0 / DATA1 - / ACK", "", ""),
     (
         "4 SETUP 0.0 [lost] / DATA0 0005050000000000 / none",
-        "    SET_ADDRESS 5",
+        "    SET_ADDRESS 5, path 1",
         "SD",
     ),
     (
@@ -285,6 +286,334 @@ fn lines_that_are_kept(rt: HostRuntime) -> Result<(), Fail> {
         let (written, fault) = explained(rt.alloc(), only, text.as_str());
         assert_eq!(rt; fault, None);
         assert_eq!(rt; text_of(written.as_slice()), wanted.as_str());
+    }
+    Ok(())
+}
+
+/// The reset of port 2 of the hub at address 1, and what it needs: the hub's plug and its address.
+const PLUG: &str = "plug 1 hub";
+
+const GIVEN: &str = "2 SETUP 0.0 / DATA0 0005010000000000 / ACK";
+
+const BEGUN: &str = "4 SETUP 1.0 / DATA0 2303040002000000 / ACK";
+
+const STATUS: &str = "6 SETUP 1.0 / DATA0 A300000002000400 / ACK";
+
+const CLEARED: &str = "9 SETUP 1.0 / DATA0 2301140002000000 / ACK";
+
+const DONE: &str = "10 IN 1.0 / DATA1 - / ACK";
+
+/// Lines, and the path of the device at address 0 after them, as the host that asks for them means it: none where they
+/// do not tell it (9.1.2, 9.4.6, 11.24.2).
+const PATHS: &[(&[&str], &str)] = &[
+    (&[PLUG], "1"),
+    (&[], ""),
+    // root ports
+    (&["plug 2 a", "plug 2.1 b", "unplug 2", "plug 2 c"], "2"),
+    (&["plug 7 a"], "7"),
+    (&["plug 2 a", "plug 1 b"], ""),
+    (&["plug 2 a", "plug 1 b", "unplug 1"], ""),
+    (&["plug 2.1 a"], ""),
+    (&["unplug 2"], ""),
+    // the port of a hub
+    (&[PLUG, GIVEN, BEGUN, STATUS, CLEARED, DONE], "1.2"),
+    (&[PLUG, GIVEN, BEGUN, CLEARED, DONE], "1.2"),
+    (
+        &[
+            PLUG,
+            GIVEN,
+            BEGUN,
+            "5 IN 1.0 / NAK",
+            BEGUN,
+            STATUS,
+            CLEARED,
+            CLEARED,
+            DONE,
+        ],
+        "1.2",
+    ),
+    (
+        &[
+            PLUG,
+            GIVEN,
+            BEGUN,
+            STATUS,
+            CLEARED,
+            "10 IN 1.0 / DATA1 - / ACK [lost]",
+        ],
+        "1.2",
+    ),
+    (
+        &[PLUG, GIVEN, BEGUN, STATUS, CLEARED, DONE, "plug 1.3 x"],
+        "1.2",
+    ),
+    (
+        &[PLUG, GIVEN, BEGUN, STATUS, CLEARED, DONE, "unplug 1.2"],
+        "1.2",
+    ),
+    // a reset that is not over
+    (&[PLUG, GIVEN, BEGUN], ""),
+    (&[PLUG, GIVEN, BEGUN, STATUS], ""),
+    (&[PLUG, GIVEN, BEGUN, DONE], ""),
+    (&[PLUG, GIVEN, BEGUN, STATUS, CLEARED], ""),
+    (
+        &[PLUG, GIVEN, BEGUN, STATUS, CLEARED, "10 IN 1.0 / none"],
+        "",
+    ),
+    (
+        &[PLUG, GIVEN, BEGUN, STATUS, CLEARED, "10 IN 1.0 / STALL"],
+        "",
+    ),
+    (
+        &[
+            PLUG,
+            GIVEN,
+            BEGUN,
+            STATUS,
+            CLEARED,
+            "10 IN 1.0 / DATA1 - [lost]",
+        ],
+        "",
+    ),
+    (
+        &[
+            PLUG,
+            GIVEN,
+            BEGUN,
+            STATUS,
+            CLEARED,
+            "10 IN 1.0 / DATA0 - / ACK",
+        ],
+        "",
+    ),
+    (
+        &[
+            PLUG,
+            GIVEN,
+            BEGUN,
+            STATUS,
+            CLEARED,
+            "10 IN 1.0 / DATA1 00 / ACK",
+        ],
+        "",
+    ),
+    (
+        &[
+            PLUG,
+            GIVEN,
+            BEGUN,
+            STATUS,
+            CLEARED,
+            "10 IN 1.1 / DATA1 - / ACK",
+        ],
+        "",
+    ),
+    (
+        &[
+            PLUG,
+            GIVEN,
+            BEGUN,
+            STATUS,
+            CLEARED,
+            "10 IN 2.0 / DATA1 - / ACK",
+        ],
+        "",
+    ),
+    (
+        &[
+            PLUG,
+            GIVEN,
+            BEGUN,
+            STATUS,
+            CLEARED,
+            "10 OUT 1.0 / DATA1 - / ACK",
+        ],
+        "",
+    ),
+    // none, so that it is the root port
+    (&[PLUG, GIVEN, CLEARED, DONE], "1"),
+    (&[PLUG, GIVEN, STATUS, CLEARED, DONE], "1"),
+    (
+        &[
+            PLUG,
+            GIVEN,
+            BEGUN,
+            STATUS,
+            "9 SETUP 1.0 / DATA0 2301140003000000 / ACK",
+            DONE,
+        ],
+        "1",
+    ),
+    (
+        &[
+            PLUG,
+            GIVEN,
+            BEGUN,
+            STATUS,
+            "9 SETUP 3.0 / DATA0 2301140002000000 / ACK",
+            DONE,
+        ],
+        "1",
+    ),
+    (
+        &[
+            PLUG,
+            GIVEN,
+            BEGUN,
+            STATUS,
+            CLEARED,
+            DONE,
+            "12 SETUP 1.0 / DATA0 2301010002000000 / ACK",
+        ],
+        "1",
+    ),
+    (
+        &[
+            PLUG,
+            GIVEN,
+            BEGUN,
+            STATUS,
+            CLEARED,
+            DONE,
+            "control 1 out done 0",
+        ],
+        "1",
+    ),
+    (&[PLUG, GIVEN, BEGUN, "listing 1"], "1"),
+    // a hub of which the path is not known, and a port that no hub has
+    (&[PLUG, BEGUN, STATUS, CLEARED, DONE], ""),
+    (
+        &[
+            PLUG,
+            GIVEN,
+            "4 SETUP 1.0 / DATA0 2303040010000000 / ACK",
+            "9 SETUP 1.0 / DATA0 2301140010000000 / ACK",
+            DONE,
+        ],
+        "",
+    ),
+    (
+        &[
+            PLUG,
+            GIVEN,
+            "4 SETUP 1.0 / DATA0 230304000F000000 / ACK",
+            "9 SETUP 1.0 / DATA0 230114000F000000 / ACK",
+            DONE,
+        ],
+        "1.15",
+    ),
+    // a hub below a hub, and a device that is given another address
+    (
+        &[
+            PLUG,
+            GIVEN,
+            BEGUN,
+            STATUS,
+            CLEARED,
+            DONE,
+            "14 SETUP 0.0 / DATA0 00057F0000000000 / ACK",
+            "16 SETUP 127.0 / DATA0 2303040003000000 / ACK",
+            "20 SETUP 127.0 / DATA0 2301140003000000 / ACK",
+            "21 IN 127.0 / DATA1 - / ACK",
+        ],
+        "1.2.3",
+    ),
+    (
+        &[
+            PLUG,
+            GIVEN,
+            "4 SETUP 1.0 / DATA0 0005090000000000 / ACK",
+            "6 SETUP 9.0 / DATA0 2303040002000000 / ACK",
+            "8 SETUP 9.0 / DATA0 2301140002000000 / ACK",
+            "9 IN 9.0 / DATA1 - / ACK",
+        ],
+        "1.2",
+    ),
+    (
+        &[
+            PLUG, GIVEN, BEGUN, STATUS, CLEARED, DONE, GIVEN, BEGUN, STATUS, CLEARED, DONE,
+        ],
+        "",
+    ),
+];
+
+const ASKED: &str = "99 SETUP 0.0 / DATA0 8006000100000800 / ACK";
+
+#[test]
+fn paths_that_are_said(rt: HostRuntime) -> Result<(), Fail> {
+    for (lines, path) in PATHS {
+        let mut text = String::new(rt.alloc());
+        for line in *lines {
+            text.push_str(line)?;
+            text.push('\n')?;
+        }
+        text.push_str(ASKED)?;
+        text.push('\n')?;
+        let said = if path.is_empty() { "" } else { ", path " };
+        let wanted = format!(in rt.alloc();
+            "{ASKED}    GET_DESCRIPTOR device, 8 bytes{said}{path}"
+        )?;
+        let (written, fault) = explained(rt.alloc(), Only::All, text.as_str());
+        assert_eq!(rt; fault, None, "{text}");
+        assert_eq!(rt;
+            text_of(written.as_slice()).lines().last(),
+            Some(wanted.as_str()),
+            "{text}"
+        );
+    }
+    Ok(())
+}
+
+/// Lines, and the path of the device that each of an attempt is of.
+const DEVICES: &[(&str, &str)] = &[
+    (PLUG, ""),
+    ("1 SETUP 0.0 / DATA0 8006000100000800 / ACK", "1"),
+    (GIVEN, "1"),
+    ("3 IN 0.0 / DATA1 - / ACK", "1"),
+    (BEGUN, "1"),
+    ("5 IN 1.0 / DATA1 - / ACK", "1"),
+    (STATUS, "1"),
+    ("plug 1.3 x", ""),
+    ("7 IN 1.0 / DATA1 03011000 / ACK", "1"),
+    ("8 OUT 1.0 / DATA1 - / ACK", "1"),
+    (CLEARED, "1"),
+    (DONE, "1"),
+    ("11 SETUP 0.0 [lost] / DATA0 8006000100000800 / none", "1.2"),
+    ("12 SETUP 0.0 / DATA0 8006000100000800 / ACK", "1.2"),
+    ("unplug 1.3", ""),
+    ("13 IN 0.0 / DATA1 1201100109000008 / ACK", "1.2"),
+    ("14 SETUP 0.0 / DATA0 0005020000000000 / ACK", "1.2"),
+    ("15 IN 0.0 / DATA1 - / ACK", "1.2"),
+    ("16 SETUP 2.0 / DATA0 8006000100001200 / ACK", "1.2"),
+    ("17 IN 1.1 / NAK", "1"),
+    ("18 IN 2.1 / NAK", "1.2"),
+    ("19 IN 3.1 / none", ""),
+    ("20 SETUP 0.0 / DATA0 8006000100000800 / ACK", "1"),
+    ("end", ""),
+];
+
+#[test]
+fn attempts_at_a_path(rt: HostRuntime) -> Result<(), Fail> {
+    let mut text = String::new(rt.alloc());
+    for (line, _) in DEVICES {
+        text.push_str(line)?;
+        text.push('\n')?;
+    }
+    for wanted in ["1", "1.2", "1.3", "2"] {
+        let path = PortPath::from_text(wanted).expect(&rt, "a path");
+        let (written, fault) = explained(rt.alloc(), Only::Path(&path), text.as_str());
+        assert_eq!(rt; fault, None);
+        let mut kept = text_of(written.as_slice()).lines();
+        for (line, path) in DEVICES {
+            if *path == wanted {
+                let line_kept = kept.next().unwrap_or("none");
+                assert!(rt;
+                    line_kept.starts_with(line),
+                    "{wanted}: {line}: {line_kept}"
+                );
+            }
+        }
+        assert_eq!(rt; kept.next(), None, "{wanted}");
     }
     Ok(())
 }

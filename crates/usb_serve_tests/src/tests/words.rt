@@ -1,7 +1,7 @@
 //! The words after the program's name, and what is read from them.
 use std::alloc::{AllocError, Global};
 use std::test::Fail;
-use usb_words::{read_words, selection_of};
+use usb_words::{Selection, read_words, selection_of};
 
 const HELP: &str = "\
 Runs a USB host on a simulated bus, as a plan says, or prints one packet
@@ -130,7 +130,7 @@ Arguments:
   <FILE>  What `run` wrote; `-` is standard input
 
 Options:
-      --only <WHAT>  Prints only the attempts to an address as address:5, those of setup or of damage [default: all]
+      --only <WHAT>  Prints only the attempts to path:1.2 or to address:5, those of setup or of damage [default: all]
   -h, --help         Print help
 ";
 
@@ -203,7 +203,7 @@ For more information, try '--help'.
 ";
 
 const NO_SELECTION: &str = "\
-error: invalid value '8' for '--only <WHAT>': it is an address as address:5, setup, damage or all
+error: invalid value '8' for '--only <WHAT>': it is a path as path:1.2, an address as address:5, setup, damage or all
 
 Usage: usbplan explain [OPTIONS] <FILE>
 
@@ -308,7 +308,7 @@ fn words_are_read(rt: HostRuntime) -> Result<(), Fail> {
 }
 
 /// Texts, and the selections that they name. A number alone could be taken for a port: it names none.
-const SELECTIONS: [(&str, &str); 18] = [
+const SELECTIONS: [(&str, &str); 26] = [
     ("all", "Some(All)"),
     ("setup", "Some(Setup)"),
     ("damage", "Some(Damage)"),
@@ -321,6 +321,14 @@ const SELECTIONS: [(&str, &str); 18] = [
     ("address:", "None"),
     ("address:-1", "None"),
     ("address:1.2", "None"),
+    ("path:", "None"),
+    ("path", "None"),
+    ("path:0", "None"),
+    ("path:16", "None"),
+    ("path:01", "None"),
+    ("path:1.", "None"),
+    ("path:1.2.3.4.5.6.7.1", "None"),
+    ("path:1-2", "None"),
     ("address", "None"),
     ("1", "None"),
     ("1.2", "None"),
@@ -334,6 +342,18 @@ fn selections_are_read(rt: HostRuntime) -> Result<(), Fail> {
     for (text, want) in &SELECTIONS {
         let told = format!(in rt.alloc(); "{:?}", selection_of(text))?;
         assert_eq!(rt; told.as_str(), *want, "{text}");
+    }
+    Ok(())
+}
+
+#[test]
+fn paths_are_read(rt: HostRuntime) -> Result<(), Fail> {
+    for path in ["1", "7.15", "1.2.3.4.5.6.7"] {
+        let text = format!(in rt.alloc(); "path:{path}")?;
+        match selection_of(text.as_str()) {
+            Some(Selection::Path(found)) => assert_eq!(rt; found.text().as_str(), path),
+            other => assert!(rt; false, "{text}: {other:?}"),
+        }
     }
     Ok(())
 }

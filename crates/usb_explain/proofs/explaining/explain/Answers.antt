@@ -10,7 +10,8 @@ pub reads-init : goal.reads-init
 reads-init g c = (
   [],
   Consumes-nil _,
-  reaches_first _ _ _ c.first-line.ensures.number c.first-line.ensures.bytes,
+  reaches_first _ _ _ c.first-line.ensures.number c.first-line.ensures.bytes
+      c.first-line.ensures.known,
   omega arith,
 )
 

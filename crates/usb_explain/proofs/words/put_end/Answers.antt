@@ -1,16 +1,16 @@
-use Rattle.std.proofs.Common.{refl, [], ◌∷◌}
+use Rattle.std.proofs.Common.{refl}
 use Rattle.usb_bus.specs.{has_failed, known_text}
-use Rattle.usb_explain.specs.{request_words}
+use Rattle.usb_explain.specs.{path_end, request_words}
 use Rattle.usb_explain.proofs.Pieces.{puts_after, puts_cut}
 use Rattle.usb_explain.proofs.words.put_end.Goals as goal
 
 pub returns-in_err-put_words : goal.returns-in_err-put_words
 returns-in_err-put_words g c =
     puts_cut _ (known_text g.W.Write.contents) has_failed _ _ c.from_residual.result
-    (request_words c.args.setup.now) (10 ∷ [])
+    (request_words c.args.setup.now) (path_end c.args.path.now)
     c.from_residual.ensures.1 c.in_err-put_words.ensures.front c.in_err-put_words.ensures.marked
 
 pub returns : goal.returns
 returns g c =
-    puts_after (known_text g.W.Write.contents) has_failed _ _ _ c.put_bytes.result _ _ _ refl
-    c.in_ok-put_words.ensures.ok c.in_ok-put_words.ensures.unmarked c.put_bytes.ensures
+    puts_after (known_text g.W.Write.contents) has_failed _ _ _ c.put_path_end.result _ _ _ refl
+    c.in_ok-put_words.ensures.ok c.in_ok-put_words.ensures.unmarked c.put_path_end.ensures

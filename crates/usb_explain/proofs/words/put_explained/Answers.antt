@@ -7,7 +7,7 @@ use Rattle.usb_explain.proofs.words.put_explained.Goals as goal
 pub returns-in_err-put_bytes : goal.returns-in_err-put_bytes
 returns-in_err-put_bytes g c =
     puts_cut _ (known_text g.W.Write.contents) has_failed _ _ c.from_residual.result
-    c.args.line.now (words_behind c.args.setup.now)
+    c.args.line.now (words_behind c.args.setup.now c.args.path.now)
     c.from_residual.ensures.1 c.in_err-put_bytes.ensures.front c.in_err-put_bytes.ensures.marked
 
 pub returns : goal.returns

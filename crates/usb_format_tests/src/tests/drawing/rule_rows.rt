@@ -233,8 +233,8 @@ listing 3
 "#,
 };
 
-/// The same of a host that takes wide hubs. The last device breaks no rule of its bytes alone: its status endpoint has no
-/// room for the changes of its ports.
+/// The same of a host that takes wide hubs. The status endpoint of the last device has no room for the changes of its
+/// ports.
 pub(super) const BROKEN_RULES_OF_WIDE_HUBS: Row = Row {
     name: "broken rules of wide hubs",
     plan: r#"limit = 20000
@@ -272,11 +272,11 @@ ports = 8
     lines: r#"listing 1
 ├─ 1  refused: a hub that cannot be served; hub_descriptor, byte 0: bDescLength is 10, with more than 7 ports it is at least 11
 ├─ 2  refused: a hub that cannot be served; hub_descriptor, byte 2: bNbrPorts is 16, it is 1 to 15
-└─ 3  refused: a hub that cannot be served
+└─ 3  refused: a hub that cannot be served; configs[0], byte 22: wMaxPacketSize is 1, of a hub with more than 7 ports it is 2 to 64
 "#,
     ascii: r#"listing 1
 |- 1  refused: a hub that cannot be served; hub_descriptor, byte 0: bDescLength is 10, with more than 7 ports it is at least 11
 |- 2  refused: a hub that cannot be served; hub_descriptor, byte 2: bNbrPorts is 16, it is 1 to 15
-`- 3  refused: a hub that cannot be served
+`- 3  refused: a hub that cannot be served; configs[0], byte 22: wMaxPacketSize is 1, of a hub with more than 7 ports it is 2 to 64
 "#,
 };

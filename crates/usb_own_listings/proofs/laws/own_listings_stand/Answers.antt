@@ -5,6 +5,6 @@ use Rattle.usb_own_listings.proofs.laws.own_listings_stand.Goals as goal
 
 -- scenes that are the same path by path are one
 pub returns : goal.returns
-returns c options w entries sane m listing says plugged same judgements h =
+returns c options w entries sane paths m listing says plugged same judgements h =
     (subst (λ (scene : Scene). Judges scene listing judgements) (λ i path. same path i) h).right.1
-    (right_in options w entries sane m listing says)
+    (right_in options w entries sane paths m listing says)

@@ -257,6 +257,80 @@ fn a_hub_of_a_plan_with_wide_hubs(rt: HostRuntime) -> Result<(), AllocError> {
     check_remarks(&rt, rt.alloc(), [WIDE_HEAD, WITH_PORTS], &WIDE_HUBS)
 }
 
+/// The other lines of a hub, apart from its configurations.
+const WITH_TWO_PORTS: &str =
+    "name = \"d\"\nspeed = \"full\"\ndescriptor = \"120100020900004034127856000100000001\"\nports = 2\n";
+
+/// The other lines of a hub of ten ports, apart from its configurations.
+const WITH_TEN_PORTS: &str =
+    "name = \"d\"\nspeed = \"full\"\ndescriptor = \"120100020900004034127856000100000002\"\nports = 10\n";
+
+/// A hub's status endpoint is 81 hex, of interrupt transfers, with 1 to 64 bytes.
+const STATUSES: [Remarked; 8] = [
+    Remarked {
+        line: "configs = [\"09021900010100C000090400000109000000070581034000FF\"]\n",
+        told: "",
+    },
+    Remarked {
+        line: "configs = [\"09021900010100C000090400000109000000070582030100FF\"]\n",
+        told: "remark: device \"d\", configs[0], byte 20: bEndpointAddress is 130, of a hub's status endpoint it is 129, or to 143 with `wide_hubs`\n",
+    },
+    Remarked {
+        line: "configs = [\"09021900010100C000090400000109000000070581020800FF\"]\n",
+        told: "remark: device \"d\", configs[0], byte 21: bmAttributes is 2, of an interrupt endpoint it is 3\n",
+    },
+    Remarked {
+        line: "configs = [\"09021900010100C000090400000109000000070581034100FF\"]\n",
+        told: "remark: device \"d\", configs[0], byte 22: wMaxPacketSize is 65, of a hub's status endpoint it is 1 to 64\n",
+    },
+    Remarked {
+        line: "configs = [\"09021900010100C000090400000109000000070581030000FF\"]\n",
+        told: "remark: device \"d\", configs[0], byte 22: wMaxPacketSize is 0, of a hub's status endpoint it is 1 to 64\n",
+    },
+    Remarked {
+        line: "configs = [\"09021200010100C000090400000009000000\"]\n",
+        told: "remark: device \"d\", configs[0], byte 4: bNumInterfaces is 1, of a hub one has a status endpoint\n",
+    },
+    Remarked {
+        line: "configs = [\"09022200010100C000090400010109000000070581030100FF090400000009000000\"]\n",
+        told: "remark: device \"d\", configs[0], byte 4: bNumInterfaces is 1, of a hub one has a status endpoint\n",
+    },
+    Remarked {
+        line: "configs = [\"09022900010100C000090400010109000000070581030100FF090400000109000000070502030100FF\"]\n",
+        told: "remark: device \"d\", configs[0], byte 36: bEndpointAddress is 2, of a hub's status endpoint it is 129, or to 143 with `wide_hubs`\n",
+    },
+];
+
+#[test]
+fn a_status_endpoint(rt: HostRuntime) -> Result<(), AllocError> {
+    check_remarks(&rt, rt.alloc(), [HEAD, WITH_TWO_PORTS], &STATUSES)
+}
+
+/// With `wide_hubs` it has any number from 1 to 15, and with ten ports two bytes. One of two configurations is enough.
+const WIDE_STATUSES: [Remarked; 4] = [
+    Remarked {
+        line: "configs = [\"09021900010100C00009040000010900000007058F030200FF\", \"09021900010200C000090400000109000000070581030100FF\"]\n",
+        told: "",
+    },
+    Remarked {
+        line: "configs = [\"09021900010100C000090400000109000000070581030100FF\", \"09021900010200C000090400000109000000070582030200FF\"]\n",
+        told: "",
+    },
+    Remarked {
+        line: "configs = [\"09021900010100C000090400000109000000070581030100FF\", \"09021900010200C000090400000109000000070582030100FF\"]\n",
+        told: "remark: device \"d\", configs[0], byte 22: wMaxPacketSize is 1, of a hub with more than 7 ports it is 2 to 64\n",
+    },
+    Remarked {
+        line: "configs = [\"09021900010100C000090400000109000000070502030200FF\", \"09021900010200C000090400000109000000070581030100FF\"]\n",
+        told: "remark: device \"d\", configs[0], byte 20: bEndpointAddress is 2, of a hub's status endpoint it is 129 to 143\n",
+    },
+];
+
+#[test]
+fn a_status_endpoint_of_a_wide_hub(rt: HostRuntime) -> Result<(), AllocError> {
+    check_remarks(&rt, rt.alloc(), [WIDE_HEAD, WITH_TEN_PORTS], &WIDE_STATUSES)
+}
+
 /// Each of the devices with a remark has one line, and a name does not end it.
 const SLOW: [Remarked; 1] = [Remarked {
     line: "name = \"a\\nb\"\nspeed = \"low\"\nconfigs = [\"0902120001010080320904000000FF000000\"]\ndescriptor = \"120100020000004034127856000100000001\"\n",
