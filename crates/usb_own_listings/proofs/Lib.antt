@@ -1,0 +1,5 @@
+mod Devices
+mod Entries
+mod ListedEntries
+mod RightListings
+mod Worlds
