@@ -323,8 +323,14 @@ const SHOWN: Statuses = [
 /// What is read of a record, in words: a want, or why it is none.
 fn read(alloc: Global, record: &[u8]) -> Result<String, AllocError> {
     match Want::read(alloc, record) {
-        Ok((want, statuses)) if statuses == SHOWN => said(alloc, &want),
-        Ok(_) => format!(in alloc; "other statuses"),
+        Ok(want) => {
+            let statuses = want.1;
+            if statuses == SHOWN {
+                said(alloc, &want.0)
+            } else {
+                format!(in alloc; "other statuses")
+            }
+        }
         Err(fault) => format!(in alloc; "{fault}"),
     }
 }
