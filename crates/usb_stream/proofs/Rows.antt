@@ -1,11 +1,11 @@
 -- Rows of attempts, answer by answer.
-use Rattle.std.proofs.Common.{◌≡◌, ◌∙◌, refl, sym, ap, subst, ℕ, ◌+◌, ◌-◌, ◌*◌, ◌<◌, ◌≤◌, ◌/◌}
-use Rattle.std.proofs.Common.{Bool, true, false, ◌&&◌, ◌==◌, List, [], ◌++◌, length, take, drop}
-use Rattle.std.proofs.Common.{Option, Some, None, Result, Ok, Err, IfOk, IfErr, arith}
+use Rattle.std.proofs.Common.{◌≡◌, ◌∙◌, refl, sym, ap, subst, ℕ, ◌+◌, ◌-◌, ◌*◌, ◌<◌, ◌≤◌}
+use Rattle.std.proofs.Common.{Bool, true, false, List, [], ◌++◌, length, drop}
+use Rattle.std.proofs.Common.{None, Ok, Err, arith}
 use Rattle.std.proofs.Common.{nat_eq, ◌≢◌}
 use Rattle.std.proofs.lemmas.Bool.{eq-eqb, eqb-false, eqb-true}
 use Rattle.usb_lines.specs.{OutPipe, Pipe}
-use Rattle.usb_packet.specs.{Toggle, Zero, One, is_same, flips, other}
+use Rattle.usb_packet.specs.{Toggle, Zero, One, flips, other}
 use Rattle.std.proofs.Common.{add-one, length-append, length-drop, lt_of_mul-lt-mul_right, min}
 use Rattle.std.proofs.Common.{mul-le-mul_right, suc}
 use Rattle.std.proofs.lemmas.Grind.{div_ceil_times}
@@ -76,6 +76,11 @@ outs_as_planned to first due total rest moved a b rows turned left =
     rw (rows, turned, left) refl
 
 -- ---- how much of a row is left
+
+pub rest_first : (total : List ℕ) (max : ℕ) → total ≡ drop (0 * max) total
+rest_first total max =
+    let none : 0 * max ≡ 0 = omega arith in
+    let all : drop (0 * max) total ≡ total = ap (λ n. drop n total) none in sym all
 
 pub rest_more : (total rest : List ℕ) (moved max k : ℕ) → rest ≡ drop (moved * max) total
     → k ≡ min (length rest) max → drop k rest ≡ drop ((moved + 1) * max) total

@@ -1,15 +1,16 @@
 use Rattle.std.proofs.Common.{rules, ◌≡◌, ◌∙◌, ◌<◌, ◌*◌, ◌+◌, ◌++◌, ap, sym, refl, length, arith}
-use Rattle.std.proofs.Common.{min, subst, []}
+use Rattle.std.proofs.Common.{min, []}
 use Rattle.std.specs.Int.{div_ceil}
 use Rattle.usb_stream.specs.{bytes_in, kept_of, outs_plan}
 use Rattle.usb_stream.proofs.Rows.{all_moved, few_moved, flips_next, flips_none, left_size, none_so_far}
-use Rattle.usb_stream.proofs.Rows.{nonzero, one_so_far, outs_as_planned, rest_more, row_answered}
+use Rattle.usb_stream.proofs.Rows.{nonzero, one_so_far, outs_as_planned, rest_first}
+use Rattle.usb_stream.proofs.Rows.{rest_more, row_answered}
 use Rattle.usb_stream.proofs.Rows.{row_failed, row_whole, some_left, zero_of}
 use Rattle.usb_stream.proofs.bus.StreamBusBus.attempt_outs.Goals as goal
 
 pub packets-init : goal.packets-init
 packets-init g c = (
-  refl,
+  rest_first c.args.bytes.now c.args.to.max,
   omega (arith, c.requires.row.0.least),
   flips_none c.args.toggle,
   search rules,
