@@ -179,13 +179,13 @@ impl Model for OutEnd {
 }
 
 impl OutEnd {
-    /// As it is at the plug, with this pace.
-    fn with_pace(alloc: Global, pace: Pace) -> Self
-        ensures { result ≡ record no_out { pace = pace } }
+    /// As it is at the plug.
+    fn plugged(alloc: Global, spec: &DeviceSpec, number: u8) -> Self
+        ensures { result ≡ plugged_out spec.now number }
     {
         OutEnd {
             state: RESTED,
-            pace,
+            pace: pace_by(spec.endpoints().row(number), spec.halt_after()),
             sink: Vec::new(alloc),
         }
     }
@@ -339,14 +339,6 @@ impl InEnds {
     pub fn new(spec: &DeviceSpec) -> Self
         ensures { result ≡ map (plugged_in_end spec.now) end_numbers }
     {
-        if spec.endpoints().as_slice().is_empty() {
-            let plain = InEnd {
-                state: RESTED,
-                pace: pace_by(None, None),
-                place: 0,
-            };
-            return InEnds { row: [plain; 16] };
-        }
         InEnds {
             row: [
                 plugged_in_end(spec, 0),
@@ -464,15 +456,8 @@ impl OutEnds {
         ensures { IfOk result (λ e. e ≡ map (plugged_out spec.now) end_numbers) }
     {
         let mut row = Vec::with_capacity(alloc, usize::from(ENDPOINTS))?;
-        let plain = pace_by(None, spec.halt_after());
-        let has_rows = !spec.endpoints().as_slice().is_empty();
         'ends: for number in 0..ENDPOINTS {
-            let pace = if has_rows {
-                pace_by(spec.endpoints().row(number), spec.halt_after())
-            } else {
-                plain
-            };
-            row.push(OutEnd::with_pace(alloc, pace))?;
+            row.push(OutEnd::plugged(alloc, spec, number))?;
         }
         Ok(OutEnds { row })
     }
