@@ -22,6 +22,7 @@ use Rattle.usb_far.specs.{may_ask, reading_fault, AllReplied, HasNoQuestion, Has
 use Rattle.usb_far.specs.{OnlyReads, OnlyReadsLine, Passed, Passes, ReadsOn, ReadsQuestion, Replied}
 use Rattle.usb_far.specs.{Scene, InTurn, ServedOne, ServedSome, ServesNext, CauseOf, and_then}
 use Rattle.usb_far.specs.{is_told, AllReplies, GoesOn, IsUnwritten, RowEnds, RowFront, RowReplied}
+use Rattle.usb_far.specs.{RowStops}
 use Rattle.usb_far.specs.{brings_full, is_taken, may_ask_as, rest_behind}
 use Rattle.usb_far.specs.RowFront.{begun, further}
 use Rattle.usb_far.specs.declared.far_end.Phase.TheVariants.{Asks}
@@ -149,7 +150,7 @@ row_size (Ins speed endpoint most toggle packets) = packets
 row_size (Outs speed endpoint most toggle bytes) = length bytes.items
 row_size _ = 0
 
-pub rest_less : (q : Question) (a : Answer) (rest : Question) → IsQuestion q
+rest_less : (q : Question) (a : Answer) (rest : Question) → IsQuestion q
     → rest_behind q a ≡ Some rest → row_size rest < row_size q
 unfolding row_size
 rest_less (Ins speed endpoint most toggle packets) a rest h e =
@@ -350,7 +351,7 @@ row_stopped old new line asked left mid w f front (inr (is, torn)) there one sho
     there.asks (row_may asked old.played mid old.writer w left front torn.replied.asks)) front torn)
 
 -- a reply that was not written to its end, or not flushed
-pub reply_torn : (q : Question) (mid new : Played) (w now : OutPipe) (lines : List ℕ)
+reply_torn : (q : Question) (mid new : Played) (w now : OutPipe) (lines : List ℕ)
     (rest : Option Question) → Replies q mid new lines rest → FailsToFlush w lines now
     → IsUnwritten q mid w new now
 reply_torn q mid new w now lines rest replied torn = record {
@@ -361,6 +362,60 @@ reply_torn q mid new w now lines rest replied torn = record {
   traced = replied.traced;
   failed = torn.marked;
   pending = torn.pending;
+}
+
+-- ---- the replies to a question, one by one
+
+pub row_less : (q : Question) (mid new : Played) (lines : List ℕ) (rest : Option Question)
+    (more : Question) → IsQuestion q → Replies q mid new lines rest → rest ≡ Some more
+    → row_size more < row_size q
+row_less q mid new lines rest more h r is =
+    rest_less q r.replied.answer more h (sym r.left ∙ is)
+
+pub row_further : (asked q more : Question) (old mid new : Played) (before w now : OutPipe)
+    (lines : List ℕ) (rest : Option Question) → RowFront asked old before mid w q
+    → Replies q mid new lines rest → rest ≡ Some more → Flushes w lines now
+    → RowFront asked old before new now more
+row_further asked q more old mid new before w now lines rest front r is gone =
+    further front r.replied (sym r.left ∙ is) r.traced gone
+
+pub all_replied : (asked q : Question) (old mid new : Played) (before w now : OutPipe)
+    (lines : List ℕ) (rest : Option Question) → RowFront asked old before mid w q
+    → Replies q mid new lines rest → rest ≡ None → Flushes w lines now
+    → AllReplies asked before old new now
+all_replied asked q old mid new before w now lines rest front r none gone = record {
+  mid = mid;
+  w = w;
+  last = q;
+  lines = lines;
+  front = front;
+  replied = r.replied;
+  over = sym r.left ∙ none;
+  traced = r.traced;
+  gone = gone;
+}
+
+pub row_unwritten : (asked q : Question) (old mid new : Played) (before w now : OutPipe)
+    (lines : List ℕ) (rest : Option Question) → RowFront asked old before mid w q
+    → Replies q mid new lines rest → FailsToFlush w lines now
+    → RowStops asked before old fault.Write new now
+row_unwritten asked q old mid new before w now lines rest front r torn = record {
+  mid = mid;
+  w = w;
+  left = q;
+  front = front;
+  stops = inr (refl, reply_torn q mid new w now lines rest r torn);
+}
+
+pub row_unreplied : (asked q : Question) (old mid new : Played) (before w : OutPipe)
+    (f : FarFault) → RowFront asked old before mid w q → HasNoReply q mid f new
+    → RowStops asked before old f new w
+row_unreplied asked q old mid new before w f front none = record {
+  mid = mid;
+  w = w;
+  left = q;
+  front = front;
+  stops = inl (none, refl);
 }
 
 -- the front of a line

@@ -298,8 +298,8 @@ pub record RowStops (asked : Question) (before : OutPipe) (old : Played) (f : Fa
 
 abbrev pub RepliesAll : Question → OutPipe → Played → Result (Unit {0}) FarFault → Played → OutPipe
     → Type 0
-RepliesAll asked before old (Ok _) new now = AllReplies asked before old new now
-RepliesAll asked before old (Err f) new now = RowStops asked before old f new now
+RepliesAll q before old (Ok _) new now = AllReplies q before old new now
+RepliesAll q before old (Err f) new now = RowStops q before old f new now
 
 -- a line that asks nothing
 abbrev pub HasNoQuestion : List ℕ → FarFault → Type 0
