@@ -24,7 +24,6 @@ use Rattle.usb_far.specs.{Scene, InTurn, ServedOne, ServedSome, ServesNext, Caus
 use Rattle.usb_far.specs.{is_told, AllReplies, GoesOn, IsUnwritten, RowEnds, RowFront, RowReplied}
 use Rattle.usb_far.specs.{RowStops}
 use Rattle.usb_far.specs.{brings_full, is_taken, may_ask_as, rest_behind}
-use Rattle.usb_far.specs.RowFront.{begun, further}
 use Rattle.usb_far.specs.declared.far_end.Phase.TheVariants.{Asks}
 use Rattle.usb_far.specs.{passed, phase_behind}
 use Rattle.usb_far.specs.declared.fault.FarFault.TheVariants as fault
@@ -180,8 +179,8 @@ rest_may q mid new lines rest r e = may_attempt new.phase (kind_asked rest)
 row_may : (asked : Question) (old mid : Played) (before w : OutPipe) (q : Question)
     → RowFront asked old before mid w q → may_ask mid.far.phase q ≡ true
     → may_ask old.far.phase asked ≡ true
-row_may asked old mid before w q begun may = may
-row_may asked old mid before w q (further front r e traced gone) may =
+row_may asked old mid before w q RowFront.begun may = may
+row_may asked old mid before w q (RowFront.further front r e traced gone) may =
     row_may asked old _ before _ _ front r.asks
 
 -- texts that went out one behind the other
@@ -214,7 +213,7 @@ reply_flushed q mid new lines w now r gone =
 
 gone_so : (asked : Question) (old mid : Played) (before w : OutPipe) (q : Question)
     → RowFront asked old before mid w q → Gone asked old before mid w q
-gone_so asked old mid before w q begun = record {
+gone_so asked old mid before w q RowFront.begun = record {
   said = [];
   traced = [];
   goes = GoesOn.begun;
@@ -224,7 +223,7 @@ gone_so asked old mid before w q begun = record {
   flushed = sym (and_true before.pending);
 }
 gone_so asked old new before now rest
-    (further {mid = mid} {new = new} {w = w} {now = now} {q = q} {rest = rest} {lines = lines} front
+    (RowFront.further {mid = mid} {new = new} {w = w} {now = now} {q = q} {rest = rest} {lines = lines} front
     r e traced gone) =
     let so = gone_so asked old mid before w q front in
     record {
@@ -319,13 +318,13 @@ no_question_first : (old new : Scene) (line : List ℕ) (asked left : Question) 
     → is_told old.played.far.phase line ≡ false
     → Consumes old.reader.bytes new.reader.bytes (line ++ 10 ∷ []) → ReadsOn old new
     → CauseOf old new f
-no_question_first old new line asked left mid w f begun is may played writer there one short other
+no_question_first old new line asked left mid w f RowFront.begun is may played writer there one short other
     read reads =
     subst (CauseOf old new) (sym is)
     (CauseOf.no_question line (only_line old new line one short other read reads played writer)
     there.printable
     (λ p at stands. ap (may_ask old.played.far.phase) (there.only p at stands) ∙ may))
-no_question_first old new line asked left mid w f (further front r e traced gone) is may played
+no_question_first old new line asked left mid w f (RowFront.further front r e traced gone) is may played
     writer there one short other read reads =
     absurd (false≢true (sym may ∙ rest_may _ _ _ _ left r e))
 
@@ -377,7 +376,7 @@ pub row_further : (asked q more : Question) (old mid new : Played) (before w now
     → Replies q mid new lines rest → rest ≡ Some more → Flushes w lines now
     → RowFront asked old before new now more
 row_further asked q more old mid new before w now lines rest front r is gone =
-    further front r.replied (sym r.left ∙ is) r.traced gone
+    RowFront.further front r.replied (sym r.left ∙ is) r.traced gone
 
 pub all_replied : (asked q : Question) (old mid new : Played) (before w now : OutPipe)
     (lines : List ℕ) (rest : Option Question) → RowFront asked old before mid w q

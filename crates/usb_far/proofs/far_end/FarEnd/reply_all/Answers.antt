@@ -1,11 +1,11 @@
 use Rattle.std.proofs.Common.{IfSome, subst}
 use Rattle.usb_wire.specs.{IsQuestion}
-use Rattle.usb_far.specs.RowFront.{begun}
+use Rattle.usb_far.specs.{RowFront}
 use Rattle.usb_far.proofs.Lines.{all_replied, row_further, row_less, row_unreplied, row_unwritten}
 use Rattle.usb_far.proofs.far_end.FarEnd.reply_all.Goals as goal
 
 pub attempts-init : goal.attempts-init
-attempts-init g c = (c.requires, begun)
+attempts-init g c = (c.requires, RowFront.begun)
 
 pub attempts-preserved : goal.attempts-preserved
 attempts-preserved g c = (
