@@ -1,6 +1,6 @@
 -- How a course goes on at each call.
 use Rattle.std.proofs.Common.{◌≡◌, ◌≢◌, ◌∙◌, ℕ, zero, suc, ◌+◌, ◌^◌, ◌≤◌, ◌<◌, ◌⊎◌, inl, inr, List, []}
-use Rattle.std.proofs.Common.{Option, Some, None, Result, Ok, Err, refl, sym, ap, subst, arith}
+use Rattle.std.proofs.Common.{Option, Some, None, Result, Ok, Err, refl, sym, ap, subst, arith, ◌-◌}
 use Rattle.std.proofs.Common.{Bool, is_ok, true, false, nat_lt, if◌then◌else◌}
 use Rattle.std.proofs.lemmas.Bool.{cases_lt}
 use Rattle.std.proofs.lemmas.Grind.{not_there}
@@ -19,8 +19,8 @@ use Rattle.usb_stream.specs.{Restarts, restart_of}
 use Rattle.usb_stream.specs.{SaysHello, WritesLines, bus_fault, greeted, kept_of, question_for}
 use Rattle.usb_stream.specs.{roots_if, streams, unasked, unread_of, written_of, StreamBus}
 use Rattle.usb_stream.specs.{LiveFault, HearsMore, InsByLine, OutsByLine, RefusesRow, RowBy}
-use Rattle.usb_stream.specs.{RowEndsBy, RowHeard, RowPlan, StepBy, ins_plan, none_heard, one_heard}
-use Rattle.usb_stream.specs.{outs_plan, was_asked}
+use Rattle.usb_stream.specs.{RowEndsBy, RowHeard, RowPlan, StepBy, ins_plan, more_answers}
+use Rattle.usb_stream.specs.{none_heard, one_heard, outs_plan, was_asked}
 use Rattle.usb_bus.specs.{RowDone, RowEnd, Whole, Answered, Faulted}
 use Rattle.usb_packet.specs.{Toggle}
 use Rattle.std.proofs.Common.{length}
@@ -83,37 +83,19 @@ owes_told o item m n (Err f) fits few = few
 asked_on : {st : Stage} {o : Owed} {host : LiveHost} {m : ℕ} {u : Pipe} {b : OutPipe}
     (r0 r1 : Pipe) (w0 w1 : OutPipe) (j k : Kept) (q : Question)
     (result : Result Answer LiveFault) → CourseTo st o host m u b r0 w0 j → j.fault ≡ None
-    → is_wait q ≡ false
+    → is_wait q ≡ false → more_answers q ≡ 0
     → AsksOnce q (streams r0 r1 w0 w1) j result k → CourseTo Asks o host m u b r1 w1 k
-asked_on r0 r1 w0 w1 j k q result c sound plain h =
+asked_on r0 r1 w0 w1 j k q result c sound plain single h =
     let fewer = left_behind q r0 r1 w0 w1 j result k h in
     let few = c.few in
     let numbered = c.numbered in
     record {
       asked = c.asked + questions_in result;
-      course = LiveCourse.asked q result c.course sound plain h;
+      course = LiveCourse.asked q result c.course sound plain single h;
       few = omega (arith, fewer, few);
       numbered = omega (arith, numbered);
       at = tt;
     }
-
--- one more answer of a row was heard, which uses none of the questions
-none_used : (r0 r1 : Pipe) (w0 w1 : OutPipe) (j : Kept) (result : Result Answer LiveFault)
-    (k : Kept) → HearsMore (streams r0 r1 w0 w1) j result k → k.left ≡ j.left
-none_used r0 r1 w0 w1 j (Ok got) k h = h.left
-none_used r0 r1 w0 w1 j (Err f) k h = h.left
-
-heard_on : {st : Stage} {o : Owed} {host : LiveHost} {m : ℕ} {u : Pipe} {b : OutPipe}
-    (r0 r1 : Pipe) (w0 w1 : OutPipe) (j k : Kept) (result : Result Answer LiveFault)
-    → CourseTo st o host m u b r0 w0 j → j.fault ≡ None
-    → HearsMore (streams r0 r1 w0 w1) j result k → CourseTo Asks o host m u b r1 w1 k
-heard_on r0 r1 w0 w1 j k result c sound h = record {
-  asked = c.asked;
-  course = LiveCourse.heard result c.course sound h;
-  few = ap (λ (n : ℕ). c.asked + n) (none_used r0 r1 w0 w1 j result k h) ∙ c.few;
-  numbered = c.numbered;
-  at = tt;
-}
 
 -- what is wanted was asked
 wanted_on : {st : Stage} {host : LiveHost} {m : ℕ} {u : Pipe} {b : OutPipe} (r0 r1 : Pipe) (w0 w1 : OutPipe)
@@ -146,90 +128,103 @@ course_nothing_asked r0 r1 w0 w1 j k c h =
       at = tt;
     }
 
--- an attempt does not ask what is wanted
+-- an attempt does not ask what is wanted, and is no row
 attempt_plain : (a : Attempt) → is_wait (question_for a) ≡ false
 attempt_plain (attempt.Setup to bytes) = refl
 attempt_plain (attempt.Out to toggle bytes) = refl
 attempt_plain (attempt.In to) = refl
 
+attempt_single : (a : Attempt) → more_answers (question_for a) ≡ 0
+attempt_single (attempt.Setup to bytes) = refl
+attempt_single (attempt.Out to toggle bytes) = refl
+attempt_single (attempt.In to) = refl
+
 attempts_on : {st : Stage} {o : Owed} {host : LiveHost} {m : ℕ} {u : Pipe} {b : OutPipe}
     (r0 r1 : Pipe) (w0 w1 : OutPipe) (j k : Kept) (q : Question)
-    (most : ℕ) (result : Result Outcome BusFault) → is_wait q ≡ false
+    (most : ℕ) (result : Result Outcome BusFault) → is_wait q ≡ false → more_answers q ≡ 0
     → CourseTo st o host m u b r0 w0 j → j.fault ≡ None
     → AttemptsBy q most (streams r0 r1 w0 w1) j result k → CourseTo Asks o host m u b r1 w1 k
-attempts_on r0 r1 w0 w1 j k q most (Ok outcome) plain c sound h =
-    asked_on r0 r1 w0 w1 j k q (Ok h.got) c sound plain h.asked
-attempts_on r0 r1 w0 w1 j k q most (Err told) plain c sound h =
-    asked_on r0 r1 w0 w1 j k q (Err h.f) c sound plain h.asked
+attempts_on r0 r1 w0 w1 j k q most (Ok outcome) plain single c sound h =
+    asked_on r0 r1 w0 w1 j k q (Ok h.got) c sound plain single h.asked
+attempts_on r0 r1 w0 w1 j k q most (Err told) plain single c sound h =
+    asked_on r0 r1 w0 w1 j k q (Err h.f) c sound plain single h.asked
 
 -- ---- rows
 
--- none of its questions asks what is wanted
-abbrev IsPlain : RowPlan → Type 0
-IsPlain plan = (n : ℕ) → is_wait (plan.ask n) ≡ false
+-- a row leaves no more questions than there were
+more_left : (r0 r1 : Pipe) (w0 w1 : OutPipe) (j k : Kept) (result : Result Answer LiveFault)
+    → HearsMore (streams r0 r1 w0 w1) j result k → k.left ≡ j.left
+more_left r0 r1 w0 w1 j k (Ok got) h = h.left
+more_left r0 r1 w0 w1 j k (Err f) h = h.left
 
-step_by : {st : Stage} {o : Owed} {host : LiveHost} {m : ℕ} {u : Pipe} {b : OutPipe} (ahead : Bool)
-    (r0 r1 : Pipe) (w0 w1 : OutPipe) (j k : Kept) (q : Question)
-    (result : Result Answer LiveFault) → is_wait q ≡ false
-    → CourseTo st o host m u b r0 w0 j → j.fault ≡ None
-    → StepBy ahead q (streams r0 r1 w0 w1) j result k → CourseTo Asks o host m u b r1 w1 k
-step_by true r0 r1 w0 w1 j k q result plain c sound h =
-    heard_on r0 r1 w0 w1 j k result c sound h
-step_by false r0 r1 w0 w1 j k q result plain c sound h =
-    asked_on r0 r1 w0 w1 j k q result c sound plain h
+step_left : (ahead : Bool) (q : Question) (r0 r1 : Pipe) (w0 w1 : OutPipe) (j k : Kept)
+    (result : Result Answer LiveFault) → StepBy ahead q (streams r0 r1 w0 w1) j result k
+    → k.left ≤ j.left
+step_left true q r0 r1 w0 w1 j k result h = omega (arith, more_left r0 r1 w0 w1 j k result h)
+step_left false q r0 r1 w0 w1 j k result h =
+    omega (arith, left_behind q r0 r1 w0 w1 j result k h)
 
-step_sound : (ahead : Bool) (r0 r1 : Pipe) (w0 w1 : OutPipe) (j k : Kept) (q : Question)
-    (got : Answer) → StepBy ahead q (streams r0 r1 w0 w1) j (Ok got) k → k.fault ≡ None
-step_sound true r0 r1 w0 w1 j k q got h = h.sound
-step_sound false r0 r1 w0 w1 j k q got h = h.sound
+heard_left : (plan : RowPlan) (r0 : Pipe) (w0 : OutPipe) (j : Kept) (n : ℕ) (got : List ℕ)
+    (r : Pipe) (w : OutPipe) (k : Kept) → RowHeard plan r0 w0 j n got r w k → k.left ≤ j.left
+heard_left plan r0 w0 j n got r w k none_heard = omega arith
+heard_left plan r0 w0 j n got r w k
+    (one_heard {n = before} {r = r1} {left = r} {w = w1} {now = w} {j = i} {k = k} answer h step
+    moves) =
+    let so = heard_left plan r0 w0 j before _ r1 w1 i h in
+    let one = step_left (was_asked before i.ahead) (plan.ask before) r1 r w1 w i k (Ok answer) step
+    in omega (arith, so, one)
 
--- a course with no fault
-record SoundCourse (o : Owed) (host : LiveHost) (m : ℕ) (u : Pipe) (b : OutPipe) (r : Pipe)
-    (w : OutPipe) (k : Kept) : Type 0 where
-  course : CourseTo Asks o host m u b r w k
-  sound : k.fault ≡ None
+ends_left : (plan : RowPlan) (moved most : ℕ) (r0 r1 : Pipe) (w0 w1 : OutPipe) (j k : Kept)
+    (end : RowEnd) → RowEndsBy plan moved most (streams r0 r1 w0 w1) j end k → k.left ≤ j.left
+ends_left plan moved most r0 r1 w0 w1 j k Whole h =
+    let same = ap (λ (x : Kept). x.left) h.1.same in omega (arith, same)
+ends_left plan moved most r0 r1 w0 w1 j k (Answered outcome) h =
+    step_left (was_asked moved j.ahead) (plan.ask moved) r0 r1 w0 w1 j k (Ok h.1.answer) h.1.asked
+ends_left plan moved most r0 r1 w0 w1 j k (Faulted told) h =
+    step_left (was_asked moved j.ahead) (plan.ask moved) r0 r1 w0 w1 j k (Err h.1.f) h.1.asked
 
-row_heard_on : {o : Owed} {host : LiveHost} {m : ℕ} {u : Pipe} {b : OutPipe} (plan : RowPlan)
-    (r0 : Pipe) (w0 : OutPipe) (j : Kept) (n : ℕ) (got : List ℕ) (r : Pipe) (w : OutPipe)
-    (k : Kept) → IsPlain plan → SoundCourse o host m u b r0 w0 j
-    → RowHeard plan r0 w0 j n got r w k → SoundCourse o host m u b r w k
-row_heard_on plan r0 w0 j n got r w k plain c none_heard = c
-row_heard_on plan r0 w0 j n got r w k plain c
-    (one_heard {n = before} {r = r1} {left = r} {w = w1} {now = w} {j = i} {k = k} answer h step moves)
-    =
-    let so = row_heard_on plan r0 w0 j before _ r1 w1 i plain c h in
+row_left : (plan : RowPlan) (most : ℕ) (r0 r1 : Pipe) (w0 w1 : OutPipe) (j k : Kept)
+    (done : RowDone) (got : List ℕ) → RowBy plan most (streams r0 r1 w0 w1) j done got k
+    → k.left ≤ j.left
+row_left plan most r0 r1 w0 w1 j k done got h =
+    let so = heard_left plan r0 w0 j done.moved got h.mid h.between h.kept h.heard in
+    let end = ends_left plan done.moved most h.mid r1 h.between w1 h.kept k done.end h.ends in
+    omega (arith, so, end)
+
+ins_made : {st : Stage} {o : Owed} {host : LiveHost} {m : ℕ} {u : Pipe} {b : OutPipe}
+    (r0 r1 : Pipe) (w0 w1 : OutPipe) (j k : Kept) (to : Destination) (first : Toggle) (most : ℕ)
+    (done : RowDone) (got : List ℕ) → CourseTo st o host m u b r0 w0 j → j.fault ≡ None
+    → InsByLine to first most (streams r0 r1 w0 w1) j done got k → CourseTo Asks o host m u b r1 w1 k
+ins_made r0 r1 w0 w1 j k to first most done got c sound h =
+    let less = row_left (ins_plan j.rows to first most) most r0 r1 w0 w1 j k done got h in
+    let few = c.few in
+    let numbered = c.numbered in
     record {
-      course = step_by (was_asked before i.ahead) r1 r w1 w i k (plan.ask before) (Ok answer)
-          (plain before) so.course so.sound step;
-      sound = step_sound (was_asked before i.ahead) r1 r w1 w i k (plan.ask before) answer step;
+      asked = c.asked + (j.left - k.left);
+      course = LiveCourse.ins to first most done got (j.left - k.left) c.course sound h
+          (omega (arith, less));
+      few = omega (arith, less, few);
+      numbered = omega (arith, numbered);
+      at = tt;
     }
 
-row_ends_on : {o : Owed} {host : LiveHost} {m : ℕ} {u : Pipe} {b : OutPipe} (plan : RowPlan)
-    (moved most : ℕ) (r0 r1 : Pipe) (w0 w1 : OutPipe) (j k : Kept) (end : RowEnd) → IsPlain plan
-    → SoundCourse o host m u b r0 w0 j
-    → RowEndsBy plan moved most (streams r0 r1 w0 w1) j end k → CourseTo Asks o host m u b r1 w1 k
-row_ends_on plan moved most r0 r1 w0 w1 j k Whole plain c h =
-    course_nothing_asked r0 r1 w0 w1 j k c.course h.1
-row_ends_on plan moved most r0 r1 w0 w1 j k (Answered outcome) plain c h =
-    step_by (was_asked moved j.ahead) r0 r1 w0 w1 j k (plan.ask moved) (Ok h.1.answer)
-    (plain moved) c.course c.sound h.1.asked
-row_ends_on plan moved most r0 r1 w0 w1 j k (Faulted told) plain c h =
-    step_by (was_asked moved j.ahead) r0 r1 w0 w1 j k (plan.ask moved) (Err h.1.f)
-    (plain moved) c.course c.sound h.1.asked
-
-row_by : {st : Stage} {o : Owed} {host : LiveHost} {m : ℕ} {u : Pipe} {b : OutPipe}
-    (plan : RowPlan) (most : ℕ) (r0 r1 : Pipe) (w0 w1 : OutPipe) (j k : Kept) (done : RowDone)
-    (got : List ℕ) → IsPlain plan → CourseTo st o host m u b r0 w0 j → j.fault ≡ None
-    → RowBy plan most (streams r0 r1 w0 w1) j done got k → CourseTo Asks o host m u b r1 w1 k
-row_by plan most r0 r1 w0 w1 j k done got plain c sound h =
-    let on = row_heard_on plan r0 w0 j done.moved got h.mid h.between h.kept plain
-    (record { course = on_asks c; sound = sound }) h.heard in
-    row_ends_on plan done.moved most h.mid r1 h.between w1 h.kept k done.end plain on h.ends
-
-plain_if : (b : Bool) (p q : Question) → is_wait p ≡ false → is_wait q ≡ false
-    → is_wait (if b then p else q) ≡ false
-plain_if true p q first second = first
-plain_if false p q first second = second
+outs_made : {st : Stage} {o : Owed} {host : LiveHost} {m : ℕ} {u : Pipe} {b : OutPipe}
+    (r0 r1 : Pipe) (w0 w1 : OutPipe) (j k : Kept) (to : Destination) (first : Toggle)
+    (total : List ℕ) (done : RowDone) → CourseTo st o host m u b r0 w0 j → j.fault ≡ None
+    → OutsByLine to first total (streams r0 r1 w0 w1) j done k → CourseTo Asks o host m u b r1 w1 k
+outs_made r0 r1 w0 w1 j k to first total done c sound h =
+    let less = row_left (outs_plan j.rows to first total) (div_ceil (length total) to.max) r0 r1 w0
+    w1 j k done h.0 h.1 in
+    let few = c.few in
+    let numbered = c.numbered in
+    record {
+      asked = c.asked + (j.left - k.left);
+      course = LiveCourse.outs to first total done (j.left - k.left) c.course sound h
+          (omega (arith, less));
+      few = omega (arith, less, few);
+      numbered = omega (arith, numbered);
+      at = tt;
+    }
 
 -- ---- one call, of a bus that may have a fault
 
@@ -261,7 +256,7 @@ attempt_on rem con host m u b old new st ow a result again asks c =
     by_fault rem con host m u b old new st ow (kept_of old).fault refl (λ f e. (again f e).1)
     (λ e. attempts_on (unread_of rem old) (unread_of rem new) (written_of con old)
     (written_of con new) (kept_of old) (kept_of new) (question_for a)
-    (destination_of a).max result (attempt_plain a) c e (asks e)) c
+    (destination_of a).max result (attempt_plain a) (attempt_single a) c e (asks e)) c
 
 pub ins_on : {R W : Type 0} (rem : R → Option (List ℕ)) (con : W → Option (List ℕ))
     (host : LiveHost) (m : ℕ)
@@ -275,9 +270,8 @@ pub ins_on : {R W : Type 0} (rem : R → Option (List ℕ)) (con : W → Option 
     → CourseTo Asks ow host m u b (unread_of rem new) (written_of con new) (kept_of new)
 ins_on rem con host m u b old new st ow to first most done got again asks c =
     by_fault rem con host m u b old new st ow (kept_of old).fault refl (λ f e. (again f e).0)
-    (λ e. row_by (ins_plan (kept_of old).rows to first most) most (unread_of rem old)
-    (unread_of rem new) (written_of con old) (written_of con new) (kept_of old) (kept_of new) done
-    got (λ n. plain_if _ _ _ refl refl) c e (asks e)) c
+    (λ e. ins_made (unread_of rem old) (unread_of rem new) (written_of con old) (written_of con new)
+    (kept_of old) (kept_of new) to first most done got c e (asks e)) c
 
 pub outs_on : {R W : Type 0} (rem : R → Option (List ℕ)) (con : W → Option (List ℕ))
     (host : LiveHost) (m : ℕ)
@@ -292,10 +286,8 @@ pub outs_on : {R W : Type 0} (rem : R → Option (List ℕ)) (con : W → Option
     → CourseTo Asks ow host m u b (unread_of rem new) (written_of con new) (kept_of new)
 outs_on rem con host m u b old new st ow to first total done again asks c =
     by_fault rem con host m u b old new st ow (kept_of old).fault refl (λ f e. (again f e).0)
-    (λ e. let (got, row) = asks e in
-    row_by (outs_plan (kept_of old).rows to first total) (div_ceil (length total) to.max)
-    (unread_of rem old) (unread_of rem new) (written_of con old) (written_of con new) (kept_of old)
-    (kept_of new) done got (λ n. plain_if _ _ _ refl refl) c e row) c
+    (λ e. outs_made (unread_of rem old) (unread_of rem new) (written_of con old)
+    (written_of con new) (kept_of old) (kept_of new) to first total done c e (asks e)) c
 
 beyond_or : (p roots : ℕ) {T : Type 0} → (1 ≤ suc p → suc p ≤ roots → T) → (roots < suc p → T)
     → (roots < suc p) ⊎ (suc p ≤ roots) → T
@@ -317,7 +309,7 @@ calls_by r0 r1 w0 w1 j k port None c sound h = course_nothing_asked r0 r1 w0 w1 
 calls_by r0 r1 w0 w1 j k port (Some call) c sound h =
     port_within_roots port j.roots (λ e. course_nothing_asked r0 r1 w0 w1 j k c (h.1 e))
     (λ least most. let one = h.0 least most in asked_on r0 r1 w0 w1 j k (Port port call) one.result
-    c sound refl one.asked)
+    c sound refl refl one.asked)
     (λ beyond. course_nothing_asked r0 r1 w0 w1 j k c (h.2 beyond))
 
 pub call_on : {R W : Type 0} (rem : R → Option (List ℕ)) (con : W → Option (List ℕ)) (host : LiveHost) (m : ℕ)
@@ -348,7 +340,7 @@ restart_on rem con host m u b old new st ow address number is_in again asks c =
     (λ f e. again (λ none. let clash : Some f ≡ None = sym e ∙ none in cc))
     (λ e. let one = asks e in
     asked_on (unread_of rem old) (unread_of rem new) (written_of con old) (written_of con new)
-    (kept_of old) (kept_of new) (restart_of address number is_in) one.result c e refl one.asked) c
+    (kept_of old) (kept_of new) (restart_of address number is_in) one.result c e refl refl one.asked) c
 
 -- ---- what is wanted, and what is told
 
