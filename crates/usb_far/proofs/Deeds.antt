@@ -1,7 +1,6 @@
 -- What is done at a question, from what the bus did.
 use Rattle.std.proofs.Common.{◌≡◌, ◌∙◌, ℕ, ◌+◌, ◌<◌, Bool, true, false, List, [], ◌∷◌, ◌++◌, length}
 use Rattle.std.proofs.Common.{map, take, Option, Some, None, Ok, refl, sym, ap, ap₂, subst}
-use Rattle.std.proofs.Common.{IfErr, Result}
 use Rattle.std.proofs.Common.{slice_index_or}
 use Rattle.std.proofs.KnownBytes.{Appends-nil}
 use Rattle.std.proofs.lemmas.Bool.{false≢true}
@@ -12,14 +11,13 @@ use Rattle.usb_world.specs.declared.event.Ask.{Ask}
 use Rattle.usb_world.specs.{Attempt, Outcome, World, roots_of, EventEnds, after, attempt, event}
 use Rattle.usb_world.specs.{outcome_in, root_call}
 use Rattle.usb_bus.specs.{lines_between, next_due, step_lines, Attempts, TakesEvent}
-use Rattle.usb_packet.specs.{Speed}
-use Rattle.usb_wire.specs.{Answer, Answered, Asked, DataPacket, Done, Endpoint, RootsAndRows, Question}
+use Rattle.usb_wire.specs.{Answer, Answered, Asked, Done, RootsAndRows, Question}
 use Rattle.usb_wire.specs.{kind_asked}
-use Rattle.usb_wire.specs.declared.question.Question.TheVariants.{Hello, Out}
+use Rattle.usb_wire.specs.declared.question.Question.TheVariants.{Hello}
 use Rattle.usb_far.specs.{LongSend, Far, IsDone, Played, SendsTooMuch, attempt_done, call_done}
 use Rattle.usb_far.specs.{came_in, done, due_answer, hello_done, is_poll, outcome_answer}
-use Rattle.usb_far.specs.{restart_done, wait_done, ChangesTold, FarFault, IsGivenUp, IsUnanswered}
-use Rattle.usb_far.specs.{Replies, attempt_of_out, far_done, line_of, may_ask, rest_behind}
+use Rattle.usb_far.specs.{restart_done, wait_done, ChangesTold}
+use Rattle.usb_far.specs.{Replies, far_done, line_of, may_ask, rest_behind}
 use Rattle.usb_far.specs.{status_lines, told_behind}
 use Rattle.usb_far.specs.declared.far_end.Phase.TheVariants.{Asks}
 
@@ -166,15 +164,6 @@ made_reply q a old mid new answer said lines rest may kind d told is left same =
       traced = subst (λ t. Appends old.trace.bytes t.bytes (done q old.far).traced) (sym same)
           d.traced;
     }
-
--- an OUT that the bus gave up
-pub out_unanswered : (q : Question) (speed : Speed) (e : Endpoint) (sent : DataPacket)
-    (old new : Played) (a : Attempt) (result : Result Answer FarFault) → q ≡ Out speed e sent
-    → a ≡ attempt_of_out speed e sent → IfErr result (λ f. IsGivenUp a old f new)
-    → IfErr result (λ f. IsUnanswered q old f new)
-out_unanswered q speed e sent old new a result is same h =
-    subst (λ x. IfErr result (λ f. IsUnanswered x old f new)) (sym is)
-    (subst (λ b. IfErr result (λ f. IsGivenUp b old f new)) same h)
 
 -- the statuses of one port more
 pub status_more : (row : List PortState) (k : ℕ) (all : List (List ℕ)) (status : List ℕ)

@@ -24,7 +24,16 @@ pub(crate) fn setup_attempt(speed: Speed, endpoint: Endpoint, setup: Setup) -> A
 }
 
 /// The attempt that sends data (8.5.1).
-pub(crate) fn out_attempt(
+pub(crate) fn out_attempt(speed: Speed, endpoint: Endpoint, sent: &DataPacket) -> Attempt
+    requires { IsEndpoint endpoint }
+    ensures value { attempt_data result ≡ attempt_of_out speed endpoint sent.now }
+    ensures fits { IsAttempt (attempt_data result) }
+{
+    packet_attempt(speed, endpoint, sent.toggle, sent.bytes.as_slice())
+}
+
+/// The attempt that sends these bytes.
+pub(crate) fn packet_attempt(
     speed: Speed,
     endpoint: Endpoint,
     toggle: Toggle,

@@ -9,7 +9,7 @@ ghost use Rattle.usb_lines.specs.Pipes.{pipe_of};
 ghost use Rattle.usb_wire.specs.Questions.{IsEndpoint, IsQuestion};
 ghost use Rattle.usb_far.specs.FarEnd.{IsEventGivenUp, IsGivenUp, HasNoPort, IsDone, IsUnanswered, SendsTooMuch, attempt_done, call_done, asked_answer, came_in, done, due_answer, restart_done, send_to_wanted, send_wanted, statuses, wait_done, write_wanted};
 
-use crate::attempt::{answer_of, in_attempt, is_poll, out_attempt, setup_attempt};
+use crate::attempt::{answer_of, in_attempt, is_poll, out_attempt, packet_attempt, setup_attempt};
 use crate::fault::FarFault;
 use crate::row::first_of;
 use arrayvec::ArrayVec;
@@ -23,8 +23,7 @@ use usb_request::feature::{
 };
 use usb_sim::{Ask, Plan, SentBytes, SimBus, Trace, Tracer, WriteRequest};
 use usb_wire::{
-    Answer, ControlWrite, DataPacket, Endpoint, Question, SEND_LIMIT, SEND_ROOM, SEND_TO_LIMIT,
-    WRITE_LIMIT,
+    Answer, ControlWrite, Endpoint, Question, SEND_LIMIT, SEND_ROOM, SEND_TO_LIMIT, WRITE_LIMIT,
 };
 
 /// The statuses of root ports, port 1 first.
@@ -100,8 +99,8 @@ impl<T: Trace> FarEnd<T> {
             Question::Out {
                 speed,
                 endpoint,
-                sent: DataPacket { toggle, bytes },
-            } => self.attempt(&out_attempt(*speed, *endpoint, *toggle, bytes.as_slice())),
+                sent,
+            } => self.attempt(&out_attempt(*speed, *endpoint, sent)),
             Question::Outs {
                 speed,
                 endpoint,
@@ -110,7 +109,7 @@ impl<T: Trace> FarEnd<T> {
                 bytes,
             } => {
                 let packet = first_of(bytes.as_slice(), *most);
-                self.attempt(&out_attempt(*speed, *endpoint, *toggle, packet))
+                self.attempt(&packet_attempt(*speed, *endpoint, *toggle, packet))
             }
             Question::In {
                 speed,
