@@ -180,8 +180,9 @@ row_may : (asked : Question) (old mid : Played) (before w : OutPipe) (q : Questi
     → RowFront asked old before mid w q → may_ask mid.far.phase q ≡ true
     → may_ask old.far.phase asked ≡ true
 row_may asked old mid before w q RowFront.begun may = may
-row_may asked old mid before w q (RowFront.further front r e traced gone) may =
-    row_may asked old _ before _ _ front r.asks
+row_may asked old mid before w q
+    (RowFront.further {mid = m} {w = v} {q = p} front r e traced gone) may =
+    row_may asked old m before v p front r.asks
 
 -- texts that went out one behind the other
 pending_then : (a b c : Bool) (xs ys : List ℕ) → b ≡ (a && not (is_some_text xs))
@@ -223,8 +224,7 @@ gone_so asked old mid before w q RowFront.begun = record {
   flushed = sym (and_true before.pending);
 }
 gone_so asked old new before now rest
-    (RowFront.further {mid = mid} {new = new} {w = w} {now = now} {q = q} {rest = rest} {lines = lines} front
-    r e traced gone) =
+    (RowFront.further {mid = mid} {w = w} {q = q} {lines = lines} front r e traced gone) =
     let so = gone_so asked old mid before w q front in
     record {
       said = so.said ++ lines;
