@@ -176,13 +176,14 @@ rest_may q mid new lines rest r e = may_attempt new.phase (kind_asked rest)
     (ap (λ (f : Far). f.phase) r.far) (rest_kind q r.answer rest e)
 
 -- and so may the row
-row_may : (asked : Question) (old mid : Played) (before w : OutPipe) (q : Question)
+row_may : (asked : Question) (old : Played) (before : OutPipe) (mid : Played) (w : OutPipe)
+    (q : Question)
     → RowFront asked old before mid w q → may_ask mid.far.phase q ≡ true
     → may_ask old.far.phase asked ≡ true
-row_may asked old mid before w q RowFront.begun may = may
-row_may asked old mid before w q
+row_may asked old before mid w q RowFront.begun may = may
+row_may asked old before mid w q
     (RowFront.further {mid = m} {w = v} {q = p} front r e traced gone) may =
-    row_may asked old m before v p front r.asks
+    row_may asked old before m v p front r.asks
 
 -- texts that went out one behind the other
 pending_then : (a b c : Bool) (xs ys : List ℕ) → b ≡ (a && not (is_some_text xs))
@@ -212,9 +213,10 @@ reply_flushed q mid new lines w now r gone =
     ∙ some_reply _ (said_line (Answered r.answer)) in
     gone.flushed ∙ sym (ap (λ b. w.pending && not b) some ∙ and_false w.pending)
 
-gone_so : (asked : Question) (old mid : Played) (before w : OutPipe) (q : Question)
+gone_so : (asked : Question) (old : Played) (before : OutPipe) (mid : Played) (w : OutPipe)
+    (q : Question)
     → RowFront asked old before mid w q → Gone asked old before mid w q
-gone_so asked old mid before w q RowFront.begun = record {
+gone_so asked old before mid w q RowFront.begun = record {
   said = [];
   traced = [];
   goes = GoesOn.begun;
@@ -223,9 +225,9 @@ gone_so asked old mid before w q RowFront.begun = record {
   unmarked = refl;
   flushed = sym (and_true before.pending);
 }
-gone_so asked old new before now rest
+gone_so asked old before new now rest
     (RowFront.further {mid = mid} {w = w} {q = q} {lines = lines} front r e traced gone) =
-    let so = gone_so asked old mid before w q front in
+    let so = gone_so asked old before mid w q front in
     record {
       said = so.said ++ lines;
       traced = so.traced ++ (done q mid.far).traced;
@@ -244,7 +246,7 @@ pub asked_line : (old new : Scene) (line : List ℕ) (q : Question) → IsUnbrok
     → ReadsOn old new → HasQuestion line q
     → AllReplies q old.writer old.played new.played new.writer → ServedOne old new
 asked_line old new line q one read reads there all =
-    let so = gone_so q old.played all.mid old.writer all.w all.last all.front in
+    let so = gone_so q old.played old.writer all.mid all.w all.last all.front in
     let tail : List ℕ = (done all.last all.mid.far).traced in
     record {
       passed = passed (line ++ 10 ∷ []) (so.said ++ all.lines) (so.traced ++ tail);
@@ -342,12 +344,12 @@ row_stopped old new line asked left mid w f front (inl (inl none, writer)) there
 row_stopped old new line asked left mid w f front (inl (inr un, writer)) there one short other read
     reads =
     CauseOf.unanswered f asked left (reads_question old new line asked one read reads there.is
-    there.asks (row_may asked old.played mid old.writer w left front un.0)) front un.1 writer
+    there.asks (row_may asked old.played old.writer mid w left front un.0)) front un.1 writer
 row_stopped old new line asked left mid w f front (inr (is, torn)) there one short other read reads
     =
     subst (CauseOf old new) (sym is)
     (CauseOf.unwritten asked left (reads_question old new line asked one read reads there.is
-    there.asks (row_may asked old.played mid old.writer w left front torn.replied.asks)) front torn)
+    there.asks (row_may asked old.played old.writer mid w left front torn.replied.asks)) front torn)
 
 -- a reply that was not written to its end, or not flushed
 reply_torn : (q : Question) (mid new : Played) (w now : OutPipe) (lines : List ℕ)
