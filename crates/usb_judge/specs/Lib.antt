@@ -13,5 +13,5 @@ pub use Judgements.{IsAside, IsFrontOf, IsPowered, IsRight, IsRightOf, IsSo, IsW
 pub use Judgements.{LacksDevice, RisesByPath, Stands}
 pub use Verdicts.{judged, listed_causes, told, told_at, told_lack}
 unfoldable pub use Verdicts.{told_for}
-pub use Worlds.{ArePlugged, IsRightIn, configuration_in, given_below, powers_itself, scene_of}
-pub use Worlds.{state_seen}
+pub use Worlds.{ArePlugged, IsRightIn, configuration_in, given_below, is_port_number, names_port}
+pub use Worlds.{powers_itself, scene_of, scene_on, state_seen}

@@ -1,10 +1,11 @@
 -- What is plugged in a world, and when a listing of it is right.
 use Rattle.std.specs.Prelude.{◌≡◌, ℕ, ◌==◌, List, take, Bool, true, false, Option, None, Some}
-use Rattle.std.specs.Prelude.{option_map, if◌then◌else◌}
+use Rattle.std.specs.Prelude.{option_map, if◌then◌else◌, ◌&&◌, length, nat_le}
+use Rattle.std.specs.List.{list_all}
 use Rattle.usb_port.specs.{parent_of}
 use Rattle.usb_request.specs.{DEVICE_LENGTH}
 use Rattle.usb_resources.specs.{supply_of}
-use Rattle.usb_device.specs.{State, hub_ports, reach, state_there, text_of}
+use Rattle.usb_device.specs.{Ports, State, hub_ports, reach, state_there, text_of}
 use Rattle.usb_world.specs.{World}
 use Rattle.usb_judge.specs.declared.listed.ListedPort.{ListedPort}
 use Rattle.usb_judge.specs.declared.plugged.PluggedDevice.{PluggedDevice}
@@ -33,15 +34,28 @@ powers_itself None = false
 powers_itself (Some s) = s.spec.self_powered
 
 -- what a port of the root gives, or one of the hub at a path, in mA (7.2.1)
-abbrev pub given_below : World → Option (List ℕ) → ℕ
-given_below w None = supply_of true false
-given_below w (Some hub) = supply_of false (powers_itself (state_there w.roots hub))
+abbrev pub given_below : Ports → Option (List ℕ) → ℕ
+given_below roots None = supply_of true false
+given_below roots (Some hub) = supply_of false (powers_itself (state_there roots hub))
 
--- the device at each path of a world: its own descriptor and speed, the address and the
--- configuration that it has now, and whether it is reached
+-- a port has such a number, and such numbers name a port: 1 to 7 of them
+abbrev pub is_port_number : ℕ → Bool
+is_port_number n = nat_le 1 n && nat_le n 15
+
+abbrev pub names_port : List ℕ → Bool
+names_port path =
+    nat_le 1 (length path) && nat_le (length path) 7 && list_all is_port_number path
+
+-- the device at each path of a tree: its own descriptor and speed, the address and the configuration
+-- that it has, and whether it is reached
+abbrev pub scene_on : Ports → Scene
+scene_on roots path = if names_port path then option_map
+    (state_seen (reach roots path) (given_below roots (parent_of path))) (state_there roots path)
+    else None
+
+-- the devices of a world
 abbrev pub scene_of : World → Scene
-scene_of w path = option_map
-    (state_seen (reach w.roots path) (given_below w (parent_of path))) (state_there w.roots path)
+scene_of w = scene_on w.roots
 
 -- these devices are those that are plugged in the world
 abbrev pub ArePlugged : List PluggedDevice → World → Type 0

@@ -1,0 +1,83 @@
+-- A device and its way, by the numbers of its path.
+use Rattle.std.proofs.Common.{◌≡◌, ℕ, zero, suc, ◌-◌, List, [], ◌∷◌, ◌++◌, Option, None, Some}
+use Rattle.std.proofs.Common.{refl, ap, sym, ◌∙◌, true, false, Bool, slice_get, is_some, arith}
+use Rattle.std.proofs.Common.{option_map, ◌+◌, ◌*◌, nat_le}
+use Rattle.std.specs.Prelude.{◌&&◌}
+use Rattle.usb_port.specs.{PortState, bit}
+use Rattle.usb_device.specs.{Plugged, Ports, State, ended, vacant, taken, device_there, numbered}
+use Rattle.usb_device.specs.{plugged_at, reach, reach_at, row_of, state_at, state_there}
+use Rattle.usb_plugged.specs.{reach_through}
+
+yes_and : (b : Bool) → b ≡ (b && true)
+yes_and true = refl
+yes_and false = refl
+
+no_and : (b : Bool) → false ≡ (b && false)
+no_and true = refl
+no_and false = refl
+
+reach_at-step : (k : Ports) (i : ℕ) (p : List ℕ)
+    → reach_at k i p ≡ reach_through (slice_get (row_of k) i) (plugged_at k i []) p
+unfolding reach_at plugged_at row_of
+reach_at-step ended i p = refl
+reach_at-step (vacant b k) zero p = refl
+reach_at-step (vacant b k) (suc i) p = reach_at-step k i p
+reach_at-step (taken b s a k) zero [] = yes_and b.enable
+reach_at-step (taken b s a k) zero (zero ∷ p) = no_and b.enable
+reach_at-step (taken b s a k) zero (suc j ∷ p) = refl
+reach_at-step (taken b s a k) (suc i) p = reach_at-step k i p
+
+numbered-suc : (row : List PortState) (i : ℕ) → numbered row (suc i) ≡ slice_get row i
+numbered-suc row i = let less : suc i - 1 ≡ i = omega arith in ap (slice_get row) less
+
+-- a device is reached by its first port, and by the rest of its path
+pub reach-step : (k : Ports) (n : ℕ) (p : List ℕ)
+    → reach k (n ∷ p) ≡ reach_through (numbered (row_of k) n) (device_there k (n ∷ [])) p
+reach-step k zero p = refl
+reach-step k (suc i) p = reach_at-step k i p
+    ∙ ap (λ (b : Option PortState). reach_through b (plugged_at k i []) p)
+    (sym (numbered-suc (row_of k) i))
+
+-- the second bit of a status tells the enable
+pub enable_told : (connected enabled : Bool) → nat_le 2 (bit connected + 2 * bit enabled) ≡ enabled
+enable_told true true = refl
+enable_told true false = refl
+enable_told false true = refl
+enable_told false false = refl
+
+-- The state of a device is that of the device with its ports
+
+state_at-own : (k : Ports) (i : ℕ) (p : List ℕ)
+    → state_at k i p ≡ option_map (λ t. t.own) (plugged_at k i p)
+unfolding state_at plugged_at
+state_at-own ended i p = refl
+state_at-own (vacant b k) zero p = refl
+state_at-own (vacant b k) (suc i) p = state_at-own k i p
+state_at-own (taken b s a k) zero [] = refl
+state_at-own (taken b s a k) zero (zero ∷ p) = refl
+state_at-own (taken b s a k) zero (suc j ∷ p) = state_at-own a j p
+state_at-own (taken b s a k) (suc i) p = state_at-own k i p
+
+pub state_there-own : (k : Ports) (p : List ℕ)
+    → state_there k p ≡ option_map (λ t. t.own) (device_there k p)
+state_there-own k [] = refl
+state_there-own k (zero ∷ p) = refl
+state_there-own k (suc i ∷ p) = state_at-own k i p
+
+-- A device below another one: that one is there, too
+
+state_at-above : (k : Ports) (i : ℕ) (p q : List ℕ) → is_some (state_at k i (p ++ q)) ≡ true
+    → is_some (state_at k i p) ≡ true
+unfolding state_at
+state_at-above ended i p q h = h
+state_at-above (vacant b k) zero p q h = h
+state_at-above (vacant b k) (suc i) p q h = state_at-above k i p q h
+state_at-above (taken b s a k) zero [] q h = refl
+state_at-above (taken b s a k) zero (zero ∷ p) q h = h
+state_at-above (taken b s a k) zero (suc j ∷ p) q h = state_at-above a j p q h
+state_at-above (taken b s a k) (suc i) p q h = state_at-above k i p q h
+
+pub state_there-above : (k : Ports) (n : ℕ) (p q : List ℕ)
+    → is_some (state_there k ((n ∷ p) ++ q)) ≡ true → is_some (state_there k (n ∷ p)) ≡ true
+state_there-above k zero p q h = h
+state_there-above k (suc i) p q h = state_at-above k i p q h

@@ -1,0 +1,15 @@
+//! What is plugged in a simulated bus, for the verdict on a host's listing.
+//!
+//! # What is proved
+//!
+//! - `plugged` lists the devices that are plugged in the bus's world (*ArePlugged*, `usb_judge`). So
+//!   what `judge` tells of a listing beside them is so in that world (`judged_world`).
+//!
+//! A device below 7 ports has no path, and counts as none. No event of a plan plugs one there.
+#![tactic(auto)]
+
+mod plugged;
+mod seen;
+mod way;
+
+pub use plugged::plugged;
