@@ -1,5 +1,5 @@
 //! Tests of the formats beside a run's text: drawings, pcap files, explained texts, pages and
-//! entries; of listings judged; and of faults and exit statuses.
+//! entries; of listings judged, and of their lines; and of faults and exit statuses.
 #![tactic(auto)]
 
 #[cfg(test)]

@@ -6,3 +6,4 @@ mod judge;
 mod page;
 mod pcap;
 mod status;
+mod verdict;

@@ -7,7 +7,8 @@
 //! - It tells none exactly if the listing is right (*IsRight*): each device at a port of the root, or
 //!   of a hub that is listed, is listed or refused, and nothing else is. Each has its own descriptor,
 //!   speed and address, and takes no more power than its port gives.
-//! - Of a world that has these devices, that is *IsRightIn* (`judged_world`).
+//! - Of a world that has these devices, that is *IsRightIn* (`judged_world`). What has no path
+//!   (*names_port*) counts as not there.
 //!
 //! What is policy is not judged: which device is refused, and which configuration is chosen among
 //! those that the port can give power.

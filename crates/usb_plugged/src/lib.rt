@@ -8,8 +8,8 @@
 //! A device below 7 ports has no path, and counts as none. No event of a plan plugs one there.
 #![tactic(auto)]
 
-mod plugged;
+mod devices;
 mod seen;
 mod way;
 
-pub use plugged::plugged;
+pub use devices::plugged;

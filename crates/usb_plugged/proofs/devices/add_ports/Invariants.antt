@@ -1,6 +1,6 @@
 use Rattle.std.proofs.Common.{◌+◌}
 use Rattle.usb_plugged.specs.{AddsPorts, numbers_on}
-use Rattle.usb_plugged.proofs.plugged.add_ports.Given as goal
+use Rattle.usb_plugged.proofs.devices.add_ports.Given as goal
 
 -- the first ports were looked at
 abbrev pub invariant-ports : goal.invariant-ports

@@ -1,5 +1,5 @@
 use Rattle.usb_plugged.proofs.Found.{Walked}
-use Rattle.usb_plugged.proofs.plugged.all_on.Given as goal
+use Rattle.usb_plugged.proofs.devices.all_on.Given as goal
 
 -- the ports of the first devices were looked at
 abbrev pub invariant-devices : goal.invariant-devices

@@ -1,0 +1,8 @@
+pub mod Reports
+pub mod Texts
+-- the words of this crate, wherever one stands
+pub use Reports.{DeviceSaid, DetailSaid, PortSaid, accepted, alone, amended, amended_port, behind}
+pub use Reports.{claim_said, detail_said, device_said, joined, joined_if, line_joined, port_said}
+pub use Reports.{with_bytes, with_detail}
+pub use Texts.{counted, no_listings, one_more}
+unfoldable pub use Texts.{cause_text, judgement_text, tally_text}
