@@ -1,16 +1,12 @@
-//! The bus: the trait `Bus`, one transaction attempt at a time, and what goes to its trace.
+//! The bus: the trait `Bus`, one transaction attempt at a time, and its trace (`docs/PORTING.md`).
 //!
 //! # What is proved
 //!
 //! - Each call of `Bus` is a step of the bus's world, if the bus is *modelled*. An attempt writes
-//!   the lines of the events that came in it and its own line, or a prefix of these if the writer
-//!   failed (`Attempts`, `specs/Traces.antt`). Root calls write nothing.
+//!   the lines of its events and its own, or a prefix of these if the writer failed (`Attempts`,
+//!   `specs/Traces.antt`). Root calls write nothing.
 //! - Over any bus, an attempt adds at most one to `spent`, and brings at most the maximum of bytes.
 //!   A fault that it reports is `failed` (*Spends*).
-//! - `put_piece` writes a piece or a prefix of it, and its `Watched` writer is marked exactly if it
-//!   failed.
-//!
-//! `docs/PORTING.md` says what each call must do, and `docs/PROVED.md` what rests on it.
 #![tactic(auto)]
 
 mod bus;

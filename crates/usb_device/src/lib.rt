@@ -2,15 +2,11 @@
 //!
 //! # What is proved
 //!
-//! - `Device::receive` is exactly the *packet table* and the *request table*, of functions and hubs
-//!   (`specs/Rows.antt`, `specs/Request.antt`). Refused memory changes nothing.
+//! - `Device::receive` is exactly the *packet table* and the *request table* (`specs/Rows.antt`,
+//!   `specs/Request.antt`). Refused memory changes nothing.
 //! - `Ports::deliver` takes a packet through a tree of devices. If memory is refused, only the
 //!   devices before the one that was to take the data had the packet.
-//! - `Holders` is the index of a tree: who holds each address, and whether an address is held twice
-//!   (`IsIndexOf`).
-//!
-//! `src/laws.rt` says how far control transfers and bulk endpoints are after each attempt.
-//! `docs/PROVED.md` says what rests on this.
+//! - `Holders` is the index of who holds each address, and whether one is held twice (`IsIndexOf`).
 #![tactic(auto)]
 
 mod alone;

@@ -2,16 +2,13 @@
 //!
 //! # What is proved
 //!
-//! - *The verdict* (`check_text`, `TellsVerdict` of `specs/Checking.antt`): a text is a plan if and
-//!   only if `read_plan` takes it. Its lines are then its counts, its bound and the remarks of
-//!   usb_remarks. Else the first line has the file, a line of the text, and `read_plan`'s own fault.
-//! - *What is written* (`check`): exactly these lines, or a prefix of them if the writer failed.
-//! - *The key of a fault* (`trouble_of`, `IsTroubleOf` of `specs/Trouble.antt`): a missing key is
-//!   absent, `read_plan` takes no unknown one there, and a wrong value is at its key. The same holds
-//!   of a table of `endpoint` (`trouble_within`, `IsTroubleWithin`).
+//! - *The verdict* (`check_text`, `TellsVerdict`): a text is a plan if and only if `read_plan`
+//!   takes it. Else the first line has `read_plan`'s own fault.
+//! - `check` writes exactly these lines, or a prefix of them if the writer failed.
+//! - *The key of a fault* (`trouble_of`, `IsTroubleOf`): a missing key is absent, `read_plan` takes
+//!   no unknown one there, and a wrong value is at its key.
 //!
-//! *Only tested*: that the line and the key are those at fault, and the words on what is allowed.
-//! `docs/PROVED.md` has the rest.
+//! *Only tested*: that line and key are those at fault, and the words on what is allowed.
 #![tactic(auto)]
 
 mod checking;

@@ -1,22 +1,15 @@
-//! Drivers over a host: a boot keyboard and a disk. The program lets them meet their devices: those of a
-//! plan, or with the word `live` those of a far end on standard input and output (`docs/LIVE.md`).
+//! Drivers over a host: a boot keyboard and a disk, for the devices of a plan or of a controller
+//! program.
 //!
 //! # What is proved
 //!
-//! Each call of a driver says which calls of the host it made, in their order, and how its answer comes from
-//! theirs. Of each of those it has what the host says, over any bus and over a modelled one
-//! (`specs/Calls.antt`). So the drivers lose nothing and repeat nothing that the host does not.
+//! Each call of a driver says which calls of the host it made, in their order, and how its answer
+//! comes from theirs (`specs/Calls.antt`).
 //!
-//! - **A report is one poll** (`Keyboard::report`, *AsksReport*). After a STALL that endpoint is cleared once.
-//!   A poll without an answer loses nothing, and nothing is cleared.
-//! - **A command goes out once, with a tag of its own** (`Disk::read`, `Disk::write`; *Takes*, *Puts*). Then its
-//!   data move once, and then its status is asked for. The call returns `Ok` only if that status says so and
-//!   all the bytes moved. A fault is that of the step that failed.
-//! - **A STALL in place of a status** is cleared, and the status is asked for once more (*Concludes*).
-//! - `Disk::open` asks for the size until the disk does not fail, three times at most (*AsksSize*).
-//!   `Disk::recover` resets it and clears both halts (*Recovers*).
-//! - A driver takes the first interface of its kind, and is refused where there is none (*KeyboardOpens*,
-//!   *DiskOpens*). Once its device is gone, it says so and attempts nothing (clause `gone`).
+//! - **A report is one poll** (`Keyboard::report`, *AsksReport*).
+//! - **A command goes out once, with a tag of its own** (`Disk::read`, `Disk::write`; *Takes*,
+//!   *Puts*). The call returns `Ok` only if its status says so and all the bytes moved.
+//! - Once its device is gone, a driver says so and attempts nothing (clause `gone`).
 //!
 //! *Only tested*: what the program prints.
 #![tactic(auto)]

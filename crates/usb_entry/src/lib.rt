@@ -1,16 +1,15 @@
-//! A real device's descriptors, as Linux has them in the file `descriptors` of sysfs, and the entry
-//! of a plan for that device.
+//! A real device's descriptors, from the file `descriptors` of Linux's sysfs, and its entry of a
+//! plan.
 //!
 //! # What is proved
 //!
 //! - `entry_of` returns a device only if the bytes are a device descriptor and the configurations
-//!   that it counts, each whole, with nothing after them (*IsEntry*). Each fault is returned only
-//!   for its cause, at its byte (*HasEntryFault*).
-//! - `write_entry` writes *entry_text* of that device, to the byte, or a prefix of it if the writer
-//!   failed. At any other fault it writes nothing.
+//!   that it counts, each whole, with nothing after them (*IsEntry*). Each fault has its cause, and
+//!   its byte (*HasEntryFault*).
+//! - `write_entry` writes *entry_text* of that device, or a prefix of it if the writer failed.
 //!
-//! *Only tested*: that a plan's reader gets a device of that name with exactly those bytes from the
-//! table, and that bytes of a real device are not refused.
+//! *Only tested*: that a plan's reader gets exactly those bytes from the table, and that bytes of a
+//! real device are not refused.
 #![tactic(auto)]
 
 mod entry;

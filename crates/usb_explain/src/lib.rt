@@ -1,20 +1,14 @@
 //! A run's text with its requests in words.
 //!
-//! `explain` reads what `usbplan run` wrote, line by line, and writes each line again. After an
-//! attempt that is a SETUP it writes the request in words. `Only` leaves out the other attempts.
-//! Nothing here takes memory.
-//!
 //! # What is proved
 //!
-//! - *The text* (`explain`, `IsExplained` of `specs/Explained.antt`): what goes out is the text of
-//!   each line that was read, in order: the line, and the words of its request if it is a SETUP's.
-//!   After a fault it is the text of the whole lines before, or a prefix of it if the writer failed.
-//! - *The words* (`specs/Table.antt`): those of the first row of one table that fits the request.
-//! - *Why it stops* (`explain`): the first line that no run writes, that is too long, or that
-//!   nothing ends.
+//! - *The text* (`explain`, `IsExplained`): each line that was read and not left out, in order, and
+//!   after a SETUP the words of its request. At a fault it is that of the whole lines before, or a
+//!   prefix if the writer failed.
+//! - *The words*: those of the first row of one table that fits (`specs/Table.antt`).
+//! - It stops at the first line that no run writes, that is too long, or that nothing ends.
 //!
-//! *Only tested*: that the lines which a run writes are read. `docs/PROVED.md` has the place of
-//! these theorems among the others.
+//! *Only tested*: that the lines which a run writes are read.
 #![tactic(auto)]
 
 mod explaining;

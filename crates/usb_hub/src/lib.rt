@@ -5,14 +5,9 @@
 //! - Each typed call makes its own request with what it was given, and at most the attempts of its
 //!   control transfer (`uses`).
 //! - Over a modelled bus, and if no address was held twice, what a call read is so of the device's
-//!   description (`get_device`, `get_config`, `get_string`, `hub_descriptor`, `get_status`).
+//!   description (`get_device` and the others).
 //! - If no address was held twice, only SET_ADDRESS gives a device another one, and only PORT_RESET
-//!   sets address 0 (`set_address`, `set_port`). A device at or below a port that is not enabled is
-//!   not reachable (`port_status`, `clear_port`).
-//!
-//! `port_status`, `set_port` and `clear_port` have one contract for both kinds of port. At a root
-//! port they are the port table's rows and never fail; at a hub's port they are requests.
-//! `docs/PROVED.md` says when a call took effect, and why it fails.
+//!   sets address 0 (`set_address`, `set_port`).
 #![tactic(auto)]
 
 mod asking;

@@ -2,16 +2,14 @@
 //!
 //! # What is proved
 //!
-//! - `judge` tells a judgement exactly where its cause stands (*Stands*, `specs/Judgements.antt`), in
-//!   the order of paths (*RisesByPath*).
-//! - It tells none exactly if the listing is right (*IsRight*): each device at a port of the root, or
-//!   of a hub that is listed, is listed or refused, and nothing else is. Each has its own descriptor,
-//!   speed and address, and takes no more power than its port gives.
-//! - Of a world that has these devices, that is *IsRightIn* (`judged_world`). What has no path
-//!   (*names_port*) counts as not there.
+//! - `judge` returns a judgement exactly if its cause holds (*Stands*, `specs/Judgements.antt`), in
+//!   the order of paths.
+//! - It returns none exactly if the listing is right (*IsRight*). Of a world that has these
+//!   devices, that is *IsRightIn* (`judged_world`). What has no path (*names_port*) counts as not
+//!   there.
 //!
-//! What is policy is not judged: which device is refused, and which configuration is chosen among
-//! those that the port can give power.
+//! Policy is not judged: which device is refused, and which configuration is chosen among those
+//! that the port can give power.
 #![tactic(auto)]
 
 mod judgement;

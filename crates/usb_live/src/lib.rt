@@ -1,23 +1,17 @@
 //! The host of the live protocol (`docs/LIVE.md`): what `usbplan live` does.
 //!
-//! `live` says the hello and makes rounds. After a quiet one, or 257 in a row that worked, it asks
-//! what is requested, does that, and reports it in the lines of `usbplan tree`.
-//!
 //! # What is proved
 //!
 //! Of any controller side (*Lives*, `specs/Course.antt`):
 //!
 //! - `live` returns, and asks at most `limit` questions. After a fault it asks and reports nothing,
 //!   and the fault has its cause.
-//! - It reports each request exactly once, before it asks again, by the item that is owed
-//!   (*settles*). Listings are numbered from 1. Each shows what this host may hold, with wide hubs
-//!   or without (*IsShown*).
-//! - It returns `Ok` only if the end was requested, or the input ended in place of that answer. A
-//!   last listing was reported then, and nothing after it.
+//! - It reports each request exactly once, before it asks again (*settles*).
+//! - It returns `Ok` only after a last listing, if the end was requested, or the input ended in
+//!   place of that answer.
 //!
-//! Over a modelled bus exactly what is requested is done, as in a run of a plan (`item_of`). *Only
-//! tested* (`usb_rows`): after which rounds the host asks. *Neither*: that memory was refused if
-//! `Memory` is returned. `docs/PROVED.md` says what rests on this.
+//! *Only tested*: after which rounds the host asks. *Neither*: that memory was refused if `Memory`
+//! is returned.
 #![tactic(auto)]
 
 mod bus;

@@ -3,8 +3,8 @@
 //!
 //! # What is proved
 //!
-//! `CountedBus` meets `trait Bus` around any bus, with the world and the trace of that one. It
-//! begins with no count, and counts each attempt that was made by its answer (`counts_behind`).
+//! `CountedBus` meets `trait Bus` around any bus, with that one's world and trace. It counts each
+//! attempt that was made by its answer (`counts_behind`).
 #![tactic(auto)]
 
 mod counted;

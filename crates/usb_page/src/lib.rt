@@ -1,7 +1,4 @@
-//! The text of a run as one self-contained page of HTML.
-//!
-//! `put_page` writes the text between constants of `markup` and `script`. The script draws all that the page shows,
-//! from that text.
+//! The text of a run as one self-contained page of HTML, drawn by its script.
 //!
 //! # What is proved
 //!

@@ -1,20 +1,16 @@
 //! The packets of a run's text as a pcap file, which Wireshark reads.
 //!
-//! `capture` reads what `usbplan run` wrote, line by line, and writes the file. `read_attempt` reads
-//! the line of one attempt, `is_told` knows a run's other lines. Nothing here takes memory.
-//!
 //! # What is proved
 //!
-//! - `read_attempt` reads a line as an attempt if and only if it is that attempt's line, to the
-//!   byte (`IsAttemptLine`, `specs/Attempt.antt`).
-//! - `capture` writes the header and, for each line of the text, the records of its attempt's
-//!   packets, in order and with their damage (`Captures`, `specs/Capture.antt`). After a fault it
-//!   is the file of the whole lines before, or a prefix of it if the writer failed.
-//! - A capture stops at the first line that has none of the forms of a run's lines
-//!   (`specs/Report.antt`), or that nothing ends.
+//! - `read_attempt` reads a line as an attempt if and only if it is its line, to the byte
+//!   (`IsAttemptLine`).
+//! - `capture` writes the header and the records of each attempt's packets, in order and with their
+//!   damage (`Captures`). At a fault it is that of the whole lines before, or a prefix if the
+//!   writer failed.
+//! - It stops at the first line that has no form of a run's lines (`specs/Report.antt`), or that
+//!   nothing ends.
 //!
-//! *Only tested*: that a run's lines have these forms (`tools/pcap_rows`). `docs/PROVED.md` has the
-//! rest.
+//! *Only tested*: that a run's lines have these forms (`tools/pcap_rows`).
 #![tactic(auto)]
 
 mod attempt;

@@ -1,23 +1,15 @@
-//! Pipes: transfers over transactions.
-//!
-//! A control transfer (8.5.3) is a SETUP, a data stage if the request has data, and a status stage
-//! the other way. An `EndpointPipe` (5.7, 5.8) moves packets one way, to or from a bulk or an
-//! interrupt endpoint: `send` and `receive` move bytes cut into packets, and `poll` asks once for a
-//! packet. An `InterruptPipe` asks a hub's status endpoint.
+//! Pipes: transfers over transactions, at control endpoints (8.5.3), at bulk and interrupt
+//! endpoints (`EndpointPipe`; 5.7, 5.8), and at a hub's status endpoint (`InterruptPipe`).
 //!
 //! # What is proved
-//!
-//! Each call has one record (`specs/Transfers.antt`): which transactions it made, what it left of
-//! each device, why it failed and who answered.
 //!
 //! - `control_in`: the bytes are the first ones of the device's answer when it accepted the
 //!   request.
 //! - `control_out`: the device has taken the data once; if the call failed, all of them or none.
-//! - `EndpointPipe`: each byte that was sent or received went once, in order, and none was left out.
-//!   So did each packet that a poll told, and after its faults polls go on with the next one.
+//! - `EndpointPipe`: each byte that was sent or received went once, in order, and none was left
+//!   out. So did each packet that a poll reported.
 //!
-//! A pipe *fits* its endpoint if their toggles are level, and the endpoint is halted if the
-//! pipe was stalled. `docs/PROVED.md` has the other theorems.
+//! Each call has one record (`specs/Transfers.antt`).
 #![tactic(auto)]
 
 mod condition;

@@ -4,10 +4,10 @@
 //!
 //! - `read_plan` returns the plan that the text spells, or the text's first fault (`spelled_plan`,
 //!   `specs/Plan.antt`), over the document that `toml` reads.
-//! - `bound` is its formula (`bound_of`, `specs/Attempts.antt`). That a run needs no more attempts
-//!   is a theorem of usb_run.
+//! - `bound` is its formula (`bound_of`, `specs/Attempts.antt`). That it is enough is a theorem of
+//!   usb_run.
 //!
-//! *Only tested*: the words of the faults. `docs/PROVED.md` has the rest.
+//! *Only tested*: the words of the faults.
 #![tactic(auto)]
 
 mod action;

@@ -1,12 +1,11 @@
 //! The setup data of a control transfer (9.3), a maker for each request that the host sends, and
-//! the standard's numbers of requests, descriptors, endpoints, classes and features.
+//! the standard's numbers.
 //!
 //! # What is proved
 //!
-//! - Setup data and their eight bytes agree both ways (`Setup`), and each maker has the fields of
-//!   its request (`specs/Codes.antt`).
-//! - `is_reserved` says exactly which requests only the host itself may send
-//!   (`specs/Reserved.antt`).
+//! - Setup data and their eight bytes agree both ways (`Setup`). Each maker has the fields of its
+//!   request (`specs/Codes.antt`).
+//! - `is_reserved` says exactly which requests only the host itself may send.
 #![tactic(auto)]
 
 pub mod class_code;

@@ -1,6 +1,5 @@
-//! Runs the rows of `data/`: plans, each in both modes, explained, and by a host over two pipes, and
-//! packets in digits. Prints a line for each that is not as expected, the number of rows, and the number of
-//! those that differ.
+//! Runs the rows of `data/`: plans, each in both modes, explained, and by a host over two pipes,
+//! and packets in digits. Prints a line for each that is not as expected, and both numbers.
 #![tactic(auto)]
 
 mod live;

@@ -1,21 +1,14 @@
 //! Runs of a plan: a host over the plan's bus, event by event, and what it makes.
 //!
-//! `run` returns what a plan's run made, with no line written. A `Runner` makes it item by item,
-//! and takes lines of report into its trace. `settle` makes rounds until nothing is left to do.
-//!
 //! # What is proved
 //!
 //! - Each event becomes its item, and each item is right (`run`, clause `ends`). A listing is what
-//!   is plugged if damage is fair. A transfer, a look or news says what the device, the port or the
-//!   host did (*TellsRight*).
+//!   is plugged if damage is fair.
 //! - A plan of at most 127 plugs whose limit is its bound never comes to its limit (`run`, clause
 //!   `enough`).
 //! - At no attempt do two devices that can be reached hold one address (`run`, clause `ends`).
 //!
-//! *Only tested*: the rows of plans (`usb_serve_tests`). `docs/PROVED.md` says what these rest on.
-//!
-//! A *transcript* (`specs/Transcript.antt`) is a run as its hosts in order, with the text of each
-//! item. The *ledger* (`proofs/ledgers`) weighs what is left to do.
+//! *Only tested*: the rows of plans.
 #![tactic(auto)]
 
 mod asked;

@@ -1,19 +1,14 @@
 //! What the program writes for a plan: the run (usb_run), from a reader to a writer.
 //!
-//! `serve` reads a plan, runs it, and writes its trace or its report. `serve_through` does so
-//! through the buffer of an `Output`. To write something else of a run, use the parts of `serve`:
-//! `plan_of`, `next_untraced`, `number_of`, `item_lines` and `write_lines`.
-//!
 //! # What is proved
 //!
 //! - `serve` writes the text of a run of the plan that the text spells (*Serves*), and nothing if
 //!   no plan was read. Each fault is reported with its cause (*MarksWriter*, *Reads*).
-//! - `serve_through` does so through a buffer: all of it goes out, or a prefix if the writer failed
-//!   (*ServesThrough*).
-//! - A plan of at most 127 plugs whose limit is its bound never comes to its limit (`serve`:
-//!   *NeverAtLimit*).
+//! - `serve_through` does so through a buffer (*ServesThrough*).
+//! - A plan of at most 127 plugs whose limit is its bound never comes to its limit
+//!   (*NeverAtLimit*).
 //!
-//! *Only tested*: the rows of plans, byte for byte. `docs/PROVED.md` says what these rest on.
+//! *Only tested*: the rows of plans, byte for byte.
 #![tactic(auto)]
 
 mod answers;

@@ -3,8 +3,7 @@
 //! # What is proved
 //!
 //! `exit_status` returns the status of each outcome by one table (`specs/Statuses.antt`). A
-//! command's fault becomes the program's unchanged (the `From` of each). *Only tested*: the lines
-//! of faults.
+//! command's fault becomes the program's unchanged. *Only tested*: the lines of faults.
 #![tactic(auto)]
 
 mod fault;

@@ -1,18 +1,12 @@
-//! Streams of a run: over its items the transfers of each endpoint of a device join end to end (5.7, 5.8).
-//!
-//! usb_run says what a run reports of one transfer. These laws say what all transfers to one path
-//! come to, whatever else the run does between them.
+//! The transfers of each endpoint of a device over a run. A *stretch* (`specs/Stretches.antt`) is a
+//! part of a run, from one of its hosts to a later one, with its items.
 //!
 //! # What is proved
 //!
-//! - `transfers_join`: a device listed at the end of a *stretch* has been at its path since the
+//! - `transfers_join`: a device listed at the end of a stretch has been at its path since the
 //!   beginning, or since it was found anew. Since then the sends to each of its endpoints join end
 //!   to end, and so do the receives and polls of each.
-//! - `control_moves_nothing`: attempts at endpoint 0 move nothing at any other endpoint.
-//! - `runs_are_stretches`: a run is a stretch, with its items.
-//!
-//! A stretch (`specs/Stretches.antt`) is a part of a run, from one of its hosts to a later one,
-//! with its items.
+//! - `runs_are_stretches`: a run is a stretch.
 #![tactic(auto)]
 
 mod stream_laws;

@@ -2,24 +2,13 @@
 //!
 //! # What is proved
 //!
-//! - What is plugged has one right listing, but for the addresses (`one_listing`; *Lists*,
-//!   `specs/Listing.antt`). Over a plan's course that is what the plan's events have left plugged
-//!   (`listed_is_what_the_events_left`).
+//! - What is plugged has one right listing, but for the addresses (`one_listing`). Over a plan's
+//!   course that is what its events have left plugged (`listed_is_what_the_events_left`).
 //! - A call through the pipes at a path moves nothing but at the device there. It changes no
-//!   address, description or port, and leaves all other pipes level (`DeviceTable::send` and the
-//!   others; *KeepsMoved*, `specs/Levels.antt`). It leaves the pipes to other endpoints of the
-//!   device as they are (*PipesThrough*, `specs/Transfers.antt`).
+//!   address, description or port, and leaves all other pipes level with their endpoints
+//!   (`DeviceTable::send` and the others; *KeepsMoved*).
 //! - A control write that is done gave the device the data once. If it failed, the device took all
-//!   of them or none (`control_out`; *TableWrites*, `specs/Controls.antt`).
-//! - Where an interface was set, its endpoints have begun again and have new pipes, and all others
-//!   go on. Where that failed but was not refused, its pipes are lost (`set_interface`;
-//!   *InterfaceSet*, `specs/InterfaceSettings.antt`).
-//! - What a refused device said of itself is kept as it was entered (`DeviceTable::said`). No call
-//!   through pipes changes it (*GoesThrough*, `specs/Tables.antt`).
-//! - A copy of a table is equal to it, with each pipe as far (`DeviceTable::try_clone`).
-//!
-//! A pipe is *level* if it is as far as the endpoint at its other end (8.6). `docs/PROVED.md` has
-//! the rest.
+//!   of them or none (`control_out`; *TableWrites*).
 #![tactic(auto)]
 
 mod choice;

@@ -1,5 +1,4 @@
-//! What is printed: the lines of a packet, a listing and a bound, and the pieces that lines are
-//! made of.
+//! What is printed: the lines of a packet, a listing and a bound.
 //!
 //! # What is proved
 //!

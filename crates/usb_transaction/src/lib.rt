@@ -1,25 +1,16 @@
-//! Transactions (8.5): one packet is moved once, over the attempts that it takes, or a fault is
-//! returned.
-//!
-//! `setup`, `data_in` and `data_out` go on until the packet is moved. `poll_in` asks an interrupt
-//! endpoint whether there is one: NAK means none. An attempt with no good answer is an error, and
-//! three errors in a row end a transaction. So do 256 NAKs and discarded repeats, each of which
-//! resets the count of errors.
+//! Transactions (8.5): one packet is moved once, or a fault is returned. Three errors in a row end
+//! one, and so do 256 NAKs and discarded repeats.
 //!
 //! # What is proved
 //!
-//! - `setup` makes at most 3 attempts; `data_in`, `data_out` and `poll_in` make at most 768. A
+//! - `setup` makes at most 3 attempts, `data_in`, `data_out` and `poll_in` at most 768. A
 //!   transaction makes the same attempt each time, and no other step
 //!   (`what_a_transaction_attempts`).
 //! - Over any bus, the toggle flips exactly if the call is done (`data_in`, `data_out`).
 //! - If no address was held twice, and host and device were as far as each other, the packet that
-//!   came is the next one, by `data_in` and by `poll_in` (*SourceIn*, *SourcePolled*). Between
-//!   attempts they are level, or one end is a packet ahead (`what_is_so_between_bulk_attempts`).
-//! - While no three attempts in a row are damaged, an endpoint that hears them answers. A poll ends
-//!   at NAK, so the endpoint may give any number of them (*SourcePollFailure*).
+//!   came is the next one (*SourceIn*, *SourcePolled*).
 //!
-//! One record has all that a call says: `SetsUp`, `AsksIn`, `SendsOut` and `PollsIn`
-//! (`specs/Calls.antt`). `docs/PROVED.md` reads them.
+//! `SetsUp`, `AsksIn`, `SendsOut` and `PollsIn` have all that a call says (`specs/Calls.antt`).
 #![tactic(auto)]
 
 mod attempt;

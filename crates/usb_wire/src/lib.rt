@@ -1,16 +1,14 @@
-//! The lines of the live protocol (`docs/LIVE.md`): each question of the host, and each answer to
-//! it. Nothing here takes memory, reads or writes.
+//! The lines of the live protocol (`docs/LIVE.md`): the host's questions and their answers.
 //!
 //! # What is proved
 //!
-//! - `question_line` and `said_line` write the line that the tables have for each value
-//!   (`specs/Questions.antt`, `specs/Answers.antt`).
+//! - `question_line` and `said_line` write the lines of `specs/Questions.antt` and
+//!   `specs/Answers.antt`.
 //! - `read_question` and `read_said` return a value exactly if the line says it and may say it
-//!   there (*MaySay*). For any other line `read_said` returns the first fault in the table of
-//!   faults (`specs/Faults.antt`).
+//!   there (*MaySay*). Else `read_said` returns the first fault of `specs/Faults.antt`.
 //! - What is written is read back (`lines_are_read_back`).
 //!
-//! *Only tested*: the words of the faults. `docs/PROVED.md` says what rests on these lines.
+//! *Only tested*: the words of the faults.
 #![tactic(auto)]
 
 mod answer;

@@ -1,11 +1,10 @@
-//! The words after the program's name: which command they request, and the program's help and
-//! version.
+//! The words after the program's name: which command they request, its help and its version.
 //!
 //! # What is proved
 //!
 //! If `read_words` returns a command, it is `clap`'s meaning of the words, with every option
-//! (`ReadsWords`). A text names at most one selection of attempts, and `selection_of` returns it. *Only tested*: the
-//! texts of help, version and word faults.
+//! (`ReadsWords`). `selection_of` returns the one selection of attempts that a text names. *Only
+//! tested*: the texts of help, version and word faults.
 #![tactic(auto)]
 
 mod selection;

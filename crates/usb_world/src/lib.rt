@@ -1,8 +1,5 @@
-//! The world of a bus: what is plugged, what happens to it, what an attempt does to it, and the
-//! laws of both.
-//!
-//! A world is plain data (`specs/Worlds.antt`), and a step of it is a function
-//! (`specs/Steps.antt`).
+//! The world of a bus, as plain data (`specs/Worlds.antt`): what is plugged, and what events and
+//! attempts do to it (`specs/Steps.antt`).
 //!
 //! # What is proved
 //!
@@ -13,8 +10,6 @@
 //!   (`reset_makes_reachable`).
 //! - If no address is held twice, at most one device answers an attempt
 //!   (`one_device_at_most_answers`).
-//!
-//! `docs/PROVED.md` has other laws, `proofs/Interface.antt` the lemmas.
 #![tactic(auto)]
 
 mod damage;
