@@ -4,21 +4,23 @@ use Rattle.std.proofs.Common.{Option, None, Some, refl, ap, sym, ◌∙◌, subs
 use Rattle.std.proofs.Common.{slice_get, is_some, arith, length, length-append, append_assoc}
 use Rattle.std.proofs.Common.{append-nil}
 use Rattle.std.proofs.Common.{option_map, nat_le, cond}
-use Rattle.std.specs.Prelude.{All, find, ◌&&◌, ◌||◌, if◌then◌else◌}
+use Rattle.std.specs.Prelude.{All, IfSome, IsSome, ◌↔◌, find, ◌&&◌, ◌||◌, if◌then◌else◌}
 use Rattle.std.specs.List.{list_all, list_any}
 use Rattle.std.specs.Str.{bytes_eq}
-use Rattle.std.proofs.lemmas.Bool.{and_parts, both_ways, cases_lt, false≢true, leb-true, le-leb}
+use Rattle.std.proofs.lemmas.Bool.{and_from, and_parts, both_ways, cases_lt, false≢true, leb-true, le-leb}
 use Rattle.std.proofs.lemmas.Bool.{or_left, or_right, or_cases}
 use Rattle.std.proofs.lemmas.List.Elements.{All-append, All-cons, All-head}
 use Rattle.std.proofs.lemmas.List.Elements.{All-nil, All-tail}
 use Rattle.std.proofs.lemmas.List.Folds.{list_all-append, list_any-append}
 use Rattle.std.proofs.lemmas.Option.{slice_get_within}
 use Rattle.std.proofs.lemmas.Slice.Eq.{bytes_eq-Decides}
-use Rattle.usb_device.specs.{Ports, State, state_there}
+use Rattle.usb_port.specs.{IsPath, IsPortNumber, parent_of}
+use Rattle.usb_device.specs.{Plugged, Ports, State, device_there, reach, state_there}
 use Rattle.usb_judge.specs.declared.plugged.PluggedDevice.{PluggedDevice}
-use Rattle.usb_judge.specs.{Seen, device_seen, is_port_number, names_port, scene_in, scene_on}
+use Rattle.usb_judge.specs.{Seen, device_seen, given_below, is_port_number, names_port, scene_in}
+use Rattle.usb_judge.specs.{scene_on, state_seen}
 use Rattle.usb_plugged.specs.{Adds, AddsPorts, IsSeen, has_path}
-use Rattle.usb_plugged.proofs.Ways.{state_there-above}
+use Rattle.usb_plugged.proofs.Ways.{state_there-above, state_there-own}
 
 -- Numbers that name a port
 
@@ -76,6 +78,56 @@ last_small p n h =
     let both : (nat_le 1 n ≡ true) × (nat_le n 15 ≡ true) = and_parts _ _ number.0 in
     (leb-true _ _ both.0, leb-true _ _ both.1)
 
+all_numbers : (path : List ℕ) → All IsPortNumber path → list_all is_port_number path ≡ true
+all_numbers [] all = refl
+all_numbers (n ∷ path) all =
+    let here : IsPortNumber n = All-head IsPortNumber n path all in
+    and_from _ _ (and_from _ _ (le-leb 1 n here.0) (le-leb n 15 here.1))
+    (all_numbers path (All-tail IsPortNumber n path all))
+
+pub path_named : (path : List ℕ) → IsPath path → names_port path ≡ true
+path_named path is = names_port-from path (record {
+  least = is.0;
+  most = is.1;
+  numbers = all_numbers path is.2;
+})
+
+not_named : (b : Bool) (path : List ℕ) → (b ≡ true → ⊥) → None ≡ (if b then Some path else None)
+not_named true path h = absurd (h refl)
+not_named false path h = refl
+
+is_named : (b : Bool) (p path : List ℕ) → p ≡ path → b ≡ true
+    → Some p ≡ (if b then Some path else None)
+is_named true p path e h = ap Some e
+is_named false p path e h = absurd (false≢true h)
+
+-- what `PortPath::root` gives
+pub root_is : (n : ℕ) (r : Option (List ℕ)) → IfSome r (λ p. (p ≡ n ∷ []) × IsPath p)
+    → (IsSome r ↔ IsPortNumber n) → r ≡ (if names_port (n ∷ []) then Some (n ∷ []) else None)
+root_is n None some found = not_named _ (n ∷ []) (λ (h : names_port (n ∷ []) ≡ true).
+    found.1 (last_small [] n h))
+root_is n (Some p) some found = is_named _ p (n ∷ []) some.0
+    (subst (λ (q : List ℕ). names_port q ≡ true) some.0 (path_named p some.1))
+
+-- a path may go on
+pub further_named : (hub : List ℕ) (n : ℕ) → names_port hub ≡ true → IsPortNumber n
+    → length hub < 7 → names_port (hub ++ n ∷ []) ≡ true
+further_named hub n h number short =
+    let whole : NamesPort hub = names_from hub h in
+    let long : length (hub ++ n ∷ []) ≡ length hub + 1 = length-append hub (n ∷ []) in
+    names_port-from (hub ++ n ∷ []) (record {
+      least = omega (arith, long);
+      most = omega (arith, long, short);
+      numbers = list_all-append is_port_number hub (n ∷ [])
+          ∙ and_from _ _ whole.numbers (and_from _ _
+          (and_from _ _ (le-leb 1 n number.0) (le-leb n 15 number.1)) refl);
+    })
+
+pub short_enough : (hub : List ℕ) (n : ℕ) → names_port (hub ++ n ∷ []) ≡ true → length hub < 7
+short_enough hub n h =
+    let long : length (hub ++ n ∷ []) ≡ length hub + 1 = length-append hub (n ∷ []) in
+    omega (arith, long, (names_from (hub ++ n ∷ []) h).most)
+
 -- Where a device is plugged
 
 some_parts : (b : Bool) (f : State → Seen) (o : Option State)
@@ -89,6 +141,33 @@ some_from : (b : Bool) (f : State → Seen) (o : Option State) → b ≡ true �
 some_from true f None h i = i
 some_from true f (Some s) h i = refl
 some_from false f o h i = h
+
+-- the device at a path, as it is seen
+pub device_is : (roots : Ports) (path : List ℕ) (t : Plugged) → IsPath path
+    → device_there roots path ≡ Some t → scene_on roots path
+    ≡ Some (state_seen (reach roots path) (given_below roots (parent_of path)) t.own)
+device_is roots path t is there =
+    let named : names_port path ≡ true = path_named path is in
+    let state : state_there roots path ≡ Some t.own =
+    state_there-own roots path ∙ ap (option_map (λ (x : Plugged). x.own)) there in
+    ap (λ (b : Bool). if b then option_map (state_seen (reach roots path)
+    (given_below roots (parent_of path))) (state_there roots path) else None) named
+    ∙ ap (option_map (state_seen (reach roots path) (given_below roots (parent_of path)))) state
+
+abbrev no_seen : Option Seen
+no_seen = None
+
+same_either : (b : Bool) → (if b then no_seen else None) ≡ None
+same_either true = refl
+same_either false = refl
+
+pub device_none : (roots : Ports) (path : List ℕ) → device_there roots path ≡ None
+    → scene_on roots path ≡ None
+device_none roots path there =
+    let state : state_there roots path ≡ None =
+    state_there-own roots path ∙ ap (option_map (λ (x : Plugged). x.own)) there in
+    ap (λ (o : Option State). if names_port path then option_map (state_seen (reach roots path)
+    (given_below roots (parent_of path))) o else None) state ∙ same_either (names_port path)
 
 abbrev pub IsPlugged : Ports → List ℕ → Type 0
 IsPlugged roots path = is_some (scene_on roots path) ≡ true

@@ -31,10 +31,10 @@ numbered-suc : (row : List PortState) (i : ℕ) → numbered row (suc i) ≡ sli
 numbered-suc row i = let less : suc i - 1 ≡ i = omega arith in ap (slice_get row) less
 
 -- a device is reached by its first port, and by the rest of its path
-pub reach-step : (k : Ports) (n : ℕ) (p : List ℕ)
+pub reach_step : (k : Ports) (n : ℕ) (p : List ℕ)
     → reach k (n ∷ p) ≡ reach_through (numbered (row_of k) n) (device_there k (n ∷ [])) p
-reach-step k zero p = refl
-reach-step k (suc i) p = reach_at-step k i p
+reach_step k zero p = refl
+reach_step k (suc i) p = reach_at-step k i p
     ∙ ap (λ (b : Option PortState). reach_through b (plugged_at k i []) p)
     (sym (numbered-suc (row_of k) i))
 
