@@ -212,14 +212,6 @@ fn status_number(spec: &DeviceSpec, registers: &Registers) -> u8
 pub fn served_endpoints(spec: &DeviceSpec, registers: &Registers) -> ServedEndpoints
     ensures { AreServed spec.now registers.now result }
 {
-    if registers.configuration == 0 {
-        return ServedEndpoints {
-            bulk_out: None,
-            bulk_in: None,
-            table: UsableEndpoints::none(),
-            status: status_number(spec, registers),
-        };
-    }
     ServedEndpoints {
         bulk_out: bulk_at(spec, registers, false),
         bulk_in: bulk_at(spec, registers, true),

@@ -3,7 +3,6 @@
 ghost use Rattle.std.specs.Prelude.{◌≡◌, ◌<◌, ◌≤◌, ◌+◌, true, false, length, map, get_or, None, option_copied, IfOk, OnErr};
 ghost use Rattle.usb_descriptor.specs.Usable.{belongs_to, end_at};
 ghost use Rattle.usb_device.specs.Bulk.{is_of_either};
-ghost use Rattle.usb_device.specs.EndpointSpecs.{endpoint_row};
 ghost use Rattle.usb_device.specs.Ends.{begun_if, no_out, no_in, rested_out, rested_in, with_at, taken_on, given_on, hesitated, numbered_from, renewed, paced_on, pace_by, plugged_out, plugged_in_end, end_numbers};
 
 use crate::bulk::{EndpointState, RESTED, counted_down, is_last, turned};
@@ -13,6 +12,9 @@ use std::alloc::{AllocError, Global};
 use std::marker::Model;
 use usb_descriptor::{UsableEndpoint, UsableEndpoints};
 use usb_request::endpoint_address::DIRECTION_IN;
+
+/// How many endpoints a direction has room for, endpoint 0 included (9.6.6).
+const ENDPOINTS: u8 = 16;
 
 /// The number of an endpoint: 0 to 15 (9.6.6).
 #[derive(Clone, Copy, Debug)]
@@ -129,17 +131,6 @@ pub struct InEnd {
     pub place: u16,
 }
 
-/// An IN endpoint that has given nothing, gives no NAK before a packet, and never halts by itself.
-const STEADY_IN: InEnd = InEnd {
-    state: RESTED,
-    pace: Pace {
-        naks: 0,
-        each: 0,
-        until_halt: None,
-    },
-    place: 0,
-};
-
 /// The endpoint after the host's ACK of a packet, with this place behind it.
 pub(crate) fn given_on(place: u16, end: InEnd) -> InEnd
     ensures { result ≡ given_on place end }
@@ -188,22 +179,15 @@ impl Model for OutEnd {
 }
 
 impl OutEnd {
-    /// One that has taken nothing, with this pace.
-    fn with_pace(alloc: Global, pace: Pace) -> Self
-        ensures { result ≡ record no_out { pace = pace } }
+    /// As it is at the plug.
+    fn plugged(alloc: Global, spec: &DeviceSpec, number: u8) -> Self
+        ensures { result ≡ plugged_out spec.now number }
     {
         OutEnd {
             state: RESTED,
-            pace,
+            pace: pace_by(spec.endpoints().row(number), spec.halt_after()),
             sink: Vec::new(alloc),
         }
-    }
-
-    /// It has another state.
-    fn set_state(&mut self, state: EndpointState)
-        ensures { self.new ≡ record self.old { state = state } }
-    {
-        self.state = state;
     }
 
     /// It gave a NAK.
@@ -333,57 +317,6 @@ fn begin_outs(
     }
 }
 
-/// Each IN endpoint is as it is at the plug; the first has this number.
-#[cycle(plug_ins)]
-#[tactic(auto, unfolding(crate::specs::Ends::numbered_from))]
-fn plug_ins(row: &mut [InEnd], number: u8, spec: &DeviceSpec)
-    requires { number + length row.old ≤ 16 }
-    ensures { row.new ≡ numbered_from (λ e _. plugged_in_end spec.now e) number row.old }
-{
-    if let Some((end, more)) = row.split_first_mut() {
-        *end = plugged_in_end(spec, number);
-        plug_ins(more, number + 1, spec);
-    }
-}
-
-/// OUT endpoints that have taken nothing, each with this pace.
-fn ends_paced(alloc: Global, pace: Pace) -> [OutEnd; 16]
-    ensures { result ≡ map (λ _. record no_out { pace = pace }) end_numbers }
-{
-    [
-        OutEnd::with_pace(alloc, pace),
-        OutEnd::with_pace(alloc, pace),
-        OutEnd::with_pace(alloc, pace),
-        OutEnd::with_pace(alloc, pace),
-        OutEnd::with_pace(alloc, pace),
-        OutEnd::with_pace(alloc, pace),
-        OutEnd::with_pace(alloc, pace),
-        OutEnd::with_pace(alloc, pace),
-        OutEnd::with_pace(alloc, pace),
-        OutEnd::with_pace(alloc, pace),
-        OutEnd::with_pace(alloc, pace),
-        OutEnd::with_pace(alloc, pace),
-        OutEnd::with_pace(alloc, pace),
-        OutEnd::with_pace(alloc, pace),
-        OutEnd::with_pace(alloc, pace),
-        OutEnd::with_pace(alloc, pace),
-    ]
-}
-
-/// Each OUT endpoint has the pace that a plan gives it; the first has this number.
-#[cycle(plug_outs)]
-#[tactic(auto, unfolding(crate::specs::Ends::numbered_from))]
-fn plug_outs(row: &mut [OutEnd], number: u8, spec: &DeviceSpec)
-    requires { number + length row.old ≤ 16 }
-    ensures { row.new ≡ numbered_from (λ e end. record end {
-        pace = pace_by (endpoint_row spec.now.endpoints e) spec.now.halt_after }) number row.old }
-{
-    if let Some((end, more)) = row.split_first_mut() {
-        end.pace = pace_by(spec.endpoints().row(number), spec.halt_after());
-        plug_outs(more, number + 1, spec);
-    }
-}
-
 /// The IN endpoints, by their numbers.
 #[derive(Debug, Drop)]
 pub(crate) struct InEnds {
@@ -403,15 +336,29 @@ impl Model for InEnds {
 
 impl InEnds {
     /// Those of a device that was just plugged.
-    #[tactic(auto, unfolding(crate::specs::Ends::numbered_from))]
     pub fn new(spec: &DeviceSpec) -> Self
         ensures { result ≡ map (plugged_in_end spec.now) end_numbers }
     {
-        let mut row = [STEADY_IN; 16];
-        if !spec.endpoints().as_slice().is_empty() {
-            plug_ins(&mut row, 0, spec);
+        InEnds {
+            row: [
+                plugged_in_end(spec, 0),
+                plugged_in_end(spec, 1),
+                plugged_in_end(spec, 2),
+                plugged_in_end(spec, 3),
+                plugged_in_end(spec, 4),
+                plugged_in_end(spec, 5),
+                plugged_in_end(spec, 6),
+                plugged_in_end(spec, 7),
+                plugged_in_end(spec, 8),
+                plugged_in_end(spec, 9),
+                plugged_in_end(spec, 10),
+                plugged_in_end(spec, 11),
+                plugged_in_end(spec, 12),
+                plugged_in_end(spec, 13),
+                plugged_in_end(spec, 14),
+                plugged_in_end(spec, 15),
+            ],
         }
-        InEnds { row }
     }
 
     /// The one with a number.
@@ -485,7 +432,7 @@ impl InEnds {
 /// The OUT endpoints, by their numbers.
 #[derive(Debug, Drop)]
 pub(crate) struct OutEnds {
-    row: [OutEnd; 16],
+    row: Vec<OutEnd>,
 }
 
 impl Model for OutEnds {
@@ -494,39 +441,39 @@ impl Model for OutEnds {
 
     ghost Value = { List AnOut };
 
-    ghost view = { λ e. e.row };
+    ghost view = { λ e. e.row.items };
 
-    ghost invariant = { λ e. length e.row ≡ 16 };
+    ghost invariant = { λ e. length e.row.items ≡ 16 };
 }
 
 impl OutEnds {
     /// Those of a device that was just plugged.
-    #[tactic(auto, unfolding(crate::specs::Ends::numbered_from))]
-    pub fn new(alloc: Global, spec: &DeviceSpec) -> Self
-        ensures { result ≡ map (plugged_out spec.now) end_numbers }
+    ///
+    /// # Errors
+    ///
+    /// Memory was refused.
+    pub fn new(alloc: Global, spec: &DeviceSpec) -> Result<Self, AllocError>
+        ensures { IfOk result (λ e. e ≡ map (plugged_out spec.now) end_numbers) }
     {
-        let pace = pace_by(None, spec.halt_after());
-        let mut row = ends_paced(alloc, pace);
-        if !spec.endpoints().as_slice().is_empty() {
-            plug_outs(&mut row, 0, spec);
+        let mut row = Vec::with_capacity(alloc, usize::from(ENDPOINTS))?;
+        'ends: for number in 0..ENDPOINTS {
+            row.push(OutEnd::plugged(alloc, spec, number))?;
         }
-        OutEnds { row }
+        Ok(OutEnds { row })
     }
 
     /// The state of the one with a number.
     pub fn state(&self, number: EndpointNumber) -> EndpointState
         ensures { result ≡ (get_or self.now number no_out).state }
     {
-        let end = &self.row[number.place()];
-        end.state
+        self.row[number.place()].state
     }
 
     /// What the one with a number has taken since the plug.
     pub fn sink(&self, number: EndpointNumber) -> &[u8]
         ensures { result.now ≡ (get_or self.now number no_out).sink }
     {
-        let end = &self.row[number.place()];
-        end.sink.as_slice()
+        self.row[number.place()].sink.as_slice()
     }
 
     /// Another state of the one with a number.
@@ -535,15 +482,14 @@ impl OutEnds {
             ≡ with_at no_out number (record (get_or self.old number no_out) { state = state })
             self.old }
     {
-        self.row[number.place()].set_state(state);
+        self.row[number.place()].state = state;
     }
 
     /// How the one with a number hesitates, and when it halts.
     pub fn pace(&self, number: EndpointNumber) -> Pace
         ensures { result ≡ (get_or self.now number no_out).pace }
     {
-        let end = &self.row[number.place()];
-        end.pace
+        self.row[number.place()].pace
     }
 
     /// The one with a number gave a NAK.
@@ -592,13 +538,13 @@ impl OutEnds {
         ensures { self.new ≡ numbered_from (λ e. begun_if
             (is_of_either interface before.now after.now false e) rested_out) 0 self.old }
     {
-        begin_outs(&mut self.row, 0, interface, before, after);
+        begin_outs(self.row.as_mut_slice(), 0, interface, before, after);
     }
 
     /// A configuration is taken (9.4.7): what they took stays.
     pub fn rest(&mut self)
         ensures { self.new ≡ map rested_out self.old }
     {
-        rest_outs(&mut self.row);
+        rest_outs(self.row.as_mut_slice());
     }
 }

@@ -37,6 +37,7 @@ use arrayvec::ArrayVec;
 use std::alloc::{AllocError, Global};
 use std::marker::Model;
 use std::rc::Rc;
+use usb_descriptor::Settings;
 use usb_packet::{Packet, Toggle, TokenKind};
 use usb_request::Setup;
 use usb_request::endpoint_address::DIRECTION_IN;
@@ -285,18 +286,18 @@ impl FunctionState {
     pub fn new(alloc: Global, spec: &Rc<DeviceSpec>) -> Result<Box<Self>, AllocError>
         ensures { IfOk result (λ d. d.value ≡ fresh spec.now.value) }
     {
+        let outs = OutEnds::new(alloc, spec)?;
         let shared = spec.clone()?;
-        let registers = at_reset();
         Ok(Box::new(
             alloc,
             FunctionState {
                 spec: shared,
-                registers,
-                served: served_endpoints(spec, &registers),
+                registers: at_reset(),
+                served: served_endpoints(spec, &at_reset()),
                 memory: RememberedPacket::Nothing,
                 naks: 0,
                 progress: Progress::Idle,
-                outs: OutEnds::new(alloc, spec),
+                outs,
                 ins: InEnds::new(spec),
                 changes: RESTED,
                 held: None,
@@ -379,8 +380,7 @@ impl FunctionState {
         ensures { self.new ≡ reset_state self.old }
     {
         self.attempt_over();
-        self.registers.clear();
-        self.served = served_endpoints(&self.spec, &self.registers);
+        self.take_registers(at_reset());
         self.naks = 0;
         self.progress = Progress::Idle;
         self.held = None;
@@ -728,8 +728,11 @@ impl FunctionState {
     fn configure(&mut self, value: u8)
         ensures { self.new ≡ configured self.old value }
     {
-        self.registers.configure(value);
-        self.served = served_endpoints(&self.spec, &self.registers);
+        self.take_registers(Registers {
+            configuration: value,
+            settings: Settings::all_zero(),
+            ..self.registers
+        });
     }
 
     /// An interface takes a setting, and the endpoints of that are served from here on (9.4.10).

@@ -49,27 +49,6 @@ pub fn at_reset() -> Registers
     }
 }
 
-impl Registers {
-    /// The device is reset.
-    pub fn clear(&mut self)
-        ensures { self.new ≡ at_reset }
-    {
-        self.address = 0;
-        self.configure(0);
-    }
-
-    /// A configuration is taken, and each interface has setting 0 (9.1.1.5).
-    pub fn configure(&mut self, value: u8)
-        ensures { self.new ≡ record at_reset {
-          address = self.old.address;
-          configuration = value;
-        } }
-    {
-        self.configuration = value;
-        self.settings = Settings::all_zero();
-    }
-}
-
 /// Where the bytes of an answer are.
 #[derive(Clone, Copy, Debug)]
 pub enum Source {

@@ -208,9 +208,7 @@ fn plug(
 ) -> Result<Action, EntryFault>
     ensures { result ≡ plug path device }
 {
-    if path.is_err() || device.is_err() {
-        least_fault(&[fault_in_part(&path), fault_in_part(&device)])?;
-    }
+    least_fault(&[fault_in_part(&path), fault_in_part(&device)])?;
     Ok(Action::Change(Change::Plug(path?, device?)))
 }
 

@@ -59,14 +59,12 @@ fn event_with(
 ) -> Result<Event, EntryFault>
     ensures { result ≡ event_with action after keys room }
 {
-    if action.is_err() || after.is_err() || keys.is_err() || room.is_err() {
-        least_fault(&[
-            fault_in_part(&action),
-            fault_in_part(&after),
-            fault_in_part(&keys),
-            fault_in_part(&room),
-        ])?;
-    }
+    least_fault(&[
+        fault_in_part(&action),
+        fault_in_part(&after),
+        fault_in_part(&keys),
+        fault_in_part(&room),
+    ])?;
     Ok(Event {
         after: after?,
         action: action?,

@@ -33,19 +33,41 @@ impl Model for PipeRow {
     ghost inverse = { λ row. record { row = row } };
 }
 
+/// A new pipe to the endpoint with a number, if there is one.
+fn new_pipe(target: Target, ends: &UsableEndpoints, number: u8, is_in: bool) -> Option<EndpointPipe>
+    requires { IsTarget target }
+    ensures { result ≡ new_pipe target is_in number (end_at ends.now is_in number) }
+{
+    let end = ends.get(number, is_in)?;
+    Some(EndpointPipe::new(target, number, end, is_in))
+}
+
 impl PipeRow {
     /// New pipes to the endpoints of one direction of a device.
     pub fn new(target: Target, ends: &UsableEndpoints, is_in: bool) -> Self
         requires { IsTarget target }
         ensures { result ≡ row_of_ends target is_in (end_at ends.now is_in) }
     {
-        let mut row = [None; 16];
-        'ends: for number in 0..ENDPOINTS {
-            if let Some(end) = ends.get(number, is_in) {
-                row[usize::from(number)] = Some(EndpointPipe::new(target, number, end, is_in));
-            }
+        PipeRow {
+            row: [
+                new_pipe(target, ends, 0, is_in),
+                new_pipe(target, ends, 1, is_in),
+                new_pipe(target, ends, 2, is_in),
+                new_pipe(target, ends, 3, is_in),
+                new_pipe(target, ends, 4, is_in),
+                new_pipe(target, ends, 5, is_in),
+                new_pipe(target, ends, 6, is_in),
+                new_pipe(target, ends, 7, is_in),
+                new_pipe(target, ends, 8, is_in),
+                new_pipe(target, ends, 9, is_in),
+                new_pipe(target, ends, 10, is_in),
+                new_pipe(target, ends, 11, is_in),
+                new_pipe(target, ends, 12, is_in),
+                new_pipe(target, ends, 13, is_in),
+                new_pipe(target, ends, 14, is_in),
+                new_pipe(target, ends, 15, is_in),
+            ],
         }
-        PipeRow { row }
     }
 
     /// The pipe to the endpoint with a number, if there is one.

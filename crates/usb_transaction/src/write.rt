@@ -71,6 +71,7 @@ pub(crate) fn data_out_from<B: Bus>(
     ensures toggle { MatchResult result (λ _. toggle.new ≡ other toggle.old)
         (λ _. toggle.new ≡ toggle.old) }
 {
+    let attempt = attempt_of_out(target, ep, *toggle, bytes);
     let mut tries = Tries::new();
     let mut outcome = first;
     'tries: loop {
@@ -78,7 +79,7 @@ pub(crate) fn data_out_from<B: Bus>(
             *toggle = toggle.other();
             return Ok(Done::nothing());
         }
-        match bus.attempt(&attempt_of_out(target, ep, *toggle, bytes)) {
+        match bus.attempt(&attempt) {
             Ok(next) => outcome = next,
             Err(fault) => return Err(TransFault::Bus(fault)),
         }

@@ -6,7 +6,6 @@ use Rattle.std.proofs.lemmas.Result.{err_from_is_err_and}
 use Rattle.usb_transaction.specs.{Bus, HearsAs, heard_when_sent, packed}
 use Rattle.usb_transaction.proofs.Calls.{sends_out}
 use Rattle.usb_transaction.proofs.LastOutcomes.{sent_last, sent_stall}
-use Rattle.usb_transaction.proofs.MovedRows.{out_fits}
 use Rattle.usb_transaction.proofs.TransactionTries.{heard_fault, heard_last, heard_on, heard_packet}
 use Rattle.usb_transaction.proofs.TransactionTries.{pending_first, told_cut, try_more, went_last}
 use Rattle.usb_transaction.proofs.write.data_out_from.Goals as goal
@@ -16,8 +15,7 @@ tries-init g c = (
   refl,
   (search rules, search rules),
   λ known old before settled made. pending_first c.new-tries.result
-      (out_fits c.args.target c.args.ep c.requires.endpoint.0 c.requires.endpoint.1
-          c.args.toggle.now c.args.bytes.now c.requires.short)
+      (rw c.attempt_of_out-attempt.ensures.value at c.attempt_of_out-attempt.ensures.fits)
       c.new-tries.ensures made,
   search rules,
 )
@@ -46,8 +44,7 @@ tries-preserved g c =
         mid = g.B.Bus.world c.tries.bus;
         before = g.B.Bus.trace c.tries.bus;
         stands = heard_on (c.tries.invariant.2 known old before settled made) u heard;
-        made = rw (c.attempt_of_out.ensures.value, c.tries.invariant.0) at
-            (c.in-Ok.ensures.attempts known);
+        made = rw c.attempt_of_out-attempt.ensures.value at (c.in-Ok.ensures.attempts known);
       },
       (
         omega (
@@ -103,9 +100,8 @@ returns-in-Err-clause-sends g c known old before settled made =
     c.heard_when_sent.ensures
     (subst (λ r. HearsAs t c.heard_when_sent.result (Ok r) u) none c.in_ok-hear.ensures) in
     let s = heard_on (c.tries.invariant.2 known old before settled made) u heard in (
-      went_last s c.attempt_of_out.ensures.fits (c.in-Err.ensures.attempts known),
+      went_last s c.attempt_of_out-attempt.ensures.fits (c.in-Err.ensures.attempts known),
       sends_out c.args.target c.args.ep c.args.toggle.now c.args.bytes.now old _ settled
           (Err (Bus c.in-Err.fault)) (told_cut s
-          (rw (c.attempt_of_out.ensures.value, c.tries.invariant.0) at
-              (c.in-Err.ensures.attempts known))),
+          (rw c.attempt_of_out-attempt.ensures.value at (c.in-Err.ensures.attempts known))),
     )
