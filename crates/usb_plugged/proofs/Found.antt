@@ -2,9 +2,9 @@
 use Rattle.std.proofs.Common.{◌≡◌, ◌⊎◌, inl, inr, ◌≤◌, ◌<◌, ℕ, zero, suc, ◌+◌, List, [], ◌∷◌, ◌++◌}
 use Rattle.std.proofs.Common.{Option, None, Some, refl, ap, sym, ◌∙◌, subst, true, false, Bool}
 use Rattle.std.proofs.Common.{slice_get, is_some, arith, length, length-append, append_assoc}
-use Rattle.std.proofs.Common.{append-nil}
-use Rattle.std.proofs.Common.{option_map, nat_le, cond}
-use Rattle.std.specs.Prelude.{All, IfSome, IsSome, ◌↔◌, find, ◌&&◌, ◌||◌, if◌then◌else◌}
+use Rattle.std.proofs.lemmas.List.{append-nil}
+use Rattle.std.proofs.Common.{option_map, cond}
+use Rattle.std.specs.Prelude.{All, nat_le, IfSome, IsSome, ◌↔◌, find, ◌&&◌, ◌||◌, if◌then◌else◌}
 use Rattle.std.specs.List.{list_all, list_any}
 use Rattle.std.specs.Str.{bytes_eq}
 use Rattle.std.proofs.lemmas.Bool.{and_from, and_parts, both_ways, cases_lt, false≢true, leb-true, le-leb}
@@ -130,6 +130,9 @@ short_enough hub n h =
 
 -- Where a device is plugged
 
+abbrev seen_at : Ports → List ℕ → State → Seen
+seen_at roots path = state_seen (reach roots path) (given_below roots (parent_of path))
+
 some_parts : (b : Bool) (f : State → Seen) (o : Option State)
     → is_some (if b then option_map f o else None) ≡ true → (b ≡ true) × (is_some o ≡ true)
 some_parts true f None h = absurd (false≢true h)
@@ -174,20 +177,24 @@ IsPlugged roots path = is_some (scene_on roots path) ≡ true
 
 pub plugged_named : (roots : Ports) (path : List ℕ) → IsPlugged roots path
     → names_port path ≡ true
-plugged_named roots path h = (some_parts _ _ _ h).0
+plugged_named roots path h = (some_parts (names_port path) (seen_at roots path)
+    (state_there roots path) h).0
 
 plugged_above : (roots : Ports) (n : ℕ) (p q : List ℕ) → IsPlugged roots ((n ∷ p) ++ q)
     → IsPlugged roots (n ∷ p)
 plugged_above roots n p q h =
     let parts : (names_port ((n ∷ p) ++ q) ≡ true)
-        × (is_some (state_there roots ((n ∷ p) ++ q)) ≡ true) = some_parts _ _ _ h in
-    some_from _ _ _ (names_above n p q parts.0) (state_there-above roots n p q parts.1)
+        × (is_some (state_there roots ((n ∷ p) ++ q)) ≡ true) =
+    some_parts (names_port ((n ∷ p) ++ q)) (seen_at roots ((n ∷ p) ++ q))
+    (state_there roots ((n ∷ p) ++ q)) h in
+    some_from (names_port (n ∷ p)) (seen_at roots (n ∷ p)) (state_there roots (n ∷ p))
+    (names_above n p q parts.0) (state_there-above roots n p q parts.1)
 
 -- What was found stays
 
 pub has-kept : (path : List ℕ) (xs ys : List PluggedDevice) → has_path xs path ≡ true
     → has_path (xs ++ ys) path ≡ true
-has-kept path xs ys h = list_any-append (λ d. bytes_eq d.path path) xs ys ∙ or_left _ _ h
+has-kept path xs ys h = list_any-append (λ (d : PluggedDevice). bytes_eq d.path path) xs ys ∙ or_left _ _ h
 
 has_kept_in : (path : List ℕ) (old more new : List PluggedDevice) → new ≡ old ++ more
     → has_path old path ≡ true → has_path new path ≡ true

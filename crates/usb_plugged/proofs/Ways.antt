@@ -1,12 +1,13 @@
 -- A device and its way, by the numbers of its path.
 use Rattle.std.proofs.Common.{◌≡◌, ℕ, zero, suc, ◌-◌, List, [], ◌∷◌, ◌++◌, Option, None, Some}
 use Rattle.std.proofs.Common.{refl, ap, sym, ◌∙◌, true, false, Bool, slice_get, is_some, arith}
-use Rattle.std.proofs.Common.{option_map, ◌+◌, ◌*◌, nat_le}
-use Rattle.std.specs.Prelude.{◌&&◌}
-use Rattle.usb_port.specs.{PortState, bit}
+use Rattle.std.proofs.Common.{option_map, ◌+◌, ◌*◌}
+use Rattle.std.specs.Prelude.{◌&&◌, nat_le, slice_index}
+use Rattle.std.proofs.lemmas.Option.{same_Some}
+use Rattle.usb_port.specs.{PortState, bit, status_of}
 use Rattle.usb_device.specs.{Plugged, Ports, State, ended, vacant, taken, device_there, numbered}
 use Rattle.usb_device.specs.{plugged_at, reach, reach_at, row_of, state_at, state_there}
-use Rattle.usb_plugged.specs.{reach_through}
+use Rattle.usb_plugged.specs.{is_enabled, reach_through}
 
 yes_and : (b : Bool) → b ≡ (b && true)
 yes_and true = refl
@@ -39,11 +40,22 @@ reach_step k (suc i) p = reach_at-step k i p
     (sym (numbered-suc (row_of k) i))
 
 -- the second bit of a status tells the enable
-pub enable_told : (connected enabled : Bool) → nat_le 2 (bit connected + 2 * bit enabled) ≡ enabled
+enable_told : (connected enabled : Bool) → nat_le 2 (bit connected + 2 * bit enabled) ≡ enabled
 enable_told true true = refl
 enable_told true false = refl
 enable_told false true = refl
 enable_told false false = refl
+
+pub enabled_some : (o : Option PortState) (bytes : List ℕ) → Some bytes ≡ option_map status_of o
+    → nat_le 2 (slice_index bytes 0) ≡ is_enabled o
+unfolding status_of
+enabled_some None bytes h = absurd (cc)
+enabled_some (Some b) bytes h = ap (λ (xs : List ℕ). nat_le 2 (slice_index xs 0))
+    (same_Some bytes (status_of b) h) ∙ enable_told _ b.enable
+
+pub enabled_none : (o : Option PortState) → None ≡ option_map status_of o → false ≡ is_enabled o
+enabled_none None h = refl
+enabled_none (Some b) h = absurd (cc)
 
 -- The state of a device is that of the device with its ports
 

@@ -6,6 +6,7 @@ ghost use Rattle.usb_plugged.specs.Ways.{is_enabled, reach_from};
 use usb_device::{Device, Ports};
 
 /// Whether a device is at a path, and each port on its way is enabled.
+#[tactic(auto, using(crate::proofs::Ways::reach_step))]
 pub(crate) fn is_reached(roots: &Ports, path: &[u8]) -> bool
     ensures { result ≡ reach roots.now path.now }
 {
@@ -19,6 +20,7 @@ pub(crate) fn is_reached(roots: &Ports, path: &[u8]) -> bool
 }
 
 /// The same of a path that begins at a device's ports; the device itself is reached.
+#[tactic(auto, using(crate::proofs::Ways::reach_step))]
 fn is_reached_from(device: &Device, path: &[u8]) -> bool
     ensures { result ≡ reach_from device.now.ports path.now }
 {
