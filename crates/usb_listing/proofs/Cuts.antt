@@ -1,5 +1,5 @@
 -- A text that is cut at its first space.
-use Rattle.std.proofs.Common.{◌≡◌, ◌≢◌, ℕ, zero, suc, ◌<◌, Bool, false, ◌==◌, List, [], ◌∷◌, ◌++◌}
+use Rattle.std.proofs.Common.{◌≡◌, ◌≢◌, ℕ, suc, ◌<◌, false, ◌==◌, List, [], ◌∷◌, ◌++◌}
 use Rattle.std.proofs.Common.{length, get_or, Option, Some, None, option_map, refl, ap, ◌∙◌, arith}
 use Rattle.std.proofs.Common.{Bor, lit<}
 use Rattle.std.proofs.lemmas.Bool.Decides.{nat_tests}

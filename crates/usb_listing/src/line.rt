@@ -7,6 +7,7 @@ use crate::number::number_in;
 use usb_port::PortPath;
 
 /// What a line of a listing says. Bytes are in hexadecimal digits still (`read_bytes`).
+#[derive(Debug, Drop)]
 pub enum ListingLine<'a> {
     /// A device is accepted at a port.
     Device {

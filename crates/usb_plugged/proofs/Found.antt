@@ -12,14 +12,15 @@ use Rattle.std.proofs.lemmas.Bool.{or_left, or_right, or_cases}
 use Rattle.std.proofs.lemmas.List.Elements.{All-append, All-cons, All-head}
 use Rattle.std.proofs.lemmas.List.Elements.{All-nil, All-tail}
 use Rattle.std.proofs.lemmas.List.Folds.{list_all-append, list_any-append}
-use Rattle.std.proofs.lemmas.Option.{slice_get_within}
+use Rattle.std.proofs.lemmas.Option.{same_Some, slice_get_within}
 use Rattle.std.proofs.lemmas.Slice.Eq.{bytes_eq-Decides}
 use Rattle.usb_port.specs.{IsPath, IsPortNumber, parent_of}
 use Rattle.usb_device.specs.{Plugged, Ports, State, device_there, reach, state_there}
 use Rattle.usb_judge.specs.declared.plugged.PluggedDevice.{PluggedDevice}
 use Rattle.usb_judge.specs.{Seen, device_seen, given_below, is_port_number, names_port, scene_in}
-use Rattle.usb_judge.specs.{scene_on, state_seen}
-use Rattle.usb_plugged.specs.{Adds, AddsPorts, IsSeen, has_path}
+use Rattle.usb_judge.specs.{powers_itself, scene_on, state_seen}
+use Rattle.usb_resources.specs.{supply_of}
+use Rattle.usb_plugged.specs.{Adds, AddsPorts, IsSeen, has_path, numbers_on}
 use Rattle.usb_plugged.proofs.Ways.{state_there-above, state_there-own}
 
 -- Numbers that name a port
@@ -92,41 +93,20 @@ path_named path is = names_port-from path (record {
   numbers = all_numbers path is.2;
 })
 
-not_named : (b : Bool) (path : List ℕ) → (b ≡ true → ⊥) → None ≡ (if b then Some path else None)
-not_named true path h = absurd (h refl)
-not_named false path h = refl
-
-is_named : (b : Bool) (p path : List ℕ) → p ≡ path → b ≡ true
+pub is_named : (b : Bool) (p path : List ℕ) → p ≡ path → b ≡ true
     → Some p ≡ (if b then Some path else None)
 is_named true p path e h = ap Some e
 is_named false p path e h = absurd (false≢true h)
 
--- what `PortPath::root` gives
-pub root_is : (n : ℕ) (r : Option (List ℕ)) → IfSome r (λ p. (p ≡ n ∷ []) × IsPath p)
-    → (IsSome r ↔ IsPortNumber n) → r ≡ (if names_port (n ∷ []) then Some (n ∷ []) else None)
-root_is n None some found = not_named _ (n ∷ []) (λ (h : names_port (n ∷ []) ≡ true).
-    found.1 (last_small [] n h))
-root_is n (Some p) some found = is_named _ p (n ∷ []) some.0
-    (subst (λ (q : List ℕ). names_port q ≡ true) some.0 (path_named p some.1))
-
--- a path may go on
-pub further_named : (hub : List ℕ) (n : ℕ) → names_port hub ≡ true → IsPortNumber n
-    → length hub < 7 → names_port (hub ++ n ∷ []) ≡ true
-further_named hub n h number short =
-    let whole : NamesPort hub = names_from hub h in
-    let long : length (hub ++ n ∷ []) ≡ length hub + 1 = length-append hub (n ∷ []) in
-    names_port-from (hub ++ n ∷ []) (record {
-      least = omega (arith, long);
-      most = omega (arith, long, short);
-      numbers = list_all-append is_port_number hub (n ∷ [])
-          ∙ and_from _ _ whole.numbers (and_from _ _
-          (and_from _ _ (le-leb 1 n number.0) (le-leb n 15 number.1)) refl);
-    })
-
-pub short_enough : (hub : List ℕ) (n : ℕ) → names_port (hub ++ n ∷ []) ≡ true → length hub < 7
-short_enough hub n h =
-    let long : length (hub ++ n ∷ []) ≡ length hub + 1 = length-append hub (n ∷ []) in
-    omega (arith, long, (names_from (hub ++ n ∷ []) h).most)
+-- a path that goes on from another one
+pub push_is : (above : Option (List ℕ)) (hub p : List ℕ) (n : ℕ) → above ≡ Some hub
+    → p ≡ hub ++ n ∷ [] → IsPath p → Some p ≡ (if names_port (numbers_on above ++ n ∷ [])
+    then Some (numbers_on above ++ n ∷ []) else None)
+push_is above hub p n e is path =
+    let same : p ≡ numbers_on above ++ n ∷ [] =
+    is ∙ ap (λ (o : Option (List ℕ)). numbers_on o ++ n ∷ []) (sym e) in
+    is_named (names_port (numbers_on above ++ n ∷ [])) p (numbers_on above ++ n ∷ []) same
+    (subst (λ (r : List ℕ). names_port r ≡ true) same (path_named p path))
 
 -- Where a device is plugged
 
@@ -156,6 +136,34 @@ device_is roots path t is there =
     ap (λ (b : Bool). if b then option_map (state_seen (reach roots path)
     (given_below roots (parent_of path))) (state_there roots path) else None) named
     ∙ ap (option_map (state_seen (reach roots path) (given_below roots (parent_of path)))) state
+
+-- what the port of a path gives, where its hub is there
+pub given_is : (roots : Ports) (parent : Option (List ℕ)) (hub : List ℕ) (t : Plugged)
+    → parent ≡ Some hub → device_there roots hub ≡ Some t
+    → given_below roots parent ≡ supply_of false t.own.spec.self_powered
+given_is roots parent hub t is there = ap (given_below roots) is
+    ∙ ap (λ (o : Option State). supply_of false (powers_itself o))
+    (state_there-own roots hub ∙ ap (option_map (λ (x : Plugged). x.own)) there)
+
+pub given_not : (roots : Ports) (parent : Option (List ℕ)) (hub : List ℕ) → parent ≡ Some hub
+    → device_there roots hub ≡ None → given_below roots parent ≡ supply_of false false
+given_not roots parent hub is there = ap (given_below roots) is
+    ∙ ap (λ (o : Option State). supply_of false (powers_itself o))
+    (state_there-own roots hub ∙ ap (option_map (λ (x : Plugged). x.own)) there)
+
+-- what is seen of a device, part by part
+pub same_seen : (a b : Seen) → a.low ≡ b.low → a.descriptor ≡ b.descriptor
+    → a.configuration ≡ b.configuration → a.ports ≡ b.ports → a.supply ≡ b.supply
+    → a.address ≡ b.address → a.reached ≡ b.reached → a ≡ b
+same_seen a b low descriptor configuration ports supply address reached = λ i. record {
+  low = low i;
+  descriptor = descriptor i;
+  configuration = configuration i;
+  ports = ports i;
+  supply = supply i;
+  address = address i;
+  reached = reached i;
+}
 
 abbrev no_seen : Option Seen
 no_seen = None
@@ -230,6 +238,24 @@ adds_none roots path old h = record {
   seen = All-nil (IsSeen roots);
   there = λ (is : IsPlugged roots path). absurd (false≢true (ap is_some h ∙ is));
 }
+
+pub adds_unnamed : (roots : Ports) (path : List ℕ) (old : List PluggedDevice)
+    → names_port path ≡ false → Adds roots path old old
+adds_unnamed roots path old h = record {
+  more = [];
+  joined = sym (append-nil old);
+  seen = All-nil (IsSeen roots);
+  there = λ (is : IsPlugged roots path). absurd (both_ways _ h (plugged_named roots path is));
+}
+
+pub chosen_path : (b : Bool) (p path : List ℕ) → Some p ≡ (if b then Some path else None)
+    → p ≡ path
+chosen_path true p path h = same_Some p path h
+chosen_path false p path h = absurd (cc)
+
+pub chosen_none : (b : Bool) (path : List ℕ) → None ≡ (if b then Some path else None) → b ≡ false
+chosen_none true path h = absurd (cc)
+chosen_none false path h = refl
 
 -- The ports of a hub, one by one
 
@@ -306,12 +332,8 @@ walk_begun roots found a = record {
   below = λ (j : ℕ) (d : PluggedDevice) (low : j < 0). absurd (omega (arith, low));
 }
 
-unwrap_to : {X : Type 0} → X → Option X → X
-unwrap_to x None = x
-unwrap_to x (Some y) = y
-
 same_some : {X : Type 0} (o : Option X) (x y : X) → o ≡ Some x → o ≡ Some y → x ≡ y
-same_some {X} o x y h i = ap (unwrap_to x) (sym h ∙ i)
+same_some o x y h i = same_Some x y (sym h ∙ i)
 
 below_next : (roots : Ports) (i : ℕ) (d : PluggedDevice) (found new : List PluggedDevice)
     → Walked roots i found → slice_get found i ≡ Some d → AddsPorts roots d.path 16 found new
@@ -346,6 +368,41 @@ walk_next roots i d found new w at a = record {
   below = λ (j : ℕ) (e : PluggedDevice) (low : j < i + 1).
       below_next roots i d found new w at a j e (cases_lt j i) low;
 }
+
+no_none : (o : Option PluggedDevice) → o ≡ None → is_some o ≡ true → ⊥
+no_none o e h = false≢true (sym (ap is_some e) ∙ h)
+
+slice_get_found : (found : List PluggedDevice) (i : ℕ) → i < length found
+    → is_some (slice_get found i) ≡ true
+slice_get_found [] i h = absurd (omega (arith, h))
+slice_get_found (d ∷ found) zero h = refl
+slice_get_found (d ∷ found) (suc i) h = slice_get_found found i (omega (arith, h))
+
+walk_by : (roots : Ports) (i : ℕ) (o : Option PluggedDevice) (above : List ℕ)
+    (found new : List PluggedDevice) → Walked roots i found → slice_get found i ≡ o
+    → Some above ≡ option_map (λ d. d.path) o → AddsPorts roots above 16 found new
+    → Walked roots (i + 1) new
+walk_by roots i None above found new w at is a = absurd (cc)
+walk_by roots i (Some d) above found new w at is a = walk_next roots i d found new w at
+    (subst (λ (p : List ℕ). AddsPorts roots p 16 found new) (same_Some above d.path is) a)
+
+pub walk_on : (roots : Ports) (i : ℕ) (above : List ℕ) (found new : List PluggedDevice)
+    → Walked roots i found → Some above ≡ option_map (λ d. d.path) (slice_get found i)
+    → AddsPorts roots above 16 found new → Walked roots (i + 1) new
+walk_on roots i above found new w is a =
+    walk_by roots i (slice_get found i) above found new w refl is a
+
+none_left : (found : List PluggedDevice) (i : ℕ) (o : Option PluggedDevice)
+    → slice_get found i ≡ o → None ≡ option_map (λ d. d.path) o
+    → (i < length found) ⊎ (length found ≤ i) → length found ≤ i
+none_left found i o at is (inr h) = h
+none_left found i None at is (inl h) =
+    absurd (no_none (slice_get found i) at (slice_get_found found i h))
+none_left found i (Some d) at is (inl h) = absurd (cc)
+
+pub all_walked : (found : List PluggedDevice) (i : ℕ)
+    → None ≡ option_map (λ d. d.path) (slice_get found i) → length found ≤ i
+all_walked found i is = none_left found i (slice_get found i) refl is (cases_lt i (length found))
 
 -- All of them
 

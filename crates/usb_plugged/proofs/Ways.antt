@@ -2,7 +2,8 @@
 use Rattle.std.proofs.Common.{◌≡◌, ℕ, zero, suc, ◌-◌, List, [], ◌∷◌, ◌++◌, Option, None, Some}
 use Rattle.std.proofs.Common.{refl, ap, sym, ◌∙◌, true, false, Bool, slice_get, is_some, arith}
 use Rattle.std.proofs.Common.{option_map, ◌+◌, ◌*◌}
-use Rattle.std.specs.Prelude.{◌&&◌, nat_le, slice_index}
+use Rattle.std.specs.Prelude.{◌&&◌, ◌==◌, if◌then◌else◌, nat_le, slice_index}
+use Rattle.std.proofs.lemmas.Bool.{false≢true, ne_eqb}
 use Rattle.std.proofs.lemmas.Option.{same_Some}
 use Rattle.usb_port.specs.{PortState, bit, status_of}
 use Rattle.usb_device.specs.{Plugged, Ports, State, ended, vacant, taken, device_there, numbered}
@@ -28,8 +29,15 @@ reach_at-step (taken b s a k) zero (zero ∷ p) = no_and b.enable
 reach_at-step (taken b s a k) zero (suc j ∷ p) = refl
 reach_at-step (taken b s a k) (suc i) p = reach_at-step k i p
 
+else_of : (b : Bool) (x y : Option PortState) → b ≡ false → (if b then x else y) ≡ y
+else_of true x y h = absurd (false≢true (sym h))
+else_of false x y h = refl
+
 numbered-suc : (row : List PortState) (i : ℕ) → numbered row (suc i) ≡ slice_get row i
-numbered-suc row i = let less : suc i - 1 ≡ i = omega arith in ap (slice_get row) less
+numbered-suc row i =
+    let less : suc i - 1 ≡ i = omega arith in
+    let other : (suc i == 0) ≡ false = ne_eqb (suc i) 0 (λ (e : suc i ≡ 0). omega (arith, e)) in
+    else_of (suc i == 0) None (slice_get row (suc i - 1)) other ∙ ap (slice_get row) less
 
 -- a device is reached by its first port, and by the rest of its path
 pub reach_step : (k : Ports) (n : ℕ) (p : List ℕ)

@@ -1,5 +1,5 @@
 //! All devices that are plugged.
-ghost use Rattle.std.specs.Prelude.{◌≡◌, ◌∷◌, ◌++◌, [], IfOk, OnOk, Some, None, if◌then◌else◌};
+ghost use Rattle.std.specs.Prelude.{ℕ, List, ◌≡◌, ◌∷◌, ◌++◌, [], IfOk, OnOk, Some, None, if◌then◌else◌, option_map, slice_get};
 ghost use Rattle.usb_sim.specs.Sim.{world_of};
 ghost use Rattle.usb_judge.specs.Scenes.{scene_in};
 ghost use Rattle.usb_judge.specs.Worlds.{ArePlugged, names_port, scene_on};
@@ -34,13 +34,22 @@ fn all_on(alloc: Global, roots: &Ports) -> Result<Vec<PluggedDevice<'_>>, AllocE
     let mut found = Vec::new(alloc);
     add_ports(&mut found, roots, &None)?;
     'devices: for i in 0..usize::MAX {
-        let above = match found.get(i) {
-            Some(device) => device.path.duplicate(),
+        match path_at(found.as_slice(), i) {
+            Some(above) => add_ports(&mut found, roots, &Some(above))?,
             None => return Ok(found),
-        };
-        add_ports(&mut found, roots, &Some(above))?;
+        }
     }
     Ok(found)
+}
+
+/// The path of a device, by its place; None if there are no more of them.
+fn path_at(found: &[PluggedDevice<'_>], i: usize) -> Option<PortPath>
+    ensures { result ≡ option_map (λ device. device.path) (slice_get found.now i) }
+{
+    match found.get(i) {
+        Some(device) => Some(device.path.duplicate()),
+        None => None,
+    }
 }
 
 /// Adds the devices on the ports of a hub, or of the root.
@@ -53,11 +62,25 @@ fn add_ports<'a>(
         (AddsPorts roots.now (numbers_on above.now) 16 found.old.items found.new.items) }
 {
     'ports: for before in 0..15 {
-        if let Some(path) = port_below(above, before + 1) {
-            add_at(found, roots, &path)?;
-        }
+        add_port(found, roots, above, before + 1)?;
     }
     Ok(())
+}
+
+/// Adds the device on the port of a number, if one is plugged there.
+fn add_port<'a>(
+    found: &mut Vec<PluggedDevice<'a>>,
+    roots: &'a Ports,
+    above: &Option<PortPath>,
+    number: u8,
+) -> Result<(), AllocError>
+    ensures { OnOk result (Adds roots.now (numbers_on above.now ++ number ∷ []) found.old.items
+        found.new.items) }
+{
+    match port_below(above, number) {
+        Some(path) => add_at(found, roots, &path),
+        None => Ok(()),
+    }
 }
 
 /// The path of a port of a hub, or of the root, by its number; None if there is no such path.
@@ -69,7 +92,12 @@ fn port_below(above: &Option<PortPath>, number: u8) -> Option<PortPath>
         None => PortPath::root(number),
         Some(hub) => {
             let mut path = hub.duplicate();
-            if path.push(number) { Some(path) } else { None }
+            if !path.push(number) {
+                return None;
+            }
+            // What every path keeps.
+            path.numbers();
+            Some(path)
         }
     }
 }

@@ -3,8 +3,9 @@ ghost use Rattle.std.specs.Prelude.{◌≡◌, ◌==◌, IfSome, option_map, if�
 ghost use Rattle.usb_port.specs.Order.{parent_of};
 ghost use Rattle.usb_device.specs.Bulk.{has_value, text_of, text_with, total_of};
 ghost use Rattle.usb_device.specs.DeviceSpecs.{hub_ports};
+ghost use Rattle.usb_device.specs.Tree.{reach};
 ghost use Rattle.usb_judge.specs.Scenes.{device_seen};
-ghost use Rattle.usb_judge.specs.Worlds.{configuration_in, given_below, scene_on};
+ghost use Rattle.usb_judge.specs.Worlds.{configuration_in, given_below, scene_on, state_seen};
 
 use crate::way::is_reached;
 use usb_device::{Bytes, Device, DeviceSpec, Ports};
@@ -17,8 +18,19 @@ pub(crate) fn device_on<'a>(roots: &'a Ports, path: &PortPath) -> Option<Plugged
     ensures seen { option_map device_seen result ≡ scene_on roots.now path.now }
     ensures at { IfSome result (λ device. device.path ≡ path.now) }
 {
-    let device = roots.device_at(path.numbers())?;
-    Some(PluggedDevice {
+    match roots.device_at(path.numbers()) {
+        Some(device) => Some(seen_at(roots, path, device)),
+        None => None,
+    }
+}
+
+/// A device as it is seen at a path.
+fn seen_at<'a>(roots: &Ports, path: &PortPath, device: &'a Device) -> PluggedDevice<'a>
+    ensures seen { device_seen result ≡ state_seen (reach roots.now path.now)
+        (given_below roots.now (parent_of path.now)) device.now.own }
+    ensures at { result.path ≡ path.now }
+{
+    PluggedDevice {
         path: path.duplicate(),
         low: device.is_low(),
         descriptor: device.spec().descriptor(),
@@ -27,7 +39,7 @@ pub(crate) fn device_on<'a>(roots: &'a Ports, path: &PortPath) -> Option<Plugged
         supply: supply_at(roots, path),
         address: device.address(),
         reached: is_reached(roots, path.numbers()),
-    })
+    }
 }
 
 /// How many ports a device has.
