@@ -70,7 +70,7 @@ alone (Err fault) = Err fault
 
 abbrev pub behind : PortSaid → Result (List PortSaid) ListingFault
     → Result (List PortSaid) ListingFault
-behind port (Ok ports) = Ok (port ∷ ports)
+behind port (Ok more) = Ok (port ∷ more)
 behind port (Err fault) = Err fault
 
 -- so is the last port

@@ -26,5 +26,6 @@ pub fn verdict<T: Trace>(
 {
     judged_world();
     let plugged = plugged(alloc, bus)?;
-    judge(alloc, plugged.as_slice(), listing)
+    let judgements = judge(alloc, plugged.as_slice(), listing)?;
+    Ok(judgements)
 }
