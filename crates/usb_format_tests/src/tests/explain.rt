@@ -592,32 +592,6 @@ const DEVICES: &[(&str, &str)] = &[
     ("end", ""),
 ];
 
-#[test]
-fn attempts_at_a_path(rt: HostRuntime) -> Result<(), Fail> {
-    let mut text = String::new(rt.alloc());
-    for (line, _) in DEVICES {
-        text.push_str(line)?;
-        text.push('\n')?;
-    }
-    for wanted in ["1", "1.2", "1.3", "2"] {
-        let path = PortPath::from_text(wanted).expect(&rt, "a path");
-        let (written, fault) = explained(rt.alloc(), Only::Path(&path), text.as_str());
-        assert_eq!(rt; fault, None);
-        let mut kept = text_of(written.as_slice()).lines();
-        for (line, path) in DEVICES {
-            if *path == wanted {
-                let line_kept = kept.next().unwrap_or("none");
-                assert!(rt;
-                    line_kept.starts_with(line),
-                    "{wanted}: {line}: {line_kept}"
-                );
-            }
-        }
-        assert_eq!(rt; kept.next(), None, "{wanted}");
-    }
-    Ok(())
-}
-
 /// Texts that end with a fault, and what is written before it.
 const FAULTS: &[(&str, &str, u64)] = &[
     ("hello\n", "", 1),
