@@ -5,7 +5,6 @@ use std::test::Fail;
 use std::{io, str};
 use usb_bus::Watched;
 use usb_explain::{ExplainFault, Only, explain};
-use usb_port::PortPath;
 
 /// What is written of a text, and the fault.
 fn explained(alloc: Global, only: Only<'_>, text: &str) -> (Vec<u8>, Option<ExplainFault>) {
@@ -563,34 +562,6 @@ fn paths_that_are_said(rt: HostRuntime) -> Result<(), Fail> {
     }
     Ok(())
 }
-
-/// Lines, and the path of the device that each of an attempt is of.
-const DEVICES: &[(&str, &str)] = &[
-    (PLUG, ""),
-    ("1 SETUP 0.0 / DATA0 8006000100000800 / ACK", "1"),
-    (GIVEN, "1"),
-    ("3 IN 0.0 / DATA1 - / ACK", "1"),
-    (BEGUN, "1"),
-    ("5 IN 1.0 / DATA1 - / ACK", "1"),
-    (STATUS, "1"),
-    ("plug 1.3 x", ""),
-    ("7 IN 1.0 / DATA1 03011000 / ACK", "1"),
-    ("8 OUT 1.0 / DATA1 - / ACK", "1"),
-    (CLEARED, "1"),
-    (DONE, "1"),
-    ("11 SETUP 0.0 [lost] / DATA0 8006000100000800 / none", "1.2"),
-    ("12 SETUP 0.0 / DATA0 8006000100000800 / ACK", "1.2"),
-    ("unplug 1.3", ""),
-    ("13 IN 0.0 / DATA1 1201100109000008 / ACK", "1.2"),
-    ("14 SETUP 0.0 / DATA0 0005020000000000 / ACK", "1.2"),
-    ("15 IN 0.0 / DATA1 - / ACK", "1.2"),
-    ("16 SETUP 2.0 / DATA0 8006000100001200 / ACK", "1.2"),
-    ("17 IN 1.1 / NAK", "1"),
-    ("18 IN 2.1 / NAK", "1.2"),
-    ("19 IN 3.1 / none", ""),
-    ("20 SETUP 0.0 / DATA0 8006000100000800 / ACK", "1"),
-    ("end", ""),
-];
 
 /// Texts that end with a fault, and what is written before it.
 const FAULTS: &[(&str, &str, u64)] = &[
