@@ -1,7 +1,7 @@
 //! The words after the program's name, and what is read from them.
 use std::alloc::{AllocError, Global};
 use std::test::Fail;
-use usb_words::{Selection, read_words, selection_of};
+use usb_words::{read_words, selection_of};
 
 const HELP: &str = "\
 Runs a USB host on a simulated bus, as a plan says, or prints one packet
@@ -342,18 +342,6 @@ fn selections_are_read(rt: HostRuntime) -> Result<(), Fail> {
     for (text, want) in &SELECTIONS {
         let told = format!(in rt.alloc(); "{:?}", selection_of(text))?;
         assert_eq!(rt; told.as_str(), *want, "{text}");
-    }
-    Ok(())
-}
-
-#[test]
-fn paths_are_read(rt: HostRuntime) -> Result<(), Fail> {
-    for path in ["1", "7.15", "1.2.3.4.5.6.7"] {
-        let text = format!(in rt.alloc(); "path:{path}")?;
-        match selection_of(text.as_str()) {
-            Some(Selection::Path(found)) => assert_eq!(rt; found.text().as_str(), path),
-            other => assert!(rt; false, "{text}: {other:?}"),
-        }
     }
     Ok(())
 }
