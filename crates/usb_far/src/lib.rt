@@ -17,6 +17,7 @@ mod attempt;
 mod far_end;
 mod fault;
 mod reply;
+mod row;
 mod serving;
 
 pub use far_end::FarEnd;
