@@ -2,7 +2,7 @@
 use Rattle.std.proofs.Common.{◌≡◌, ◌≢◌, inl, inr, ◌∙◌, ℕ, ◌+◌, ◌<◌, ◌≤◌, Bool, true, false}
 use Rattle.std.proofs.Common.{not, ◌&&◌}
 use Rattle.std.proofs.Common.{List, [], ◌∷◌, ◌++◌, length, take, Option, Ok, Err}
-use Rattle.std.proofs.Common.{Some, None, refl, sym, ap, subst, arith, append_assoc, nat_lt, drop}
+use Rattle.std.proofs.Common.{Some, None, refl, sym, ap, subst, arith, append_assoc, nat_lt}
 use Rattle.std.proofs.Common.{if◌then◌else◌, length-drop}
 use Rattle.std.proofs.Common.{length-append}
 use Rattle.std.proofs.KnownBytes.{Appends-nil, Appends-trans, Consumes-nil, Consumes-trans}

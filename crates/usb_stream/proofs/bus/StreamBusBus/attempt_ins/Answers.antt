@@ -1,5 +1,5 @@
-use Rattle.std.proofs.Common.{rules, ◌≡◌, ◌∙◌, ◌-◌, ◌++◌, ap, sym, refl, subst, length, arith}
-use Rattle.usb_stream.specs.{bytes_in, ins_plan, kept_of, unread_of, written_of}
+use Rattle.std.proofs.Common.{rules, ◌≡◌, ◌∙◌, ◌-◌, ◌++◌, ap, sym, refl, length, arith}
+use Rattle.usb_stream.specs.{bytes_in, ins_plan, kept_of}
 use Rattle.usb_stream.proofs.Rows.{flips_next, flips_none, full_moves, ins_as_planned, next_size}
 use Rattle.usb_stream.proofs.Rows.{none_so_far, not_full, one_so_far, row_answered, row_failed}
 use Rattle.usb_stream.proofs.Rows.{row_whole_at}
