@@ -73,8 +73,10 @@ unsigned usb_begin(void)
 {
     printf("usbplan live 1");
     ask();
-    if (strncmp(line, "roots ", 6) != 0 || line[6] < '1' || line[6] > '0' + ROOTS || line[7] != '\0')
+    if (strncmp(line, "roots ", 6) != 0 || line[6] < '1' || line[6] > '0' + ROOTS)
         give_up("no number of root ports");
+    if (line[7] != '\0' && strcmp(line + 7, " 2") != 0) /* version 2 answers rows, which are not asked here */
+        give_up("another version");
     return (unsigned)(line[6] - '0');
 }
 

@@ -11,11 +11,15 @@ use Rattle.usb_world.specs.declared.event.Ask.{Ask}
 use Rattle.usb_world.specs.{Attempt, Outcome, World, roots_of, EventEnds, after, attempt, event}
 use Rattle.usb_world.specs.{outcome_in, root_call}
 use Rattle.usb_bus.specs.{lines_between, next_due, step_lines, Attempts, TakesEvent}
-use Rattle.usb_wire.specs.{Answer, Done, Roots, Question}
+use Rattle.usb_wire.specs.{Answer, Answered, Asked, Done, RootsAndRows, Question}
+use Rattle.usb_wire.specs.{kind_asked}
 use Rattle.usb_wire.specs.declared.question.Question.TheVariants.{Hello}
 use Rattle.usb_far.specs.{LongSend, Far, IsDone, Played, SendsTooMuch, attempt_done, call_done}
 use Rattle.usb_far.specs.{came_in, done, due_answer, hello_done, is_poll, outcome_answer}
-use Rattle.usb_far.specs.{restart_done, wait_done}
+use Rattle.usb_far.specs.{restart_done, wait_done, ChangesTold}
+use Rattle.usb_far.specs.{Replies, far_done, line_of, may_ask, rest_behind}
+use Rattle.usb_far.specs.{status_lines, told_behind}
+use Rattle.usb_far.specs.declared.far_end.Phase.TheVariants.{Asks}
 
 pub played_attempt : (a : Attempt) (old new : Played) (o : Outcome) (answer : Answer)
     (poll came : Bool) (before now : ℕ)
@@ -126,15 +130,40 @@ endpoint_restarted old new far same = record {
 }
 
 pub hello_answered : (f : Played) (q : Question) (roots : ℕ) → q ≡ Hello
-    → roots ≡ roots_of f.far.world → IsDone (done q f.far) f (Roots roots) f
+    → roots ≡ roots_of f.far.world → IsDone (done q f.far) f (RootsAndRows roots) f
 unfolding hello_done
 hello_answered f q roots is count =
-    subst (λ r. IsDone (done r f.far) f (Roots roots) f) (sym is) (record {
-      answered = sym (ap (λ n. Some (Roots n)) count);
+    subst (λ r. IsDone (done r f.far) f (RootsAndRows roots) f) (sym is) (record {
+      answered = sym (ap (λ n. Some (RootsAndRows n)) count);
       made = λ (by : false ≡ true). absurd (false≢true by);
       far = refl;
       traced = Appends-nil f.trace.bytes;
     })
+
+-- what is done and told is a reply
+pub made_reply : (q : Question) (a : Asked) (old mid new : Played) (answer : Answer)
+    (said lines : List ℕ) (rest : Option Question) → may_ask old.far.phase q ≡ true
+    → a ≡ kind_asked q → IsDone (done q old.far) old answer mid → ChangesTold a mid.far new.far said
+    → lines ≡ said ++ line_of (Answered answer) → rest ≡ rest_behind q answer
+    → new.trace ≡ mid.trace → Replies q old new lines rest
+made_reply q a old mid new answer said lines rest may kind d told is left same =
+    let far : mid.far ≡ far_done q old.far = d.far in
+    record {
+      replied = record {
+        asks = may;
+        answer = answer;
+        answered = d.answered;
+        made = d.made;
+        far = told.far
+            ∙ ap₂ (λ (f : Far) (k : Asked). record f { told = told_behind k f; phase = Asks }) far
+            kind;
+        is = is ∙ ap (λ s. s ++ line_of (Answered answer))
+            (told.told ∙ ap₂ (λ (k : Asked) (f : Far). status_lines k f) kind far);
+      };
+      left = left;
+      traced = subst (λ t. Appends old.trace.bytes t.bytes (done q old.far).traced) (sym same)
+          d.traced;
+    }
 
 -- the statuses of one port more
 pub status_more : (row : List PortState) (k : ℕ) (all : List (List ℕ)) (status : List ℕ)

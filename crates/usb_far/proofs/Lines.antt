@@ -2,7 +2,8 @@
 use Rattle.std.proofs.Common.{◌≡◌, ◌≢◌, inl, inr, ◌∙◌, ℕ, ◌+◌, ◌<◌, ◌≤◌, Bool, true, false}
 use Rattle.std.proofs.Common.{not, ◌&&◌}
 use Rattle.std.proofs.Common.{List, [], ◌∷◌, ◌++◌, length, take, Option, Ok, Err}
-use Rattle.std.proofs.Common.{Some, refl, sym, ap, subst, arith, append_assoc}
+use Rattle.std.proofs.Common.{Some, None, refl, sym, ap, subst, arith, append_assoc, nat_lt}
+use Rattle.std.proofs.Common.{if◌then◌else◌, length-drop}
 use Rattle.std.proofs.Common.{length-append}
 use Rattle.std.proofs.KnownBytes.{Appends-nil, Appends-trans, Consumes-nil, Consumes-trans}
 use Rattle.std.proofs.lemmas.Bool.{false≢true}
@@ -12,12 +13,18 @@ use Rattle.std.specs.Io.KnownBytes.{Appends, Consumes}
 use Rattle.usb_bus.specs.{is_some_text}
 use Rattle.usb_lines.specs.{EndsLine, FailsToFlush, Flushes, IsNextLine, IsUnbroken, OutPipe, Pipe}
 use Rattle.usb_lines.specs.{LineFault, Read, Cut}
-use Rattle.usb_wire.specs.{Answered, IsQuestion, IsQuestionLine, said_line, Question}
+use Rattle.usb_wire.specs.{Answer, Answered, Asked, IsQuestion, IsQuestionLine, kind_asked}
+use Rattle.usb_wire.specs.{said_line, Question}
+use Rattle.usb_wire.specs.declared.question.Asked.TheVariants as asked
+use Rattle.usb_wire.specs.declared.question.Question.TheVariants.{Ins, Outs}
 use Rattle.usb_far.specs.{Phase, FarFault, Far, HasNoReply, IsReplied, Played, Replies, done}
 use Rattle.usb_far.specs.{may_ask, reading_fault, AllReplied, HasNoQuestion, HasQuestion, MayGoOn}
 use Rattle.usb_far.specs.{OnlyReads, OnlyReadsLine, Passed, Passes, ReadsOn, ReadsQuestion, Replied}
 use Rattle.usb_far.specs.{Scene, InTurn, ServedOne, ServedSome, ServesNext, CauseOf, and_then}
-use Rattle.usb_far.specs.{is_told}
+use Rattle.usb_far.specs.{is_told, AllReplies, GoesOn, IsUnwritten, RowEnds, RowFront, RowReplied}
+use Rattle.usb_far.specs.{RowStops}
+use Rattle.usb_far.specs.{brings_full, is_taken, may_ask_as, rest_behind}
+use Rattle.usb_far.specs.declared.far_end.Phase.TheVariants.{Asks}
 use Rattle.usb_far.specs.{passed, phase_behind}
 use Rattle.usb_far.specs.declared.fault.FarFault.TheVariants as fault
 
@@ -117,26 +124,146 @@ some_reply [] [] = refl
 some_reply [] (y ∷ ys) = refl
 some_reply (x ∷ xs) ys = refl
 
--- a question that was answered
-pub asked_line : (old new : Scene) (line reply : List ℕ) (q : Question) → IsUnbroken line
-    → Consumes old.reader.bytes new.reader.bytes (line ++ 10 ∷ [])
-    → ReadsOn old new → HasQuestion line q → Replies q old.played new.played reply
-    → Flushes old.writer reply new.writer → ServedOne old new
-asked_line old new line reply q one read reads there replied gone =
-    let made = replied.replied in
-    let some : is_some_text reply ≡ true =
-    ap is_some_text made.is ∙ some_reply _ (said_line (Answered made.answer)) in
+pub only_one : (p q : Question) → ◌≡◌ {A = Option Question} (Some q) (Some p) → p ≡ q
+only_one p q found = cc
+
+-- ---- rows
+
+some_rest : (b : Bool) (p rest : Question)
+    → ◌≡◌ {A = Option Question} (if b then Some p else None) (Some rest) → (b ≡ true) × (p ≡ rest)
+some_rest true p rest e = (refl, sym (only_one rest p e))
+some_rest false p rest e = absurd (cc)
+
+-- what is left of a row is attempts
+rest_kind : (q : Question) (a : Answer) (rest : Question) → rest_behind q a ≡ Some rest
+    → kind_asked rest ≡ asked.Attempt
+rest_kind (Ins speed endpoint most toggle packets) a rest e =
+    ap kind_asked (sym (some_rest (brings_full most toggle a && nat_lt 1 packets) _ rest e).1)
+rest_kind (Outs speed endpoint most toggle bytes) a rest e =
+    ap kind_asked (sym (some_rest (is_taken a && nat_lt most (length bytes.items)) _ rest e).1)
+rest_kind _ a rest e = absurd (cc)
+
+-- it is less than the row
+pub row_size : Question → ℕ
+row_size (Ins speed endpoint most toggle packets) = packets
+row_size (Outs speed endpoint most toggle bytes) = length bytes.items
+row_size _ = 0
+
+rest_less : (q : Question) (a : Answer) (rest : Question) → IsQuestion q
+    → rest_behind q a ≡ Some rest → row_size rest < row_size q
+unfolding row_size
+rest_less (Ins speed endpoint most toggle packets) a rest h e =
+    let is = some_rest (brings_full most toggle a && nat_lt 1 packets) _ rest e in
+    let some : 1 ≤ packets = h.2.0 in
+    subst (λ r. row_size r < packets) is.1 (omega (arith, some))
+rest_less (Outs speed endpoint most toggle bytes) a rest h e =
+    let is = some_rest (is_taken a && nat_lt most (length bytes.items)) _ rest e in
+    let some : 1 ≤ length bytes.items = h.2.0 in
+    let least : 1 ≤ most = h.1.0 in
+    let size = length-drop most bytes.items in
+    subst (λ r. row_size r < length bytes.items) is.1 (omega (arith, some, least, size))
+rest_less _ a rest h e = absurd (cc)
+
+may_attempt : (phase : Phase) (a : Asked) → phase ≡ Asks → a ≡ asked.Attempt
+    → may_ask_as phase a ≡ true
+may_attempt phase a p k = rw (p, k) refl
+
+-- so it may stand there
+rest_may : (q : Question) (mid new : Far) (lines : List ℕ) (rest : Question)
+    (r : IsReplied q mid new lines) → rest_behind q r.answer ≡ Some rest
+    → may_ask new.phase rest ≡ true
+rest_may q mid new lines rest r e = may_attempt new.phase (kind_asked rest)
+    (ap (λ (f : Far). f.phase) r.far) (rest_kind q r.answer rest e)
+
+-- and so may the row
+row_may : (asked : Question) (old : Played) (before : OutPipe) (mid : Played) (w : OutPipe)
+    (q : Question)
+    → RowFront asked old before mid w q → may_ask mid.far.phase q ≡ true
+    → may_ask old.far.phase asked ≡ true
+row_may asked old before mid w q RowFront.begun may = may
+row_may asked old before mid w q
+    (RowFront.further {mid = m} {w = v} {q = p} front r e traced gone) may =
+    row_may asked old before m v p front r.asks
+
+-- texts that went out one behind the other
+pending_then : (a b c : Bool) (xs ys : List ℕ) → b ≡ (a && not (is_some_text xs))
+    → c ≡ (b && not (is_some_text ys)) → c ≡ (a && not (is_some_text (xs ++ ys)))
+pending_then a b c [] ys first next =
+    next ∙ ap (λ x. x && not (is_some_text ys)) (first ∙ and_true a)
+pending_then a b c (x ∷ xs) ys first next =
+    next ∙ ap (λ y. y && not (is_some_text ys)) (first ∙ and_false a) ∙ sym (and_false a)
+
+-- what has gone out of a row
+record Gone (asked : Question) (old : Played) (before : OutPipe) (new : Played) (now : OutPipe)
+    (left : Question) : Type 0 where
+  said : List ℕ
+  traced : List ℕ
+  goes : GoesOn asked old.far said traced new.far left
+  written : Appends before.bytes now.bytes said
+  trace : Appends old.trace.bytes new.trace.bytes traced
+  unmarked : now.failed ≡ before.failed
+  flushed : now.pending ≡ (before.pending && not (is_some_text said))
+
+-- a reply is no empty text, so that nothing is pending where it was flushed
+reply_flushed : (q : Question) (mid new : Far) (lines : List ℕ) (w now : OutPipe)
+    → IsReplied q mid new lines → Flushes w lines now
+    → now.pending ≡ (w.pending && not (is_some_text lines))
+reply_flushed q mid new lines w now r gone =
+    let some : is_some_text lines ≡ true = ap is_some_text r.is
+    ∙ some_reply _ (said_line (Answered r.answer)) in
+    gone.flushed ∙ sym (ap (λ b. w.pending && not b) some ∙ and_false w.pending)
+
+gone_so : (asked : Question) (old : Played) (before : OutPipe) (mid : Played) (w : OutPipe)
+    (q : Question)
+    → RowFront asked old before mid w q → Gone asked old before mid w q
+gone_so asked old before mid w q RowFront.begun = record {
+  said = [];
+  traced = [];
+  goes = GoesOn.begun;
+  written = Appends-nil before.bytes;
+  trace = Appends-nil old.trace.bytes;
+  unmarked = refl;
+  flushed = sym (and_true before.pending);
+}
+gone_so asked old before new now rest
+    (RowFront.further {mid = mid} {w = w} {q = q} {lines = lines} front r e traced gone) =
+    let so = gone_so asked old before mid w q front in
     record {
-      passed = passed (line ++ 10 ∷ []) reply (done q old.played.far).traced;
-      replied = Replied.asked line q one there.is there.asks made;
+      said = so.said ++ lines;
+      traced = so.traced ++ (done q mid.far).traced;
+      goes = GoesOn.more so.goes r e;
+      written = Appends-trans before.bytes w.bytes now.bytes so.said lines so.written gone.written;
+      trace = Appends-trans old.trace.bytes mid.trace.bytes new.trace.bytes so.traced
+          (done q mid.far).traced so.trace traced;
+      unmarked = gone.unmarked ∙ so.unmarked;
+      flushed = pending_then before.pending w.pending now.pending so.said lines so.flushed
+          (reply_flushed q mid.far new.far lines w now r gone);
+    }
+
+-- a question that was answered, of a row each attempt
+pub asked_line : (old new : Scene) (line : List ℕ) (q : Question) → IsUnbroken line
+    → Consumes old.reader.bytes new.reader.bytes (line ++ 10 ∷ [])
+    → ReadsOn old new → HasQuestion line q
+    → AllReplies q old.writer old.played new.played new.writer → ServedOne old new
+asked_line old new line q one read reads there all =
+    let so = gone_so q old.played old.writer all.mid all.w all.last all.front in
+    let tail : List ℕ = (done all.last all.mid.far).traced in
+    record {
+      passed = passed (line ++ 10 ∷ []) (so.said ++ all.lines) (so.traced ++ tail);
+      replied = Replied.asked line q one there.is there.asks
+          (RowReplied.over so.goes all.replied all.over);
       passes = record {
         read = read;
-        written = gone.written;
-        traced = replied.traced;
+        written = Appends-trans old.writer.bytes all.w.bytes new.writer.bytes so.said all.lines
+            so.written all.gone.written;
+        traced = Appends-trans old.played.trace.bytes all.mid.trace.bytes new.played.trace.bytes
+            so.traced tail so.trace all.traced;
         reads = reads;
-        writes = gone.unmarked;
-        flushed = gone.flushed ∙ sym (ap (λ b. old.writer.pending && not b) some
-            ∙ and_false old.writer.pending);
+        writes = all.gone.unmarked ∙ so.unmarked;
+        flushed = pending_then old.writer.pending all.w.pending new.writer.pending so.said
+            all.lines so.flushed
+            (reply_flushed all.last all.mid.far new.played.far all.lines all.w new.writer
+            all.replied all.gone);
       };
     }
 
@@ -153,23 +280,6 @@ reads_question old new line q one read reads is asks may = record {
   read = read;
   reads = reads;
 }
-
--- one whose reply was not written to its end, or not flushed
-pub asked_torn : (old new : Scene) (line reply : List ℕ) (q : Question) → IsUnbroken line
-    → Consumes old.reader.bytes new.reader.bytes (line ++ 10 ∷ [])
-    → ReadsOn old new → HasQuestion line q → Replies q old.played new.played reply
-    → FailsToFlush old.writer reply new.writer → CauseOf old new fault.Write
-asked_torn old new line reply q one read reads there replied torn =
-    CauseOf.unwritten q (reads_question old new line q one read reads there.is there.asks
-    replied.replied.asks) (record {
-      gone = torn.gone;
-      rest = torn.rest;
-      replied = subst (IsReplied q old.played.far new.played.far) torn.split replied.replied;
-      written = torn.written;
-      traced = replied.traced;
-      failed = torn.marked;
-      pending = torn.pending;
-    })
 
 -- ---- lines that are not answered
 
@@ -202,20 +312,112 @@ no_question_there old new line f (inr none) one short other read reads played wr
     none.1
     (λ q is asks. absurd (none.2 q is asks)))
 
--- one whose question has no reply
-pub no_reply_there : (old new : Scene) (line : List ℕ) (q : Question) (f : FarFault)
-    → HasNoReply q old.played f new.played
-    → HasQuestion line q → IsUnbroken line → length line ≤ 1024 → is_told old.played.far.phase line
-    ≡ false → Consumes old.reader.bytes new.reader.bytes (line ++ 10 ∷ []) → ReadsOn old new
-    → new.writer ≡ old.writer → CauseOf old new f
-no_reply_there old new line q f (inl none) there one short other read reads writer =
-    subst (CauseOf old new) (sym none.0)
-    (CauseOf.no_question line (only_line old new line one short other read reads none.2 writer)
+-- one that is not answered to its end: an attempt of a row has no reply, or its reply was not written
+no_question_first : (old new : Scene) (line : List ℕ) (asked left : Question) (mid : Played)
+    (w : OutPipe) (f : FarFault) → RowFront asked old.played old.writer mid w left
+    → f ≡ fault.NoQuestion → may_ask mid.far.phase left ≡ false → new.played ≡ mid → new.writer ≡ w
+    → HasQuestion line asked → IsUnbroken line → length line ≤ 1024
+    → is_told old.played.far.phase line ≡ false
+    → Consumes old.reader.bytes new.reader.bytes (line ++ 10 ∷ []) → ReadsOn old new
+    → CauseOf old new f
+no_question_first old new line asked left mid w f RowFront.begun is may played writer there one short other
+    read reads =
+    subst (CauseOf old new) (sym is)
+    (CauseOf.no_question line (only_line old new line one short other read reads played writer)
     there.printable
-    (λ p may at. ap (may_ask old.played.far.phase) (there.only p may at) ∙ none.1))
-no_reply_there old new line q f (inr un) there one short other read reads writer =
-    CauseOf.unanswered f q (reads_question old new line q one read reads there.is there.asks un.0)
-    un.1 writer
+    (λ p at stands. ap (may_ask old.played.far.phase) (there.only p at stands) ∙ may))
+no_question_first old new line asked left mid w f (RowFront.further front r e traced gone) is may played
+    writer there one short other read reads =
+    absurd (false≢true (sym may ∙ rest_may _ _ _ _ left r e))
+
+pub row_stopped : (old new : Scene) (line : List ℕ) (asked left : Question) (mid : Played)
+    (w : OutPipe) (f : FarFault) → RowFront asked old.played old.writer mid w left
+    → RowEnds left mid w f new.played new.writer
+    → HasQuestion line asked → IsUnbroken line → length line ≤ 1024
+    → is_told old.played.far.phase line ≡ false
+    → Consumes old.reader.bytes new.reader.bytes (line ++ 10 ∷ []) → ReadsOn old new
+    → CauseOf old new f
+row_stopped old new line asked left mid w f front (inl (inl none, writer)) there one short other
+    read reads =
+    no_question_first old new line asked left mid w f front none.0 none.1 none.2 writer there one
+    short other read reads
+row_stopped old new line asked left mid w f front (inl (inr un, writer)) there one short other read
+    reads =
+    CauseOf.unanswered f asked left (reads_question old new line asked one read reads there.is
+    there.asks (row_may asked old.played old.writer mid w left front un.0)) front un.1 writer
+row_stopped old new line asked left mid w f front (inr (is, torn)) there one short other read reads
+    =
+    subst (CauseOf old new) (sym is)
+    (CauseOf.unwritten asked left (reads_question old new line asked one read reads there.is
+    there.asks (row_may asked old.played old.writer mid w left front torn.replied.asks)) front torn)
+
+-- a reply that was not written to its end, or not flushed
+reply_torn : (q : Question) (mid new : Played) (w now : OutPipe) (lines : List ℕ)
+    (rest : Option Question) → Replies q mid new lines rest → FailsToFlush w lines now
+    → IsUnwritten q mid w new now
+reply_torn q mid new w now lines rest replied torn = record {
+  gone = torn.gone;
+  rest = torn.rest;
+  replied = subst (IsReplied q mid.far new.far) torn.split replied.replied;
+  written = torn.written;
+  traced = replied.traced;
+  failed = torn.marked;
+  pending = torn.pending;
+}
+
+-- ---- the replies to a question, one by one
+
+pub row_less : (q : Question) (mid new : Played) (lines : List ℕ) (rest : Option Question)
+    (more : Question) → IsQuestion q → Replies q mid new lines rest → rest ≡ Some more
+    → row_size more < row_size q
+row_less q mid new lines rest more h r is =
+    rest_less q r.replied.answer more h (sym r.left ∙ is)
+
+pub row_further : (asked q more : Question) (old mid new : Played) (before w now : OutPipe)
+    (lines : List ℕ) (rest : Option Question) → RowFront asked old before mid w q
+    → Replies q mid new lines rest → rest ≡ Some more → Flushes w lines now
+    → RowFront asked old before new now more
+row_further asked q more old mid new before w now lines rest front r is gone =
+    RowFront.further front r.replied (sym r.left ∙ is) r.traced gone
+
+pub all_replied : (asked q : Question) (old mid new : Played) (before w now : OutPipe)
+    (lines : List ℕ) (rest : Option Question) → RowFront asked old before mid w q
+    → Replies q mid new lines rest → rest ≡ None → Flushes w lines now
+    → AllReplies asked before old new now
+all_replied asked q old mid new before w now lines rest front r none gone = record {
+  mid = mid;
+  w = w;
+  last = q;
+  lines = lines;
+  front = front;
+  replied = r.replied;
+  over = sym r.left ∙ none;
+  traced = r.traced;
+  gone = gone;
+}
+
+pub row_unwritten : (asked q : Question) (old mid new : Played) (before w now : OutPipe)
+    (lines : List ℕ) (rest : Option Question) → RowFront asked old before mid w q
+    → Replies q mid new lines rest → FailsToFlush w lines now
+    → RowStops asked before old fault.Write new now
+row_unwritten asked q old mid new before w now lines rest front r torn = record {
+  mid = mid;
+  w = w;
+  left = q;
+  front = front;
+  stops = inr (refl, reply_torn q mid new w now lines rest r torn);
+}
+
+pub row_unreplied : (asked q : Question) (old mid new : Played) (before w : OutPipe)
+    (f : FarFault) → RowFront asked old before mid w q → HasNoReply q mid f new
+    → RowStops asked before old f new w
+row_unreplied asked q old mid new before w f front none = record {
+  mid = mid;
+  w = w;
+  left = q;
+  front = front;
+  stops = inl (none, refl);
+}
 
 -- the front of a line
 only_bytes : (old new : Scene) (bytes : List ℕ) → IsUnbroken bytes
@@ -327,14 +529,6 @@ served_none s = record {
   };
 }
 
--- texts that went out one behind the other
-pending_then : (a b c : Bool) (xs ys : List ℕ) → b ≡ (a && not (is_some_text xs))
-    → c ≡ (b && not (is_some_text ys)) → c ≡ (a && not (is_some_text (xs ++ ys)))
-pending_then a b c [] ys first next =
-    next ∙ ap (λ x. x && not (is_some_text ys)) (first ∙ and_true a)
-pending_then a b c (x ∷ xs) ys first next =
-    next ∙ ap (λ y. y && not (is_some_text ys)) (first ∙ and_false a) ∙ sym (and_false a)
-
 passes_then : (a b c : Scene) (p q : Passed) → Passes a p b → Passes b q c
     → Passes a (and_then p q) c
 passes_then a b c p q first second = record {
@@ -358,9 +552,6 @@ served_more a b c count more is so one = record {
       (sym is) (AllReplied.next so.replies one.replied);
   passes = passes_then a b c so.passed one.passed so.passes one.passes;
 }
-
-pub only_one : (p q : Question) → ◌≡◌ {A = Option Question} (Some q) (Some p) → p ≡ q
-only_one p q found = cc
 
 pub served_one : (a b : Scene) (more : Bool) → more ≡ true → ServesNext a (Ok more) b
     → ServedOne a b

@@ -1,10 +1,11 @@
 -- The far end as plain data, what it does at each question, and the lines that go out behind it.
 use Rattle.std.specs.Prelude.{◌≡◌, ◌⊎◌, ◌&&◌, ◌||◌, ℕ, ◌+◌, ◌*◌, ◌==◌, nat_lt, Bool, true, false, not}
 use Rattle.std.specs.Prelude.{if◌then◌else◌, List, [], ◌∷◌, ◌++◌, length, map, Option, Some, None, Err}
+use Rattle.std.specs.Prelude.{◌-◌, drop, take}
 use Rattle.std.specs.Io.KnownBytes.{Appends}
 use Rattle.std.specs.Str.{bytes_eq}
 use Rattle.usb_packet.specs.{TokenKind, OutTok, InTok, SetupTok, Speed, Zero, speed_has_pre}
-use Rattle.usb_packet.specs.{speed_is_low}
+use Rattle.usb_packet.specs.{speed_is_low, Toggle, is_same, other}
 use Rattle.usb_port.specs.{PortCall, path_text, status_of}
 use Rattle.usb_request.specs.{bytes_of, Setup as SetupData}
 use Rattle.usb_world.specs.declared.event.Ask.{Ask}
@@ -19,12 +20,12 @@ use Rattle.usb_lines.specs.{Pipe, LineFault}
 use Rattle.usb_lines.specs.declared.line.LineFault.TheVariants as line
 use Rattle.usb_wire.specs.{said_line, send_limit, send_room, send_to_limit, write_limit}
 use Rattle.usb_wire.specs.{kind_asked, Answer}
-use Rattle.usb_wire.specs.{Roots, Ack, Nak, Stall, ControlOut, ClearOf, Poll, ReceiveFrom, SendTo}
+use Rattle.usb_wire.specs.{RootsAndRows, Ack, Nak, Stall, ControlOut, ClearOf, Poll, ReceiveFrom, SendTo}
 use Rattle.usb_wire.specs.{Nothing, Data, Done, Show, End, Send, Receive, Clear, ControlIn, Look}
 use Rattle.usb_wire.specs.{Interface, News, Said, Changed, Answered, Asked, DataPacket, Endpoint, Question}
 use Rattle.usb_wire.specs.declared.question.Asked.TheVariants as asked
 use Rattle.usb_wire.specs.declared.question.Question.TheVariants.{Hello, Setup, Out, In, Port}
-use Rattle.usb_wire.specs.declared.question.Question.TheVariants.{Restart, Wait}
+use Rattle.usb_wire.specs.declared.question.Question.TheVariants.{Ins, Outs, Restart, Wait}
 use Rattle.usb_far.specs.declared.far_end.FarEnd.{FarEnd}
 use Rattle.usb_far.specs.declared.far_end.Phase.{Phase}
 use Rattle.usb_far.specs.declared.far_end.Phase.TheVariants.{New, Asks, Tells}
@@ -100,6 +101,9 @@ attempt_of_in speed e most = record {
   max = most;
   payload = None;
 }
+
+abbrev pub packet_of : Toggle → List ℕ → DataPacket
+packet_of toggle bytes = record { toggle = toggle; bytes = record { items = bytes } }
 
 -- what the host gets, as it is told
 abbrev pub outcome_answer : Outcome → Answer
@@ -234,18 +238,22 @@ wait_done f =
 
 unfoldable pub hello_done : Far → Deed
 hello_done f = record {
-  answer = Some (Roots (roots_of f.world));
+  answer = Some (RootsAndRows (roots_of f.world));
   world = f.world;
   came = f.came;
   traced = [];
   by_bus = false;
 }
 
+-- of a row its first attempt
 abbrev pub done : Question → Far → Deed
 done Hello f = hello_done f
 done (Setup speed endpoint setup) f = attempt_done (attempt_of_setup speed endpoint setup) f
 done (Out speed endpoint sent) f = attempt_done (attempt_of_out speed endpoint sent) f
 done (In speed endpoint most) f = attempt_done (attempt_of_in speed endpoint most) f
+done (Ins speed endpoint most toggle packets) f = attempt_done (attempt_of_in speed endpoint most) f
+done (Outs speed endpoint most toggle bytes) f =
+    attempt_done (attempt_of_out speed endpoint (packet_of toggle (take most bytes.items))) f
 done (Port number call) f = call_done number call f
 done (Restart endpoint is_in) f = restart_done f
 done Wait f = wait_done f
@@ -298,9 +306,43 @@ IsUnanswered (Out speed endpoint sent) old f new =
     IsGivenUp (attempt_of_out speed endpoint sent) old f new
 IsUnanswered (In speed endpoint most) old f new =
     IsGivenUp (attempt_of_in speed endpoint most) old f new
+IsUnanswered (Ins speed endpoint most toggle packets) old f new =
+    IsGivenUp (attempt_of_in speed endpoint most) old f new
+IsUnanswered (Outs speed endpoint most toggle bytes) old f new =
+    IsGivenUp (attempt_of_out speed endpoint (packet_of toggle (take most bytes.items))) old f new
 IsUnanswered (Port number call) old f new = HasNoPort number old f new
 IsUnanswered (Restart endpoint is_in) old f new = ⊥
 IsUnanswered Wait old f new = IsEventGivenUp old f new ⊎ SendsTooMuch old f new
+
+-- ---- rows
+
+-- the answer brings a full packet of the toggle that is due
+abbrev pub brings_full : ℕ → Toggle → Answer → Bool
+brings_full most due (Data sent) = is_same due sent.toggle && (length sent.bytes.items == most)
+brings_full most due _ = false
+
+-- the packet was taken
+abbrev pub is_taken : Answer → Bool
+is_taken Ack = true
+is_taken _ = false
+
+-- the row of what is left, if an attempt moved its packet and was not the last one
+abbrev pub ins_behind : Speed → Endpoint → ℕ → Toggle → ℕ → Answer → Option Question
+ins_behind speed endpoint most due packets answer =
+    if brings_full most due answer && nat_lt 1 packets
+    then Some (Ins speed endpoint most (other due) (packets - 1)) else None
+
+abbrev pub outs_behind : Speed → Endpoint → ℕ → Toggle → List ℕ → Answer → Option Question
+outs_behind speed endpoint most due bytes answer =
+    if is_taken answer && nat_lt most (length bytes)
+    then Some (Outs speed endpoint most (other due) (record { items = drop most bytes })) else None
+
+abbrev pub rest_behind : Question → Answer → Option Question
+rest_behind (Ins speed endpoint most toggle packets) answer =
+    ins_behind speed endpoint most toggle packets answer
+rest_behind (Outs speed endpoint most toggle bytes) answer =
+    outs_behind speed endpoint most toggle bytes.items answer
+rest_behind _ answer = None
 
 -- ---- the lines behind a question
 
@@ -367,8 +409,8 @@ far_after q f = record (far_done q f) {
       Asks;
 }
 
--- what was asked was done and told: a line for each status that is not what was told, and that of
--- the answer
+-- what was asked was done and told, of a row its first attempt: a line for each status that is not
+-- what was told, and that of the answer
 pub record IsReplied (q : Question) (old new : Far) (lines : List ℕ) : Type 0 where
   pub asks : may_ask old.phase q ≡ true
   pub answer : Answer
@@ -379,9 +421,11 @@ pub record IsReplied (q : Question) (old new : Far) (lines : List ℕ) : Type 0 
 
 -- of the private functions
 
--- the reply was made, and the deed traced
-pub record Replies (q : Question) (old new : Played) (lines : List ℕ) : Type 0 where
+-- the reply was made, and the deed traced; of a row this is left
+pub record Replies (q : Question) (old new : Played) (lines : List ℕ) (rest : Option Question) :
+    Type 0 where
   pub replied : IsReplied q old.far new.far lines
+  pub left : rest ≡ rest_behind q replied.answer
   pub traced : Appends old.trace.bytes new.trace.bytes (done q old.far).traced
 
 -- the question may not stand there, or is not answered

@@ -2,20 +2,21 @@
 use Rattle.std.specs.Prelude.{◌≡◌, ◌≢◌, ◌⊎◌, ℕ, ◌+◌, ◌-◌, ◌^◌, ◌≤◌, Bool, true, false, not, ◌&&◌}
 use Rattle.std.specs.Prelude.{◌||◌}
 use Rattle.std.specs.Prelude.{if◌then◌else◌, List, [], ◌∷◌, ◌++◌, take, codes, length, nat_eq}
-use Rattle.std.specs.Prelude.{Option, Result, Ok, Err}
+use Rattle.std.specs.Prelude.{Option, None, Some, Result, Ok, Err}
 use Rattle.std.specs.List.{starts_with}
 use Rattle.std.specs.Str.{bytes_eq}
 use Rattle.std.specs.Io.KnownBytes.{Appends, Consumes, IsAtEnd}
 use Rattle.usb_sim.specs.{Ghosts}
 use Rattle.usb_bus.specs.{Watched, is_some_text}
-use Rattle.usb_lines.specs.{IsUnbroken, OutPipe, Pipe, out_pipe_of, pipe_of}
+use Rattle.usb_lines.specs.{Flushes, IsUnbroken, OutPipe, Pipe, out_pipe_of, pipe_of}
 use Rattle.usb_wire.specs.{IsQuestion, IsQuestionLine, all_printable, Question}
 use Rattle.usb_far.specs.declared.far_end.FarEnd.{FarEnd}
 use Rattle.usb_far.specs.declared.far_end.Phase.{Phase}
 use Rattle.usb_far.specs.declared.far_end.Phase.TheVariants.{New, Asks, Tells}
 use Rattle.usb_far.specs.declared.fault.FarFault.{FarFault}
 use Rattle.usb_far.specs.declared.fault.FarFault.TheVariants as fault
-use Rattle.usb_far.specs.FarEnd.{Far, IsReplied, IsUnanswered, Played, done, may_ask, played_of}
+use Rattle.usb_far.specs.FarEnd.{Far, HasNoReply, IsReplied, IsUnanswered, Played, done, may_ask}
+use Rattle.usb_far.specs.FarEnd.{played_of, rest_behind}
 
 abbrev pub begins_with : List ℕ → List ℕ → Bool
 begins_with line word = starts_with nat_eq line word
@@ -62,13 +63,29 @@ passed asked said traced = record { asked = asked; said = said; traced = traced 
 abbrev pub and_then : Passed → Passed → Passed
 and_then p q = passed (p.asked ++ q.asked) (p.said ++ q.said) (p.traced ++ q.traced)
 
+-- the first attempts of a row were replied to, each moved its packet, and this is left of the row
+pub data GoesOn (asked : Question) (old : Far) : List ℕ → List ℕ → Far → Question → Type 0 where
+  begun : GoesOn asked old [] [] old asked
+  more : {said traced lines : List ℕ} {mid new : Far} {q rest : Question}
+      → GoesOn asked old said traced mid q → (r : IsReplied q mid new lines)
+      → rest_behind q r.answer ≡ Some rest
+      → GoesOn asked old (said ++ lines) (traced ++ (done q mid).traced) new rest
+
+-- the replies to a question: one; or one to each attempt of a row, until one moved no packet or none
+-- was left
+pub data RowReplied (asked : Question) (old : Far) : List ℕ → List ℕ → Far → Type 0 where
+  over : {said traced lines : List ℕ} {mid new : Far} {q : Question}
+      → GoesOn asked old said traced mid q → (r : IsReplied q mid new lines)
+      → rest_behind q r.answer ≡ None
+      → RowReplied asked old (said ++ lines) (traced ++ (done q mid).traced) new
+
 -- a line was read, and its reply is this: of a question its lines, of what is told none. Of a told
 -- line
 -- of more than 1,024 bytes the first 1,024 count
 pub data Replied (old : Far) : Passed → Far → Type 0 where
-  asked : {new : Far} {reply : List ℕ} (line : List ℕ) (q : Question)
-      → IsUnbroken line → IsQuestion q → IsQuestionLine line q → IsReplied q old new reply
-      → Replied old (passed (line ++ 10 ∷ []) reply (done q old).traced) new
+  asked : {new : Far} {reply traced : List ℕ} (line : List ℕ) (q : Question)
+      → IsUnbroken line → IsQuestion q → IsQuestionLine line q → RowReplied q old reply traced new
+      → Replied old (passed (line ++ 10 ∷ []) reply traced) new
   told : (line : List ℕ) → IsUnbroken line → is_told old.phase (take 1024 line) ≡ true
       → Replied old (passed (line ++ 10 ∷ []) [] [])
       (record old { phase = phase_behind old.phase (take 1024 line) })
@@ -142,16 +159,28 @@ pub record ReadsQuestion (old : Scene) (q : Question) (new : Scene) : Type 0 whe
   pub read : Consumes old.reader.bytes new.reader.bytes (line ++ 10 ∷ [])
   pub reads : ReadsOn old new
 
+-- the replies to the first attempts of a row have gone out, each was flushed before the next attempt,
+-- and this is left of the row; nothing yet, where all of the question is left
+pub data RowFront (asked : Question) (old : Played) (before : OutPipe) : Played → OutPipe → Question
+    → Type 0 where
+  begun : RowFront asked old before old before asked
+  further : {mid new : Played} {w now : OutPipe} {q rest : Question} {lines : List ℕ}
+      → RowFront asked old before mid w q → (r : IsReplied q mid.far new.far lines)
+      → rest_behind q r.answer ≡ Some rest
+      → Appends mid.trace.bytes new.trace.bytes (done q mid.far).traced → Flushes w lines now
+      → RowFront asked old before new now rest
+
 -- the reply was made and traced, and the writer failed: a front of it has gone out; or all of it,
 -- and the flush failed. Nothing of the next line was read
-pub record IsUnwritten (q : Question) (old new : Scene) : Type 0 where
+pub record IsUnwritten (q : Question) (old : Played) (before : OutPipe) (new : Played)
+    (now : OutPipe) : Type 0 where
   pub gone : List ℕ
   pub rest : List ℕ
-  pub replied : IsReplied q old.played.far new.played.far (gone ++ rest)
-  pub written : Appends old.writer.bytes new.writer.bytes gone
-  pub traced : Appends old.played.trace.bytes new.played.trace.bytes (done q old.played.far).traced
-  pub failed : new.writer.failed ≡ true
-  pub pending : new.writer.pending ≡ (old.writer.pending || is_some_text gone)
+  pub replied : IsReplied q old.far new.far (gone ++ rest)
+  pub written : Appends before.bytes now.bytes gone
+  pub traced : Appends old.trace.bytes new.trace.bytes (done q old.far).traced
+  pub failed : now.failed ≡ true
+  pub pending : now.pending ≡ (before.pending || is_some_text gone)
 
 -- the cause of each fault, with what was read, done and written in that line
 pub data CauseOf (old new : Scene) : FarFault → Type 0 where
@@ -170,10 +199,12 @@ pub data CauseOf (old new : Scene) : FarFault → Type 0 where
       → ((q : Question) → IsQuestion q → IsQuestionLine line q → may_ask old.played.far.phase q
       ≡ false)
       → CauseOf old new fault.NoQuestion
-  unanswered : (f : FarFault) (q : Question) → ReadsQuestion old q new
-      → IsUnanswered q old.played f new.played → new.writer ≡ old.writer → CauseOf old new f
-  unwritten : (q : Question) → ReadsQuestion old q new → IsUnwritten q old new
-      → CauseOf old new fault.Write
+  unanswered : {mid : Played} {w : OutPipe} (f : FarFault) (q left : Question)
+      → ReadsQuestion old q new → RowFront q old.played old.writer mid w left
+      → IsUnanswered left mid f new.played → new.writer ≡ w → CauseOf old new f
+  unwritten : {mid : Played} {w : OutPipe} (q left : Question) → ReadsQuestion old q new
+      → RowFront q old.played old.writer mid w left
+      → IsUnwritten left mid w new.played new.writer → CauseOf old new fault.Write
 
 -- ---- the whole
 
@@ -237,6 +268,38 @@ abbrev pub ServesNext : Scene → Result Bool FarFault → Scene → Type 0
 ServesNext old (Ok true) new = ServedOne old new
 ServesNext old (Ok false) new = ServedNone old new
 ServesNext old (Err f) new = CauseOf old new f
+
+-- all replies to a question have gone out, each was flushed: behind the last one nothing is left
+pub record AllReplies (asked : Question) (before : OutPipe) (old new : Played) (now : OutPipe) :
+    Type 0 where
+  pub mid : Played
+  pub w : OutPipe
+  pub last : Question
+  pub lines : List ℕ
+  pub front : RowFront asked old before mid w last
+  pub replied : IsReplied last mid.far new.far lines
+  pub over : rest_behind last replied.answer ≡ None
+  pub traced : Appends mid.trace.bytes new.trace.bytes (done last mid.far).traced
+  pub gone : Flushes w lines now
+
+-- the next attempt has no reply, or its reply could not be written
+abbrev pub RowEnds : Question → Played → OutPipe → FarFault → Played → OutPipe → Type 0
+RowEnds left mid w f new now =
+    (HasNoReply left mid f new × (now ≡ w))
+    ⊎ ((f ≡ fault.Write) × IsUnwritten left mid w new now)
+
+pub record RowStops (asked : Question) (before : OutPipe) (old : Played) (f : FarFault)
+    (new : Played) (now : OutPipe) : Type 0 where
+  pub mid : Played
+  pub w : OutPipe
+  pub left : Question
+  pub front : RowFront asked old before mid w left
+  pub stops : RowEnds left mid w f new now
+
+abbrev pub RepliesAll : Question → OutPipe → Played → Result (Unit {0}) FarFault → Played → OutPipe
+    → Type 0
+RepliesAll q before old (Ok _) new now = AllReplies q before old new now
+RepliesAll q before old (Err f) new now = RowStops q before old f new now
 
 -- a line that asks nothing
 abbrev pub HasNoQuestion : List ℕ → FarFault → Type 0

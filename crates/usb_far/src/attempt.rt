@@ -1,12 +1,13 @@
 //! Attempts, as the host asks for them and as it is answered.
-ghost use Rattle.std.specs.Prelude.{◌≡◌, ◌≤◌};
+ghost use Rattle.std.specs.Prelude.{◌≡◌, ◌≤◌, length};
 ghost use Rattle.usb_wire.specs.Questions.{IsEndpoint};
 ghost use Rattle.usb_world.specs.PlainAttempts.{attempt_data};
 ghost use Rattle.usb_world.specs.Worlds.{IsAttempt};
-ghost use Rattle.usb_far.specs.FarEnd.{attempt_of_in, destination_at, is_poll, attempt_of_out, outcome_answer, attempt_of_setup};
+ghost use Rattle.usb_far.specs.FarEnd.{attempt_of_in, destination_at, is_poll, attempt_of_out, outcome_answer, attempt_of_setup, packet_of};
 
+use arrayvec::ArrayVec;
 use usb_bus::{Attempt, Destination, Outcome};
-use usb_packet::Speed;
+use usb_packet::{Speed, Toggle};
 use usb_request::Setup;
 use usb_wire::{Answer, DataPacket, Endpoint};
 
@@ -23,12 +24,29 @@ pub(crate) fn setup_attempt(speed: Speed, endpoint: Endpoint, setup: Setup) -> A
 }
 
 /// The attempt that sends data (8.5.1).
-pub(crate) fn out_attempt(speed: Speed, endpoint: Endpoint, sent: DataPacket) -> Attempt
+pub(crate) fn out_attempt(speed: Speed, endpoint: Endpoint, sent: &DataPacket) -> Attempt
     requires { IsEndpoint endpoint }
-    ensures value { attempt_data result ≡ attempt_of_out speed endpoint sent }
+    ensures value { attempt_data result ≡ attempt_of_out speed endpoint sent.now }
     ensures fits { IsAttempt (attempt_data result) }
 {
-    let DataPacket { toggle, bytes } = sent;
+    packet_attempt(speed, endpoint, sent.toggle, sent.bytes.as_slice())
+}
+
+/// The attempt that sends these bytes.
+pub(crate) fn packet_attempt(
+    speed: Speed,
+    endpoint: Endpoint,
+    toggle: Toggle,
+    packet: &[u8],
+) -> Attempt
+    requires endpoint { IsEndpoint endpoint }
+    requires few { length packet.now ≤ 64 }
+    ensures value { attempt_data result
+        ≡ attempt_of_out speed endpoint (packet_of toggle packet.now) }
+    ensures fits { IsAttempt (attempt_data result) }
+{
+    let mut bytes = ArrayVec::new();
+    bytes.try_extend_from_slice(packet).unwrap();
     Attempt::Out {
         to: destination(speed, endpoint, 64),
         toggle,

@@ -9,8 +9,9 @@ ghost use Rattle.usb_lines.specs.Pipes.{pipe_of};
 ghost use Rattle.usb_wire.specs.Questions.{IsEndpoint, IsQuestion};
 ghost use Rattle.usb_far.specs.FarEnd.{IsEventGivenUp, IsGivenUp, HasNoPort, IsDone, IsUnanswered, SendsTooMuch, attempt_done, call_done, asked_answer, came_in, done, due_answer, restart_done, send_to_wanted, send_wanted, statuses, wait_done, write_wanted};
 
-use crate::attempt::{answer_of, in_attempt, is_poll, out_attempt, setup_attempt};
+use crate::attempt::{answer_of, in_attempt, is_poll, out_attempt, packet_attempt, setup_attempt};
 use crate::fault::FarFault;
+use crate::row::first_of;
 use arrayvec::ArrayVec;
 use std::alloc::{AllocError, Global};
 use std::io::Write;
@@ -79,34 +80,50 @@ impl<W: Write + Drop> FarEnd<Tracer<W>> {
 impl<T: Trace> FarEnd<T> {
     ghost use Rattle.usb_far.specs.FarEnd.{far_of, played_of};
 
-    /// Does what is asked, and answers it.
-    pub(crate) fn answer(&mut self, question: Question) -> Result<Answer, FarFault>
-        requires { IsQuestion question }
+    /// Does what is asked, and answers it; of a row, its first attempt.
+    pub(crate) fn answer(&mut self, question: &Question) -> Result<Answer, FarFault>
+        requires { IsQuestion question.now }
         ensures done { IfOk result (λ answer.
-            IsDone (done question (far_of self.old)) (played_of self.old) answer
+            IsDone (done question.now (far_of self.old)) (played_of self.old) answer
             (played_of self.new)) }
         ensures fault { IfErr result (λ fault.
-            IsUnanswered question (played_of self.old) fault (played_of self.new)) }
+            IsUnanswered question.now (played_of self.old) fault (played_of self.new)) }
     {
         match question {
-            Question::Hello => Ok(Answer::Roots(self.bus.root_ports())),
+            Question::Hello => Ok(Answer::RootsAndRows(self.bus.root_ports())),
             Question::Setup {
                 speed,
                 endpoint,
                 setup,
-            } => self.attempt(&setup_attempt(speed, endpoint, setup)),
+            } => self.attempt(&setup_attempt(*speed, *endpoint, *setup)),
             Question::Out {
                 speed,
                 endpoint,
                 sent,
-            } => self.attempt(&out_attempt(speed, endpoint, sent)),
+            } => self.attempt(&out_attempt(*speed, *endpoint, sent)),
+            Question::Outs {
+                speed,
+                endpoint,
+                most,
+                toggle,
+                bytes,
+            } => {
+                let packet = first_of(bytes.as_slice(), *most);
+                self.attempt(&packet_attempt(*speed, *endpoint, *toggle, packet))
+            }
             Question::In {
                 speed,
                 endpoint,
                 most,
-            } => self.attempt(&in_attempt(speed, endpoint, most)),
-            Question::Port { number, call } => self.call(number, call),
-            Question::Restart { endpoint, is_in } => Ok(self.restart(endpoint, is_in)),
+            }
+            | Question::Ins {
+                speed,
+                endpoint,
+                most,
+                ..
+            } => self.attempt(&in_attempt(*speed, *endpoint, *most)),
+            Question::Port { number, call } => self.call(*number, *call),
+            Question::Restart { endpoint, is_in } => Ok(self.restart(*endpoint, *is_in)),
             Question::Wait => self.wait(),
         }
     }

@@ -5,7 +5,8 @@
 //!
 //! Of readers and writers whose bytes are known (*ServesHost* of `serve`, `specs/Serving.antt`):
 //!
-//! - Each question has its reply, once and in order (*done*).
+//! - Each question has its reply, once and in order (*done*). Of a row each attempt has one, up to the first that moves
+//!   no packet (*RowReplied*).
 //! - A question is answered and flushed before the next line is read (*InTurn*).
 //! - At a fault the lines before it were answered, and nothing more was. Each fault has its cause
 //!   (*CauseOf*).
@@ -17,6 +18,7 @@ mod attempt;
 mod far_end;
 mod fault;
 mod reply;
+mod row;
 mod serving;
 
 pub use far_end::FarEnd;

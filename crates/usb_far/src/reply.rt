@@ -1,10 +1,11 @@
 //! The lines that go out after a question.
-ghost use Rattle.std.specs.Prelude.{◌≡◌, ◌+◌, ◌*◌, ◌≤◌, ◌∷◌, ◌++◌, [], length, IfErr, IfOk};
+ghost use Rattle.std.specs.Prelude.{◌≡◌, ◌+◌, ◌*◌, ◌≤◌, ◌∷◌, ◌++◌, [], length, IfErr, IfOk, IfSome};
 ghost use Rattle.usb_wire.specs.Questions.{IsQuestion};
 ghost use Rattle.usb_far.specs.FarEnd.{ChangesTold, HasNoReply, Replies, behind_first, is_first, line_of, may_ask, pushes};
 
 use crate::far_end::{FarEnd, Phase, statuses};
 use crate::fault::FarFault;
+use crate::row::rest_behind;
 use arrayvec::ArrayVec;
 use usb_sim::Trace;
 use usb_wire::{Asked, Question, Said, said_line};
@@ -18,22 +19,26 @@ pub(crate) type Reply = ArrayVec<u8, ROOM>;
 impl<T: Trace> FarEnd<T> {
     ghost use Rattle.usb_far.specs.FarEnd.{far_of, played_of};
 
-    /// Does what is asked, and gives the lines to that: the statuses of root ports that are not what was last reported,
-    /// and the answer.
+    /// Does what is asked, of a row its first attempt, and gives the lines to that: the statuses of root ports that are
+    /// not what was last reported, and the answer. Gives what is left of the row, too.
     ///
     /// # Errors
     ///
     /// `NoQuestion` if it is the hello and not the first question, or the first one and not the hello. `BadNumber` if
     /// there is no such root port. `LongSend` if an event sends or writes more than a line has room for. Else the fault of
     /// the bus.
-    pub(crate) fn reply(&mut self, question: Question) -> Result<Reply, FarFault>
-        requires { IsQuestion question }
-        ensures replied { IfOk result (λ reply.
-            Replies question (played_of self.old) (played_of self.new) reply.items) }
+    pub(crate) fn reply(
+        &mut self,
+        question: &Question,
+    ) -> Result<(Reply, Option<Question>), FarFault>
+        requires { IsQuestion question.now }
+        ensures replied { IfOk result (λ reply. Replies question.now (played_of self.old)
+            (played_of self.new) reply.0.items reply.1) }
+        ensures rest { IfOk result (λ reply. IfSome reply.1 IsQuestion) }
         ensures fault { IfErr result (λ fault.
-            HasNoReply question (played_of self.old) fault (played_of self.new)) }
+            HasNoReply question.now (played_of self.old) fault (played_of self.new)) }
     {
-        if !may_ask(self.phase, &question) {
+        if !may_ask(self.phase, question) {
             return Err(FarFault::NoQuestion);
         }
         let asked = question.asked();
@@ -41,9 +46,10 @@ impl<T: Trace> FarEnd<T> {
             Ok(answer) => answer,
             Err(fault) => return Err(fault),
         };
+        let rest = rest_behind(question, &answer);
         let mut lines = self.changes(asked);
         push_said(&mut lines, &Said::Answered(answer));
-        Ok(lines)
+        Ok((lines, rest))
     }
 
     /// The lines of root ports whose status is not what was last reported, which it is then.

@@ -5,7 +5,8 @@ ghost use Rattle.usb_lines.specs.Lines.{IsUnbroken};
 ghost use Rattle.usb_lines.specs.Pipes.{OutPipe as AnOutPipe, Pipe as APipe, out_pipe_of, pipe_of};
 ghost use Rattle.usb_wire.specs.Words.{all_printable, is_printable};
 ghost use Rattle.usb_far.specs.FarEnd.{played_of};
-ghost use Rattle.usb_far.specs.Serving.{HasNoQuestion, HasQuestion, ServesHost, ServesNext, begins_block, begins_with, is_report, is_told, phase_behind, scene};
+ghost use Rattle.usb_wire.specs.Questions.{IsQuestion};
+ghost use Rattle.usb_far.specs.Serving.{HasNoQuestion, HasQuestion, RepliesAll, ServesHost, ServesNext, begins_block, begins_with, is_report, is_told, phase_behind, scene};
 
 use crate::far_end::{FarEnd, Phase};
 use crate::fault::FarFault;
@@ -97,13 +98,36 @@ impl<T: Trace> FarEnd<T> {
             Ok(question) => question,
             Err(fault) => return Err(fault),
         };
-        let reply = match self.reply(question) {
-            Ok(reply) => reply,
-            Err(fault) => return Err(fault),
-        };
-        match put_lines(writer, reply.as_slice()) {
+        match self.reply_all(question, writer) {
             Ok(()) => Ok(true),
-            Err(_) => Err(FarFault::Write),
+            Err(fault) => Err(fault),
+        }
+    }
+
+    /// Replies to a question, and to each attempt of a row until one moves no packet.
+    fn reply_all<W: Write>(
+        &mut self,
+        question: Question,
+        writer: &mut Watched<W>,
+    ) -> Result<(), FarFault>
+        requires { IsQuestion question }
+        ensures { RepliesAll question (out_pipe_of W.contents writer.old) (played_of self.old)
+            result (played_of self.new) (out_pipe_of W.contents writer.new) }
+    {
+        let mut asked = question;
+        'attempts: loop {
+            let (lines, rest) = match self.reply(&asked) {
+                Ok(reply) => reply,
+                Err(fault) => return Err(fault),
+            };
+            match put_lines(writer, lines.as_slice()) {
+                Ok(()) => {}
+                Err(_) => return Err(FarFault::Write),
+            }
+            match rest {
+                Some(rest) => asked = rest,
+                None => return Ok(()),
+            }
         }
     }
 

@@ -1,12 +1,12 @@
 -- How a course goes on at each call.
 use Rattle.std.proofs.Common.{◌≡◌, ◌≢◌, ◌∙◌, ℕ, zero, suc, ◌+◌, ◌^◌, ◌≤◌, ◌<◌, ◌⊎◌, inl, inr, List, []}
-use Rattle.std.proofs.Common.{Option, Some, None, Result, Ok, Err, refl, sym, ap, subst, arith}
+use Rattle.std.proofs.Common.{Option, Some, None, Result, Ok, Err, refl, sym, ap, subst, arith, ◌-◌}
 use Rattle.std.proofs.Common.{Bool, is_ok, true, false, nat_lt, if◌then◌else◌}
 use Rattle.std.proofs.lemmas.Bool.{cases_lt}
 use Rattle.std.proofs.lemmas.Grind.{not_there}
 use Rattle.usb_enum.specs.{usual_options}
 use Rattle.usb_port.specs.{PortCall}
-use Rattle.usb_world.specs.{BusFault, Outcome, destination_of}
+use Rattle.usb_world.specs.{BusFault, Destination, Outcome, destination_of}
 use Rattle.usb_world.specs.declared.types.Attempt.{Attempt}
 use Rattle.usb_world.specs.declared.types.Attempt.TheVariants as attempt
 use Rattle.usb_wire.specs.{Answer, Question}
@@ -18,7 +18,13 @@ use Rattle.usb_stream.specs.{AsksNoQuestion, AsksOnce, AttemptsByLine, AttemptsB
 use Rattle.usb_stream.specs.{Restarts, restart_of}
 use Rattle.usb_stream.specs.{SaysHello, WritesLines, bus_fault, greeted, kept_of, question_for}
 use Rattle.usb_stream.specs.{roots_if, streams, unasked, unread_of, written_of, StreamBus}
-use Rattle.usb_stream.specs.{LiveFault}
+use Rattle.usb_stream.specs.{LiveFault, HearsMore, InsByLine, OutsByLine, RefusesRow, RowBy}
+use Rattle.usb_stream.specs.{RowEndsBy, RowHeard, RowPlan, StepBy, ins_plan, more_answers}
+use Rattle.usb_stream.specs.{none_heard, one_heard, outs_plan, was_asked}
+use Rattle.usb_bus.specs.{RowDone, RowEnd, Whole, Answered, Faulted}
+use Rattle.usb_packet.specs.{Toggle}
+use Rattle.std.proofs.Common.{length}
+use Rattle.std.specs.Int.{div_ceil}
 use Rattle.usb_text.specs.{lines_text, listing_lines}
 use Rattle.usb_live.specs.{LiveCourse, LiveHost, CourseTo, EndsBy, EndsLiveAs, IsShown, StandsAtStage, Lives}
 use Rattle.usb_live.specs.{is_nothing, is_wait, listed, owed_by, owed_left, owes, questions_in}
@@ -77,15 +83,15 @@ owes_told o item m n (Err f) fits few = few
 asked_on : {st : Stage} {o : Owed} {host : LiveHost} {m : ℕ} {u : Pipe} {b : OutPipe}
     (r0 r1 : Pipe) (w0 w1 : OutPipe) (j k : Kept) (q : Question)
     (result : Result Answer LiveFault) → CourseTo st o host m u b r0 w0 j → j.fault ≡ None
-    → is_wait q ≡ false
+    → is_wait q ≡ false → more_answers q ≡ 0
     → AsksOnce q (streams r0 r1 w0 w1) j result k → CourseTo Asks o host m u b r1 w1 k
-asked_on r0 r1 w0 w1 j k q result c sound plain h =
+asked_on r0 r1 w0 w1 j k q result c sound plain single h =
     let fewer = left_behind q r0 r1 w0 w1 j result k h in
     let few = c.few in
     let numbered = c.numbered in
     record {
       asked = c.asked + questions_in result;
-      course = LiveCourse.asked q result c.course sound plain h;
+      course = LiveCourse.asked q result c.course sound plain single h;
       few = omega (arith, fewer, few);
       numbered = omega (arith, numbered);
       at = tt;
@@ -122,21 +128,103 @@ course_nothing_asked r0 r1 w0 w1 j k c h =
       at = tt;
     }
 
--- an attempt does not ask what is wanted
+-- an attempt does not ask what is wanted, and is no row
 attempt_plain : (a : Attempt) → is_wait (question_for a) ≡ false
 attempt_plain (attempt.Setup to bytes) = refl
 attempt_plain (attempt.Out to toggle bytes) = refl
 attempt_plain (attempt.In to) = refl
 
+attempt_single : (a : Attempt) → more_answers (question_for a) ≡ 0
+attempt_single (attempt.Setup to bytes) = refl
+attempt_single (attempt.Out to toggle bytes) = refl
+attempt_single (attempt.In to) = refl
+
 attempts_on : {st : Stage} {o : Owed} {host : LiveHost} {m : ℕ} {u : Pipe} {b : OutPipe}
     (r0 r1 : Pipe) (w0 w1 : OutPipe) (j k : Kept) (q : Question)
-    (most : ℕ) (result : Result Outcome BusFault) → is_wait q ≡ false
+    (most : ℕ) (result : Result Outcome BusFault) → is_wait q ≡ false → more_answers q ≡ 0
     → CourseTo st o host m u b r0 w0 j → j.fault ≡ None
     → AttemptsBy q most (streams r0 r1 w0 w1) j result k → CourseTo Asks o host m u b r1 w1 k
-attempts_on r0 r1 w0 w1 j k q most (Ok outcome) plain c sound h =
-    asked_on r0 r1 w0 w1 j k q (Ok h.got) c sound plain h.asked
-attempts_on r0 r1 w0 w1 j k q most (Err told) plain c sound h =
-    asked_on r0 r1 w0 w1 j k q (Err h.f) c sound plain h.asked
+attempts_on r0 r1 w0 w1 j k q most (Ok outcome) plain single c sound h =
+    asked_on r0 r1 w0 w1 j k q (Ok h.got) c sound plain single h.asked
+attempts_on r0 r1 w0 w1 j k q most (Err told) plain single c sound h =
+    asked_on r0 r1 w0 w1 j k q (Err h.f) c sound plain single h.asked
+
+-- ---- rows
+
+-- a row leaves no more questions than there were
+more_left : (r0 r1 : Pipe) (w0 w1 : OutPipe) (j k : Kept) (result : Result Answer LiveFault)
+    → HearsMore (streams r0 r1 w0 w1) j result k → k.left ≡ j.left
+more_left r0 r1 w0 w1 j k (Ok got) h = h.left
+more_left r0 r1 w0 w1 j k (Err f) h = h.left
+
+step_left : (ahead : Bool) (q : Question) (r0 r1 : Pipe) (w0 w1 : OutPipe) (j k : Kept)
+    (result : Result Answer LiveFault) → StepBy ahead q (streams r0 r1 w0 w1) j result k
+    → k.left ≤ j.left
+step_left true q r0 r1 w0 w1 j k result h = omega (arith, more_left r0 r1 w0 w1 j k result h)
+step_left false q r0 r1 w0 w1 j k result h =
+    omega (arith, left_behind q r0 r1 w0 w1 j result k h)
+
+heard_left : (plan : RowPlan) (r0 : Pipe) (w0 : OutPipe) (j : Kept) (n : ℕ) (got : List ℕ)
+    (r : Pipe) (w : OutPipe) (k : Kept) → RowHeard plan r0 w0 j n got r w k → k.left ≤ j.left
+heard_left plan r0 w0 j n got r w k none_heard = omega arith
+heard_left plan r0 w0 j n got r w k
+    (one_heard {n = before} {r = r1} {left = r} {w = w1} {now = w} {j = i} {k = k} answer h step
+    moves) =
+    let so = heard_left plan r0 w0 j before _ r1 w1 i h in
+    let one = step_left (was_asked before i.ahead) (plan.ask before) r1 r w1 w i k (Ok answer) step
+    in omega (arith, so, one)
+
+ends_left : (plan : RowPlan) (moved most : ℕ) (r0 r1 : Pipe) (w0 w1 : OutPipe) (j k : Kept)
+    (end : RowEnd) → RowEndsBy plan moved most (streams r0 r1 w0 w1) j end k → k.left ≤ j.left
+ends_left plan moved most r0 r1 w0 w1 j k Whole h =
+    let same = ap (λ (x : Kept). x.left) h.1.same in omega (arith, same)
+ends_left plan moved most r0 r1 w0 w1 j k (Answered outcome) h =
+    step_left (was_asked moved j.ahead) (plan.ask moved) r0 r1 w0 w1 j k (Ok h.1.answer) h.1.asked
+ends_left plan moved most r0 r1 w0 w1 j k (Faulted told) h =
+    step_left (was_asked moved j.ahead) (plan.ask moved) r0 r1 w0 w1 j k (Err h.1.f) h.1.asked
+
+row_left : (plan : RowPlan) (most : ℕ) (r0 r1 : Pipe) (w0 w1 : OutPipe) (j k : Kept)
+    (done : RowDone) (got : List ℕ) → RowBy plan most (streams r0 r1 w0 w1) j done got k
+    → k.left ≤ j.left
+row_left plan most r0 r1 w0 w1 j k done got h =
+    let so = heard_left plan r0 w0 j done.moved got h.mid h.between h.kept h.heard in
+    let end = ends_left plan done.moved most h.mid r1 h.between w1 h.kept k done.end h.ends in
+    omega (arith, so, end)
+
+ins_made : {st : Stage} {o : Owed} {host : LiveHost} {m : ℕ} {u : Pipe} {b : OutPipe}
+    (r0 r1 : Pipe) (w0 w1 : OutPipe) (j k : Kept) (to : Destination) (first : Toggle) (most : ℕ)
+    (done : RowDone) (got : List ℕ) → CourseTo st o host m u b r0 w0 j → j.fault ≡ None
+    → InsByLine to first most (streams r0 r1 w0 w1) j done got k → CourseTo Asks o host m u b r1 w1 k
+ins_made r0 r1 w0 w1 j k to first most done got c sound h =
+    let less = row_left (ins_plan j.rows to first most) most r0 r1 w0 w1 j k done got h in
+    let few = c.few in
+    let numbered = c.numbered in
+    record {
+      asked = c.asked + (j.left - k.left);
+      course = LiveCourse.ins to first most done got (j.left - k.left) c.course sound h
+          (omega (arith, less));
+      few = omega (arith, less, few);
+      numbered = omega (arith, numbered);
+      at = tt;
+    }
+
+outs_made : {st : Stage} {o : Owed} {host : LiveHost} {m : ℕ} {u : Pipe} {b : OutPipe}
+    (r0 r1 : Pipe) (w0 w1 : OutPipe) (j k : Kept) (to : Destination) (first : Toggle)
+    (total : List ℕ) (done : RowDone) → CourseTo st o host m u b r0 w0 j → j.fault ≡ None
+    → OutsByLine to first total (streams r0 r1 w0 w1) j done k → CourseTo Asks o host m u b r1 w1 k
+outs_made r0 r1 w0 w1 j k to first total done c sound h =
+    let less = row_left (outs_plan j.rows to first total) (div_ceil (length total) to.max) r0 r1 w0
+    w1 j k done h.0 h.1 in
+    let few = c.few in
+    let numbered = c.numbered in
+    record {
+      asked = c.asked + (j.left - k.left);
+      course = LiveCourse.outs to first total done (j.left - k.left) c.course sound h
+          (omega (arith, less));
+      few = omega (arith, less, few);
+      numbered = omega (arith, numbered);
+      at = tt;
+    }
 
 -- ---- one call, of a bus that may have a fault
 
@@ -168,7 +256,38 @@ attempt_on rem con host m u b old new st ow a result again asks c =
     by_fault rem con host m u b old new st ow (kept_of old).fault refl (λ f e. (again f e).1)
     (λ e. attempts_on (unread_of rem old) (unread_of rem new) (written_of con old)
     (written_of con new) (kept_of old) (kept_of new) (question_for a)
-    (destination_of a).max result (attempt_plain a) c e (asks e)) c
+    (destination_of a).max result (attempt_plain a) (attempt_single a) c e (asks e)) c
+
+pub ins_on : {R W : Type 0} (rem : R → Option (List ℕ)) (con : W → Option (List ℕ))
+    (host : LiveHost) (m : ℕ)
+    (u : Pipe) (b : OutPipe) (old new : StreamBus R W) (st : Stage)
+    (ow : Owed) (to : Destination) (first : Toggle) (most : ℕ) (done : RowDone) (got : List ℕ)
+    → ((f : LiveFault) → (kept_of old).fault ≡ Some f → RefusesRow most f old done new)
+    → ((kept_of old).fault ≡ None → InsByLine to first most
+    (streams (unread_of rem old) (unread_of rem new) (written_of con old)
+    (written_of con new)) (kept_of old) done got (kept_of new))
+    → CourseTo st ow host m u b (unread_of rem old) (written_of con old) (kept_of old)
+    → CourseTo Asks ow host m u b (unread_of rem new) (written_of con new) (kept_of new)
+ins_on rem con host m u b old new st ow to first most done got again asks c =
+    by_fault rem con host m u b old new st ow (kept_of old).fault refl (λ f e. (again f e).0)
+    (λ e. ins_made (unread_of rem old) (unread_of rem new) (written_of con old) (written_of con new)
+    (kept_of old) (kept_of new) to first most done got c e (asks e)) c
+
+pub outs_on : {R W : Type 0} (rem : R → Option (List ℕ)) (con : W → Option (List ℕ))
+    (host : LiveHost) (m : ℕ)
+    (u : Pipe) (b : OutPipe) (old new : StreamBus R W) (st : Stage)
+    (ow : Owed) (to : Destination) (first : Toggle) (total : List ℕ) (done : RowDone)
+    → ((f : LiveFault) → (kept_of old).fault ≡ Some f
+    → RefusesRow (length total) f old done new)
+    → ((kept_of old).fault ≡ None → OutsByLine to first total
+    (streams (unread_of rem old) (unread_of rem new) (written_of con old)
+    (written_of con new)) (kept_of old) done (kept_of new))
+    → CourseTo st ow host m u b (unread_of rem old) (written_of con old) (kept_of old)
+    → CourseTo Asks ow host m u b (unread_of rem new) (written_of con new) (kept_of new)
+outs_on rem con host m u b old new st ow to first total done again asks c =
+    by_fault rem con host m u b old new st ow (kept_of old).fault refl (λ f e. (again f e).0)
+    (λ e. outs_made (unread_of rem old) (unread_of rem new) (written_of con old)
+    (written_of con new) (kept_of old) (kept_of new) to first total done c e (asks e)) c
 
 beyond_or : (p roots : ℕ) {T : Type 0} → (1 ≤ suc p → suc p ≤ roots → T) → (roots < suc p → T)
     → (roots < suc p) ⊎ (suc p ≤ roots) → T
@@ -190,7 +309,7 @@ calls_by r0 r1 w0 w1 j k port None c sound h = course_nothing_asked r0 r1 w0 w1 
 calls_by r0 r1 w0 w1 j k port (Some call) c sound h =
     port_within_roots port j.roots (λ e. course_nothing_asked r0 r1 w0 w1 j k c (h.1 e))
     (λ least most. let one = h.0 least most in asked_on r0 r1 w0 w1 j k (Port port call) one.result
-    c sound refl one.asked)
+    c sound refl refl one.asked)
     (λ beyond. course_nothing_asked r0 r1 w0 w1 j k c (h.2 beyond))
 
 pub call_on : {R W : Type 0} (rem : R → Option (List ℕ)) (con : W → Option (List ℕ)) (host : LiveHost) (m : ℕ)
@@ -221,7 +340,7 @@ restart_on rem con host m u b old new st ow address number is_in again asks c =
     (λ f e. again (λ none. let clash : Some f ≡ None = sym e ∙ none in cc))
     (λ e. let one = asks e in
     asked_on (unread_of rem old) (unread_of rem new) (written_of con old) (written_of con new)
-    (kept_of old) (kept_of new) (restart_of address number is_in) one.result c e refl one.asked) c
+    (kept_of old) (kept_of new) (restart_of address number is_in) one.result c e refl refl one.asked) c
 
 -- ---- what is wanted, and what is told
 
@@ -426,6 +545,7 @@ left_roots roots k = left_if (nat_lt roots 1) (nat_lt 7 roots) k (record k { roo
 
 left_greeted : (result : Result Answer LiveFault) (k : Kept) → (greeted result k).left ≡ k.left
 left_greeted (Ok (answer.Roots roots)) k = left_roots roots k
+left_greeted (Ok (answer.RootsAndRows roots)) k = left_roots roots k
 left_greeted (Ok _) k = refl
 left_greeted (Err f) k = refl
 

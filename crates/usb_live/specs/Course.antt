@@ -10,13 +10,17 @@ use Rattle.usb_wire.specs.{Answer, Question}
 use Rattle.usb_wire.specs.declared.answer.Answer.TheVariants as answer
 use Rattle.usb_wire.specs.declared.question.Question.TheVariants.{Hello, Wait}
 use Rattle.usb_host.specs.{Agrees, Round, Quiet, Worked}
+use Rattle.usb_bus.specs.{RowDone}
+use Rattle.usb_packet.specs.{Toggle}
+use Rattle.usb_world.specs.{Destination}
 use Rattle.usb_lines.specs.{OutPipe, Pipe}
 use Rattle.usb_resources.specs.{Addresses}
 use Rattle.usb_run.specs.{Item, Listing, Sent, Received, Cleared, Read, Written, Looked}
 use Rattle.usb_run.specs.{SentTo, ReceivedFrom, Polled, ClearedOf, InterfaceSet}
 use Rattle.usb_run.specs.{item_lines, number_of}
 use Rattle.usb_run.specs.declared.runs.Item.TheVariants.{News}
-use Rattle.usb_stream.specs.{AskedWell, AsksNoQuestion, AsksOnce, Kept, WritesLines, greeted}
+use Rattle.usb_stream.specs.{AskedWell, AsksNoQuestion, AsksOnce, InsByLine, Kept, OutsByLine}
+use Rattle.usb_stream.specs.{WritesLines, greeted, more_answers}
 use Rattle.usb_stream.specs.{questions, streams, unasked, LiveFault}
 use Rattle.usb_live.specs.declared.end.LiveEnd.{LiveEnd}
 use Rattle.usb_live.specs.declared.end.LiveEnd.TheVariants.{Line, Memory, Rounds}
@@ -134,9 +138,10 @@ listed count item (Ok done) = number_of item count
 listed count item (Err f) = count
 
 -- so many questions were asked, from the hello on, each was answered by the lines that were read
--- next or left a fault, and items were told between them: behind what was wanted the one that this
--- owes, once, and before it is asked again what is wanted; behind a fault nothing was asked or
--- told. So many listings were told, numbered from 1 on
+-- next or left a fault, a row of attempts by those of each attempt up to the first one that moved no
+-- packet. Items were told between them: behind what was wanted the one that this owes, once, and
+-- before it is asked again what is wanted; behind a fault nothing was asked or told. So many
+-- listings were told, numbered from 1 on
 pub data LiveCourse (host : LiveHost) (unread : Pipe) (before : OutPipe) : Owed → ℕ → Pipe → OutPipe
     → Kept → ℕ → Type 0 where
   opened : {left : Pipe} {now : OutPipe} (k : Kept) (result : Result Answer LiveFault)
@@ -146,8 +151,18 @@ pub data LiveCourse (host : LiveHost) (unread : Pipe) (before : OutPipe) : Owed 
   asked : {o : Owed} {m : ℕ} {r left : Pipe} {w now : OutPipe} {j k : Kept} {n : ℕ} (q : Question)
       (result : Result Answer LiveFault)
       → LiveCourse host unread before o m r w j n → j.fault ≡ None → is_wait q ≡ false
-      → AsksOnce q (streams r left w now) j result k
+      → more_answers q ≡ 0 → AsksOnce q (streams r left w now) j result k
       → LiveCourse host unread before o m left now k (n + questions_in result)
+  ins : {o : Owed} {m : ℕ} {r left : Pipe} {w now : OutPipe} {j k : Kept} {n : ℕ} (to : Destination)
+      (first : Toggle) (most : ℕ) (done : RowDone) (got : List ℕ) (more : ℕ)
+      → LiveCourse host unread before o m r w j n → j.fault ≡ None
+      → InsByLine to first most (streams r left w now) j done got k → more + k.left ≡ j.left
+      → LiveCourse host unread before o m left now k (n + more)
+  outs : {o : Owed} {m : ℕ} {r left : Pipe} {w now : OutPipe} {j k : Kept} {n : ℕ}
+      (to : Destination) (first : Toggle) (total : List ℕ) (done : RowDone) (more : ℕ)
+      → LiveCourse host unread before o m r w j n → j.fault ≡ None
+      → OutsByLine to first total (streams r left w now) j done k → more + k.left ≡ j.left
+      → LiveCourse host unread before o m left now k (n + more)
   wanted : {m : ℕ} {r left : Pipe} {w now : OutPipe} {j k : Kept} {n : ℕ}
       (result : Result Answer LiveFault)
       → LiveCourse host unread before owed.Nothing m r w j n → j.fault ≡ None

@@ -7,9 +7,10 @@ ghost use Rattle.usb_live.specs.Course.{CourseTo, LiveHost, live_host};
 use crate::end::{LiveEnd, end_of};
 use crate::owed::{Owed, is_nothing, owed_by, settles};
 use crate::stage::{Stage, stage_behind, stage_of};
+use arrayvec::ArrayVec;
 use std::io::{Read, Write};
 use std::marker::{Brand, PhantomData};
-use usb_bus::{Attempt, Bus, BusFault, Outcome, Watched};
+use usb_bus::{Attempt, Bus, BusFault, Destination, Outcome, ROW_ROOM, RowDone, Toggle, Watched};
 use usb_run::Item;
 use usb_serve::number_of;
 use usb_stream::{LiveFault, StreamBus};
@@ -51,10 +52,12 @@ pub(crate) struct CourseBus<R: Read, W: Write, B: Begun> {
 
 /// Each call is that of the bus below, and says what that one says.
 impl<R: Read, W: Write, B: Begun> Bus for CourseBus<R, W, B> {
-    ghost use Rattle.std.specs.Prelude.{◌≢◌, ◌≤◌, Some, Err, IfErr, IfOk};
+    ghost use Rattle.std.specs.Prelude.{◌≢◌, ◌≤◌, ◌*◌, length, Some, Err, IfErr, IfOk};
+    ghost use Rattle.std.specs.Int.{div_ceil};
+    ghost use Rattle.usb_bus.specs.Rows.{CountsRow, IsDestination, RowTold, row_attempts};
     ghost use Rattle.usb_bus.specs.Traces.{Spends};
     ghost use Rattle.usb_port.specs.Calls.{IsClearFeature, IsSetFeature, clear_call, set_call};
-    ghost use Rattle.usb_stream.specs.Stream.{AttemptsByLine, Calls, Restarts, bus_fault, kept_status, no_world, streams};
+    ghost use Rattle.usb_stream.specs.Stream.{AttemptsByLine, Calls, InsByLine, OutsByLine, RefusesRow, Restarts, bus_fault, kept_status, no_world, streams};
     ghost use Rattle.usb_stream.specs.declared.fault.LiveFault.{LiveFault as AFault};
     ghost use Rattle.usb_world.specs.PlainAttempts.{attempt_data};
     ghost use Rattle.usb_world.specs.Worlds.{FitsMaximum, IsAttempt};
@@ -87,6 +90,49 @@ impl<R: Read, W: Write, B: Begun> Bus for CourseBus<R, W, B> {
     {
         self.stage = Stage::Asks;
         self.bus.attempt(attempt)
+    }
+
+    fn attempt_ins(
+        &mut self,
+        to: Destination,
+        toggle: Toggle,
+        most: u8,
+        got: &mut ArrayVec<u8, ROW_ROOM>,
+    ) -> RowDone
+        requires row { IsDestination to × (most ≤ 64) }
+        ensures again { (f : AFault) → (kept_of self.old.bus).fault ≡ Some f
+            → RefusesRow most f self.old.bus result self.new.bus }
+        ensures asks { (kept_of self.old.bus).fault ≡ None → InsByLine to toggle most
+            (streams (unread_of R.remaining self.old.bus) (unread_of R.remaining self.new.bus)
+            (written_of W.contents self.old.bus) (written_of W.contents self.new.bus))
+            (kept_of self.old.bus) result got.new.items (kept_of self.new.bus) }
+        ensures spends { Spends (λ bus. (kept_of bus.bus).attempts)
+            (λ bus. (kept_of bus.bus).roots) (row_attempts result.moved result.end)
+            self.old self.new }
+        ensures fits { CountsRow to.max most result
+            × (length got.new.items ≡ result.moved * to.max) }
+        ensures told { RowTold result.end (option_map bus_fault (kept_of self.new.bus).fault) }
+    {
+        self.stage = Stage::Asks;
+        self.bus.attempt_ins(to, toggle, most, got)
+    }
+
+    fn attempt_outs(&mut self, to: Destination, toggle: Toggle, bytes: &[u8]) -> RowDone
+        requires row { IsDestination to × (length bytes.now ≤ 64 * to.max) }
+        ensures again { (f : AFault) → (kept_of self.old.bus).fault ≡ Some f
+            → RefusesRow (length bytes.now) f self.old.bus result self.new.bus }
+        ensures asks { (kept_of self.old.bus).fault ≡ None → OutsByLine to toggle bytes.now
+            (streams (unread_of R.remaining self.old.bus) (unread_of R.remaining self.new.bus)
+            (written_of W.contents self.old.bus) (written_of W.contents self.new.bus))
+            (kept_of self.old.bus) result (kept_of self.new.bus) }
+        ensures spends { Spends (λ bus. (kept_of bus.bus).attempts)
+            (λ bus. (kept_of bus.bus).roots) (row_attempts result.moved result.end)
+            self.old self.new }
+        ensures fits { CountsRow to.max (div_ceil (length bytes.now) to.max) result }
+        ensures told { RowTold result.end (option_map bus_fault (kept_of self.new.bus).fault) }
+    {
+        self.stage = Stage::Asks;
+        self.bus.attempt_outs(to, toggle, bytes)
     }
 
     fn root_ports(&self) -> u8

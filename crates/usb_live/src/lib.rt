@@ -7,6 +7,7 @@
 //! - `live` returns, and asks at most `limit` questions. After a fault it asks and reports nothing,
 //!   and the fault has its cause.
 //! - It reports each request exactly once, before it asks again (*settles*).
+//! - Of a row of attempts it reads one answer each, up to the first that moves no packet.
 //! - It returns `Ok` only after a last listing, if the end was requested, or the input ended in
 //!   place of that answer.
 //!

@@ -10,7 +10,7 @@ use Rattle.usb_stream.specs.{AnswerLinesRead, AskedWell, AsksNoMore, BadLine, Ca
 use Rattle.usb_stream.specs.{CauseOfLine, FailsOnce, HeardTooMany, HeardUpTo, IsUnheard, Kept}
 use Rattle.usb_stream.specs.{LimitReached, LiveFault}
 use Rattle.usb_stream.specs.{PushesRead, SaidLine, Says, StatusesRead, Write, asking, attempts_in}
-use Rattle.usb_stream.specs.{counted_on, hubs_of}
+use Rattle.usb_stream.specs.{HeardMore, HearsNoMore, counted_on, hubs_of, more_answers}
 use Rattle.usb_stream.specs.{streams}
 use Rattle.usb_stream.specs.declared.fault.LiveFault.TheVariants as fault
 use Rattle.usb_wire.specs.declared.question.Asked.TheVariants as asked
@@ -191,20 +191,27 @@ too_many a pushed fn l r0 r1 all so =
     let told = subst (λ n. ToldSo a n r0 r1 fn l) all so in
     record { told = told.told; lines = told.lines }
 
--- ---- a question
+-- ---- what a question counts
+
+-- so many questions are left, so many answers still to come, and so many attempts counted
+abbrev pub counted_as : ℕ → ℕ → ℕ → Kept → Kept
+counted_as left ahead attempts k =
+    record k { left = left; ahead = ahead; attempts = attempts }
 
 -- one question went out
 abbrev pub asked_one : Question → Kept → Kept
-asked_one q k = record k {
-  left = k.left - 1;
-  attempts = k.attempts + attempts_in (kind_asked q) 1;
-}
+asked_one q k =
+    counted_as (k.left - 1) (more_answers q) (k.attempts + attempts_in (kind_asked q) 1) k
+
+-- one answer more is awaited
+abbrev pub heard_one : Kept → Kept
+heard_one k = counted_as k.left (k.ahead - 1) (k.attempts + 1) k
 
 -- what is heard says nothing of the questions that are left, of attempts, and of a fault
-up_to_kept : (q : Question) (r0 r1 : Pipe) (k n : Kept) (f : LiveFault)
-    → HeardUpTo (kind_asked q) r0 r1 (asked_one q k) n f
-    → HeardUpTo (kind_asked q) r0 r1 k (record n { fault = Some f }) f
-up_to_kept q r0 r1 k n f h = record {
+up_to_kept : (a : Asked) (left ahead attempts : ℕ) (r0 r1 : Pipe) (k n : Kept) (f : LiveFault)
+    → HeardUpTo a r0 r1 (counted_as left ahead attempts k) n f
+    → HeardUpTo a r0 r1 k (record n { fault = Some f }) f
+up_to_kept a left ahead attempts r0 r1 k n f h = record {
   pushed = h.pushed;
   few = h.few;
   mid = h.mid;
@@ -213,18 +220,74 @@ up_to_kept q r0 r1 k n f h = record {
   lines = h.lines;
 }
 
-hearing_kept : (q : Question) (r0 r1 : Pipe) (k n : Kept) (f : LiveFault)
-    → CauseOfHearing (kind_asked q) r0 r1 (asked_one q k) n f
-    → CauseOfHearing (kind_asked q) r0 r1 k (record n { fault = Some f }) f
-hearing_kept q r0 r1 k n fault.Read h = up_to_kept q r0 r1 k n fault.Read h
-hearing_kept q r0 r1 k n (fault.Line f) h = up_to_kept q r0 r1 k n (fault.Line f) h
-hearing_kept q r0 r1 k n fault.Gone h = up_to_kept q r0 r1 k n fault.Gone h
-hearing_kept q r0 r1 k n fault.TooManyPushes h = record {
+hearing_kept : (a : Asked) (left ahead attempts : ℕ) (r0 r1 : Pipe) (k n : Kept) (f : LiveFault)
+    → CauseOfHearing a r0 r1 (counted_as left ahead attempts k) n f
+    → CauseOfHearing a r0 r1 k (record n { fault = Some f }) f
+hearing_kept a left ahead attempts r0 r1 k n fault.Read h =
+    up_to_kept a left ahead attempts r0 r1 k n fault.Read h
+hearing_kept a left ahead attempts r0 r1 k n (fault.Line f) h =
+    up_to_kept a left ahead attempts r0 r1 k n (fault.Line f) h
+hearing_kept a left ahead attempts r0 r1 k n fault.Gone h =
+    up_to_kept a left ahead attempts r0 r1 k n fault.Gone h
+hearing_kept a left ahead attempts r0 r1 k n fault.TooManyPushes h = record {
   told = record { text = h.told.text; told = h.told.told; read = h.told.read };
   lines = h.lines;
 }
-hearing_kept q r0 r1 k n Write h = absurd h
-hearing_kept q r0 r1 k n LimitReached h = absurd h
+hearing_kept a left ahead attempts r0 r1 k n Write h = absurd h
+hearing_kept a left ahead attempts r0 r1 k n LimitReached h = absurd h
+
+-- the same of an answer
+heard_kept : (a : Asked) (left ahead attempts : ℕ) (r0 r1 : Pipe) (k n : Kept) (got : Answer)
+    → AnswerLinesRead a r0 r1 (counted_as left ahead attempts k) got n
+    → AnswerLinesRead a r0 r1 k got n
+heard_kept a left ahead attempts r0 r1 k n got h = record {
+  pushed = h.pushed;
+  few = h.few;
+  mid = h.mid;
+  told = record { text = h.told.text; told = h.told.told; read = h.told.read };
+  answered = h.answered;
+  lines = h.lines;
+}
+
+-- ---- one more answer of a row
+
+pub heard_more : (r0 r1 : Pipe) (w : OutPipe) (k n : Kept) (got : Answer) → 1 ≤ k.ahead
+    → k.fault ≡ None → AnswerLinesRead asked.Attempt r0 r1 (heard_one k) got n
+    → n ≡ record (heard_one k) { statuses = n.statuses; lines = n.lines }
+    → HeardMore (streams r0 r1 w w) k got n
+heard_more r0 r1 w k n got some sound h same =
+    let fewer : n.ahead ≡ k.ahead - 1 = ap (λ (x : Kept). x.ahead) same in
+    record {
+      unwritten = refl;
+      heard = heard_kept asked.Attempt k.left (k.ahead - 1) (k.attempts + 1) r0 r1 k n got h;
+      due = omega (arith, some, fewer);
+      left = ap (λ (x : Kept). x.left) same;
+      attempts = ap (λ (x : Kept). x.attempts) same;
+      roots = ap (λ (x : Kept). x.roots) same;
+      wide = ap (λ (x : Kept). x.wide) same;
+      rows = ap (λ (x : Kept). x.rows) same;
+      sound = ap (λ (x : Kept). x.fault) same ∙ sound;
+    }
+
+pub hears_no_more : (r0 r1 : Pipe) (w : OutPipe) (k n : Kept) (f : LiveFault) → 1 ≤ k.ahead
+    → CauseOfHearing asked.Attempt r0 r1 (heard_one k) n f
+    → n ≡ record (heard_one k) { statuses = n.statuses; lines = n.lines }
+    → HearsNoMore (streams r0 r1 w w) k f (record n { fault = Some f })
+hears_no_more r0 r1 w k n f some h same =
+    let fewer : n.ahead ≡ k.ahead - 1 = ap (λ (x : Kept). x.ahead) same in
+    record {
+      kept = refl;
+      unwritten = refl;
+      cause = hearing_kept asked.Attempt k.left (k.ahead - 1) (k.attempts + 1) r0 r1 k n f h;
+      due = omega (arith, some, fewer);
+      left = ap (λ (x : Kept). x.left) same;
+      attempts = ap (λ (x : Kept). x.attempts) same;
+      roots = ap (λ (x : Kept). x.roots) same;
+      wide = ap (λ (x : Kept). x.wide) same;
+      rows = ap (λ (x : Kept). x.rows) same;
+    }
+
+-- ---- a question
 
 none_more : (a : Asked) (n : ℕ) → n ≡ n + attempts_in a 0
 none_more asked.Attempt n = omega arith
@@ -241,6 +304,7 @@ asks_no_more_at_limit q r w k none = record {
   attempts = none_more (kind_asked q) k.attempts;
   roots = refl;
   wide = refl;
+  rows = refl;
 }
 
 pub not_written : (q : Question) (r : Pipe) (w0 w1 : OutPipe) (k : Kept)
@@ -253,6 +317,7 @@ not_written q r w0 w1 k torn some = record {
   attempts = refl;
   roots = refl;
   wide = refl;
+  rows = refl;
 }
 
 asked_well : (q : Question) (r0 r1 : Pipe) (w0 w1 : OutPipe) (k n : Kept) (got : Answer)
@@ -264,18 +329,14 @@ asked_well q r0 r1 w0 w1 k n got gone some sound h same =
     let fewer : n.left ≡ k.left - 1 = ap (λ (x : Kept). x.left) same in
     record {
       written = gone;
-      heard = record {
-        pushed = h.pushed;
-        few = h.few;
-        mid = h.mid;
-        told = record { text = h.told.text; told = h.told.told; read = h.told.read };
-        answered = h.answered;
-        lines = h.lines;
-      };
+      heard = heard_kept (kind_asked q) (k.left - 1) (more_answers q)
+          (k.attempts + attempts_in (kind_asked q) 1) r0 r1 k n got h;
       one = omega (arith, some, fewer);
       attempts = ap (λ (x : Kept). x.attempts) same;
       roots = ap (λ (x : Kept). x.roots) same;
       wide = ap (λ (x : Kept). x.wide) same;
+      rows = ap (λ (x : Kept). x.rows) same;
+      ahead = ap (λ (x : Kept). x.ahead) same;
       sound = ap (λ (x : Kept). x.fault) same ∙ sound;
     }
 
@@ -284,7 +345,11 @@ unheard : (q : Question) (r0 r1 : Pipe) (w0 w1 : OutPipe) (k n : Kept) (f : Live
     → CauseOfHearing (kind_asked q) r0 r1 (asked_one q k) n f
     → IsUnheard q (streams r0 r1 w0 w1) k f (record n { fault = Some f })
 unheard q r0 r1 w0 w1 k n f gone h =
-    record { written = gone; heard = hearing_kept q r0 r1 k n f h }
+    record {
+      written = gone;
+      heard = hearing_kept (kind_asked q) (k.left - 1) (more_answers q)
+          (k.attempts + attempts_in (kind_asked q) 1) r0 r1 k n f h;
+    }
 
 one_less : (k n : Kept) → k.left ≢ 0 → n.left ≡ k.left - 1 → n.left + 1 ≡ k.left
 one_less k n some fewer = omega (arith, some, fewer)
@@ -301,6 +366,7 @@ not_heard q r0 r1 w0 w1 k n fault.Read gone some h same = record {
   attempts = ap (λ (x : Kept). x.attempts) same;
   roots = ap (λ (x : Kept). x.roots) same;
   wide = ap (λ (x : Kept). x.wide) same;
+  rows = ap (λ (x : Kept). x.rows) same;
 }
 not_heard q r0 r1 w0 w1 k n (fault.Line f) gone some h same = record {
   kept = refl;
@@ -309,6 +375,7 @@ not_heard q r0 r1 w0 w1 k n (fault.Line f) gone some h same = record {
   attempts = ap (λ (x : Kept). x.attempts) same;
   roots = ap (λ (x : Kept). x.roots) same;
   wide = ap (λ (x : Kept). x.wide) same;
+  rows = ap (λ (x : Kept). x.rows) same;
 }
 not_heard q r0 r1 w0 w1 k n fault.TooManyPushes gone some h same = record {
   kept = refl;
@@ -317,6 +384,7 @@ not_heard q r0 r1 w0 w1 k n fault.TooManyPushes gone some h same = record {
   attempts = ap (λ (x : Kept). x.attempts) same;
   roots = ap (λ (x : Kept). x.roots) same;
   wide = ap (λ (x : Kept). x.wide) same;
+  rows = ap (λ (x : Kept). x.rows) same;
 }
 not_heard q r0 r1 w0 w1 k n fault.Gone gone some h same = record {
   kept = refl;
@@ -325,6 +393,7 @@ not_heard q r0 r1 w0 w1 k n fault.Gone gone some h same = record {
   attempts = ap (λ (x : Kept). x.attempts) same;
   roots = ap (λ (x : Kept). x.roots) same;
   wide = ap (λ (x : Kept). x.wide) same;
+  rows = ap (λ (x : Kept). x.rows) same;
 }
 not_heard q r0 r1 w0 w1 k n Write gone some h same = absurd h
 not_heard q r0 r1 w0 w1 k n LimitReached gone some h same = absurd h

@@ -8,6 +8,10 @@ pub use Stream.{Says, SaysHello, StatusesRead, StreamPipes, WritesLines, asking,
 pub use Stream.{counted_on, data_for, endpoint_of, greeted, greeted_by, kept_of, kept_status}
 pub use Stream.{no_world, outcome_for, question_for, questions, restart_of, roots_if, streams}
 pub use Stream.{hubs_of, unasked, unread_of, written_of}
+pub use Stream.{HeardMore, HearsMore, HearsNoMore, InsByLine, OutsByLine, RefusesRow, RowBy}
+pub use Stream.{RowEndsBy, RowFails, RowHeard, RowPlan, RowStep, RowStops, StepBy, bytes_in}
+pub use Stream.{ins_for, ins_plan, is_ack, more_answers, none_heard, one_heard, outs_for}
+pub use Stream.{outs_plan, room_of, was_asked}
 pub use declared.bus.StreamBus.{StreamBus}
 pub use declared.fault.LiveFault.{LiveFault}
 pub use declared.fault.LiveFault.TheVariants.{LimitReached, Write}

@@ -2,7 +2,8 @@
 use Rattle.std.specs.Prelude.{◌≡◌, ◌≢◌, ◌⊎◌, ℕ, zero, suc, ◌+◌, ◌-◌, ◌^◌, min, ◌<◌, ◌≤◌}
 use Rattle.std.specs.Prelude.{nat_lt, Bool, true, false, if◌then◌else◌, List, [], ◌∷◌, ◌++◌, length}
 use Rattle.std.specs.Prelude.{replicate, slice_index_or, slice_set, Option, Some, None, Result, Ok}
-use Rattle.std.specs.Prelude.{Err}
+use Rattle.std.specs.Prelude.{Err, ◌*◌, ◌/◌, ◌&&◌, take, drop}
+use Rattle.std.specs.Int.{div_ceil}
 use Rattle.std.specs.Io.KnownBytes.{IsAtEnd}
 use Rattle.usb_request.specs.{setup_of}
 use Rattle.usb_port.specs.{PortCall}
@@ -10,11 +11,13 @@ use Rattle.usb_lines.specs.{FailsToFlush, Flushes, IsUnbroken, OutPipe, Pipe, Re
 use Rattle.usb_lines.specs.{out_pipe_of, pipe_of}
 use Rattle.usb_wire.specs.{Hubs, IsSaidLine, MaySay, MaySayTo, kind_asked, line_fault, question_line, Answer}
 use Rattle.usb_wire.specs.{Said, LineTooLong, WireFault, Changed, Answered, Asked, DataPacket}
-use Rattle.usb_wire.specs.{Endpoint, Question}
+use Rattle.usb_wire.specs.{Endpoint, Question, row_limit}
+use Rattle.usb_packet.specs.{Toggle, flips}
+use Rattle.usb_bus.specs.{RowDone, RowEnd, Whole, Answered as EndAnswered, Faulted, is_full}
 use Rattle.usb_wire.specs.declared.answer.Answer.TheVariants as answer
 use Rattle.usb_wire.specs.declared.question.Asked.TheVariants as asked
 use Rattle.usb_wire.specs.declared.question.Question.TheVariants.{Hello, Setup, Out, In, Port}
-use Rattle.usb_wire.specs.declared.question.Question.TheVariants.{Restart}
+use Rattle.usb_wire.specs.declared.question.Question.TheVariants.{Ins, Outs, Restart}
 use Rattle.usb_world.specs.{Destination, destination_of, Outcome, no_losses, World, BusFault}
 use Rattle.usb_world.specs.declared.types.Attempt.{Attempt}
 use Rattle.usb_world.specs.declared.types.Attempt.TheVariants as attempt
@@ -53,12 +56,15 @@ outcome_for most _ = Nothing
 
 -- ---- what is kept
 
--- how many root ports there are, whether hubs may have 8 to 15 ports, the statuses of the root ports
--- as they were told last, how many more questions may be asked, for how many attempts one went out,
--- how many lines were read, and why nothing is asked any more
+-- how many root ports there are, whether hubs may have 8 to 15 ports, whether the far end takes rows
+-- and how many answers of the row that was asked last are still to come, the statuses of the root
+-- ports as they were told last, how many more questions may be asked, for how many attempts one went
+-- out, how many lines were read, and why nothing is asked any more
 pub record Kept : Type 0 where
   pub roots : ℕ
   pub wide : Bool
+  pub rows : Bool
+  pub ahead : ℕ
   pub statuses : List (List ℕ)
   pub left : ℕ
   pub attempts : ℕ
@@ -69,6 +75,8 @@ abbrev pub kept_of : {R W : Type 0} → StreamBus R W → Kept
 kept_of b = record {
   roots = b.roots;
   wide = b.wide;
+  rows = b.rows;
+  ahead = b.ahead;
   statuses = b.statuses;
   left = b.left;
   attempts = b.attempts;
@@ -218,8 +226,14 @@ attempts_in asked.Hello n = 0
 attempts_in asked.Port n = 0
 attempts_in asked.Wait n = 0
 
+-- how many answers come behind the first one, at most: those of the other attempts of a row
+abbrev pub more_answers : Question → ℕ
+more_answers (Ins speed endpoint most toggle packets) = packets - 1
+more_answers (Outs speed endpoint most toggle bytes) = div_ceil (length bytes.items) most - 1
+more_answers _ = 0
+
 -- a question went out as one line and was flushed, one question less is left, an attempt is counted
--- where it asks for one, and its answer was heard
+-- where it asks for one, and its answer was heard, of a row the first one
 pub record AskedWell (q : Question) (s : StreamPipes) (old : Kept) (got : Answer) (new : Kept) :
     Type 0 where
   pub written : Flushes s.before (asking q) s.now
@@ -228,6 +242,8 @@ pub record AskedWell (q : Question) (s : StreamPipes) (old : Kept) (got : Answer
   pub attempts : new.attempts ≡ old.attempts + attempts_in (kind_asked q) 1
   pub roots : new.roots ≡ old.roots
   pub wide : new.wide ≡ old.wide
+  pub rows : new.rows ≡ old.rows
+  pub ahead : new.ahead ≡ more_answers q
   pub sound : new.fault ≡ None
 
 -- how many questions went out, or a front of one, that ended with a fault
@@ -279,6 +295,7 @@ pub record AsksNoMore (q : Question) (s : StreamPipes) (old : Kept) (f : LiveFau
   pub attempts : new.attempts ≡ old.attempts + attempts_in (kind_asked q) (questions f)
   pub roots : new.roots ≡ old.roots
   pub wide : new.wide ≡ old.wide
+  pub rows : new.rows ≡ old.rows
 
 abbrev pub AsksOnce : Question → StreamPipes → Kept → Result Answer LiveFault → Kept → Type 0
 AsksOnce q s old (Ok got) new = AskedWell q s old got new
@@ -327,6 +344,160 @@ abbrev pub AttemptsByLine : Attempt → StreamPipes → Kept → Result Outcome 
 AttemptsByLine a s old result new =
     AttemptsBy (question_for a) (destination_of a).max s old result new
 
+-- ---- rows
+
+-- one more answer of the row that was asked last was heard, and nothing was written; an attempt is
+-- counted
+pub record HeardMore (s : StreamPipes) (old : Kept) (got : Answer) (new : Kept) : Type 0 where
+  pub unwritten : s.now ≡ s.before
+  pub heard : AnswerLinesRead asked.Attempt s.unread s.left old got new
+  pub due : old.ahead ≡ new.ahead + 1
+  pub left : new.left ≡ old.left
+  pub attempts : new.attempts ≡ old.attempts + 1
+  pub roots : new.roots ≡ old.roots
+  pub wide : new.wide ≡ old.wide
+  pub rows : new.rows ≡ old.rows
+  pub sound : new.fault ≡ None
+
+-- the same, and it was not heard: that fault is kept, for its cause
+pub record HearsNoMore (s : StreamPipes) (old : Kept) (f : LiveFault) (new : Kept) : Type 0 where
+  pub kept : new.fault ≡ Some f
+  pub unwritten : s.now ≡ s.before
+  pub cause : CauseOfHearing asked.Attempt s.unread s.left old new f
+  pub due : old.ahead ≡ new.ahead + 1
+  pub left : new.left ≡ old.left
+  pub attempts : new.attempts ≡ old.attempts + 1
+  pub roots : new.roots ≡ old.roots
+  pub wide : new.wide ≡ old.wide
+  pub rows : new.rows ≡ old.rows
+
+abbrev pub HearsMore : StreamPipes → Kept → Result Answer LiveFault → Kept → Type 0
+HearsMore s old (Ok got) new = HeardMore s old got new
+HearsMore s old (Err f) new = HearsNoMore s old f new
+
+-- an attempt of a row stands in the line that was asked last: it is not the first of the row, and an
+-- answer is still to come
+abbrev pub was_asked : ℕ → ℕ → Bool
+was_asked moved ahead = nat_lt 0 moved && nat_lt 0 ahead
+
+-- so one more answer is heard, or else this is asked
+abbrev pub StepBy : Bool → Question → StreamPipes → Kept → Result Answer LiveFault → Kept → Type 0
+StepBy true q s old result new = HearsMore s old result new
+StepBy false q s old result new = AsksOnce q s old result new
+
+abbrev pub RowStep : ℕ → Question → StreamPipes → Kept → Result Answer LiveFault → Kept → Type 0
+RowStep moved q s old result new = StepBy (was_asked moved old.ahead) q s old result new
+
+-- the question of INs of which so many packets are left: a row of all of them where the far end
+-- takes rows, and else, as for one packet, a single attempt
+abbrev pub ins_for : Bool → Destination → Toggle → ℕ → Question
+ins_for rows to due left =
+    if rows && nat_lt 1 left then Ins to.speed (endpoint_of to) to.max due left
+    else In to.speed (endpoint_of to) to.max
+
+-- as many bytes as a line has room for, in whole packets
+abbrev pub room_of : ℕ → ℕ
+room_of max = row_limit / max * max
+
+-- the question of OUTs of which these bytes are left
+abbrev pub outs_for : Bool → Destination → Toggle → List ℕ → Question
+outs_for rows to due rest =
+    if rows && nat_lt to.max (length rest)
+    then Outs to.speed (endpoint_of to) to.max due (record { items = take (room_of to.max) rest })
+    else Out to.speed (endpoint_of to)
+    (record { toggle = due; bytes = record { items = take to.max rest } })
+
+-- the data that an outcome brings
+abbrev pub bytes_in : Outcome → List ℕ
+bytes_in (Payload toggle bytes) = bytes.items
+bytes_in _ = []
+
+abbrev pub is_ack : Outcome → Bool
+is_ack Ack = true
+is_ack _ = false
+
+-- the questions of a row by the number of packets that were moved before, which outcome moves the
+-- next one, and the maximum packet
+pub record RowPlan : Type 0 where
+  pub ask : ℕ → Question
+  pub moves : ℕ → Outcome → Bool
+  pub max : ℕ
+
+-- so many packets of a row were moved, each by the answer that was heard next; these data came
+pub data RowHeard (plan : RowPlan) (unread : Pipe) (before : OutPipe) (old : Kept) : ℕ → List ℕ
+    → Pipe → OutPipe → Kept → Type 0 where
+  none_heard : RowHeard plan unread before old 0 [] unread before old
+  one_heard : {n : ℕ} {got : List ℕ} {r left : Pipe} {w now : OutPipe} {j k : Kept}
+      (answer : Answer)
+      → RowHeard plan unread before old n got r w j
+      → RowStep n (plan.ask n) (streams r left w now) j (Ok answer) k
+      → plan.moves n (outcome_for plan.max answer) ≡ true
+      → RowHeard plan unread before old (n + 1) (got ++ bytes_in (outcome_for plan.max answer)) left
+      now k
+
+-- the next answer moved no packet, and is the outcome that is told
+pub record RowStops (plan : RowPlan) (moved : ℕ) (s : StreamPipes) (old : Kept)
+    (outcome : Outcome) (new : Kept) : Type 0 where
+  pub answer : Answer
+  pub asked : RowStep moved (plan.ask moved) s old (Ok answer) new
+  pub is : outcome ≡ outcome_for plan.max answer
+  pub stops : plan.moves moved outcome ≡ false
+
+-- a fault is kept in place of the next answer, and is told as it is to a host
+pub record RowFails (plan : RowPlan) (moved : ℕ) (s : StreamPipes) (old : Kept) (told : BusFault)
+    (new : Kept) : Type 0 where
+  pub f : LiveFault
+  pub asked : RowStep moved (plan.ask moved) s old (Err f) new
+  pub is : told ≡ bus_fault f
+
+-- behind the packets that were moved, of so many at most
+abbrev pub RowEndsBy : RowPlan → ℕ → ℕ → StreamPipes → Kept → RowEnd → Kept → Type 0
+RowEndsBy plan moved most s old Whole new = (moved ≡ most) × AsksNoQuestion s old new
+RowEndsBy plan moved most s old (EndAnswered outcome) new = (moved < most)
+    × RowStops plan moved s old outcome new
+RowEndsBy plan moved most s old (Faulted told) new = (moved < most)
+    × RowFails plan moved s old told new
+
+pub record RowBy (plan : RowPlan) (most : ℕ) (s : StreamPipes) (old : Kept) (done : RowDone)
+    (got : List ℕ) (new : Kept) : Type 0 where
+  pub mid : Pipe
+  pub between : OutPipe
+  pub kept : Kept
+  pub heard : RowHeard plan s.unread s.before old done.moved got mid between kept
+  pub ends : RowEndsBy plan done.moved most (streams mid s.left between s.now) kept done.end new
+
+-- a row of INs: each packet but those of the outcome that ended it is full, of the toggle that is due
+abbrev pub ins_plan : Bool → Destination → Toggle → ℕ → RowPlan
+ins_plan rows to first most = record {
+  ask = λ n. ins_for rows to (flips n first) (most - n);
+  moves = λ n outcome. is_full to.max (flips n first) outcome;
+  max = to.max;
+}
+
+abbrev pub InsByLine : Destination → Toggle → ℕ → StreamPipes → Kept → RowDone → List ℕ → Kept
+    → Type 0
+InsByLine to first most s old done got new =
+    RowBy (ins_plan old.rows to first most) most s old done got new
+
+-- a row of OUTs: each packet but the last is full, and all but the last that went were acknowledged
+abbrev pub outs_plan : Bool → Destination → Toggle → List ℕ → RowPlan
+outs_plan rows to first total = record {
+  ask = λ n. outs_for rows to (flips n first) (drop (n * to.max) total);
+  moves = λ n outcome. is_ack outcome;
+  max = to.max;
+}
+
+abbrev pub OutsByLine : Destination → Toggle → List ℕ → StreamPipes → Kept → RowDone → Kept
+    → Type 0
+OutsByLine to first total s old done new = (got : List ℕ)
+    × RowBy (outs_plan old.rows to first total) (div_ceil (length total) to.max) s old done got new
+
+-- a bus with a fault tells it at the first attempt of a row, and nothing changes
+abbrev pub RefusesRow : {R W : Type 0} → ℕ → LiveFault → StreamBus R W → RowDone → StreamBus R W
+    → Type 0
+RefusesRow most f old done new = (new ≡ old)
+    × (0 < most → done ≡ record { moved = 0; end = Faulted (bus_fault f) })
+
 -- a call is one question
 pub record AsksCall (q : Question) (s : StreamPipes) (old new : Kept) : Type 0 where
   pub result : Result Answer LiveFault
@@ -361,6 +532,8 @@ abbrev pub unasked : Bool → ℕ → Kept
 unasked wide limit = record {
   roots = 1;
   wide = wide;
+  rows = false;
+  ahead = 0;
   statuses = replicate 7 (replicate 4 0);
   left = limit;
   attempts = 0;
@@ -377,6 +550,7 @@ roots_if roots k = if nat_lt roots 1 then k else if nat_lt 7 roots then k else r
 
 abbrev pub greeted_by : Answer → Kept → Kept
 greeted_by (answer.Roots roots) k = roots_if roots k
+greeted_by (answer.RootsAndRows roots) k = record (roots_if roots k) { rows = true }
 greeted_by _ k = k
 
 abbrev pub greeted : Result Answer LiveFault → Kept → Kept

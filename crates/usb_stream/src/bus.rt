@@ -1,5 +1,7 @@
 //! The bus over a stream of lines.
-ghost use Rattle.std.specs.Prelude.{◌≡◌, ◌≢◌, ◌+◌, ◌-◌, ◌^◌, ◌<◌, ◌≤◌, ◌∷◌, ◌++◌, [], slice_set, IfErr, IfOk, None, Some, Ok, Err, option_map};
+ghost use Rattle.std.specs.Prelude.{◌≡◌, ◌≢◌, ◌+◌, ◌-◌, ◌*◌, ◌^◌, ◌<◌, ◌≤◌, ◌∷◌, ◌++◌, [], length, slice_set, IfErr, IfOk, None, Some, Ok, Err, option_map};
+ghost use Rattle.std.specs.Int.{div_ceil};
+ghost use Rattle.usb_bus.specs.Rows.{CountsRow, IsDestination, RowTold, row_attempts};
 ghost use Rattle.usb_bus.specs.Traces.{Spends};
 ghost use Rattle.usb_lines.specs.Pipes.{out_pipe_of, pipe_of};
 ghost use Rattle.usb_port.specs.Calls.{IsClearFeature, IsSetFeature, clear_call, set_call};
@@ -8,11 +10,16 @@ ghost use Rattle.usb_world.specs.Worlds.{FitsMaximum, IsAttempt};
 ghost use Rattle.usb_wire.specs.Questions.{IsQuestion, kind_asked, question_line};
 ghost use Rattle.usb_wire.specs.declared.question.Question.TheVariants as question;
 
-use crate::asked::{attempts_in, outcome_for, question_for};
+use crate::asked::{
+    add_full, attempts_in, ins_for, is_ack, more_answers, outcome_for, outs_for, question_for,
+    was_asked,
+};
 use crate::fault::{LiveFault, bus_fault};
 use arrayvec::ArrayVec;
 use std::io::{Read, Write};
-use usb_bus::{Attempt, Bus, BusFault, Outcome, Watched};
+use usb_bus::{
+    Attempt, Bus, BusFault, Destination, Outcome, ROW_ROOM, RowDone, RowEnd, Toggle, Watched,
+};
 use usb_lines::{Line, LineFault, put_lines, read_line};
 use usb_port::PortCall;
 use usb_wire::{
@@ -33,18 +40,23 @@ pub struct StreamBus<R, W> {
     roots: u8,
     /// Whether hubs may have 8 to 15 ports.
     wide: bool,
+    /// Whether the controller side answers rows of attempts.
+    rows: bool,
+    /// How many answers of the row that was asked last are still to come, at most.
+    ahead: u16,
     /// wPortStatus and wPortChange of each root port as last reported, port 1 first (11.24.2.7).
     statuses: [[u8; 4]; 7],
     /// How many more questions may be asked.
     left: u64,
-    /// For how many attempts a question went out, or a prefix of one.
-    attempts: u64,
+    /// For how many attempts a question went out, or a prefix of one. Of a row those count whose
+    /// answer was read or awaited.
+    attempts: u128,
     /// How many lines were read, up to the greatest `u64`.
     lines: u64,
     fault: Option<LiveFault>,
     ghost some_root: { 1 ≤ roots },
     ghost few_roots: { roots ≤ 7 },
-    ghost few_attempts: { attempts + left < 2 ^ 64 },
+    ghost few_attempts: { attempts + 448 * left + ahead < 2 ^ 73 },
 }
 
 impl<R, W> StreamBus<R, W> {
@@ -62,7 +74,7 @@ impl<R, W> StreamBus<R, W> {
 /// no fault: it is kept, and the next question returns it.
 impl<R: Read, W: Write> Bus for StreamBus<R, W> {
     ghost use Rattle.std.specs.Prelude.{false};
-    ghost use Rattle.usb_stream.specs.Stream.{AttemptsByLine, Calls, Restarts, bus_fault, kept_of, no_world, kept_status, streams, unread_of, written_of};
+    ghost use Rattle.usb_stream.specs.Stream.{AttemptsByLine, Calls, InsByLine, OutsByLine, RefusesRow, Restarts, bus_fault, kept_of, no_world, kept_status, streams, unread_of, written_of};
     ghost use Rattle.usb_stream.specs.declared.fault.LiveFault.{LiveFault as AFault};
 
     ghost modelled = { false };
@@ -99,6 +111,110 @@ impl<R: Read, W: Write> Bus for StreamBus<R, W> {
         match self.ask(&question_for(attempt)) {
             Ok(answer) => Ok(outcome_for(attempt.destination().max, answer)),
             Err(fault) => Err(bus_fault(fault)),
+        }
+    }
+
+    /// Makes INs one after the other: in one line, where the controller side answers rows.
+    ///
+    /// # Errors
+    ///
+    /// `RowEnd::Faulted`: those of `attempt`.
+    fn attempt_ins(
+        &mut self,
+        to: Destination,
+        toggle: Toggle,
+        most: u8,
+        got: &mut ArrayVec<u8, ROW_ROOM>,
+    ) -> RowDone
+        requires row { IsDestination to × (most ≤ 64) }
+        ensures again { (f : AFault) → (kept_of self.old).fault ≡ Some f
+            → RefusesRow most f self.old result self.new }
+        ensures asks { (kept_of self.old).fault ≡ None → InsByLine to toggle most
+            (streams (unread_of R.remaining self.old) (unread_of R.remaining self.new)
+            (written_of W.contents self.old) (written_of W.contents self.new))
+            (kept_of self.old) result got.new.items (kept_of self.new) }
+        ensures spends { Spends (λ bus. (kept_of bus).attempts) (λ bus. (kept_of bus).roots)
+            (row_attempts result.moved result.end) self.old self.new }
+        ensures fits { CountsRow to.max most result
+            × (length got.new.items ≡ result.moved * to.max) }
+        ensures told { RowTold result.end (option_map bus_fault (kept_of self.new).fault) }
+    {
+        got.clear();
+        let mut due = toggle;
+        'packets: for moved in 0..most {
+            match self.next_in(moved, to, due, most - moved) {
+                Ok(answer) => {
+                    let outcome = outcome_for(to.max, answer);
+                    if !add_full(got, to.max, due, &outcome) {
+                        return RowDone {
+                            moved,
+                            end: RowEnd::Answered(outcome),
+                        };
+                    }
+                    due = due.other();
+                }
+                Err(fault) => {
+                    return RowDone {
+                        moved,
+                        end: RowEnd::Faulted(bus_fault(fault)),
+                    };
+                }
+            }
+        }
+        RowDone {
+            moved: most,
+            end: RowEnd::Whole,
+        }
+    }
+
+    /// Makes OUTs one after the other: as many in one line as it has room for, where the controller
+    /// side answers rows.
+    ///
+    /// # Errors
+    ///
+    /// `RowEnd::Faulted`: those of `attempt`.
+    fn attempt_outs(&mut self, to: Destination, toggle: Toggle, bytes: &[u8]) -> RowDone
+        requires row { IsDestination to × (length bytes.now ≤ 64 * to.max) }
+        ensures again { (f : AFault) → (kept_of self.old).fault ≡ Some f
+            → RefusesRow (length bytes.now) f self.old result self.new }
+        ensures asks { (kept_of self.old).fault ≡ None → OutsByLine to toggle bytes.now
+            (streams (unread_of R.remaining self.old) (unread_of R.remaining self.new)
+            (written_of W.contents self.old) (written_of W.contents self.new))
+            (kept_of self.old) result (kept_of self.new) }
+        ensures spends { Spends (λ bus. (kept_of bus).attempts) (λ bus. (kept_of bus).roots)
+            (row_attempts result.moved result.end) self.old self.new }
+        ensures fits { CountsRow to.max (div_ceil (length bytes.now) to.max) result }
+        ensures told { RowTold result.end (option_map bus_fault (kept_of self.new).fault) }
+    {
+        let mut rest = bytes;
+        let mut due = toggle;
+        let mut moved = 0;
+        'packets: while !rest.is_empty() {
+            match self.next_out(moved, to, due, rest) {
+                Ok(answer) => {
+                    let outcome = outcome_for(to.max, answer);
+                    if !is_ack(&outcome) {
+                        return RowDone {
+                            moved,
+                            end: RowEnd::Answered(outcome),
+                        };
+                    }
+                    let (_, after) = rest.split_at(rest.len().min(usize::from(to.max)));
+                    rest = after;
+                    due = due.other();
+                    moved += 1;
+                }
+                Err(fault) => {
+                    return RowDone {
+                        moved,
+                        end: RowEnd::Faulted(bus_fault(fault)),
+                    };
+                }
+            }
+        }
+        RowDone {
+            moved,
+            end: RowEnd::Whole,
         }
     }
 
@@ -173,7 +289,7 @@ impl<R: Read, W: Write> Bus for StreamBus<R, W> {
 }
 
 impl<R: Read, W: Write> StreamBus<R, W> {
-    ghost use Rattle.usb_stream.specs.Stream.{AsksOnce, Calls, CauseOfHearing, CauseOfLine, FailsOnce, AnswerLinesRead, SaysHello, Says, WritesLines, attempts_in, bus_fault, counted_on, greeted, hubs_of, kept_of, streams, unread_of, written_of};
+    ghost use Rattle.usb_stream.specs.Stream.{AsksOnce, Calls, CauseOfHearing, CauseOfLine, FailsOnce, AnswerLinesRead, HearsMore, RowStep, SaysHello, Says, WritesLines, attempts_in, bus_fault, counted_on, greeted, hubs_of, ins_for, kept_of, outs_for, roots_if, streams, unread_of, written_of};
     ghost use Rattle.usb_stream.specs.declared.fault.LiveFault.{LiveFault as AFault};
     ghost use Rattle.std.specs.Prelude.{false, true};
 
@@ -208,6 +324,8 @@ impl<R: Read, W: Write> StreamBus<R, W> {
             writer,
             roots: 1,
             wide,
+            rows: false,
+            ahead: 0,
             statuses: [[0; 4]; 7],
             left: limit,
             attempts: 0,
@@ -219,22 +337,34 @@ impl<R: Read, W: Write> StreamBus<R, W> {
         bus
     }
 
-    /// Keeps how many root ports there are, by the answer to the hello.
+    /// Keeps how many root ports there are, and whether rows are answered, by the answer to the
+    /// hello.
     fn greet(&mut self, answer: Result<Answer, LiveFault>)
         ensures kept { kept_of self.new ≡ greeted answer (kept_of self.old) }
         ensures reader { self.new.reader ≡ self.old.reader }
         ensures writer { self.new.writer ≡ self.old.writer }
     {
         match answer {
-            Ok(Answer::Roots(roots)) => {
-                if roots < 1 || roots > ROOTS {
-                    return;
-                }
-                self.roots = roots;
+            Ok(Answer::Roots(roots)) => self.keep_roots(roots),
+            Ok(Answer::RootsAndRows(roots)) => {
+                self.keep_roots(roots);
+                self.rows = true;
             }
             Ok(_) => {}
             Err(_) => {}
         }
+    }
+
+    /// Keeps how many root ports there are, if there are 1 to 7.
+    fn keep_roots(&mut self, roots: u8)
+        ensures kept { kept_of self.new ≡ roots_if roots (kept_of self.old) }
+        ensures reader { self.new.reader ≡ self.old.reader }
+        ensures writer { self.new.writer ≡ self.old.writer }
+    {
+        if roots < 1 || roots > ROOTS {
+            return;
+        }
+        self.roots = roots;
     }
 
     /// Why the bus asks no more, if it does not.
@@ -258,8 +388,9 @@ impl<R: Read, W: Write> StreamBus<R, W> {
         self.left
     }
 
-    /// The number of attempts of which the question went out, or a prefix of it, answered or not.
-    pub fn attempts(&self) -> u64
+    /// The number of attempts of which the question went out, or a prefix of it, answered or not. Of
+    /// a row those count whose answer was read or awaited.
+    pub fn attempts(&self) -> u128
         ensures { result ≡ (kept_of self.now).attempts }
     {
         self.attempts
@@ -353,7 +484,86 @@ impl<R: Read, W: Write> StreamBus<R, W> {
         }
     }
 
-    /// Writes a question, and reads up to its answer.
+    /// The next answer of a row of INs: one more of the line that was asked last, or that of a new
+    /// question for those that are left.
+    fn next_in(
+        &mut self,
+        moved: u8,
+        to: Destination,
+        due: Toggle,
+        left: u8,
+    ) -> Result<Answer, LiveFault>
+        requires row { IsDestination to × (1 ≤ left) × (left ≤ 64) }
+        ensures again { (f : AFault) → (kept_of self.old).fault ≡ Some f
+            → (result ≡ Err f) × (self.new ≡ self.old) }
+        ensures asks { (kept_of self.old).fault ≡ None → RowStep moved
+            (ins_for (kept_of self.old).rows to due left)
+            (streams (unread_of R.remaining self.old) (unread_of R.remaining self.new)
+            (written_of W.contents self.old) (written_of W.contents self.new))
+            (kept_of self.old) result (kept_of self.new) }
+        ensures spends { Spends (λ bus. (kept_of bus).attempts) (λ bus. (kept_of bus).roots) 1
+            self.old self.new }
+    {
+        if was_asked(moved, self.ahead) {
+            self.hear_more()
+        } else {
+            self.ask(&ins_for(self.rows, to, due, left))
+        }
+    }
+
+    /// The same of a row of OUTs.
+    fn next_out(
+        &mut self,
+        moved: u8,
+        to: Destination,
+        due: Toggle,
+        rest: &[u8],
+    ) -> Result<Answer, LiveFault>
+        requires row { IsDestination to × (1 ≤ length rest.now) }
+        ensures again { (f : AFault) → (kept_of self.old).fault ≡ Some f
+            → (result ≡ Err f) × (self.new ≡ self.old) }
+        ensures asks { (kept_of self.old).fault ≡ None → RowStep moved
+            (outs_for (kept_of self.old).rows to due rest.now)
+            (streams (unread_of R.remaining self.old) (unread_of R.remaining self.new)
+            (written_of W.contents self.old) (written_of W.contents self.new))
+            (kept_of self.old) result (kept_of self.new) }
+        ensures spends { Spends (λ bus. (kept_of bus).attempts) (λ bus. (kept_of bus).roots) 1
+            self.old self.new }
+    {
+        if was_asked(moved, self.ahead) {
+            self.hear_more()
+        } else {
+            self.ask(&outs_for(self.rows, to, due, rest))
+        }
+    }
+
+    /// Reads one more answer of the row that was asked last. A fault is kept.
+    fn hear_more(&mut self) -> Result<Answer, LiveFault>
+        requires { 1 ≤ self.old.ahead }
+        ensures again { (f : AFault) → (kept_of self.old).fault ≡ Some f
+            → (result ≡ Err f) × (self.new ≡ self.old) }
+        ensures hears { (kept_of self.old).fault ≡ None → HearsMore
+            (streams (unread_of R.remaining self.old) (unread_of R.remaining self.new)
+            (written_of W.contents self.old) (written_of W.contents self.new))
+            (kept_of self.old) result (kept_of self.new) }
+        ensures spends { Spends (λ bus. (kept_of bus).attempts) (λ bus. (kept_of bus).roots) 1
+            self.old self.new }
+    {
+        if let Some(fault) = self.fault {
+            return Err(fault);
+        }
+        self.ahead -= 1;
+        self.attempts += 1;
+        match self.hear(Asked::Attempt) {
+            Ok(answer) => Ok(answer),
+            Err(found) => {
+                self.fault = Some(found);
+                Err(found)
+            }
+        }
+    }
+
+    /// Writes a question, and reads up to its answer, of a row up to the first one.
     fn exchange(&mut self, question: &Question) -> Result<Answer, LiveFault>
         requires asks { IsQuestion question.now }
         requires sound { (kept_of self.old).fault ≡ None }
@@ -369,6 +579,7 @@ impl<R: Read, W: Write> StreamBus<R, W> {
         }
         let asked = question.asked();
         self.left -= 1;
+        self.ahead = more_answers(question);
         self.attempts += attempts_in(asked);
         let line = line_for(question);
         match put_lines(&mut self.writer, line.as_slice()) {
@@ -448,7 +659,7 @@ fn at_end(asked: Asked) -> Result<Said, LiveFault>
 }
 
 /// The line of a question, with its newline.
-fn line_for(question: &Question) -> ArrayVec<u8, 701>
+fn line_for(question: &Question) -> ArrayVec<u8, 1027>
     ensures { result.items ≡ question_line question.now ++ 10 ∷ [] }
 {
     let text = question_line(question);

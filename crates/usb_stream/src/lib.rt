@@ -6,7 +6,8 @@
 //! Of any controller side:
 //!
 //! - A question is one line, flushed before its answer is read. Each line that comes is read once,
-//!   in order (*AsksOnce*, `specs/Stream.antt`).
+//!   in order (*AsksOnce*, `specs/Stream.antt`). A row is asked so if the hello's answer was of version 2, else packet
+//!   by packet (*RowBy*).
 //! - A fault has its cause (*CauseOf*), and is kept: after it nothing is read or written, and each
 //!   later call returns the same.
 //!

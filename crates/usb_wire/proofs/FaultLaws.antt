@@ -9,7 +9,7 @@ use Rattle.std.proofs.lemmas.Bool.Decides.{nat_tests}
 use Rattle.usb_packet.specs.{Toggle, Zero, One}
 use Rattle.usb_port.specs.{path_of}
 use Rattle.usb_request.specs.{DIRECTION_IN, Setup, setup_of}
-use Rattle.usb_wire.specs.{Answer, Roots, Ack, Nak, Stall, Nothing, Data, Done, Show, End, Send}
+use Rattle.usb_wire.specs.{Answer, Roots, RootsAndRows, second_answer, version_field, Ack, Nak, Stall, Nothing, Data, Done, Show, End, Send}
 use Rattle.usb_wire.specs.{Receive, Clear, Said, Changed, WireFault, LineTooLong, BadCharacter}
 use Rattle.usb_wire.specs.{ControlOut, Look, News, bare_control, both, control_answer}
 use Rattle.usb_wire.specs.{counted_write, is_other_count, is_other_request, is_other_setup, look_answer}
@@ -358,6 +358,18 @@ faults-roots count word =
     one_read (number_of_word 1 7 word) roots_given _ (fault_in-number 1 7 word) (λ _. refl)
     ∙ faults_table false false false (is_none (number_within 1 7 word)) false false
 
+abbrev second_given : ℕ → ℕ → Result Answer WireFault
+second_given roots version = Ok (RootsAndRows roots)
+
+faults-second : (count : ℕ) (first second : List ℕ) → fault_in (second_answer first second)
+    ≡ argument_fault count (roots_field ∷ version_field ∷ []) (first ∷ second ∷ [])
+unfolding second_answer
+faults-second count first second =
+    two_read (number_of_word 1 7 first) (number_of_word 2 2 second) second_given _ _
+    (fault_in-number 1 7 first) (fault_in-number 2 2 second) (λ _ _. refl)
+    ∙ faults_table false false false (is_none (number_within 1 7 first))
+    (is_none (number_within 2 2 second)) false
+
 faults-data : (count : ℕ) (toggle : Toggle) (word : List ℕ) → fault_in (data_answer toggle word)
     ≡ argument_fault count (bytes_field 64 ∷ []) (word ∷ [])
 unfolding data_answer
@@ -539,7 +551,10 @@ faults-three : (asked : Asked) (count : ℕ) (word first second : List ℕ)
     → fault_in (three_say asked count word first second)
     ≡ words_fault asked count (word ∷ first ∷ second ∷ [])
 unfolding three_say with_two
-faults-three Hello count word first second = refl
+faults-three Hello count word first second =
+    form_or count (bytes_eq word (codes "roots")) (second_answer first second) (Err NoAnswer)
+    (roots_field ∷ version_field ∷ []) None (first ∷ second ∷ [])
+    (faults-second count first second) refl
 faults-three Wait count word first second =
     push_or count (bytes_eq word (codes "port")) (status_change count first second) _
     (root_field ∷ status_field ∷ []) _ (first ∷ second ∷ [])

@@ -28,8 +28,10 @@ use Rattle.usb_wire.specs.{IsQuestionLine, IsSetupData, call_text, data_with, be
 use Rattle.usb_wire.specs.{question_bytes, question_line, question_in_digits, speed_text}
 use Rattle.usb_wire.specs.{token_text, bytes_of_word, number_of_word, text_of_line, all_printable}
 use Rattle.usb_wire.specs.{direction_in, direction_text, restart_question}
+use Rattle.usb_wire.specs.{IsMost, ins_question, ins_text, outs_question, outs_text, row_limit}
+use Rattle.usb_wire.specs.{row_or, some_bytes}
 use Rattle.usb_wire.specs.declared.question.Question.TheVariants.{Hello, Setup, Out, In, Port}
-use Rattle.usb_wire.specs.declared.question.Question.TheVariants.{Restart, Wait}
+use Rattle.usb_wire.specs.declared.question.Question.TheVariants.{Ins, Outs, Restart, Wait}
 use Rattle.usb_wire.specs.QuestionReading.{◌>>=◌}
 use Rattle.usb_wire.proofs.FieldLemmas.{Ok-from_result_ok as ok_read, all_digits-decimal}
 use Rattle.usb_wire.proofs.FieldLemmas.{all_visible-decimal, hex_value-hex_text}
@@ -312,6 +314,109 @@ out_found speed text q e =
     (data_spelled speed OutTok dev text cut.0 cut.1 sent.0 sent.1 (cut_at-some 32 text cut found)
     device.text (data_found speed cut.1 sent second)))))))
 
+-- ---- rows
+
+not_zero : (n : ℕ) → (n == 0) ≡ false → 1 ≤ n
+not_zero zero e = absurd (cc)
+not_zero (suc n) e = omega arith
+
+ins_parts : (front most last : List ℕ) → front ++ codes " " ++ most ++ codes " " ++ last
+    ≡ front ++ (32 ∷ (most ++ 32 ∷ last))
+ins_parts front most last = append_assoc (front ++ codes " " ++ most) (codes " ") last
+    ∙ append_assoc (front ++ codes " ") most (32 ∷ last)
+    ∙ append_assoc front (codes " ") (most ++ 32 ∷ last)
+
+outs_parts : (front name digits most : List ℕ) → front ++ (name ++ digits) ++ codes " " ++ most
+    ≡ front ++ (name ++ (digits ++ 32 ∷ most))
+outs_parts front name digits most = append_assoc (front ++ (name ++ digits)) (codes " ") most
+    ∙ append_assoc front (name ++ digits) (32 ∷ most)
+    ∙ ap (λ r. front ++ r) (append_assoc name digits (32 ∷ most))
+
+ins_found : (speed : Speed) (text : List ℕ) (q : Question) → ins_question speed text ≡ Some q
+    → IsAsked (speed_text speed ++ (codes "IN" ++ 32 ∷ text)) q
+unfolding ins_question
+ins_found speed text q e =
+    bind_some (cut_at 32 text) _ q e (λ cut found e.
+    bind_some (endpoint_in cut.0) _ q e (λ dev first e.
+    bind_some (cut_at 32 cut.1) _ q e (λ row second e.
+    bind_some (result_ok (number_of_word 1 64 row.0)) _ q e (λ most third e.
+    bind_some (cut_at 32 row.1) _ q e (λ named fourth e.
+    bind_some (toggle_named named.0) _ q e (λ t fifth e.
+    bind_some (result_ok (number_of_word 1 64 named.1)) _ q e (λ packets sixth is.
+    let device = endpoint_in-device cut.0 dev first in
+    let number = number_read 1 64 row.0 most (omega arith)
+    (ok_read (number_of_word 1 64 row.0) most third) in
+    let count = number_read 1 64 named.1 packets (omega arith)
+    (ok_read (number_of_word 1 64 named.1) packets sixth) in
+    let last : row.1 ≡ data_with t (decimal packets) = cut_at-some 32 row.1 named fourth
+    ∙ toggle_found named.0 t named.1 fifth ∙ ap (λ w. data_name t ++ w) count.text in
+    let behind : cut.1 ≡ decimal most ++ 32 ∷ data_with t (decimal packets) =
+    cut_at-some 32 cut.1 row second ∙ ap (λ w. w ++ 32 ∷ row.1) number.text
+    ∙ ap (λ w. decimal most ++ 32 ∷ w) last in
+    let text_is : text ≡ endpoint_text dev ++ 32 ∷ (decimal most ++ 32 ∷ data_with t
+    (decimal packets)) = cut_at-some 32 text cut found ∙ ap (λ d. d ++ 32 ∷ cut.1) device.text
+    ∙ ap (λ r. endpoint_text dev ++ 32 ∷ r) behind in
+    let line_is : speed_text speed ++ (codes "IN" ++ 32 ∷ text) ≡ ins_text speed dev most t packets
+    = ap (λ r. speed_text speed ++ (codes "IN" ++ 32 ∷ r)) text_is
+    ∙ sent_spelled speed InTok dev (32 ∷ (decimal most ++ 32 ∷ data_with t (decimal packets)))
+    ∙ sym (ins_parts (speed_text speed ++ token_text InTok dev) (decimal most)
+    (data_with t (decimal packets))) in
+    subst (IsAsked _) (same_Some (Ins speed dev most t packets) q is)
+    (asked_with _ (codes "-") (Ins speed dev most t packets)
+    (device.fits, (number.low, number.high), (count.low, count.high)) refl line_is))))))))
+
+-- some bytes, at most as many as a row may have
+record GivenRow (digits xs : List ℕ) : Type 0 where
+  given : IsDataWord row_limit digits xs
+  some : 1 ≤ length xs
+
+row_given : (b : Bool) (digits xs ys : List ℕ) → (length xs == 0) ≡ b
+    → (if b then None else Some xs) ≡ Some ys → IsDataWord row_limit digits xs → GivenRow digits ys
+row_given true digits xs ys none e given = absurd (cc)
+row_given false digits xs ys some e given = subst (GivenRow digits) (same_Some xs ys e)
+    (record { given = given; some = not_zero (length xs) some })
+
+some_found : (digits xs : List ℕ) → some_bytes digits ≡ Some xs → GivenRow digits xs
+unfolding some_bytes
+some_found digits xs e =
+    bind_some (result_ok (bytes_of_word row_limit digits)) _ xs e (λ ys read is.
+    row_given (length ys == 0) digits ys xs refl is
+    (bytes_of_word-data row_limit digits ys (ok_read (bytes_of_word row_limit digits) ys read)))
+
+outs_found : (speed : Speed) (text : List ℕ) (q : Question) → outs_question speed text ≡ Some q
+    → IsAsked (speed_text speed ++ (codes "OUT" ++ 32 ∷ text)) q
+unfolding outs_question
+outs_found speed text q e =
+    bind_some (cut_at 32 text) _ q e (λ cut found e.
+    bind_some (endpoint_in cut.0) _ q e (λ dev first e.
+    bind_some (data_behind speed cut.1) _ q e (λ sent second e.
+    bind_some (cut_at 32 sent.1) _ q e (λ row third e.
+    bind_some (some_bytes row.0) _ q e (λ xs fourth e.
+    bind_some (result_ok (number_of_word 1 64 row.1)) _ q e (λ most fifth is.
+    let device = endpoint_in-device cut.0 dev first in
+    let given = some_found row.0 xs fourth in
+    let number = number_read 1 64 row.1 most (omega arith)
+    (ok_read (number_of_word 1 64 row.1) most fifth) in
+    let asked : Question = Outs speed dev most sent.0 (record { items = xs }) in
+    let front : List ℕ = speed_text speed ++ token_text OutTok dev ++ between_text speed in
+    let last : sent.1 ≡ row.0 ++ 32 ∷ decimal most = cut_at-some 32 sent.1 row third
+    ∙ ap (λ w. row.0 ++ 32 ∷ w) number.text in
+    let line_is : speed_text speed ++ (codes "OUT" ++ 32 ∷ text) ≡ outs_text speed dev most sent.0
+    row.0 =
+    data_spelled speed OutTok dev text cut.0 cut.1 sent.0 sent.1 (cut_at-some 32 text cut found)
+    device.text (data_found speed cut.1 sent second)
+    ∙ ap (λ w. front ++ data_with sent.0 w) last
+    ∙ sym (outs_parts front (data_name sent.0) row.0 (decimal most)) in
+    subst (IsAsked _) (same_Some asked q is) (asked_with _ row.0 asked
+    (device.fits, (number.low, number.high), (given.some, given.given.few)) given.given.value
+    line_is)))))))
+
+-- what is read is the row or the single attempt
+row_found : (P : Question → Type 0) (row single : Option Question) (q : Question)
+    → row_or row single ≡ Some q → (row ≡ Some q → P q) → (single ≡ Some q → P q) → P q
+row_found P (Some r) single q e k l = k e
+row_found P None single q e k l = l e
+
 -- ---- setup data
 
 record GivenSetup (t : Toggle) (digits : List ℕ) (setup : SetupData) : Type 0 where
@@ -381,10 +486,6 @@ some_endpoint : (b : Bool) (p q : Question) → (if b then None else Some p) ≡
 some_endpoint true p q e = absurd (cc)
 some_endpoint false p q e = (refl, same_Some p q e)
 
-not_zero : (n : ℕ) → (n == 0) ≡ false → 1 ≤ n
-not_zero zero e = absurd (cc)
-not_zero (suc n) e = omega arith
-
 port_found : (text : List ℕ) (q : Question) → port_question text ≡ Some q
     → IsAsked (codes "port" ++ 32 ∷ text) q
 unfolding port_question
@@ -448,9 +549,14 @@ token_found speed word text q e =
     let P : List ℕ → Type 0 = λ w. IsAsked (speed_text speed ++ (w ++ 32 ∷ text)) q in
     by_word P word (codes "SETUP") (setup_question speed text) _ q e (setup_found speed text q)
     (λ e.
-    by_word P word (codes "OUT") (out_question speed text) _ q e (out_found speed text q) (λ e.
-    by_word P word (codes "IN") (in_question speed text) _ q e (in_found speed text q) (λ e.
-    none_not_some q e)))
+    by_word P word (codes "OUT") (row_or (outs_question speed text) (out_question speed text)) _ q e
+    (λ e. row_found (λ q. IsAsked (speed_text speed ++ (codes "OUT" ++ 32 ∷ text)) q)
+    (outs_question speed text) (out_question speed text) q e (outs_found speed text q)
+    (out_found speed text q)) (λ e.
+    by_word P word (codes "IN") (row_or (ins_question speed text) (in_question speed text)) _ q e
+    (λ e. row_found (λ q. IsAsked (speed_text speed ++ (codes "IN" ++ 32 ∷ text)) q)
+    (ins_question speed text) (in_question speed text) q e (ins_found speed text q)
+    (in_found speed text q)) (λ e. none_not_some q e)))
 
 behind_found : (speed : Speed) (text : List ℕ) (q : Question) → token_behind speed text ≡ Some q
     → IsAsked (speed_text speed ++ text) q
@@ -712,6 +818,144 @@ setup_read_back speed e digits s h fits value =
       setup_in_bytes-bytes_of s,
     ) refl
 
+-- a single attempt is no row
+no_more_words : (most : ℕ) → most ≤ 64 → cut_at 32 (decimal most) ≡ None
+no_more_words most few = cut_at-none 32 (decimal most)
+    (HasNoSpace-visible (decimal most) (all_visible-decimal most (omega (arith, few))))
+
+in_no_row : (speed : Speed) (e : Endpoint) (most : ℕ) → IsEndpoint e → most ≤ 64
+    → ins_question speed (endpoint_text e ++ 32 ∷ decimal most) ≡ None
+unfolding ins_question
+in_no_row speed e most h few =
+    rw (device_cut e (decimal most) h, endpoint_read e h, no_more_words most few) refl
+
+out_no_row : (speed : Speed) (e : Endpoint) (t : Toggle) (digits xs : List ℕ) → IsEndpoint e
+    → hex_value digits ≡ Some xs → length xs ≤ 64
+    → outs_question speed (endpoint_text e ++ (between_text speed ++ data_with t digits)) ≡ None
+unfolding outs_question
+out_no_row speed e t digits xs h value few =
+    rw (
+      pre_is speed t digits,
+      device_cut e (behind_device speed t digits) h,
+      endpoint_read e h,
+      data_reached_at speed t digits,
+      cut_at-none 32 digits (HasNoSpace-visible digits (bytes_word 64 digits xs value few).visible),
+    ) refl
+
+-- the first word of a data packet
+abbrev toggle_word : Toggle → List ℕ
+toggle_word Zero = codes "DATA0"
+toggle_word One = codes "DATA1"
+
+name_cut : (t : Toggle) (rest : List ℕ) → cut_at 32 (data_with t rest)
+    ≡ Some (toggle_word t, rest)
+unfolding cut_at
+name_cut Zero rest = refl
+name_cut One rest = refl
+
+toggle_read : (t : Toggle) → toggle_named (toggle_word t) ≡ Some t
+unfolding toggle_named
+toggle_read Zero = refl
+toggle_read One = refl
+
+number_cut : (most : ℕ) (rest : List ℕ) → most ≤ 64 → cut_at 32 (decimal most ++ 32 ∷ rest)
+    ≡ Some (decimal most, rest)
+number_cut most rest few = cut_at-mark 32 (decimal most) rest
+    (HasNoSpace-visible (decimal most) (all_visible-decimal most (omega (arith, few))))
+
+ins_read : (speed : Speed) (e : Endpoint) (most : ℕ) (t : Toggle) (packets : ℕ) → IsEndpoint e
+    → IsMost most → IsMost packets
+    → ins_question speed
+    (endpoint_text e ++ 32 ∷ (decimal most ++ 32 ∷ data_with t (decimal packets)))
+    ≡ Some (Ins speed e most t packets)
+unfolding ins_question
+ins_read speed e most t packets h m p =
+    rw (
+      device_cut e (decimal most ++ 32 ∷ data_with t (decimal packets)) h,
+      endpoint_read e h,
+      number_cut most (data_with t (decimal packets)) m.1,
+      read_number 1 64 most m.0 m.1 (omega (arith, m.1)),
+      name_cut t (decimal packets),
+      toggle_read t,
+      read_number 1 64 packets p.0 p.1 (omega (arith, p.1)),
+    ) refl
+
+some_read : (digits xs : List ℕ) → hex_value digits ≡ Some xs → 1 ≤ length xs
+    → length xs ≤ row_limit → some_bytes digits ≡ Some xs
+unfolding some_bytes
+some_read digits xs value some few =
+    rw (read_bytes row_limit digits xs value few, some_number (length xs) some) refl
+
+outs_read : (speed : Speed) (e : Endpoint) (most : ℕ) (t : Toggle) (digits xs : List ℕ)
+    → IsEndpoint e → IsMost most → hex_value digits ≡ Some xs → 1 ≤ length xs
+    → length xs ≤ row_limit
+    → outs_question speed
+    (endpoint_text e ++ (between_text speed ++ data_with t (digits ++ 32 ∷ decimal most)))
+    ≡ Some (Outs speed e most t (record { items = xs }))
+unfolding outs_question
+outs_read speed e most t digits xs h m value some few =
+    rw (
+      pre_is speed t (digits ++ 32 ∷ decimal most),
+      device_cut e (behind_device speed t (digits ++ 32 ∷ decimal most)) h,
+      endpoint_read e h,
+      data_reached_at speed t (digits ++ 32 ∷ decimal most),
+      cut_at-mark 32 digits (decimal most)
+          (HasNoSpace-visible digits (bytes_word row_limit digits xs value few).visible),
+      some_read digits xs value some few,
+      read_number 1 64 most m.0 m.1 (omega (arith, m.1)),
+    ) refl
+
+-- short numbers and tokens
+fine_few : (n : ℕ) → n ≤ 1000 → Fine 4 (decimal n)
+fine_few n few =
+    let w = decimal-is_word 4 n (omega arith) few in
+    record { short = w.short; printable = all_printable-visible (decimal n) w.visible }
+
+fine_device : (speed : Speed) (kind : TokenKind) (e : Endpoint) → IsEndpoint e
+    → Fine (9 + (9 + 4 + 1 + 4)) (speed_text speed ++ token_text kind e)
+fine_device speed kind e h =
+    let a = fine_few e.address (omega (arith, h.0)) in
+    let n = fine_few e.number (omega (arith, h.1)) in
+    let dot : Fine 1 (codes ".") = record { short = lit≤ tt; printable = refl } in
+    fine-append 9 (9 + 4 + 1 + 4) (speed_text speed) (token_text kind e) (fine_speed speed)
+    (fine-append (9 + 4 + 1) 4 (token_name kind ++ decimal e.address ++ codes ".")
+    (decimal e.number)
+    (fine-append (9 + 4) 1 (token_name kind ++ decimal e.address) (codes ".")
+    (fine-append 9 4 (token_name kind) (decimal e.address) (fine_name kind) a) dot) n)
+
+fine_ins : (speed : Speed) (e : Endpoint) (most : ℕ) (t : Toggle) (packets : ℕ) → IsEndpoint e
+    → IsMost most → IsMost packets
+    → Fine (27 + 1 + 4 + 1 + (9 + 4)) (ins_text speed e most t packets)
+fine_ins speed e most t packets h m p =
+    let front : List ℕ = speed_text speed ++ token_text InTok e in
+    fine-append (27 + 1 + 4 + 1) (9 + 4) (front ++ codes " " ++ decimal most ++ codes " ")
+    (data_with t (decimal packets))
+    (fine-append (27 + 1 + 4) 1 (front ++ codes " " ++ decimal most) (codes " ")
+    (fine-append (27 + 1) 4 (front ++ codes " ") (decimal most)
+    (fine-append 27 1 front (codes " ") (fine_device speed InTok e h) fine_blank)
+    (fine_few most (omega (arith, m.1)))) fine_blank)
+    (fine-append 9 4 (data_name t) (decimal packets) (fine_data t)
+    (fine_few packets (omega (arith, p.1))))
+
+fine_outs : (speed : Speed) (e : Endpoint) (most : ℕ) (t : Toggle) (digits xs : List ℕ)
+    → IsEndpoint e → IsMost most → hex_value digits ≡ Some xs → length xs ≤ row_limit
+    → Fine (27 + 9 + (9 + 897) + 1 + 4) (outs_text speed e most t digits)
+fine_outs speed e most t digits xs h m value few =
+    let w = bytes_word row_limit digits xs value few in
+    let word : Fine 897 digits = record {
+      short = w.short;
+      printable = all_printable-visible digits w.visible;
+    } in
+    let front : List ℕ = speed_text speed ++ token_text OutTok e in
+    fine-append (27 + 9 + (9 + 897) + 1) 4
+    (front ++ between_text speed ++ data_with t digits ++ codes " ") (decimal most)
+    (fine-append (27 + 9 + (9 + 897)) 1 (front ++ between_text speed ++ data_with t digits)
+    (codes " ")
+    (fine-append (27 + 9) (9 + 897) (front ++ between_text speed) (data_with t digits)
+    (fine-append 27 9 front (between_text speed) (fine_device speed OutTok e h) (fine_pre speed))
+    (fine-append 9 897 (data_name t) digits (fine_data t) word)) fine_blank)
+    (fine_few most (omega (arith, m.1)))
+
 asked_read : (digits : List ℕ) (q : Question) → IsQuestion q
     → hex_value digits ≡ Some (question_bytes q) → question_of (question_in_digits digits q)
     ≡ Some q
@@ -728,7 +972,33 @@ asked_read digits (In speed dev most) h e =
     ∙ ap question_in (append_assoc (speed_text speed ++ token_text InTok dev) (codes " ")
     (decimal most) ∙ sym (sent_spelled speed InTok dev (32 ∷ decimal most)))
     ∙ token_reached speed InTok (endpoint_text dev ++ 32 ∷ decimal most)
+    ∙ ap (λ r. row_or r (in_question speed (endpoint_text dev ++ 32 ∷ decimal most)))
+    (in_no_row speed dev most h.0 h.2)
     ∙ in_read speed dev most h.0 h.1 h.2
+asked_read digits (Ins speed dev most t packets) h e =
+    let rest : List ℕ = endpoint_text dev ++ 32 ∷ (decimal most ++ 32 ∷ data_with t
+    (decimal packets)) in
+    question_of-text (27 + 1 + 4 + 1 + (9 + 4)) _ (lit≤ tt)
+    (fine_ins speed dev most t packets h.0 h.1 h.2)
+    ∙ ap question_in (ins_parts (speed_text speed ++ token_text InTok dev) (decimal most)
+    (data_with t (decimal packets))
+    ∙ sym (sent_spelled speed InTok dev
+    (32 ∷ (decimal most ++ 32 ∷ data_with t (decimal packets)))))
+    ∙ token_reached speed InTok rest
+    ∙ ap (λ r. row_or r (in_question speed rest)) (ins_read speed dev most t packets h.0 h.1 h.2)
+asked_read digits (Outs speed dev most t bytes) h e =
+    let sent : List ℕ = between_text speed ++ data_with t (digits ++ 32 ∷ decimal most) in
+    let rest : List ℕ = endpoint_text dev ++ sent in
+    question_of-text (27 + 9 + (9 + 897) + 1 + 4) _ (lit≤ tt)
+    (fine_outs speed dev most t digits bytes.items h.0 h.1 e h.2.1.0)
+    ∙ ap question_in (outs_parts (speed_text speed ++ token_text OutTok dev ++ between_text speed)
+    (data_name t) digits (decimal most)
+    ∙ append_assoc (speed_text speed ++ token_text OutTok dev) (between_text speed)
+    (data_with t (digits ++ 32 ∷ decimal most))
+    ∙ sym (sent_spelled speed OutTok dev sent))
+    ∙ token_reached speed OutTok rest
+    ∙ ap (λ r. row_or r (out_question speed rest))
+    (outs_read speed dev most t digits bytes.items h.0 h.1 e h.2.0 h.2.1.0)
 asked_read digits (Out speed dev sent) h e =
     question_of-text (277 + 9 + (9 + 129)) _ (lit≤ tt)
     (fine_sent speed OutTok dev sent.toggle digits sent.bytes.items h.0 e h.1.0)
@@ -738,6 +1008,9 @@ asked_read digits (Out speed dev sent) h e =
     (between_text speed ++ data_with sent.toggle digits)))
     ∙ token_reached speed OutTok (endpoint_text dev ++
     (between_text speed ++ data_with sent.toggle digits))
+    ∙ ap (λ r. row_or r (out_question speed (endpoint_text dev ++
+    (between_text speed ++ data_with sent.toggle digits))))
+    (out_no_row speed dev sent.toggle digits sent.bytes.items h.0 e h.1.0)
     ∙ out_read speed dev sent.toggle digits sent.bytes.items h.0 e h.1.0
 asked_read digits (Setup speed dev setup) h e =
     let few : length (bytes_of setup) ≤ 64 = let size = length-bytes_of setup in
@@ -785,6 +1058,7 @@ question_read-asked line q h is = ap question_of is.written ∙ asked_read is.di
 question_small : (q : Question) → IsQuestion q → IsBytes (question_bytes q)
 question_small (Setup speed endpoint setup) h = IsBytes-bytes_of setup h.1
 question_small (Out speed endpoint sent) h = h.1.1
+question_small (Outs speed endpoint most toggle bytes) h = h.2.1.1
 question_small _ h = IsBytes-none
 
 -- the line that is written asks what it was written for

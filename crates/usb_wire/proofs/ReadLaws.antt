@@ -3,6 +3,7 @@ use Rattle.std.proofs.Common.{◌≡◌, ℕ, suc, ◌+◌, ◌-◌, ◌*◌, �
 use Rattle.std.proofs.Common.{◌∷◌, ◌++◌, length, get_or}
 use Rattle.std.proofs.Common.{Some, ok_or, Ok, refl, sym, subst, ap, ◌∙◌, arith, append_assoc}
 use Rattle.std.proofs.Common.{codes, decimal, length-append, lit<, lit≤}
+use Rattle.usb_wire.proofs.SaidLaws.{version_text}
 use Rattle.std.proofs.lemmas.Bool.{eq-eqb, le-ltb, lt-ltb}
 use Rattle.std.proofs.lemmas.Bool.Decides.{nat_tests}
 use Rattle.std.proofs.lemmas.Fmt.{length-decimal-le}
@@ -15,7 +16,7 @@ use Rattle.usb_request.specs.{is_endpoint_address}
 use Rattle.usb_wire.specs.{ClearOf, Poll, ReceiveFrom, SendTo, clear_of_answer, endpoint_named}
 use Rattle.usb_wire.specs.{address_text, poll_answer, receive_from_answer}
 use Rattle.usb_wire.specs.{send_to_answer, send_to_limit, Interface, interface_answer}
-use Rattle.usb_wire.specs.{Answer, Roots, Ack, Nak, Stall, Nothing, Data, Done, Show, End, Send}
+use Rattle.usb_wire.specs.{Answer, Roots, RootsAndRows, second_answer, Ack, Nak, Stall, Nothing, Data, Done, Show, End, Send}
 use Rattle.usb_wire.specs.{Receive, Clear, Said, Changed, Answered, BadNumber, BadPath, Asked}
 use Rattle.usb_wire.specs.{ControlIn, ControlOut, Look, News, answer_setup, control_answer}
 use Rattle.usb_wire.specs.{is_other_request, look_answer, request_of_word, said_setup, with_three}
@@ -332,17 +333,30 @@ read_named count front first word p a s f h named w e =
     (omega arith) f (path_text-is_word 20 p (omega arith) h)
     (two_rest 3 981 (address_text a) word (address_text-is_word 3 a (omega arith) named) w) e)
 
+read_version : number_of_word 2 2 (codes "2") ≡ Ok 2
+read_version = ap (number_of_word 2 2) (sym version_text)
+    ∙ read_number 2 2 2 (omega arith) (omega arith) (omega arith)
+
 read_answer : (asked : Asked) (count : ℕ) (setup digits : List ℕ) (a : Answer) → MayAnswer asked a
     → hex_value setup ≡ Some (answer_setup a) → hex_value digits ≡ Some (answer_bytes a)
     → ReadsLine asked count (answer_in_digits setup digits a) (Answered a)
 unfolding words_say alone with_one roots_answer clear_answer look_answer three_say with_two
     send_answer receive_answer poll_answer clear_of_answer with_three send_to_answer
-    receive_from_answer interface_answer
+    receive_from_answer interface_answer second_answer
 read_answer Hello count setup digits (Roots n) h t e =
     read_two Hello count (codes "roots ") (codes "roots") (decimal n) (Answered (Roots n))
     (record { short = lit≤ tt; printable = refl; cut = λ rest. refl })
     (decimal-is_word 1001 n (omega arith) (omega (arith, h.1)))
     (rw (read_number 1 7 n h.0 h.1 (omega arith)) refl)
+read_answer Hello count setup digits (RootsAndRows n) h t e =
+    subst (λ line. ReadsLine Hello count line (Answered (RootsAndRows n)))
+    (append_assoc (codes "roots " ++ decimal n) (codes " ") (codes "2"))
+    (read_three Hello count (codes "roots ") (codes "roots") (decimal n) (codes "2")
+    (Answered (RootsAndRows n))
+    (record { short = lit≤ tt; printable = refl; cut = λ rest. refl })
+    (decimal-is_word 20 n (omega arith) (omega (arith, h.1)))
+    (record { visible = refl; short = lit≤ tt })
+    (rw (read_version, read_number 1 7 n h.0 h.1 (omega arith)) refl))
 read_answer Attempt count setup digits Ack h t e = record {
   short = lit≤ tt;
   printable = refl;

@@ -2,7 +2,8 @@
 use Rattle.std.proofs.Common.{◌≡◌, ℕ, ◌^◌, ◌<◌, ◌≤◌, Bool, true, false, ◌&&◌, ◌==◌, nat_lt}
 use Rattle.std.proofs.Common.{if◌then◌else◌, List, [], ◌∷◌, ◌++◌, length, Option, Some, None, ok_or}
 use Rattle.std.proofs.Common.{Result, Ok, Err, IfOk, refl, sym, subst, ap, ◌∙◌, arith, append_assoc}
-use Rattle.std.proofs.Common.{codes, decimal, not, length-append, ◌+◌}
+use Rattle.std.proofs.Common.{codes, decimal, not, length-append, ◌+◌, lit<}
+use Rattle.std.proofs.lemmas.Fmt.{decimal_digit}
 use Rattle.std.specs.List.{join_with_byte}
 use Rattle.std.specs.Result.{result_unwrap_or}
 use Rattle.std.specs.Str.{bytes_eq}
@@ -16,7 +17,7 @@ use Rattle.usb_request.specs.{DIRECTION_IN, Setup, bytes_of}
 use Rattle.usb_wire.specs.{ClearOf, Poll, ReceiveFrom, SendTo, clear_of_answer, endpoint_named}
 use Rattle.usb_wire.specs.{address_named, address_text, poll_answer, receive_from_answer}
 use Rattle.usb_wire.specs.{send_to_answer, send_to_limit, Interface, interface_answer}
-use Rattle.usb_wire.specs.{Answer, Roots, Ack, Nak, Stall, Nothing, Data, Done, Show, End, Send}
+use Rattle.usb_wire.specs.{Answer, Roots, RootsAndRows, second_answer, Ack, Nak, Stall, Nothing, Data, Done, Show, End, Send}
 use Rattle.usb_wire.specs.{ControlIn, ControlOut, IsSetupData, Look, News, answer_setup}
 use Rattle.usb_wire.specs.{bare_control, both, control_answer, counted_write, has_bytes}
 use Rattle.usb_wire.specs.{is_other_request, look_answer, request_of_word, request_with, said_bytes}
@@ -280,6 +281,30 @@ roots_say count word a e =
       none = (refl, refl);
       text = ap (λ t. codes "roots " ++ t) number.text;
     })))
+
+-- version 2
+pub version_text : decimal 2 ≡ codes "2"
+version_text = decimal_digit 2 (lit< tt)
+
+second_say : (count : ℕ) (first second : List ℕ) (a : Answer) → second_answer first second ≡ Ok a
+    → WordsSay Hello count (codes "roots" ∷ first ∷ second ∷ []) (Answered a)
+unfolding second_answer
+second_say count first second a e =
+    bind-ok (number_of_word 1 7 first) _ a e (λ n read e.
+    bind-ok (number_of_word 2 2 second) _ a e (λ v version is.
+    let two = number_of_word-ok 2 2 second v (omega arith) version in
+    let number = number_of_word-ok 1 7 first n (omega arith) read in
+    let same : v ≡ 2 = omega (arith, two.low, two.high) in
+    let last : second ≡ codes "2" = two.text ∙ ap decimal same ∙ version_text in
+    subst (λ a. WordsSay Hello count (codes "roots" ∷ first ∷ second ∷ []) (Answered a))
+    (same_Ok (RootsAndRows n) a is)
+    (plain_line Hello count _ (RootsAndRows n) (record {
+      may = (number.low, number.high);
+      none = (refl, refl);
+      text = ap (λ w. codes "roots " ++ (w ++ 32 ∷ second)) number.text
+          ∙ ap (λ w. codes "roots " ++ (decimal n ++ 32 ∷ w)) last
+          ∙ sym (append_assoc (codes "roots ") (decimal n) (codes " 2"));
+    }))))
 
 -- the first word of a data packet
 abbrev data_first : Toggle → List ℕ
@@ -684,6 +709,10 @@ two_says Wait count word first second a e short =
     (λ same e. says_same_word Wait count word (codes "clear") arguments _ same
     (clear_of_says count first second a e)) (λ e.
     none_ok NoAnswer a e)))))
+two_says Hello count word first second a e short =
+    if_ok (bytes_eq word (codes "roots")) (second_answer first second) _ a e
+    (λ same e. says_same_word Hello count word (codes "roots") (first ∷ second ∷ []) _ same
+    (second_say count first second a e)) (λ e. none_ok NoAnswer a e)
 two_says _ count word first second a e short = none_ok NoAnswer a e
 
 four_say : (asked : Asked) (count : ℕ) (word first second third : List ℕ) (a : Answer)

@@ -9,7 +9,7 @@ use Rattle.usb_wire.specs.declared.answer.Answer.TheVariants.{Roots, Ack, Nak, S
 use Rattle.usb_wire.specs.declared.answer.Answer.TheVariants.{Done, Show, End, Send, Receive, Clear}
 use Rattle.usb_wire.specs.declared.answer.Answer.TheVariants.{ControlIn, ControlOut, Look, News}
 use Rattle.usb_wire.specs.declared.answer.Answer.TheVariants.{ClearOf, Poll, ReceiveFrom, SendTo}
-use Rattle.usb_wire.specs.declared.answer.Answer.TheVariants.{Interface}
+use Rattle.usb_wire.specs.declared.answer.Answer.TheVariants.{Interface, RootsAndRows}
 use Rattle.usb_wire.specs.declared.answer.Said.{Said}
 use Rattle.usb_wire.specs.declared.answer.Said.TheVariants.{Changed, Answered}
 use Rattle.usb_wire.specs.declared.question.Asked.{Asked}
@@ -25,6 +25,7 @@ write_text setup digits (b ∷ bytes) = setup ++ codes " " ++ digits
 -- the line of each answer, with the digits of its setup data and of its bytes
 abbrev pub answer_in_digits : List ℕ → List ℕ → Answer → List ℕ
 answer_in_digits setup digits (Roots roots) = codes "roots " ++ decimal roots
+answer_in_digits setup digits (RootsAndRows roots) = codes "roots " ++ decimal roots ++ codes " 2"
 answer_in_digits setup digits Ack = codes "ACK"
 answer_in_digits setup digits Nak = codes "NAK"
 answer_in_digits setup digits Stall = codes "STALL"
@@ -121,6 +122,10 @@ HasRoom path bytes = length (path_text path) + 2 * length bytes ≤ send_room
 abbrev pub send_to_limit : ℕ
 send_to_limit = 490
 
+-- the most bytes of a row of OUTs
+abbrev pub row_limit : ℕ
+row_limit = 448
+
 -- the most bytes that are written to endpoint 0
 abbrev pub write_limit : ℕ
 write_limit = 480
@@ -134,6 +139,7 @@ IsSetupData s =
 -- what may be answered to each question
 abbrev pub MayAnswer : Asked → Answer → Type 0
 MayAnswer Hello (Roots roots) = (1 ≤ roots) × (roots ≤ 7)
+MayAnswer Hello (RootsAndRows roots) = (1 ≤ roots) × (roots ≤ 7)
 MayAnswer Attempt Ack = Unit {0}
 MayAnswer Attempt Nak = Unit {0}
 MayAnswer Attempt Stall = Unit {0}

@@ -16,14 +16,15 @@ use Rattle.usb_wire.specs.Fields.{is_other_request, number_within}
 use Rattle.usb_wire.specs.Words.{all_printable, words}
 
 -- what a word after the first one is: bytes, at most so many; the four of a status; the eight of a
--- request with bytes for the device, or of one without; how many root ports there are, the number
--- of one, how many packets, the number of an interface or of its setting; the address of an
+-- request with bytes for the device, or of one without; how many root ports there are, the version,
+-- the number of a root port, how many packets, the number of an interface or of its setting; the address of an
 -- endpoint; a path
 pub data Field : Type 0 where
   bytes_field : ℕ → Field
   status_field : Field
   request_field : Bool → Field
   roots_field : Field
+  version_field : Field
   root_field : Field
   packets_field : Field
   setting_field : Field
@@ -44,7 +45,10 @@ push = form (codes "port") (root_field ∷ status_field ∷ [])
 
 -- the lines that may stand behind each question
 abbrev pub forms : Asked → List Form
-forms Hello = form (codes "roots") (roots_field ∷ []) ∷ []
+forms Hello =
+    form (codes "roots") (roots_field ∷ [])
+    ∷ form (codes "roots") (roots_field ∷ version_field ∷ [])
+    ∷ []
 forms Attempt =
     push
     ∷ form (codes "ACK") []
@@ -122,6 +126,7 @@ has_other_count _ _ = false
 -- no number, or one that is out of its range; no endpoint's address in two upper-case digits
 abbrev pub is_bad_number : ℕ → Field → List ℕ → Bool
 is_bad_number count roots_field word = is_none (number_within 1 7 word)
+is_bad_number count version_field word = is_none (number_within 2 2 word)
 is_bad_number count root_field word = is_none (number_within 1 count word)
 is_bad_number count packets_field word = is_none (number_within 0 1000 word)
 is_bad_number count setting_field word = is_none (number_within 0 255 word)

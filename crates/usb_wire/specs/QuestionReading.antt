@@ -1,6 +1,6 @@
 -- How the lines of the host are read, for the private functions.
 use Rattle.std.specs.Prelude.{ℕ, ◌==◌, Bool, true, false, List, [], ◌∷◌, codes, Option, Some, None}
-use Rattle.std.specs.Prelude.{option_map, if◌then◌else◌}
+use Rattle.std.specs.Prelude.{length, option_map, if◌then◌else◌}
 use Rattle.std.specs.Result.{result_ok}
 use Rattle.std.specs.Str.{bytes_eq}
 use Rattle.usb_packet.specs.{Speed, Full, Low, LowBelowHub}
@@ -11,7 +11,8 @@ use Rattle.usb_request.specs.{Setup as SetupData}
 use Rattle.usb_wire.specs.declared.question.Endpoint.{Endpoint}
 use Rattle.usb_wire.specs.declared.question.Question.{Question}
 use Rattle.usb_wire.specs.declared.question.Question.TheVariants.{Hello, Setup, Out, In, Port}
-use Rattle.usb_wire.specs.declared.question.Question.TheVariants.{Restart, Wait}
+use Rattle.usb_wire.specs.declared.question.Question.TheVariants.{Ins, Outs, Restart, Wait}
+use Rattle.usb_wire.specs.Answers.{row_limit}
 use Rattle.usb_wire.specs.Reading.{bytes_of_word, number_of_word, setup_in_bytes, text_of_line}
 
 infixl 10 ◌>>=◌
@@ -88,11 +89,44 @@ in_question speed text = do
   most ← result_ok (number_of_word 1 64 cut.1)
   Some (In speed endpoint most)
 
+unfoldable pub ins_question : Speed → List ℕ → Option Question
+ins_question speed text = do
+  cut ← cut_at 32 text
+  endpoint ← endpoint_in cut.0
+  row ← cut_at 32 cut.1
+  most ← result_ok (number_of_word 1 64 row.0)
+  named ← cut_at 32 row.1
+  toggle ← toggle_named named.0
+  packets ← result_ok (number_of_word 1 64 named.1)
+  Some (Ins speed endpoint most toggle packets)
+
+unfoldable pub some_bytes : List ℕ → Option (List ℕ)
+some_bytes digits = do
+  bytes ← result_ok (bytes_of_word row_limit digits)
+  if length bytes == 0 then None else Some bytes
+
+unfoldable pub outs_question : Speed → List ℕ → Option Question
+outs_question speed text = do
+  cut ← cut_at 32 text
+  endpoint ← endpoint_in cut.0
+  sent ← data_behind speed cut.1
+  row ← cut_at 32 sent.1
+  bytes ← some_bytes row.0
+  most ← result_ok (number_of_word 1 64 row.1)
+  Some (Outs speed endpoint most sent.0 (record { items = bytes }))
+
+-- the row, or else the single attempt
+abbrev pub row_or : Option Question → Option Question → Option Question
+row_or (Some row) single = Some row
+row_or None single = single
+
 unfoldable pub token_of_words : Speed → List ℕ → List ℕ → Option Question
 token_of_words speed word text =
     if bytes_eq word (codes "SETUP") then setup_question speed text
-    else if bytes_eq word (codes "OUT") then out_question speed text
-    else if bytes_eq word (codes "IN") then in_question speed text
+    else if bytes_eq word (codes "OUT")
+    then row_or (outs_question speed text) (out_question speed text)
+    else if bytes_eq word (codes "IN")
+    then row_or (ins_question speed text) (in_question speed text)
     else None
 
 unfoldable pub token_behind : Speed → List ℕ → Option Question

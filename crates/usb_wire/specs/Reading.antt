@@ -10,7 +10,7 @@ use Rattle.usb_wire.specs.declared.answer.Answer.TheVariants.{Roots, Ack, Nak, S
 use Rattle.usb_wire.specs.declared.answer.Answer.TheVariants.{Done, Show, End, Send, Receive, Clear}
 use Rattle.usb_wire.specs.declared.answer.Answer.TheVariants.{ControlIn, ControlOut, Look, News}
 use Rattle.usb_wire.specs.declared.answer.Answer.TheVariants.{ClearOf, Poll, ReceiveFrom, SendTo}
-use Rattle.usb_wire.specs.declared.answer.Answer.TheVariants.{Interface}
+use Rattle.usb_wire.specs.declared.answer.Answer.TheVariants.{Interface, RootsAndRows}
 use Rattle.usb_wire.specs.declared.answer.Said.{Said}
 use Rattle.usb_wire.specs.declared.answer.Said.TheVariants.{Changed, Answered}
 use Rattle.usb_wire.specs.declared.fault.WireFault.{WireFault}
@@ -123,6 +123,12 @@ roots_answer word = do
   roots ← number_of_word 1 7 word
   Ok (Roots roots)
 
+unfoldable pub second_answer : List ℕ → List ℕ → Result Answer WireFault
+second_answer first second = do
+  roots ← number_of_word 1 7 first
+  version ← number_of_word 2 2 second
+  Ok (RootsAndRows roots)
+
 unfoldable pub data_answer : Toggle → List ℕ → Result Answer WireFault
 data_answer toggle word = do
   bytes ← bytes_of_word 64 word
@@ -191,6 +197,8 @@ clear_of_answer first second = do
 
 -- the answers of three words
 unfoldable pub with_two : Asked → List ℕ → List ℕ → List ℕ → Result Answer WireFault
+with_two Hello word first second =
+    if bytes_eq word (codes "roots") then second_answer first second else Err NoAnswer
 with_two Wait word first second =
     if bytes_eq word (codes "send") then send_answer first second
     else if bytes_eq word (codes "receive") then receive_answer first second

@@ -31,6 +31,8 @@ pub const SEND_TO_LIMIT: usize = 490;
 pub enum Answer {
     /// To the hello: how many root ports there are, 1 to 7.
     Roots(u8),
+    /// To the hello: the same, of version 2, which answers rows of attempts.
+    RootsAndRows(u8),
     /// To an attempt: the data came through (8.4.5).
     Ack,
     /// To an attempt: nothing to give, or no room now (8.4.5).
@@ -167,6 +169,7 @@ fn push_answer(line: &mut ArrayString<1026>, answer: &Answer)
             line.push_str("roots ");
             push_number(line, u64::from(*roots));
         }
+        Answer::RootsAndRows(roots) => push_second(line, *roots),
         Answer::Data(sent) => {
             let mut data = ArrayString::new();
             push_data(&mut data, sent.toggle, sent.bytes.as_slice());
@@ -204,6 +207,16 @@ fn push_answer(line: &mut ArrayString<1026>, answer: &Answer)
         Answer::Show => line.push_str("show"),
         Answer::End => line.push_str("end"),
     }
+}
+
+/// How many root ports there are, and version 2.
+fn push_second(line: &mut ArrayString<1026>, roots: u8)
+    requires { line.old.bytes ≡ [] }
+    ensures { line.new.bytes ≡ codes "roots " ++ decimal roots ++ codes " 2" }
+{
+    line.push_str("roots ");
+    push_number(line, u64::from(roots));
+    line.push_str(" 2");
 }
 
 /// What is to be sent to the first bulk endpoint.
@@ -320,7 +333,7 @@ fn push_setup(line: &mut ArrayString<1026>, setup: Setup)
 }
 
 /// A number in decimal digits.
-fn push_number(line: &mut ArrayString<1026>, number: u64)
+pub(crate) fn push_number(line: &mut ArrayString<1026>, number: u64)
     requires { length line.old.bytes ≤ 1000 }
     ensures text { line.new.bytes ≡ line.old.bytes ++ decimal number }
     ensures few { length line.new.bytes ≤ length line.old.bytes + 20 }
@@ -360,7 +373,7 @@ fn push_endpoint(
 }
 
 /// Bytes in upper-case hexadecimal digits, a dash if there are none.
-fn push_bytes(line: &mut ArrayString<1026>, bytes: &[u8])
+pub(crate) fn push_bytes(line: &mut ArrayString<1026>, bytes: &[u8])
     requires room { length line.old.bytes + 2 * length bytes.now ≤ 1026 }
     requires dash { length line.old.bytes < 1026 }
     ensures { line.new.bytes ≡ line.old.bytes ++ hex_text bytes.now }

@@ -1,12 +1,13 @@
 //! What a line of the host asks.
 ghost use Rattle.std.specs.Prelude.{◌≡◌, IfSome, option_map};
-ghost use Rattle.usb_wire.specs.QuestionReading.{after_pre, asked_in, behind_pre_word, call_in, cut_at, data_behind, direction_in, endpoint_in, in_question, out_question, port_question, question_of, restart_question, setup_in, setup_question, toggle_named, token_behind, token_of_words};
+ghost use Rattle.usb_wire.specs.QuestionReading.{after_pre, asked_in, behind_pre_word, call_in, cut_at, data_behind, direction_in, endpoint_in, in_question, ins_question, out_question, outs_question, port_question, question_of, restart_question, row_or, setup_in, setup_question, some_bytes, toggle_named, token_behind, token_of_words};
 ghost use Rattle.usb_wire.specs.Questions.{IsQuestion, IsQuestionLine};
 ghost use Rattle.usb_wire.specs.declared.question.Question.{Question as AQuestion};
 
 use crate::field::{bytes_of_word, number_of_word, setup_in_bytes};
-use crate::question::{DataPacket, Endpoint, Question};
+use crate::question::{DataPacket, Endpoint, Question, ROW_LIMIT};
 use crate::reading::text_of_line;
+use arrayvec::ArrayVec;
 use usb_packet::{Speed, Toggle};
 use usb_port::PortCall;
 use usb_request::Setup;
@@ -81,8 +82,8 @@ fn token_of_words(speed: Speed, word: &str, text: &str) -> Option<Question>
 {
     match word {
         "SETUP" => setup_question(speed, text),
-        "OUT" => out_question(speed, text),
-        "IN" => in_question(speed, text),
+        "OUT" => row_or(outs_question(speed, text), out_question(speed, text)),
+        "IN" => row_or(ins_question(speed, text), in_question(speed, text)),
         _ => None,
     }
 }
@@ -129,6 +130,69 @@ fn in_question(speed: Speed, text: &str) -> Option<Question>
         endpoint,
         most: most as u8,
     })
+}
+
+/// The row, if the words are of one; else the single attempt, if they are of that.
+fn row_or(row: Option<Question>, single: Option<Question>) -> Option<Question>
+    ensures { result ≡ row_or row single }
+{
+    match row {
+        Some(question) => Some(question),
+        None => single,
+    }
+}
+
+/// A row of INs.
+#[tactic(auto, unfolding(crate::specs::QuestionReading::ins_question))]
+fn ins_question(speed: Speed, text: &str) -> Option<Question>
+    ensures { result ≡ ins_question speed text.now }
+{
+    let (device, behind) = cut_space(text)?;
+    let endpoint = endpoint_in(device)?;
+    let (most, row) = cut_space(behind)?;
+    let most = number_of_word(1, 64, most).ok()?;
+    let (name, packets) = cut_space(row)?;
+    let toggle = toggle_named(name)?;
+    let packets = number_of_word(1, 64, packets).ok()?;
+    Some(Question::Ins {
+        speed,
+        endpoint,
+        most: most as u8,
+        toggle,
+        packets: packets as u8,
+    })
+}
+
+/// A row of OUTs.
+#[tactic(auto, unfolding(crate::specs::QuestionReading::outs_question))]
+fn outs_question(speed: Speed, text: &str) -> Option<Question>
+    ensures { result ≡ outs_question speed text.now }
+{
+    let (device, behind) = cut_space(text)?;
+    let endpoint = endpoint_in(device)?;
+    let (toggle, row) = data_behind(speed, behind)?;
+    let (digits, most) = cut_space(row)?;
+    let bytes = some_bytes(digits)?;
+    let most = number_of_word(1, 64, most).ok()?;
+    Some(Question::Outs {
+        speed,
+        endpoint,
+        most: most as u8,
+        toggle,
+        bytes,
+    })
+}
+
+/// The bytes of a row, of which there are some.
+#[tactic(auto, unfolding(crate::specs::QuestionReading::some_bytes))]
+fn some_bytes(digits: &str) -> Option<ArrayVec<u8, ROW_LIMIT>>
+    ensures { some_bytes digits.now ≡ option_map (λ bytes. bytes.items) result }
+{
+    let bytes = bytes_of_word::<ROW_LIMIT>(digits).ok()?;
+    if bytes.is_empty() {
+        return None;
+    }
+    Some(bytes)
 }
 
 /// An address and an endpoint, with a dot between them.

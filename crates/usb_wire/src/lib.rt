@@ -25,7 +25,7 @@ pub use answer::{Answer, SEND_LIMIT, SEND_ROOM, SEND_TO_LIMIT, Said, said_line};
 pub use asking::read_question;
 pub use fault::WireFault;
 pub use laws::lines_are_read_back;
-pub use question::{Asked, DataPacket, Endpoint, Question, question_line};
+pub use question::{Asked, DataPacket, Endpoint, Question, ROW_LIMIT, question_line};
 pub use reading::{Hubs, read_said};
 pub use usb_packet::Speed;
 pub use write::{ControlWrite, WRITE_LIMIT};

@@ -1,10 +1,12 @@
 //! What the host asks the controller side, and its lines.
-ghost use Rattle.std.specs.Prelude.{◌≡◌, ◌++◌, ◌+◌, ◌≤◌, [], length};
+ghost use Rattle.std.specs.Prelude.{◌≡◌, ◌++◌, ◌+◌, ◌≤◌, [], codes, decimal, length, false};
+ghost use Rattle.usb_packet.specs.declared.TokenKind.TheVariants.{OutTok};
 ghost use Rattle.usb_packet.specs.declared.Toggle.TheVariants.{Zero};
-ghost use Rattle.usb_packet.specs.Text.{hex_text};
+ghost use Rattle.usb_packet.specs.Text.{data_name, hex_text};
 ghost use Rattle.usb_request.specs.Layout.{bytes_of};
-ghost use Rattle.usb_wire.specs.Questions.{kind_asked, call_text, data_with, between_text, direction_text, question_line, speed_text, token_text};
+ghost use Rattle.usb_wire.specs.Questions.{kind_asked, call_text, data_with, between_text, direction_text, is_outs, outs_text, question_line, speed_text, token_text};
 
+use crate::answer::{push_bytes, push_number};
 use crate::field::few_bytes;
 use arrayvec::{ArrayString, ArrayVec};
 use usb_packet::{Packet, Speed, Toggle, TokenKind, push_decimal, push_packet};
@@ -20,6 +22,9 @@ pub struct Endpoint {
     pub number: u8,
 }
 
+/// The most bytes of a row of OUTs: as many as a line has room for.
+pub const ROW_LIMIT: usize = 448;
+
 /// A data packet (8.4.4).
 #[derive(Debug, Drop)]
 pub struct DataPacket {
@@ -29,8 +34,8 @@ pub struct DataPacket {
     pub bytes: ArrayVec<u8, 64>,
 }
 
-/// What the host asks: one attempt, one call at a root port, the restart of an endpoint, or what is
-/// requested.
+/// What the host asks: one attempt, a row of them, one call at a root port, the restart of an
+/// endpoint, or what is requested.
 #[derive(Debug, Drop)]
 pub enum Question {
     /// The first question, with the protocol's version.
@@ -62,6 +67,34 @@ pub enum Question {
         /// The most bytes of the endpoint's packets, 1 to 64.
         most: u8,
     },
+    /// A row of attempts to have data sent, until one does not bring a full packet of the toggle that
+    /// is due. Each has its answer.
+    Ins {
+        /// The device's speed.
+        speed: Speed,
+        /// The device's address, and the endpoint.
+        endpoint: Endpoint,
+        /// The most bytes of the endpoint's packets, 1 to 64.
+        most: u8,
+        /// The toggle that the first packet has.
+        toggle: Toggle,
+        /// How many packets at most, 1 to 64.
+        packets: u8,
+    },
+    /// A row of attempts to send data in packets of the maximum, until one is not acknowledged. Each
+    /// has its answer.
+    Outs {
+        /// The device's speed.
+        speed: Speed,
+        /// The device's address, and the endpoint.
+        endpoint: Endpoint,
+        /// The most bytes of the endpoint's packets, 1 to 64.
+        most: u8,
+        /// The toggle of the first packet.
+        toggle: Toggle,
+        /// The data of all packets, 1 to 448 bytes.
+        bytes: ArrayVec<u8, ROW_LIMIT>,
+    },
     /// A call at a root port (11.24).
     Port {
         /// The root port's number, 1 to 7.
@@ -85,7 +118,7 @@ pub enum Question {
 pub enum Asked {
     /// That of the hello.
     Hello,
-    /// Those of an attempt.
+    /// Those of an attempt; of a row, those of each of its attempts.
     Attempt,
     /// That of a call at a root port, and of the restart of an endpoint.
     Port,
@@ -101,6 +134,7 @@ impl Question {
         match self {
             Question::Hello => Asked::Hello,
             Question::Setup { .. } | Question::Out { .. } | Question::In { .. } => Asked::Attempt,
+            Question::Ins { .. } | Question::Outs { .. } => Asked::Attempt,
             Question::Port { .. } => Asked::Port,
             Question::Restart { .. } => Asked::Port,
             Question::Wait => Asked::Wait,
@@ -108,8 +142,102 @@ impl Question {
     }
 }
 
-/// The question's line, without the newline.
-pub fn question_line(question: &Question) -> ArrayString<700>
+/// The question's line, without the newline. It has at most 1,024 bytes.
+pub fn question_line(question: &Question) -> ArrayString<1026>
+    ensures { result.bytes ≡ question_line question.now }
+{
+    match question {
+        Question::Outs {
+            speed,
+            endpoint,
+            most,
+            toggle,
+            bytes,
+        } => outs_line(*speed, *endpoint, *most, *toggle, bytes.as_slice()),
+        _ => roomy(short_line(question).as_str()),
+    }
+}
+
+/// A line, with room for more.
+fn roomy(text: &str) -> ArrayString<1026>
+    requires { length text.now ≤ 700 }
+    ensures { result.bytes ≡ text.now }
+{
+    let mut line = ArrayString::new();
+    line.push_str(text);
+    line
+}
+
+/// The line of a row of OUTs.
+fn outs_line(
+    speed: Speed,
+    endpoint: Endpoint,
+    most: u8,
+    toggle: Toggle,
+    bytes: &[u8],
+) -> ArrayString<1026>
+    requires { length bytes.now ≤ 448 }
+    ensures { result.bytes ≡ outs_text speed endpoint most toggle (hex_text bytes.now) }
+{
+    let mut front = ArrayString::new();
+    push_out(&mut front, speed, endpoint, toggle);
+    let mut line = roomy(front.as_str());
+    push_row(&mut line, bytes);
+    line.push(' ');
+    push_number(&mut line, u64::from(most));
+    line
+}
+
+/// The bytes of a row.
+fn push_row(line: &mut ArrayString<1026>, bytes: &[u8])
+    requires front { length line.old.bytes ≤ 70 }
+    requires few { length bytes.now ≤ 448 }
+    ensures text { line.new.bytes ≡ line.old.bytes ++ hex_text bytes.now }
+    ensures few { length line.new.bytes ≤ 967 }
+{
+    push_bytes(line, bytes);
+}
+
+/// What comes before the data of OUTs.
+fn push_out(line: &mut ArrayString<700>, speed: Speed, endpoint: Endpoint, toggle: Toggle)
+    requires { line.old.bytes ≡ [] }
+    ensures text { line.new.bytes ≡ speed_text speed ++ token_text OutTok endpoint ++
+        between_text speed ++ data_name toggle }
+    ensures few { length line.new.bytes ≤ 70 }
+{
+    line.push_str(speed_text(speed));
+    line.push_str("OUT ");
+    push_device(line, endpoint);
+    push_between(line, speed);
+    line.push_str(data_name(toggle));
+}
+
+/// An address and an endpoint, with a dot between them.
+fn push_device(line: &mut ArrayString<700>, endpoint: Endpoint)
+    requires { length line.old.bytes ≤ 560 }
+    ensures text { line.new.bytes ≡ line.old.bytes ++
+        (decimal endpoint.address ++ codes "." ++ decimal endpoint.number) }
+    ensures few { length line.new.bytes ≤ length line.old.bytes + 41 }
+{
+    push_decimal(line, u64::from(endpoint.address));
+    line.push('.');
+    push_decimal(line, u64::from(endpoint.number));
+}
+
+/// The name of a data packet, and a space.
+fn data_name(toggle: Toggle) -> &'static str
+    ensures value { result.now ≡ data_name toggle }
+    ensures short { length result.now ≤ 6 }
+{
+    match toggle {
+        Toggle::Zero => "DATA0 ",
+        Toggle::One => "DATA1 ",
+    }
+}
+
+/// The line of a question that is no row of OUTs.
+fn short_line(question: &Question) -> ArrayString<700>
+    requires { is_outs question.now ≡ false }
     ensures { result.bytes ≡ question_line question.now }
 {
     let mut line = ArrayString::new();
@@ -137,16 +265,36 @@ pub fn question_line(question: &Question) -> ArrayString<700>
             speed,
             endpoint,
             most,
+        } => push_in(&mut line, *speed, *endpoint, *most),
+        Question::Ins {
+            speed,
+            endpoint,
+            most,
+            toggle,
+            packets,
         } => {
-            push_token(&mut line, *speed, TokenKind::InTok, *endpoint);
+            push_in(&mut line, *speed, *endpoint, *most);
             line.push(' ');
-            push_decimal(&mut line, u64::from(*most));
+            line.push_str(data_name(*toggle));
+            push_decimal(&mut line, u64::from(*packets));
         }
+        Question::Outs { .. } => {}
         Question::Port { number, call } => push_call(&mut line, *number, *call),
         Question::Restart { endpoint, is_in } => push_restart(&mut line, *endpoint, *is_in),
         Question::Wait => line.push_str("wait"),
     }
     line
+}
+
+/// An IN, and the most bytes of the endpoint's packets.
+fn push_in(line: &mut ArrayString<700>, speed: Speed, endpoint: Endpoint, most: u8)
+    requires { line.old.bytes ≡ [] }
+    ensures text { line.new.bytes ≡ question_line (Question.In speed endpoint most) }
+    ensures few { length line.new.bytes ≤ 200 }
+{
+    push_token(line, speed, TokenKind::InTok, endpoint);
+    line.push(' ');
+    push_decimal(line, u64::from(most));
 }
 
 /// A token, as its device hears it.

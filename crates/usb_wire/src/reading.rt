@@ -4,7 +4,7 @@ ghost use Rattle.std.specs.List.{list_all};
 ghost use Rattle.usb_wire.specs.Answers.{IsSaidLine, MaySay};
 ghost use Rattle.usb_wire.specs.Fields.{is_other_request};
 ghost use Rattle.usb_wire.specs.Ports.{MaySayTo, answer_path, is_narrow, line_fault, names_ports, said_path, said_to};
-ghost use Rattle.usb_wire.specs.Reading.{alone, bare_control, clear_answer, clear_of_answer, control_answer, data_answer, fault_in, interface_answer, line_says, look_answer, may_push, poll_answer, status_change, receive_answer, receive_from_answer, result_map, roots_answer, send_answer, send_to_answer, shape_says, text_of_line, three_say, with_one, with_three, with_two, write_answer};
+ghost use Rattle.usb_wire.specs.Reading.{alone, bare_control, clear_answer, clear_of_answer, control_answer, data_answer, fault_in, interface_answer, line_says, look_answer, may_push, poll_answer, status_change, receive_answer, receive_from_answer, result_map, roots_answer, second_answer, send_answer, send_to_answer, shape_says, text_of_line, three_say, with_one, with_three, with_two, write_answer};
 ghost use Rattle.usb_wire.specs.Words.{all_printable, is_printable};
 ghost use Rattle.usb_wire.specs.declared.answer.Said.{Said as ASaid};
 
@@ -317,17 +317,31 @@ fn status_change(roots: u8, first: &str, second: &str) -> Result<Said, WireFault
 fn with_two(asked: Asked, word: &str, first: &str, second: &str) -> Result<Answer, WireFault>
     ensures { result ≡ with_two asked word.now first.now second.now }
 {
-    if !matches!(asked, Asked::Wait) {
-        return Err(WireFault::NoAnswer);
+    match asked {
+        Asked::Hello => match word {
+            "roots" => second_answer(first, second),
+            _ => Err(WireFault::NoAnswer),
+        },
+        Asked::Attempt | Asked::Port => Err(WireFault::NoAnswer),
+        Asked::Wait => match word {
+            "send" => send_answer(first, second),
+            "receive" => receive_answer(first, second),
+            "control" => control_answer(first, second),
+            "interrupt" => poll_answer(first, second),
+            "clear" => clear_of_answer(first, second),
+            _ => Err(WireFault::NoAnswer),
+        },
     }
-    match word {
-        "send" => send_answer(first, second),
-        "receive" => receive_answer(first, second),
-        "control" => control_answer(first, second),
-        "interrupt" => poll_answer(first, second),
-        "clear" => clear_of_answer(first, second),
-        _ => Err(WireFault::NoAnswer),
-    }
+}
+
+/// How many root ports there are, of version 2.
+#[tactic(auto, unfolding(crate::specs::Reading::second_answer))]
+fn second_answer(first: &str, second: &str) -> Result<Answer, WireFault>
+    ensures { result ≡ second_answer first.now second.now }
+{
+    let roots = number_of_word(1, 7, first)?;
+    number_of_word(2, 2, second)?;
+    Ok(Answer::RootsAndRows(roots as u8))
 }
 
 #[tactic(auto, unfolding(crate::specs::Reading::send_answer))]

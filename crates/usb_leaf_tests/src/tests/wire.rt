@@ -22,6 +22,8 @@ enum Asking {
     Setup(Speed, u8, Setup),
     Out(Speed, Endpoint, Toggle, &'static [u8]),
     In(Speed, Endpoint, u8),
+    Ins(Endpoint, u8, Toggle, u8),
+    Outs(Endpoint, u8, Toggle, &'static [u8]),
     Port(u8, PortCall),
     Restart(u8, u8, bool),
     Wait,
@@ -97,6 +99,33 @@ const QUESTIONS: &[QuestionRow] = &[
         asked: Asked::Attempt,
         line: "IN 127.15 64",
     },
+    // rows of attempts
+    QuestionRow {
+        asking: Asking::Ins(
+            Endpoint {
+                address: 127,
+                number: 15,
+            },
+            64,
+            Toggle::One,
+            64,
+        ),
+        asked: Asked::Attempt,
+        line: "PRE IN 127.15 64 DATA1 64",
+    },
+    QuestionRow {
+        asking: Asking::Outs(
+            Endpoint {
+                address: 1,
+                number: 2,
+            },
+            2,
+            Toggle::Zero,
+            &[0, 1, 0xab],
+        ),
+        asked: Asked::Attempt,
+        line: "PRE OUT 1.2 / PRE DATA0 0001AB 2",
+    },
     QuestionRow {
         asking: Asking::Port(2, PortCall::SetReset),
         asked: Asked::Port,
@@ -124,8 +153,8 @@ const QUESTIONS: &[QuestionRow] = &[
     },
 ];
 
-/// The bytes, of which there are at most 64.
-fn few(bytes: &[u8]) -> ArrayVec<u8, 64> {
+/// The bytes, of which there are at most this number.
+fn few<const MOST: usize>(bytes: &[u8]) -> ArrayVec<u8, MOST> {
     let mut all = ArrayVec::new();
     let _ = all.try_extend_from_slice(bytes);
     all
@@ -151,6 +180,20 @@ fn question(asking: Asking) -> Question {
             speed,
             endpoint,
             most,
+        },
+        Asking::Ins(endpoint, most, toggle, packets) => Question::Ins {
+            speed: Speed::LowBelowHub,
+            endpoint,
+            most,
+            toggle,
+            packets,
+        },
+        Asking::Outs(endpoint, most, toggle, bytes) => Question::Outs {
+            speed: Speed::LowBelowHub,
+            endpoint,
+            most,
+            toggle,
+            bytes: few(bytes),
         },
         Asking::Port(number, call) => Question::Port { number, call },
         Asking::Restart(address, number, is_in) => Question::Restart {
@@ -192,6 +235,15 @@ const NO_QUESTIONS: &[&str] = &[
     "IN 1 8",
     "IN 1.1 0",
     "IN 1.1 65",
+    "IN 1.1 8 DATA0",
+    "IN 1.1 8 DATA0 0",
+    "IN 1.1 8 DATA0 65",
+    "IN 1.1 8 DATA2 2",
+    "IN 1.1 65 DATA0 2",
+    "OUT 1.1 / DATA0 - 8",
+    "OUT 1.1 / DATA0 00 0",
+    "OUT 1.1 / DATA0 00 65",
+    "OUT 1.1 / DATA0 0 8",
     "port 8 set PORT_RESET",
     "port 0 set PORT_RESET",
     "port 1 set PORT_ENABLE",
@@ -225,6 +277,11 @@ const SAID: &[SaidRow] = &[
         asked: Asked::Hello,
         line: "roots 7",
         written: "roots 7",
+    },
+    SaidRow {
+        asked: Asked::Hello,
+        line: "roots 7 2",
+        written: "roots 7 2",
     },
     SaidRow {
         asked: Asked::Attempt,

@@ -202,6 +202,70 @@ bytes = """\
 0000000000000000000000000000000000000000000000000000000000000000000000000000000000"""
 "#;
 
+/// A device with bulk endpoints of packets of 8 bytes, which gives 20 bytes.
+const BULK: &str = r#"
+limit = 100
+roots = 1
+
+[[device]]
+name = "bulk"
+speed = "full"
+descriptor = "120100020000004034127856000100000001"
+configs = ["0902200001010080320904000002FF0000000705020208000007058202080000"]
+source = "000102030405060708090A0B0C0D0E0F10111213"
+
+[[event]]
+do = "plug"
+path = "1"
+device = "bulk"
+"#;
+
+/// The same, and the second packet of its data is lost. Two attempts later the device is pulled out.
+const LOST_PACKET: &str = r#"
+limit = 100
+roots = 1
+
+[[device]]
+name = "bulk"
+speed = "full"
+descriptor = "120100020000004034127856000100000001"
+configs = ["0902200001010080320904000002FF0000000705020208000007058202080000"]
+source = "000102030405060708090A0B0C0D0E0F10111213"
+
+[[event]]
+do = "plug"
+path = "1"
+device = "bulk"
+
+[[event]]
+do = "unplug"
+path = "1"
+after = 8
+
+[[damage]]
+attempt = 6
+packet = 1
+how = "lose"
+"#;
+
+/// The first device, at the sixth attempt of which the limit is reached.
+const CUT_ROW: &str = r#"
+limit = 6
+roots = 1
+
+[[device]]
+name = "bulk"
+speed = "full"
+descriptor = "120100020000004034127856000100000001"
+configs = ["0902200001010080320904000002FF0000000705020208000007058202080000"]
+source = "000102030405060708090A0B0C0D0E0F10111213"
+
+[[event]]
+do = "plug"
+path = "1"
+device = "bulk"
+"#;
+
 /// A plan, what a host says, what is said to it, and how that ends.
 #[derive(Clone, Copy)]
 struct Row {
@@ -236,7 +300,7 @@ const COURSE: Row = Row {
            wait\n\
            \u{e9}\n\
            end\n",
-    far: "roots 2\n\
+    far: "roots 2 2\n\
           port 1 00010000\nok\n\
           port 1 01010100\nok\n\
           port 1 01010000\nok\n\
@@ -299,7 +363,7 @@ device = "thermometer"
            1 address 1 full 120100020000004034127856000100000001\n\
            1 config 0 0902120001010080320904000000FF000000 *\n\
            end\n",
-    far: "roots 1\n\
+    far: "roots 1 2\n\
           ok\n\
           port 1 00010000\n\
           ok\n\
@@ -331,9 +395,102 @@ device = "thermometer"
     ended: Ok(()),
 };
 
+/// Rows of attempts: each has the answers of its attempts, up to the one that moves no packet.
+const BULK_ROWS: Row = Row {
+    plan: BULK,
+    host: "usbplan live 1\n\
+           port 1 set PORT_POWER\nwait\nport 1 clear C_PORT_CONNECTION\n\
+           port 1 set PORT_RESET\nport 1 clear C_PORT_RESET\n\
+           SETUP 0.0 / DATA0 0005010000000000\nIN 0.0 64\n\
+           SETUP 1.0 / DATA0 0009010000000000\nIN 1.0 64\n\
+           IN 1.2 8 DATA0 2\n\
+           IN 1.2 8 DATA0 64\n\
+           IN 1.2 8 DATA1 64\n\
+           OUT 1.2 / DATA0 000102030405060708090A0B0C0D0E0F1011 8\n\
+           OUT 1.2 / DATA1 00 8\n\
+           low OUT 1.2 / DATA1 000102 1\n\
+           PRE OUT 1.2 / PRE DATA1 000102 1\n\
+           wait\n",
+    far: "roots 1 2\n\
+          port 1 00010000\nok\nport 1 01010100\nok\nport 1 01010000\nok\n\
+          port 1 03011000\nok\nport 1 03010000\nok\n\
+          ACK\nDATA1 -\nACK\nDATA1 -\n\
+          DATA0 0001020304050607\nDATA1 08090A0B0C0D0E0F\n\
+          DATA0 10111213\n\
+          NAK\n\
+          ACK\nACK\nACK\n\
+          ACK\n\
+          none\n\
+          none\n\
+          end\n",
+    ended: Ok(()),
+};
+
 const ROWS: &[Row] = &[
     COURSE,
     PAGE,
+    BULK_ROWS,
+    // the answer to the second attempt is lost; the third row is cut by an unplug, and told where it came
+    Row {
+        plan: LOST_PACKET,
+        host: "usbplan live 1\n\
+               port 1 set PORT_POWER\nwait\nport 1 clear C_PORT_CONNECTION\n\
+               port 1 set PORT_RESET\nport 1 clear C_PORT_RESET\n\
+               SETUP 0.0 / DATA0 0005010000000000\nIN 0.0 64\n\
+               SETUP 1.0 / DATA0 0009010000000000\nIN 1.0 64\n\
+               IN 1.2 8 DATA0 64\nIN 1.2 8 DATA1 2\n\
+               OUT 1.2 / DATA0 000102030405060708090A0B0C0D0E0F1011 8\nwait\n",
+        far: "roots 1 2\n\
+              port 1 00010000\nok\nport 1 01010100\nok\nport 1 01010000\nok\n\
+              port 1 03011000\nok\nport 1 03010000\nok\n\
+              ACK\nDATA1 -\nACK\nDATA1 -\n\
+              DATA0 0001020304050607\nnone\n\
+              DATA1 08090A0B0C0D0E0F\nDATA0 10111213\n\
+              port 1 00010100\nnone\n\
+              end\n",
+        ended: Ok(()),
+    },
+    // the limit is reached within a row
+    Row {
+        plan: CUT_ROW,
+        host: "usbplan live 1\n\
+               port 1 set PORT_POWER\nwait\nport 1 clear C_PORT_CONNECTION\n\
+               port 1 set PORT_RESET\nport 1 clear C_PORT_RESET\n\
+               SETUP 0.0 / DATA0 0005010000000000\nIN 0.0 64\n\
+               SETUP 1.0 / DATA0 0009010000000000\nIN 1.0 64\n\
+               IN 1.2 8 DATA0 64\nwait\n",
+        far: "roots 1 2\n\
+              port 1 00010000\nok\nport 1 01010100\nok\nport 1 01010000\nok\n\
+              port 1 03011000\nok\nport 1 03010000\nok\n\
+              ACK\nDATA1 -\nACK\nDATA1 -\n\
+              DATA0 0001020304050607\nDATA1 08090A0B0C0D0E0F\n",
+        ended: Err((11, FarFault::Bus(BusFault::Limit))),
+    },
+    // rows of no packets or of too many, and of no bytes
+    Row {
+        plan: PLAN,
+        host: "usbplan live 1\nIN 1.1 8 DATA0 0\n",
+        far: "roots 2 2\n",
+        ended: Err((2, FarFault::NoQuestion)),
+    },
+    Row {
+        plan: PLAN,
+        host: "usbplan live 1\nIN 1.1 8 DATA0 64\nIN 1.1 8 DATA0 65\n",
+        far: "roots 2 2\nnone\n",
+        ended: Err((3, FarFault::NoQuestion)),
+    },
+    Row {
+        plan: PLAN,
+        host: "usbplan live 1\nOUT 1.1 / DATA0 - 8\n",
+        far: "roots 2 2\n",
+        ended: Err((2, FarFault::NoQuestion)),
+    },
+    Row {
+        plan: PLAN,
+        host: "IN 1.1 8 DATA0 2\n",
+        far: "",
+        ended: Err((1, FarFault::NoQuestion)),
+    },
     Row {
         plan: PLAN,
         host: "",
@@ -347,7 +504,7 @@ const ROWS: &[Row] = &[
                control 1 out failed no device\nwait\ncontrol 1 out failed no device\nwait\n\
                interface 1 255 0 failed no device\nwait\n\
                look 1 empty\nwait\nnews\nleft 1\nwait\nend\nwait\n",
-        far: "roots 1\ncontrol 1 8000000000000200\ncontrol 1 2109000200000100 0A\n\
+        far: "roots 1 2\ncontrol 1 8000000000000200\ncontrol 1 2109000200000100 0A\n\
               control 1 0009010000000000\ninterface 1 255 0\nlook 1\nnews\nend\n",
         ended: Ok(()),
     },
@@ -357,7 +514,7 @@ const ROWS: &[Row] = &[
         host: "usbplan live 1\nwait\nsend 1 02 failed no device\nwait\n\
                receive 1.2 8F failed no device\nwait\ninterrupt 1 81 nothing\nwait\n\
                clear 1 01 failed no device\nwait\n",
-        far: "roots 1\nsend 1 02 0A0B\nreceive 1.2 8F 3\ninterrupt 1 81\nclear 1 01\n",
+        far: "roots 1 2\nsend 1 02 0A0B\nreceive 1.2 8F 3\ninterrupt 1 81\nclear 1 01\n",
         ended: Err((10, FarFault::LongSend)),
     },
     // an event that came in the last polls, which brought nothing, is told before the next one is taken
@@ -366,7 +523,7 @@ const ROWS: &[Row] = &[
                port 1 set PORT_RESET\nSETUP 0.0 / DATA0 0005010000000000\nIN 0.0 8\n\
                SETUP 1.0 / DATA0 0009010000000000\nIN 1.0 8\nIN 1.1 1\nIN 1.1 1\nIN 1.1 1\n\
                wait\nwait\n",
-        far: "roots 2\nport 1 00010000\nok\nport 2 00010000\nok\nport 1 01010100\nok\n\
+        far: "roots 2 2\nport 1 00010000\nok\nport 2 00010000\nok\nport 1 01010100\nok\n\
               port 1 03011100\nok\nACK\nDATA1 -\nACK\nDATA1 -\nNAK\nport 2 01010100\nNAK\nNAK\nok\nend\n",
         plan: HUB,
         ended: Ok(()),
@@ -377,7 +534,7 @@ const ROWS: &[Row] = &[
                port 1 set PORT_RESET\nSETUP 0.0 / DATA0 0005010000000000\nIN 0.0 8\n\
                SETUP 1.0 / DATA0 0009010000000000\nIN 1.0 8\nIN 1.1 1\nIN 1.1 1\nIN 1.1 1\n\
                wait\nwait\n",
-        far: "roots 2\nport 1 00010000\nok\nport 2 00010000\nok\nport 1 01010100\nok\n\
+        far: "roots 2 2\nport 1 00010000\nok\nport 2 00010000\nok\nport 1 01010100\nok\n\
               port 1 03011100\nok\nACK\nDATA1 -\nACK\nDATA1 -\nNAK\nport 2 01010100\nnone\nNAK\nok\nend\n",
         plan: LOST_POLL,
         ended: Ok(()),
@@ -388,7 +545,7 @@ const ROWS: &[Row] = &[
                port 1 set PORT_RESET\nSETUP 0.0 / DATA0 0005010000000000\nIN 0.0 8\n\
                SETUP 1.0 / DATA0 0009010000000000\nIN 1.0 8\nIN 1.1 1\nIN 1.1 1\nIN 7.0 1\n\
                wait\n",
-        far: "roots 2\nport 1 00010000\nok\nport 2 00010000\nok\nport 1 01010100\nok\n\
+        far: "roots 2 2\nport 1 00010000\nok\nport 2 00010000\nok\nport 1 01010100\nok\n\
               port 1 03011100\nok\nACK\nDATA1 -\nACK\nDATA1 -\nNAK\nport 2 01010100\nNAK\nnone\nend\n",
         plan: HUB,
         ended: Ok(()),
@@ -399,7 +556,7 @@ const ROWS: &[Row] = &[
                port 1 set PORT_RESET\nSETUP 0.0 / DATA0 0005010000000000\nIN 0.0 8\n\
                SETUP 1.0 / DATA0 0009010000000000\nIN 1.0 8\nIN 1.1 1\nIN 1.1 1\nrestart 1.1 in\n\
                wait\n",
-        far: "roots 2\nport 1 00010000\nok\nport 2 00010000\nok\nport 1 01010100\nok\n\
+        far: "roots 2 2\nport 1 00010000\nok\nport 2 00010000\nok\nport 1 01010100\nok\n\
               port 1 03011100\nok\nACK\nDATA1 -\nACK\nDATA1 -\nNAK\nport 2 01010100\nNAK\nok\nend\n",
         plan: HUB,
         ended: Ok(()),
@@ -408,7 +565,7 @@ const ROWS: &[Row] = &[
     Row {
         plan: PLAN,
         host: "usbplan live 1\nrestart 0.1 in\nrestart 127.15 out\nrestart 1.0 in\n",
-        far: "roots 2\nok\nok\n",
+        far: "roots 2 2\nok\nok\n",
         ended: Err((4, FarFault::NoQuestion)),
     },
     Row {
@@ -426,38 +583,38 @@ const ROWS: &[Row] = &[
     Row {
         plan: PLAN,
         host: "usbplan live 1\nusbplan live 1\n",
-        far: "roots 2\n",
+        far: "roots 2 2\n",
         ended: Err((2, FarFault::NoQuestion)),
     },
     Row {
         plan: PLAN,
         host: "usbplan live 1\nwait \n",
-        far: "roots 2\n",
+        far: "roots 2 2\n",
         ended: Err((2, FarFault::NoQuestion)),
     },
     Row {
         plan: PLAN,
         host: "usbplan live 1\nwait\r\n",
-        far: "roots 2\n",
+        far: "roots 2 2\n",
         ended: Err((2, FarFault::BadCharacter)),
     },
     Row {
         plan: PLAN,
         host: "usbplan live 1\nport 3 set PORT_POWER\nwait\n",
-        far: "roots 2\n",
+        far: "roots 2 2\n",
         ended: Err((2, FarFault::BadNumber)),
     },
     Row {
         plan: PLAN,
         host: "usbplan live 1\nwait\nwait\nwait\nwait\nwait\nwait\nwait\nwait\n",
-        far: "roots 2\nok\nok\nok\nsend 1 0102\nreceive 2 3\nclear 2\nshow\n",
+        far: "roots 2 2\nok\nok\nok\nsend 1 0102\nreceive 2 3\nclear 2\nshow\n",
         ended: Err((9, FarFault::LongSend)),
     },
     Row {
         plan: PLAN,
         host: "usbplan live 1\nIN 1.0 8\nIN 1.0 8\nIN 1.0 8\nIN 1.0 8\nIN 1.0 8\nIN 1.0 8\nIN 1.0 8\n\
                IN 1.0 8\nIN 1.0 8\nwait\n",
-        far: "roots 2\nnone\nnone\nnone\nnone\nnone\nnone\nnone\nnone\n",
+        far: "roots 2 2\nnone\nnone\nnone\nnone\nnone\nnone\nnone\nnone\n",
         ended: Err((10, FarFault::Bus(BusFault::Limit))),
     },
 ];
@@ -552,7 +709,7 @@ fn long_lines(rt: HostRuntime) -> Result<(), Fail> {
         }
         host.push('\n')?;
         let played = play(rt.alloc(), PLAN, host.as_bytes(), u64::MAX)?;
-        assert_eq!(rt; text_of(played.far.as_slice()), "roots 2\n", "{begin}");
+        assert_eq!(rt; text_of(played.far.as_slice()), "roots 2 2\n", "{begin}");
         assert_eq!(rt; played.ended, ended, "{begin}");
     }
     Ok(())
@@ -561,29 +718,31 @@ fn long_lines(rt: HostRuntime) -> Result<(), Fail> {
 /// The input ends, or fails, after each number of bytes: what has gone out are the replies to whole lines.
 #[test]
 fn cut(rt: HostRuntime) -> Result<(), Fail> {
-    let host = COURSE.host.as_bytes();
-    for count in 0..host.len() {
-        let front = &host[..count];
-        let line = newlines(front).saturating_add(1);
-        let in_line = front.last().is_some_and(|byte| *byte != b'\n');
-        let gone = if in_line {
-            Err((line, FarFault::HostGone))
-        } else {
-            Ok(())
-        };
-        let ended = play(rt.alloc(), PLAN, front, u64::MAX)?;
-        assert_eq!(rt; ended.ended, gone, "{count} bytes");
-        let failed = play(rt.alloc(), PLAN, Torn(front), u64::MAX)?;
-        assert_eq!(rt; failed.ended, Err((line, FarFault::Read)), "{count} bytes");
-        assert_eq!(rt;
-            failed.far.as_slice(),
-            ended.far.as_slice(),
-            "{count} bytes"
-        );
-        assert!(rt;
-            COURSE.far.as_bytes().starts_with(ended.far.as_slice()),
-            "{count} bytes"
-        );
+    for (row, first) in [(COURSE, 0), (BULK_ROWS, 270)] {
+        let host = row.host.as_bytes();
+        for count in first..host.len() {
+            let front = &host[..count];
+            let line = newlines(front).saturating_add(1);
+            let in_line = front.last().is_some_and(|byte| *byte != b'\n');
+            let gone = if in_line {
+                Err((line, FarFault::HostGone))
+            } else {
+                Ok(())
+            };
+            let ended = play(rt.alloc(), row.plan, front, u64::MAX)?;
+            assert_eq!(rt; ended.ended, gone, "{count} bytes");
+            let failed = play(rt.alloc(), row.plan, Torn(front), u64::MAX)?;
+            assert_eq!(rt; failed.ended, Err((line, FarFault::Read)), "{count} bytes");
+            assert_eq!(rt;
+                failed.far.as_slice(),
+                ended.far.as_slice(),
+                "{count} bytes"
+            );
+            assert!(rt;
+                row.far.as_bytes().starts_with(ended.far.as_slice()),
+                "{count} bytes"
+            );
+        }
     }
     Ok(())
 }
@@ -591,17 +750,19 @@ fn cut(rt: HostRuntime) -> Result<(), Fail> {
 /// Each write fails in turn: a prefix of the text has gone out.
 #[test]
 fn writes(rt: HostRuntime) -> Result<(), Fail> {
-    let whole = play(rt.alloc(), PLAN, COURSE.host.as_bytes(), u64::MAX)?;
-    assert_eq!(rt; whole.ended, Ok(()));
-    for writes in 0..15u64 {
-        let played = play(rt.alloc(), PLAN, COURSE.host.as_bytes(), writes)?;
-        let fault = played.ended.err().map(|(_, fault)| fault);
-        assert_eq!(rt; fault, Some(FarFault::Write), "{writes} writes");
-        assert!(rt;
-            whole.far.starts_with(played.far.as_slice()),
-            "{writes} writes"
-        );
-        assert!(rt; played.far.len() < whole.far.len(), "{writes} writes");
+    for (row, all) in [(COURSE, 15u64), (BULK_ROWS, 19)] {
+        let whole = play(rt.alloc(), row.plan, row.host.as_bytes(), u64::MAX)?;
+        assert_eq!(rt; whole.ended, Ok(()));
+        for writes in 0..all {
+            let played = play(rt.alloc(), row.plan, row.host.as_bytes(), writes)?;
+            let fault = played.ended.err().map(|(_, fault)| fault);
+            assert_eq!(rt; fault, Some(FarFault::Write), "{writes} writes");
+            assert!(rt;
+                whole.far.starts_with(played.far.as_slice()),
+                "{writes} writes"
+            );
+            assert!(rt; played.far.len() < whole.far.len(), "{writes} writes");
+        }
     }
     Ok(())
 }

@@ -138,7 +138,7 @@ const FAULTS: &[Row] = &[
 struct Played {
     host: Vec<u8>,
     given: String,
-    attempts: u64,
+    attempts: u128,
     fault: Option<LiveFault>,
 }
 
@@ -307,8 +307,8 @@ fn newlines(text: &[u8]) -> usize {
 }
 
 /// How many of the first lines of `HOST` ask for attempts: its second to its fifth do.
-fn attempts_of(lines: usize) -> u64 {
-    lines.clamp(1, 5) as u64 - 1
+fn attempts_of(lines: usize) -> u128 {
+    lines.clamp(1, 5) as u128 - 1
 }
 
 #[test]

@@ -1,6 +1,5 @@
 use Rattle.std.proofs.Common.{◌∙◌, refl, sym}
-use Rattle.usb_far.proofs.Lines.{asked_line, asked_torn, no_question_there, no_reply_there}
-use Rattle.usb_far.proofs.Lines.{told_whole}
+use Rattle.usb_far.proofs.Lines.{asked_line, no_question_there, row_stopped, told_whole}
 use Rattle.usb_far.proofs.far_end.FarEnd.take_line.Goals as goal
 
 pub returns-then-is_told : goal.returns-then-is_told
@@ -15,20 +14,14 @@ returns-in-Err g c = λ before behind read on.
     c.requires.short (sym c.is_told.ensures ∙ c.if-is_told.false)
     read on refl refl
 
-pub returns-in-Err-reply : goal.returns-in-Err-reply
-returns-in-Err-reply g c = λ before behind read on.
-    no_reply_there _ _ c.args.line.now c.in-Ok.question c.in-Err-reply.fault
-    c.in-Err-reply.ensures.fault c.in-Ok.ensures.asked c.requires.unbroken c.requires.short
-    (sym c.is_told.ensures ∙ c.if-is_told.false) read on refl
+pub returns-in-Ok-reply_all : goal.returns-in-Ok-reply_all
+returns-in-Ok-reply_all g c = λ before behind read on.
+    asked_line _ _ c.args.line.now c.in-Ok.question c.requires.unbroken read on
+    c.in-Ok.ensures.asked c.in-Ok-reply_all.ensures
 
-pub returns-in-Ok-put_lines : goal.returns-in-Ok-put_lines
-returns-in-Ok-put_lines g c = λ before behind read on.
-    asked_line _ _ c.args.line.now c.in-Ok-reply.reply.items c.in-Ok.question c.requires.unbroken
-    read on c.in-Ok.ensures.asked c.in-Ok-reply.ensures.replied
-    (rw c.as_slice.ensures.value at c.in-Ok-put_lines.ensures)
-
-pub returns-in-Err-put_lines : goal.returns-in-Err-put_lines
-returns-in-Err-put_lines g c = λ before behind read on.
-    asked_torn _ _ c.args.line.now c.in-Ok-reply.reply.items c.in-Ok.question c.requires.unbroken
-    read on c.in-Ok.ensures.asked c.in-Ok-reply.ensures.replied
-    (rw c.as_slice.ensures.value at c.in-Err-put_lines.ensures)
+pub returns-in-Err-reply_all : goal.returns-in-Err-reply_all
+returns-in-Err-reply_all g c = λ before behind read on.
+    let s = c.in-Err-reply_all.ensures in
+    row_stopped _ _ c.args.line.now c.in-Ok.question s.left s.mid s.w c.in-Err-reply_all.fault
+    s.front s.stops c.in-Ok.ensures.asked c.requires.unbroken c.requires.short
+    (sym c.is_told.ensures ∙ c.if-is_told.false) read on

@@ -17,11 +17,12 @@ returns-in-Ok-clause-asked g c =
     let gone = subst (λ t. Flushes before t now) text c.in-Ok.ensures in
     let one = c.attempts_in.ensures in
     let kind = c.asked-asked.ensures in
+    let more = c.more_answers-self.ensures.value in
     rw c.hear.ensures.writer (asks_by c.args.question.now
     (unread_of g.R.Read.remaining c.args.self.now) (unread_of g.R.Read.remaining c.hear.new.self)
     before now (kept_of c.args.self.now) (kept_of c.hear.new.self) c.hear.result gone
-    c.if-self-eq0.false c.requires.sound (rw (one, kind) at c.hear.ensures.ok)
-    (rw (one, kind) at c.hear.ensures.err) (rw (one, kind) at c.hear.ensures.same))
+    c.if-self-eq0.false c.requires.sound (rw (one, kind, more) at c.hear.ensures.ok)
+    (rw (one, kind, more) at c.hear.ensures.err) (rw (one, kind, more) at c.hear.ensures.same))
 
 pub returns-in-Err-clause-asked : goal.returns-in-Err-clause-asked
 returns-in-Err-clause-asked g c =
@@ -29,6 +30,6 @@ returns-in-Err-clause-asked g c =
     let now = out_pipe_of g.W.Write.contents c.put_lines.new.writer in
     let text = c.as_slice.ensures.value ∙ c.line_for-line.ensures in
     let torn = subst (λ t. FailsToFlush before t now) text c.in-Err.ensures in
-    rw (c.attempts_in.ensures, c.asked-asked.ensures)
+    rw (c.attempts_in.ensures, c.asked-asked.ensures, c.more_answers-self.ensures.value)
     (not_written c.args.question.now (unread_of g.R.Read.remaining c.args.self.now) before now
     (kept_of c.args.self.now) torn c.if-self-eq0.false)
