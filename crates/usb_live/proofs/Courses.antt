@@ -168,8 +168,7 @@ heard_left : (plan : RowPlan) (r0 : Pipe) (w0 : OutPipe) (j : Kept) (n : ℕ) (g
     (r : Pipe) (w : OutPipe) (k : Kept) → RowHeard plan r0 w0 j n got r w k → k.left ≤ j.left
 heard_left plan r0 w0 j n got r w k none_heard = omega arith
 heard_left plan r0 w0 j n got r w k
-    (one_heard {n = before} {r = r1} {left = r} {w = w1} {now = w} {j = i} {k = k} answer h step
-    moves) =
+    (one_heard {n = before} {r = r1} {w = w1} {j = i} answer h step moves) =
     let so = heard_left plan r0 w0 j before _ r1 w1 i h in
     let one = step_left (was_asked before i.ahead) (plan.ask before) r1 r w1 w i k (Ok answer) step
     in omega (arith, so, one)
