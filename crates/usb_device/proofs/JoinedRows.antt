@@ -1,7 +1,7 @@
 -- OUT endpoints of what a device keeps of them: their heads, and what they have taken.
 use Rattle.std.proofs.Common.{◌≡◌, ℕ, zero, suc, ◌+◌, ◌<◌, Bool, true, false, List, [], ◌∷◌, ◌++◌}
-use Rattle.std.proofs.Common.{length, map, get_or, slice_set, refl, ap, ap₂, ◌∙◌, arith}
-use Rattle.usb_device.specs.{InEnd, OutHead, Spec, begun_if, end_numbers, head_of, joined, no_head, no_out}
+use Rattle.std.proofs.Common.{Option, None, Some, is_some, length, map, get_or, slice_set, refl, ap, ap₂, ◌∙◌, arith}
+use Rattle.usb_device.specs.{EndpointSpec, InEnd, OutHead, Spec, begun_if, end_numbers, head_of, joined, no_head, no_out}
 use Rattle.usb_device.specs.{numbered_from, plugged_head, plugged_in_end, plugged_out, rested_head}
 use Rattle.usb_device.specs.{rested_in, rested_out, with_at, with_sink}
 use Rattle.usb_device.proofs.RowsOfEnds.{none_less}
@@ -29,7 +29,7 @@ pub joined-head : (heads : List OutHead) (sinks : List (List ℕ)) (n : ℕ) (he
     → n < length heads → joined (slice_set heads n head) sinks
     ≡ with_at no_out n (with_sink head (get_or (joined heads sinks) n no_out).sink)
     (joined heads sinks)
-unfolding joined, with_at
+unfolding joined with_at
 joined-head [] sinks n head less = none_less n less
 joined-head (h ∷ heads) [] zero head less = refl
 joined-head (h ∷ heads) [] (suc n) head less =
@@ -43,7 +43,7 @@ pub joined-both : (heads : List OutHead) (sinks : List (List ℕ)) (n : ℕ) (he
     (sink : List ℕ) → n < length heads → n < length sinks
     → joined (slice_set heads n head) (slice_set sinks n sink)
     ≡ with_at no_out n (with_sink head sink) (joined heads sinks)
-unfolding joined, with_at
+unfolding joined with_at
 joined-both [] sinks n head sink less there = none_less n less
 joined-both (h ∷ heads) [] n head sink less there = none_less n there
 joined-both (h ∷ heads) (s ∷ sinks) zero head sink less there = refl
@@ -77,7 +77,7 @@ begun-joined false h s = refl
 pub joined-begun : (begins : ℕ → Bool) (first : ℕ) (heads : List OutHead) (sinks : List (List ℕ))
     → joined (numbered_from (λ e. begun_if (begins e) rested_head) first heads) sinks
     ≡ numbered_from (λ e. begun_if (begins e) rested_out) first (joined heads sinks)
-unfolding joined, numbered_from
+unfolding joined numbered_from
 joined-begun begins first [] sinks = refl
 joined-begun begins first (h ∷ heads) [] = ap₂ (λ x more. x ∷ more)
     (begun-joined (begins first) h []) (joined-begun begins (first + 1) heads [])
@@ -136,3 +136,16 @@ pub joined-plugged : (s : Spec)
     → joined (map (plugged_head s) end_numbers) [] ≡ map (plugged_out s) end_numbers
 unfolding joined
 joined-plugged s = refl
+
+no_rows : (rows : List EndpointSpec) → length rows ≡ 0 → rows ≡ []
+no_rows [] h = refl
+no_rows (row ∷ rows) h = cc h
+
+no_count : (o : Option ℕ) → is_some o ≡ false → o ≡ None
+no_count None h = refl
+no_count (Some n) h = cc h
+
+pub joined-plain : (s : Spec) → length s.endpoints ≡ 0 → is_some s.halt_after ≡ false
+    → joined (map (λ (e : ℕ). no_head) end_numbers) [] ≡ map (plugged_out s) end_numbers
+unfolding joined
+joined-plain s none never = rw (no_rows s.endpoints none, no_count s.halt_after never) refl

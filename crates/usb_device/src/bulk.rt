@@ -229,11 +229,8 @@ fn status_at(spec: &DeviceSpec, registers: &Registers) -> u8
     }
 }
 
-/// No endpoints, as of a device that is not configured.
-pub fn none_served(spec: &DeviceSpec, registers: &Registers) -> ServedEndpoints
-    requires { registers.now.configuration ≡ 0 }
-    ensures { AreServed spec.now registers.now result }
-{
+/// No endpoints.
+pub fn none_served() -> ServedEndpoints {
     ServedEndpoints {
         bulk_in: None,
         table: UsableEndpoints::none(),

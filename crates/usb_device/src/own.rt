@@ -75,7 +75,7 @@ pub struct FunctionState {
 }
 
 impl Model for FunctionState {
-    ghost use Rattle.std.specs.Prelude.{◌≡◌, false};
+    ghost use Rattle.std.specs.Prelude.{◌≡◌, ◌==◌, false};
     ghost use Rattle.usb_descriptor.specs.Settings.{default_settings};
     ghost use Rattle.usb_device.specs.Rows.{State};
     ghost use Rattle.usb_device.specs.Code.{stage_of};
@@ -96,7 +96,8 @@ impl Model for FunctionState {
       taken = d.taken.items;
     } };
 
-    ghost invariant = { λ d. AreServed d.spec.value d.registers d.served
+    ghost invariant = { λ d. ((d.registers.configuration == 0) ≡ false
+        → AreServed d.spec.value d.registers d.served)
         × (d.is_set ≡ false → d.registers.settings ≡ default_settings) };
 }
 
@@ -299,7 +300,7 @@ impl FunctionState {
                 spec: shared,
                 registers: at_reset(),
                 is_set: false,
-                served: none_served(spec, &at_reset()),
+                served: none_served(),
                 memory: RememberedPacket::Nothing,
                 naks: 0,
                 progress: Progress::Idle,
@@ -1083,7 +1084,9 @@ impl FunctionState {
         ensures { (answer_with result room.new, self.new)
             ≡ in_other_row self.old (row_of ports.now) ep }
     {
-        if tells_changes(&self.spec, &self.registers) && ep == self.served.status {
+        if !tells_changes(&self.spec, &self.registers) {
+            self.give_end(ep, room)
+        } else if ep == self.served.status {
             self.give_changes(ports, room)
         } else {
             self.give_end(ep, room)
@@ -1263,8 +1266,8 @@ impl FunctionState {
 
     /// Whether an OUT endpoint halts with its next packet.
     fn halts_next(&self, number: EndpointNumber) -> bool
-        ensures { result ≡ (out_halts self.now number
-            && is_last (out_end self.now number).pace.until_halt) }
+        ensures { result ≡ (is_last (out_end self.now number).pace.until_halt
+            && out_halts self.now number) }
     {
         is_last(self.outs.pace(number).until_halt) && self.out_halts(number)
     }
