@@ -1,9 +1,10 @@
 -- OUT endpoints of what a device keeps of them: their heads, and what they have taken.
 use Rattle.std.proofs.Common.{◌≡◌, ℕ, zero, suc, ◌+◌, ◌<◌, Bool, true, false, List, [], ◌∷◌, ◌++◌}
-use Rattle.std.proofs.Common.{Option, None, Some, is_some, length, map, get_or, slice_set, refl, ap, ap₂, ◌∙◌, arith}
+use Rattle.std.proofs.Common.{Option, None, Some, is_some, length, map, get_or, slice_set, refl, sym, ap, ap₂, ◌∙◌, arith}
 use Rattle.usb_device.specs.{EndpointSpec, InEnd, OutHead, Spec, begun_if, end_numbers, head_of, joined, no_head, no_out}
 use Rattle.usb_device.specs.{numbered_from, plugged_head, plugged_in_end, plugged_out, rested_head}
-use Rattle.usb_device.specs.{rested_in, rested_out, with_at, with_sink}
+use Rattle.usb_device.specs.{rested_in, rested_out, taken_head, taken_on, with_at}
+use Rattle.usb_device.specs.{with_sink}
 use Rattle.usb_device.proofs.RowsOfEnds.{none_less}
 
 pub head-joined : (heads : List OutHead) (sinks : List (List ℕ)) (n : ℕ)
@@ -51,6 +52,20 @@ joined-both (h ∷ heads) (s ∷ sinks) (suc n) head sink less there =
     ap (λ more. with_sink h s ∷ more)
     (joined-both heads sinks n head sink (omega (arith, less)) (omega (arith, there)))
 
+-- a packet joins the sink at a number, for which room was made
+pub joined-taken : (halts : Bool) (bytes : List ℕ) (heads : List OutHead)
+    (room sinks : List (List ℕ)) (n : ℕ) → n < length heads → n < length room
+    → joined heads room ≡ joined heads sinks
+    → joined (slice_set heads n (taken_head halts (get_or heads n no_head)))
+    (slice_set room n (get_or room n [] ++ bytes))
+    ≡ with_at no_out n (taken_on halts bytes (get_or (joined heads sinks) n no_out))
+    (joined heads sinks)
+joined-taken halts bytes heads room sinks n less there same =
+    joined-both heads room n _ _ less there ∙ ap₂ (with_at no_out n)
+    (ap₂ (λ head sink. with_sink (taken_head halts head) (sink ++ bytes))
+    (sym (head-joined heads room n)) (sym (sink-joined heads room n less))
+    ∙ ap (λ row. taken_on halts bytes (get_or row n no_out)) same) same
+
 -- room for one sink more
 pub joined-room : (heads : List OutHead) (sinks : List (List ℕ))
     → joined heads (sinks ++ [] ∷ []) ≡ joined heads sinks
@@ -95,7 +110,7 @@ rested_ins-twice [] = refl
 rested_ins-twice (end ∷ row) = ap (λ more. rested_in end ∷ more) (rested_ins-twice row)
 
 -- each number of a list is one more than that before it
-AreFrom : ℕ → List ℕ → Type 0
+abbrev AreFrom : ℕ → List ℕ → Type 0
 AreFrom first [] = Unit
 AreFrom first (n ∷ numbers) = (first ≡ n) × AreFrom (first + 1) numbers
 
@@ -111,25 +126,7 @@ numbered-each f first (n ∷ numbers) (x ∷ row) from same = ap₂ (λ y more. 
 
 pub numbered-all : {A : Type 0} (f : ℕ → A) (row : List A) → length row ≡ 16
     → numbered_from (λ e x. f e) 0 row ≡ map f end_numbers
-numbered-all f row same = numbered-each f 0 end_numbers row (
-  refl,
-  refl,
-  refl,
-  refl,
-  refl,
-  refl,
-  refl,
-  refl,
-  refl,
-  refl,
-  refl,
-  refl,
-  refl,
-  refl,
-  refl,
-  refl,
-  tt,
-) same
+numbered-all f row same = numbered-each f 0 end_numbers row (refl, (refl, (refl, (refl, (refl, (refl, (refl, (refl, (refl, (refl, (refl, (refl, (refl, (refl, (refl, (refl, tt)))))))))))))))) same
 
 -- at the plug nothing was taken
 pub joined-plugged : (s : Spec)
