@@ -1,7 +1,7 @@
 -- OUT endpoints of what a device keeps of them: their heads, and what they have taken.
 use Rattle.std.proofs.Common.{◌≡◌, ℕ, zero, suc, ◌+◌, ◌<◌, Bool, true, false, List, [], ◌∷◌, ◌++◌}
 use Rattle.std.proofs.Common.{Option, None, Some, is_some, length, map, get_or, slice_set, refl, sym, ap, ap₂, ◌∙◌, arith}
-use Rattle.usb_device.specs.{EndpointSpec, InEnd, OutHead, Spec, begun_if, end_numbers, head_of, joined, no_head, no_out}
+use Rattle.usb_device.specs.{EndpointSpec, InEnd, OutEnd, OutHead, Spec, begun_if, end_numbers, head_of, joined, no_head, no_out}
 use Rattle.usb_device.specs.{numbered_from, plugged_head, plugged_in_end, plugged_out, rested_head}
 use Rattle.usb_device.specs.{rested_in, rested_out, taken_head, taken_on, with_at}
 use Rattle.usb_device.specs.{with_sink}
@@ -65,6 +65,19 @@ joined-taken halts bytes heads room sinks n less there same =
     (ap₂ (λ head sink. with_sink (taken_head halts head) (sink ++ bytes))
     (sym (head-joined heads room n)) (sym (sink-joined heads room n less))
     ∙ ap (λ row. taken_on halts bytes (get_or row n no_out)) same) same
+
+-- the same of what the calls say of that
+pub joined-grown : (halts : Bool) (bytes : List ℕ) (heads : List OutHead)
+    (room old grown sinks : List (List ℕ)) (place n : ℕ) (head : OutHead) (row : List OutEnd)
+    → place ≡ n → n < length heads → n < length room
+    → head ≡ taken_head halts (get_or heads place no_head) → old ≡ room
+    → grown ≡ slice_set old place (get_or old place [] ++ bytes)
+    → joined heads room ≡ joined heads sinks → joined heads sinks ≡ row
+    → joined (slice_set heads place head) grown
+    ≡ with_at no_out n (taken_on halts bytes (get_or row n no_out)) row
+joined-grown halts bytes heads room old grown sinks place n head row at less there is was grows
+    same seen = rw (grows, is, was, at, ← seen)
+    (joined-taken halts bytes heads room sinks n less there same)
 
 -- room for one sink more
 pub joined-room : (heads : List OutHead) (sinks : List (List ℕ))
