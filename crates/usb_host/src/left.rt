@@ -13,18 +13,21 @@ pub(crate) struct LeftPorts<B: Bus> {
     at: [Option<[u8; 4]>; 8],
     // the status of a port, not left alone, that did not fit what was found there
     tried: [Option<[u8; 4]>; 8],
+    // whether a status was ever kept in either
+    is_used: bool,
     bus: PhantomData<B>,
 }
 
 impl<B: Bus> Model for LeftPorts<B> {
-    ghost use Rattle.std.specs.Prelude.{◌≡◌, true};
+    ghost use Rattle.std.specs.Prelude.{◌≡◌, false, true};
     ghost use Rattle.usb_host.specs.LeftPorts.{LeftStatuses, none_left};
 
     ghost Value = { LeftStatuses };
 
     ghost view = { λ ports. ports.at };
 
-    ghost invariant = { λ ports. B.modelled ≡ true → ports.at ≡ none_left };
+    ghost invariant = { λ ports. (B.modelled ≡ true → ports.at ≡ none_left)
+        × (ports.is_used ≡ false → ports.at ≡ none_left) };
 }
 
 impl<B: Bus> LeftPorts<B> {
@@ -35,6 +38,7 @@ impl<B: Bus> LeftPorts<B> {
         LeftPorts {
             at: [None; 8],
             tried: [None; 8],
+            is_used: false,
             bus: PhantomData,
         }
     }
@@ -49,6 +53,7 @@ impl<B: Bus> LeftPorts<B> {
         LeftPorts {
             at: self.at,
             tried: self.tried,
+            is_used: self.is_used,
             bus: PhantomData,
         }
     }
@@ -58,6 +63,9 @@ impl<B: Bus> LeftPorts<B> {
         ensures value { result ≡ is_some (slice_index_or self.now number None) }
         ensures none { B.modelled ≡ true → result ≡ false }
     {
+        if !self.is_used {
+            return false;
+        }
         match self.at.get(usize::from(number)) {
             Some(left) => left.is_some(),
             None => false,
@@ -69,6 +77,9 @@ impl<B: Bus> LeftPorts<B> {
         ensures value { IsTrue result ↔ (slice_index_or self.now number None ≡ Some status) }
         ensures none { B.modelled ≡ true → result ≡ false }
     {
+        if !self.is_used {
+            return false;
+        }
         match self.at.get(usize::from(number)) {
             Some(left) => *left == Some(status),
             None => false,
@@ -81,6 +92,7 @@ impl<B: Bus> LeftPorts<B> {
         ensures { self.new ≡ slice_set self.old number (Some status) }
     {
         if number < 8 {
+            self.is_used = true;
             self.at[usize::from(number)] = Some(status);
         }
     }
@@ -98,6 +110,7 @@ impl<B: Bus> LeftPorts<B> {
         ensures { self.new ≡ self.old }
     {
         if number < 8 {
+            self.is_used = true;
             self.tried[usize::from(number)] = Some(status);
         }
     }
@@ -117,7 +130,7 @@ impl<B: Bus> LeftPorts<B> {
         ensures none { B.modelled ≡ true → self.new ≡ self.old }
     {
         self.forget(number);
-        if number < 8 && !self.was_tried(number, status) {
+        if self.is_used && number < 8 && !self.was_tried(number, status) {
             self.tried[usize::from(number)] = None;
         }
     }
