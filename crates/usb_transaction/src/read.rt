@@ -73,8 +73,7 @@ pub(crate) fn data_in_from<B: Bus>(
         (λ _. toggle.new ≡ toggle.old) }
     ensures fits { IfOk result (λ bytes. length bytes ≤ target.max) }
 {
-    let attempt = attempt_of_in(target, ep);
-    ask_on(bus, &attempt, toggle, first)
+    ask_on(bus, &attempt_of_in(target, ep), toggle, first)
 }
 
 /// Makes the attempt of an IN, whose first outcome was this, until the awaited packet comes.

@@ -76,8 +76,7 @@ pub(crate) fn data_out_from<B: Bus>(
     ensures toggle { MatchResult result (λ _. toggle.new ≡ other toggle.old)
         (λ _. toggle.new ≡ toggle.old) }
 {
-    let attempt = attempt_of_out(target, ep, *toggle, bytes);
-    send_on(bus, &attempt, toggle, first)
+    send_on(bus, &attempt_of_out(target, ep, *toggle, bytes), toggle, first)
 }
 
 /// Makes the attempt of an OUT, whose first outcome was this, until its packet is acknowledged.

@@ -1,6 +1,7 @@
 use Rattle.std.proofs.Common.{◌∙◌, None, Some, Ok, Err, refl, sym, ap, subst, arith, rules}
 use Rattle.std.proofs.lemmas.Result.{err_from_is_err_and}
-use Rattle.usb_transaction.specs.{Bus, HearsAs, heard_as}
+use Rattle.usb_world.specs.{attempt_data}
+use Rattle.usb_transaction.specs.{HearsAs, Transacted, heard_as}
 use Rattle.usb_transaction.proofs.LastOutcomes.{heard_stall}
 use Rattle.usb_transaction.proofs.TransactionTries.{heard_fault, heard_last, heard_on, heard_packet}
 use Rattle.usb_transaction.proofs.TransactionTries.{pending_first, read_fits, told_cut, try_more}
@@ -72,7 +73,8 @@ returns-in_err-bytes-clause-asks g c known old before settled made =
     let p = c.tries.invariant.2 known old before settled made in
     rw (told.1, told.2) (
       heard_last p c.hear.new.self,
-      rw c.tries.invariant.0 at
+      subst (λ t. Transacted (heard_as t) (attempt_data c.args.attempt.now) old (Err fault)
+          (g.B.Bus.world c.tries.bus)) c.tries.invariant.0
           (heard_fault p c.hear.new.self fault (λ e. heard_stall _ _ e) heard),
     )
 

@@ -1,4 +1,5 @@
-use Rattle.std.proofs.Common.{Err, refl}
+use Rattle.std.proofs.Common.{◌≤◌, Err, IfOk, length, refl, subst}
+use Rattle.usb_world.specs.{Attempt}
 use Rattle.usb_transaction.specs.{Bus}
 use Rattle.usb_transaction.proofs.Calls.{asks_in}
 use Rattle.usb_transaction.proofs.TransactionTries.{cut_at_once, went_once}
@@ -22,4 +23,5 @@ returns-in-Ok-clause-asks g c known =
     let is = c.attempt_of_in-attempt.ensures.value in
     asks_in c.args.target c.args.ep c.args.toggle.now _ _ settled refl c.ask_on.result
     (rw is at (c.ask_on.ensures.asks known _ _ settled (c.in-Ok.ensures.attempts known)).1)
-    (rw is at c.ask_on.ensures.fits)
+    (subst (λ (a : Attempt). IfOk c.ask_on.result (λ bytes. length bytes ≤ a.max)) is
+    c.ask_on.ensures.fits)

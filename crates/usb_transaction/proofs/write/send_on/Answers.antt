@@ -3,7 +3,7 @@ use Rattle.std.proofs.Common.{arith, rules, true, false}
 use Rattle.std.specs.Option.{is_some}
 use Rattle.arrayvec.specs.ArrayVec.{ArrayVec}
 use Rattle.std.proofs.lemmas.Result.{err_from_is_err_and}
-use Rattle.usb_transaction.specs.{Bus, HearsAs, heard_when_sent, packed}
+use Rattle.usb_transaction.specs.{HearsAs, heard_when_sent, packed}
 use Rattle.usb_transaction.proofs.LastOutcomes.{sent_last, sent_stall}
 use Rattle.usb_transaction.proofs.TransactionTries.{heard_fault, heard_last, heard_on, heard_packet}
 use Rattle.usb_transaction.proofs.TransactionTries.{pending_first, told_cut, try_more, went_last}
