@@ -35,7 +35,6 @@ impl Model for PipeRow {
 
 impl PipeRow {
     /// New pipes to the endpoints of one direction of a device.
-    #[tactic(auto, using(crate::proofs::levels::NewPipes::row_filled))]
     pub fn new(target: Target, ends: &UsableEndpoints, is_in: bool) -> Self
         requires { IsTarget target }
         ensures { result ≡ row_of_ends target is_in (end_at ends.now is_in) }
