@@ -58,14 +58,18 @@ impl<B: Bus> LeftPorts<B> {
         }
     }
 
+    /// Whether a status of a port was ever kept; if not, none is left alone.
+    pub(crate) fn is_used(&self) -> bool
+        ensures { result ≡ false → self.now ≡ none_left }
+    {
+        self.is_used
+    }
+
     /// Whether a port is left alone.
     pub(crate) fn has(&self, number: u8) -> bool
         ensures value { result ≡ is_some (slice_index_or self.now number None) }
         ensures none { B.modelled ≡ true → result ≡ false }
     {
-        if !self.is_used {
-            return false;
-        }
         match self.at.get(usize::from(number)) {
             Some(left) => left.is_some(),
             None => false,
@@ -77,9 +81,6 @@ impl<B: Bus> LeftPorts<B> {
         ensures value { IsTrue result ↔ (slice_index_or self.now number None ≡ Some status) }
         ensures none { B.modelled ≡ true → result ≡ false }
     {
-        if !self.is_used {
-            return false;
-        }
         match self.at.get(usize::from(number)) {
             Some(left) => *left == Some(status),
             None => false,
@@ -130,7 +131,7 @@ impl<B: Bus> LeftPorts<B> {
         ensures none { B.modelled ≡ true → self.new ≡ self.old }
     {
         self.forget(number);
-        if self.is_used && number < 8 && !self.was_tried(number, status) {
+        if number < 8 && !self.was_tried(number, status) {
             self.tried[usize::from(number)] = None;
         }
     }

@@ -1,7 +1,8 @@
 -- How an attempt or an event ends that a fault may cut.
 use Rattle.std.proofs.Common.{◌≡◌, Bool, true, false, if◌then◌else◌, Option, Some, None, Result, Ok}
 use Rattle.std.proofs.Common.{Err, OnOk, IfErr, IsErrAnd, ◌≢◌, ◌||◌, refl, sym, subst, ap, ◌∙◌}
-use Rattle.std.proofs.Common.{arith, ℕ, ◌==◌, List, IfOk, IsSome, ⊤, is_some, ◌+◌}
+use Rattle.std.proofs.Common.{arith, ℕ, ◌==◌, List, IfOk, IsSome, is_some, ◌+◌}
+use Rattle.std.specs.Bool.{⊤}
 use Rattle.std.proofs.lemmas.Bool.{eq-eqb}
 use Rattle.usb_world.specs.declared.event.Ask.{Ask}
 use Rattle.usb_world.specs.{Attempt, Outcome, BusFault, Limit, Memory, Failed, World}
@@ -161,10 +162,13 @@ limit_attempts a w t sound e = record {
   text = nothing_written Limit a w (record w { fault = Some Limit }) t refl refl;
 }
 
+abbrev unit_ok : Result ⊤ BusFault
+unit_ok = Ok tt
+
 -- it was made
 pub made_attempts : (a : Attempt) (o : Outcome) (w v : World) (t s : Option (List ℕ))
     → w.fault ≡ None → (w.attempts ≡ w.limit → ⊥) → FitsMaximum a.max o
-    → AttemptMade a w t (Ok tt) o v s → Attempts a w t (Ok o) v s
+    → AttemptMade a w t unit_ok o v s → Attempts a w t (Ok o) v s
 made_attempts a o w v t s sound below fits m = record {
   counts = record {
     spends = m.spends;

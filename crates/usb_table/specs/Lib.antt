@@ -61,7 +61,7 @@ pub use TablePipes.{AreAbsent, AreFunctionPipes, ArePipesIf, ArePipesOf, ArePipe
 pub use TablePipes.{IsPipe}
 pub use TablePipes.{IsPlace, IsStatusPipe, end_under, new_function, new_pipe, new_pipes}
 pub use TablePipes.{new_pipes_to, new_row, new_status, no_pipes, none_lost, number_of}
-pub use TablePipes.{pipe_or, row_of_ends}
+pub use TablePipes.{row_of_ends}
 pub use TablePipes.{usable_end}
 pub use Tables.{ArePipesAt, GoesThrough, Table, TakesOut, empty, entered, pipes_at, removed}
 pub use Tables.{said_at, said_in, said_of, with_entry}

@@ -119,12 +119,6 @@ new_pipe target is_in e (Some end) = Some (record {
   condition = Ready;
 })
 
--- the new pipe, if there is one, else what was there
-abbrev pub pipe_or : Target → Bool → ℕ → Option UsableEndpoint → Option PipeState
-    → Option PipeState
-pipe_or target is_in e None had = had
-pipe_or target is_in e (Some end) had = new_pipe target is_in e (Some end)
-
 -- to those of a direction, by their numbers
 abbrev pub row_of_ends : Target → Bool → (ℕ → Option UsableEndpoint) → List (Option PipeState)
 row_of_ends target is_in ends = map (λ e. new_pipe target is_in e (ends e)) end_numbers

@@ -3,7 +3,7 @@ ghost use Rattle.std.specs.Prelude.{◌≡◌, ◌+◌, ◌≤◌, length, get_o
 ghost use Rattle.usb_descriptor.specs.Usable.{end_at};
 ghost use Rattle.usb_device.specs.Ends.{numbered_from, with_at};
 ghost use Rattle.usb_table.specs.InterfaceSettings.{cleared_row, mark_of, marked_row, replaced_if, replaced_row};
-ghost use Rattle.usb_table.specs.TablePipes.{none_lost, pipe_or, row_of_ends};
+ghost use Rattle.usb_table.specs.TablePipes.{new_pipe, none_lost, row_of_ends};
 ghost use Rattle.usb_transaction.specs.Transactions.{IsTarget};
 
 use std::marker::Model;
@@ -33,15 +33,41 @@ impl Model for PipeRow {
     ghost inverse = { λ row. record { row = row } };
 }
 
+/// A new pipe to the endpoint with a number, if there is one.
+fn new_pipe(target: Target, ends: &UsableEndpoints, number: u8, is_in: bool) -> Option<EndpointPipe>
+    requires { IsTarget target }
+    ensures { result ≡ new_pipe target is_in number (end_at ends.now is_in number) }
+{
+    let end = ends.get(number, is_in)?;
+    Some(EndpointPipe::new(target, number, end, is_in))
+}
+
 impl PipeRow {
     /// New pipes to the endpoints of one direction of a device.
     pub fn new(target: Target, ends: &UsableEndpoints, is_in: bool) -> Self
         requires { IsTarget target }
         ensures { result ≡ row_of_ends target is_in (end_at ends.now is_in) }
     {
-        let mut row = [None; 16];
-        put_from(&mut row, 0, target, ends, is_in);
-        PipeRow { row }
+        PipeRow {
+            row: [
+                new_pipe(target, ends, 0, is_in),
+                new_pipe(target, ends, 1, is_in),
+                new_pipe(target, ends, 2, is_in),
+                new_pipe(target, ends, 3, is_in),
+                new_pipe(target, ends, 4, is_in),
+                new_pipe(target, ends, 5, is_in),
+                new_pipe(target, ends, 6, is_in),
+                new_pipe(target, ends, 7, is_in),
+                new_pipe(target, ends, 8, is_in),
+                new_pipe(target, ends, 9, is_in),
+                new_pipe(target, ends, 10, is_in),
+                new_pipe(target, ends, 11, is_in),
+                new_pipe(target, ends, 12, is_in),
+                new_pipe(target, ends, 13, is_in),
+                new_pipe(target, ends, 14, is_in),
+                new_pipe(target, ends, 15, is_in),
+            ],
+        }
     }
 
     /// The pipe to the endpoint with a number, if there is one.
@@ -143,29 +169,6 @@ fn mark_of(pipe: Option<EndpointPipe>, mark: Option<EndpointKind>) -> Option<End
     match pipe {
         Some(pipe) => Some(pipe.kind()),
         None => mark,
-    }
-}
-
-/// Puts a new pipe at each endpoint of a direction of a device; the first place has this number.
-#[cycle(put_from)]
-#[tactic(auto, unfolding(usb_device::specs::Ends::numbered_from))]
-fn put_from(
-    row: &mut [Option<EndpointPipe>],
-    number: u8,
-    target: Target,
-    ends: &UsableEndpoints,
-    is_in: bool,
-)
-    requires room { number + length row.old ≤ 16 }
-    requires target { IsTarget target }
-    ensures { row.new ≡ numbered_from
-        (λ e had. pipe_or target is_in e (end_at ends.now is_in e) had) number row.old }
-{
-    if let Some((place, more)) = row.split_first_mut() {
-        if let Some(end) = ends.get(number, is_in) {
-            *place = Some(EndpointPipe::new(target, number, end, is_in));
-        }
-        put_from(more, number + 1, target, ends, is_in);
     }
 }
 

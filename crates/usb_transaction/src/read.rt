@@ -2,19 +2,16 @@
 ghost use Rattle.std.specs.Prelude.{◌≡◌, ◌<◌, ◌≤◌, MatchResult, true, length, IfOk};
 ghost use Rattle.usb_bus.specs.Traces.{Spends, StepRun, Steps};
 ghost use Rattle.usb_packet.specs.Toggles.{other};
-ghost use Rattle.usb_transaction.specs.AttemptLogs.{Transacted};
 ghost use Rattle.usb_transaction.specs.Calls.{AsksIn};
-ghost use Rattle.usb_transaction.specs.HeardOutcomes.{heard_as};
 ghost use Rattle.usb_transaction.specs.HeardTries.{AfterFirst, further_bound};
 ghost use Rattle.usb_transaction.specs.Transactions.{BusTold, IsTarget, in_attempt, transaction_bound};
-ghost use Rattle.usb_world.specs.PlainAttempts.{attempt_data};
-ghost use Rattle.usb_world.specs.Worlds.{FitsMaximum, IsAttempt};
+ghost use Rattle.usb_world.specs.Worlds.{FitsMaximum};
 
 use crate::attempt::attempt_of_in;
 use crate::heard_outcome::heard_as;
 use crate::tries::Tries;
 use crate::{Done, Target, TransFault};
-use usb_bus::{Attempt, Bus, Outcome};
+use usb_bus::{Bus, Outcome};
 use usb_packet::Toggle;
 
 /// Asks an endpoint, 0 to 15, for one data packet (8.5), until one of the awaited toggle comes.
@@ -46,9 +43,8 @@ pub fn data_in<B: Bus>(
         (λ _. toggle.new ≡ toggle.old) }
     ensures fits { IfOk result (λ bytes. length bytes ≤ target.max) }
 {
-    let attempt = attempt_of_in(target, ep);
-    match bus.attempt(&attempt) {
-        Ok(first) => ask_on(bus, &attempt, toggle, first),
+    match bus.attempt(&attempt_of_in(target, ep)) {
+        Ok(first) => data_in_from(bus, target, ep, toggle, first),
         Err(fault) => Err(TransFault::Bus(fault)),
     }
 }
@@ -73,29 +69,7 @@ pub(crate) fn data_in_from<B: Bus>(
         (λ _. toggle.new ≡ toggle.old) }
     ensures fits { IfOk result (λ bytes. length bytes ≤ target.max) }
 {
-    ask_on(bus, &attempt_of_in(target, ep), toggle, first)
-}
-
-/// Makes the attempt of an IN, whose first outcome was this, until the awaited packet comes.
-fn ask_on<B: Bus>(
-    bus: &mut B,
-    attempt: &Attempt,
-    toggle: &mut Toggle,
-    first: Outcome,
-) -> Result<Done, TransFault>
-    requires attempt { IsAttempt (attempt_data attempt.now) }
-    requires fits { FitsMaximum (attempt_data attempt.now).max first }
-    ensures any_bus { Spends B.spent B.ports further_bound bus.old bus.new
-        × BusTold result (B.failed bus.new) }
-    ensures asks { B.modelled ≡ true → AfterFirst (attempt_data attempt.now)
-        first (B.world bus.old) (B.trace bus.old)
-        (λ old text. StepRun transaction_bound old text (B.world bus.new) (B.trace bus.new)
-        × Transacted (heard_as toggle.old) (attempt_data attempt.now) old result
-        (B.world bus.new)) }
-    ensures toggle { MatchResult result (λ _. toggle.new ≡ other toggle.old)
-        (λ _. toggle.new ≡ toggle.old) }
-    ensures fits { IfOk result (λ bytes. length bytes ≤ (attempt_data attempt.now).max) }
-{
+    let attempt = attempt_of_in(target, ep);
     let mut tries = Tries::new();
     let mut outcome = first;
     'tries: loop {
@@ -103,7 +77,7 @@ fn ask_on<B: Bus>(
             *toggle = toggle.other();
             return Ok(Done::data(bytes));
         }
-        match bus.attempt(attempt) {
+        match bus.attempt(&attempt) {
             Ok(next) => outcome = next,
             Err(fault) => return Err(TransFault::Bus(fault)),
         }

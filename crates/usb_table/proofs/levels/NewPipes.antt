@@ -2,7 +2,7 @@
 use Rattle.std.proofs.Common.{◌≡◌, ◌∙◌, refl, sym, ap, subst, arith, Bool, true, false, ℕ, ◌==◌}
 use Rattle.std.proofs.Common.{◌≤◌, ◌<◌, ◌&&◌, not, if◌then◌else◌, List, [], length, Option, None}
 use Rattle.std.proofs.Common.{Some, map, min, take, get_or, nat_lt, slice_index, slice_index_or}
-use Rattle.std.proofs.Common.{is_some, inl, inr, ◌⊎◌, ◌+◌, replicate, zero, suc}
+use Rattle.std.proofs.Common.{is_some, inl, inr, ◌⊎◌}
 use Rattle.std.proofs.lemmas.Bool.{and_parts}
 use Rattle.std.proofs.lemmas.Bool.Decides.{nat_tests}
 use Rattle.std.proofs.lemmas.Bool.{cases_lt}
@@ -16,7 +16,6 @@ use Rattle.usb_descriptor.specs.{usable_under}
 use Rattle.usb_descriptor.specs.{default_settings}
 use Rattle.usb_descriptor.proofs.Interface.{length-default_settings, status_endpoint-wide}
 use Rattle.usb_descriptor.proofs.Interface.{usable_under-small}
-use Rattle.usb_device.specs.{numbered_from}
 use Rattle.usb_device.specs.{EndpointState, end_numbers, served_at, tells_changes, text_of}
 use Rattle.usb_device.specs.{hub_ports, number_or_one, status_length, status_number, text_with}
 use Rattle.usb_device.specs.{total_of, PollAt}
@@ -32,30 +31,11 @@ use Rattle.usb_enum.specs.declared.finding.Finding.TheVariants.{Device}
 use Rattle.usb_table.specs.{Function, FitsOut, FitsIn, PipesInSync, new_status, pipe_at}
 use Rattle.usb_table.specs.{IsPlace, lost_at, none_lost}
 use Rattle.usb_table.specs.{AreFunctionPipes, IsPipe, first_endpoint, first_number, new_function}
-use Rattle.usb_table.specs.{new_pipe, new_pipes, pipe_or, number_of, row_of_ends, usable_end}
+use Rattle.usb_table.specs.{new_pipe, new_pipes, number_of, row_of_ends, usable_end}
 use Rattle.usb_enum.proofs.Interface.{AcceptsChosen, HasChosen, accepts, has_chosen}
 use Rattle.usb_pipe.proofs.Interface.{is_some_byte}
 
 -- New pipes stand at the endpoints that a pipe can use
-
-new_or : (target : Target) (is_in : Bool) (e : ℕ) (o : Option UsableEndpoint)
-    → pipe_or target is_in e o None ≡ new_pipe target is_in e o
-new_or target is_in e None = refl
-new_or target is_in e (Some end) = refl
-
-row_from : (target : Target) (is_in : Bool) (ends : ℕ → Option UsableEndpoint) (k n : ℕ)
-    → numbered_from (λ e had. pipe_or target is_in e (ends e) had) n (replicate k None)
-    ≡ numbered_from (λ e had. new_pipe target is_in e (ends e)) n (replicate k None)
-unfolding numbered_from
-row_from target is_in ends zero n = refl
-row_from target is_in ends (suc k) n =
-    rw (new_or target is_in n (ends n), row_from target is_in ends k (n + 1)) refl
-
-pub row_filled : (target : Target) (is_in : Bool) (ends : ℕ → Option UsableEndpoint)
-    → numbered_from (λ e had. pipe_or target is_in e (ends e) had) 0 (replicate 16 None)
-    ≡ row_of_ends target is_in ends
-unfolding numbered_from
-row_filled target is_in ends = row_from target is_in ends 16 0
 
 abbrev made_end : Target → Bool → (ℕ → Option UsableEndpoint) → ℕ → Option PipeState
 made_end target is_in ends n = new_pipe target is_in n (ends n)

@@ -45,7 +45,7 @@ returns-clause-made g c =
     (c.damage_of-damage.ensures ∙ ap (λ (l : List Damage). damage_of l (mid.attempts + 1))
     c.deref.ensures.value) made.made made.ports c.count.ensures
     (c.is_shared.ensures ∙ mid.indexed.1) in
-    let pre : c.has_pre.result ≡ a.pre = c.has_pre.ensures
+    let pre : c.has_pre-pre.result ≡ a.pre = c.has_pre-pre.ensures
     ∙ ap (λ (d : Destination). speed_has_pre d.speed) c.destination.ensures in
     record {
       spends = search rules;
@@ -74,7 +74,7 @@ returns-in_err-put_attempt-clause-made g c =
     (c.damage_of-damage.ensures ∙ ap (λ (l : List Damage). damage_of l (mid.attempts + 1))
     c.deref.ensures.value) made.made made.ports c.count.ensures
     (c.is_shared.ensures ∙ mid.indexed.1) in
-    let pre : c.has_pre.result ≡ a.pre = c.has_pre.ensures
+    let pre : c.has_pre-pre.result ≡ a.pre = c.has_pre-pre.ensures
     ∙ ap (λ (d : Destination). speed_has_pre d.speed) c.destination.ensures in
     record {
       spends = search rules;

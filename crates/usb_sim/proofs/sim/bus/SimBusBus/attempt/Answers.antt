@@ -57,7 +57,7 @@ returns-in_err-make_attempt-clause-refuses g c =
 pub returns-clause-attempts : goal.returns-clause-attempts
 returns-clause-attempts g c =
     let a = attempt_data c.args.attempt.now in
-    let max = ap (λ (d : Destination). d.max) c.destination.ensures in
+    let max = ap (λ (d : Destination). d.max) c.destination-max.ensures in
     made_attempts a c.outcome_of.result (world_of c.args.self.now)
     (world_of c.make_attempt.new.self) _ _ c.in_default.is c.if-self.false
     (subst (λ n. FitsMaximum n c.outcome_of.result) max c.outcome_of.ensures.fits)
