@@ -1,4 +1,4 @@
-/* The calls of usb_host.h as records of the archive (docs/EMBEDDING.md, Records). */
+/* The calls of usb_host.h as records of the archive (usb_host.h, The archive). */
 #include "usb_host.h"
 
 #include <stdlib.h>

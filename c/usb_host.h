@@ -448,7 +448,41 @@ enum usb_status usb_reported(struct usb_host *host, struct usb_news *news);
 
 /* ---- The archive ----
  *
- * Its seven exports, which usb_host.c calls. A handle is zeroed before it is opened. */
+ * Its seven exports, which usb_host.c calls, for other languages too. A handle is zeroed before it is opened, at that
+ * many root ports, with 1 for wide hubs, the most bytes of a device (the greatest number: no limit), and the 28 bytes
+ * of the ports' statuses. The others take records. Numbers have their low byte first, and no pointer may be null.
+ *
+ * A call: 52 bytes, and then its data. An unused field is 0.
+ *
+ *     0         its number in enum usb_wanted
+ *     1 to 8    the path, a struct usb_path
+ *     9, 10     the endpoint's address, or the interface; the alternate setting
+ *     12, 13    the most packets
+ *     16 to 23  the eight bytes of a request
+ *     24 to 51  the statuses of root ports 1 to 7, four bytes each
+ *     52 ..     the data of calls 18, 21 and 27
+ *
+ * A question: the 72 bytes of a struct usb_question.
+ *
+ * An answer: 32 bytes, and then the data that came.
+ *
+ *     0         its number in enum usb_came; 0 after questions 4 to 6
+ *     1         the toggle of data, else 0
+ *     2, 3      the number of data bytes, 0 to 64
+ *     4 to 31   the statuses of root ports 1 to 7
+ *
+ * An answer to a row: the bytes of the full packets that came first, and the answer of the attempt after them.
+ *
+ * What was done: records in a row, each of its kind, its length in four bytes, and its bytes.
+ *
+ *     32        each call, last: its status, as in enum usb_status
+ *     33        tree, a device: path (8), address, 1 for low speed, index of its configuration, ports if it is a hub;
+ *               then its number (8) and its device descriptor (18)
+ *     34, 35    tree, of that device: a configuration; a string: its number in enum usb_text, then UTF-16
+ *     36        tree, a refused device: path (8), cause, what it names, up to 18 bytes that it said of itself
+ *     37        receive, poll, control in: the bytes
+ *     38        look: its number in enum usb_found; cause, what it names
+ *     39        news: 0 left, 1 arrived; path (8), number (8) */
 uint8_t usb_handle_open(struct usb_handle *handle, uint8_t roots, uint8_t wide, uint32_t device_bytes,
                         const uint8_t *statuses, size_t length);
 uint8_t usb_handle_begin(struct usb_handle *handle, const uint8_t *want, size_t length);

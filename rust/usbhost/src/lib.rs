@@ -86,8 +86,3 @@ pub use path::{Endpoint, Path};
 pub use question::{Attempt, Came, Feature, Ins, Packet, Question, Row, Speed, Statuses, Target, Toggle, status};
 pub use records::{Cause, Device, Entry, Look, News, Refused, Request, Text};
 pub use want::{Setup, Want};
-
-/// The page's blocks are tests of this crate.
-#[cfg(doctest)]
-#[doc = include_str!("../../../docs/EMBEDDING.md")]
-struct Page;
