@@ -2,5 +2,4 @@
 mod buffered;
 mod far;
 mod live;
-mod rows;
 mod stream;

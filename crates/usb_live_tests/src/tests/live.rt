@@ -276,81 +276,6 @@ const SETTINGS: &[(&str, &str)] = &[
     ),
 ];
 
-/// The hello of each version.
-const HELLO_1: &[(&str, &str)] = &[("usbplan live 1\n", "roots 1\n")];
-
-const HELLO_2: &[(&str, &str)] = &[("usbplan live 1\n", "roots 1 2\n")];
-
-/// What a host says to a controller side with a device that has bulk endpoints of 8 bytes, and what that says to it.
-const BULK: &[(&str, &str)] = &[
-    ("port 1 clear PORT_POWER\n", "ok\n"),
-    ("port 1 set PORT_POWER\n", "port 1 00010000\nok\n"),
-    ("wait\n", "port 1 01010100\nok\n"),
-    ("port 1 clear C_PORT_CONNECTION\n", "port 1 01010000\nok\n"),
-    ("port 1 set PORT_RESET\n", "port 1 03011000\nok\n"),
-    ("port 1 clear C_PORT_RESET\n", "port 1 03010000\nok\n"),
-    ("SETUP 0.0 / DATA0 8006000100000800\n", "ACK\n"),
-    ("IN 0.0 8\n", "DATA1 1201000200000040\n"),
-    ("OUT 0.0 / DATA1 -\n", "ACK\n"),
-    ("SETUP 0.0 / DATA0 0005010000000000\n", "ACK\n"),
-    ("IN 0.0 64\n", "DATA1 -\n"),
-    ("SETUP 1.0 / DATA0 8006000100001200\n", "ACK\n"),
-    (
-        "IN 1.0 64\n",
-        "DATA1 120100020000004034127856000100000001\n",
-    ),
-    ("OUT 1.0 / DATA1 -\n", "ACK\n"),
-    ("SETUP 1.0 / DATA0 8006000200000900\n", "ACK\n"),
-    ("IN 1.0 64\n", "DATA1 090220000101008032\n"),
-    ("OUT 1.0 / DATA1 -\n", "ACK\n"),
-    ("SETUP 1.0 / DATA0 8006000200002000\n", "ACK\n"),
-    (
-        "IN 1.0 64\n",
-        "DATA1 0902200001010080320904000002FF0000000705020208000007058202080000\n",
-    ),
-    ("OUT 1.0 / DATA1 -\n", "ACK\n"),
-    ("SETUP 1.0 / DATA0 0009010000000000\n", "ACK\n"),
-    ("IN 1.0 64\n", "DATA1 -\n"),
-];
-
-/// Its transfers by a controller side of version 1.
-const SINGLES: &[(&str, &str)] = &[
-    ("wait\n", "send 1 000102030405060708090A0B0C0D0E0F1011\n"),
-    ("OUT 1.2 / DATA0 0001020304050607\n", "ACK\n"),
-    ("OUT 1.2 / DATA1 08090A0B0C0D0E0F\n", "ACK\n"),
-    ("OUT 1.2 / DATA0 1011\n", "ACK\n"),
-    ("send 1 done 18\nwait\n", "receive 1 3\n"),
-    ("IN 1.2 8\n", "DATA0 0001020304050607\n"),
-    ("IN 1.2 8\n", "NAK\n"),
-    ("IN 1.2 8\n", "DATA1 08\n"),
-    ("receive 1 done 000102030405060708\nwait\n", "end\n"),
-];
-
-/// The same by one of version 2: a row is one question, and what follows a NAK is a single attempt.
-const ROWED: &[(&str, &str)] = &[
-    ("wait\n", "send 1 000102030405060708090A0B0C0D0E0F1011\n"),
-    (
-        "OUT 1.2 / DATA0 000102030405060708090A0B0C0D0E0F1011 8\n",
-        "ACK\nACK\nACK\n",
-    ),
-    ("send 1 done 18\nwait\n", "receive 1 3\n"),
-    (
-        "IN 1.2 8 DATA0 3\n",
-        "DATA0 0001020304050607\nport 1 03010000\nNAK\n",
-    ),
-    ("IN 1.2 8\n", "DATA1 08\n"),
-    ("receive 1 done 000102030405060708\nwait\n", "end\n"),
-];
-
-/// The listing at the end.
-const LISTED_BULK: &[(&str, &str)] = &[(
-    "listing 1\n\
-     1 address 1 full 120100020000004034127856000100000001\n\
-     1 config 0 0902200001010080320904000002FF0000000705020208000007058202080000 *\n\
-     end\n",
-    "",
-)];
-
 /// What a controller side says, how many questions may be asked, how that ends, and how many lines the host has
 /// written.
 #[derive(Clone, Copy)]
@@ -594,24 +519,15 @@ fn paths_of_wide_hubs(rt: HostRuntime) -> Result<(), Fail> {
     Ok(())
 }
 
-/// Courses of polls, of settings and of bulk transfers, from the hello to the end.
-const CONVERSATIONS: &[&[&[(&str, &str)]]] = &[
-    &[KEYBOARD],
-    &[SETTINGS],
-    &[HELLO_1, BULK, SINGLES, LISTED_BULK],
-    &[HELLO_2, BULK, ROWED, LISTED_BULK],
-];
-
+/// Courses of polls and of settings, from the hello to the end.
 #[test]
 fn conversations(rt: HostRuntime) -> Result<(), Fail> {
-    for parts in CONVERSATIONS {
+    for rows in [KEYBOARD, SETTINGS] {
         let mut far = String::new(rt.alloc());
         let mut host = String::new(rt.alloc());
-        for part in *parts {
-            for (asked, said) in *part {
-                host.push_str(asked)?;
-                far.push_str(said)?;
-            }
+        for (asked, said) in rows {
+            host.push_str(asked)?;
+            far.push_str(said)?;
         }
         let played = play(rt.alloc(), far.as_bytes(), u64::MAX, u64::MAX);
         assert_eq!(rt; played.ended, Ok(()));
