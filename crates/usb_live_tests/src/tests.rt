@@ -2,4 +2,5 @@
 mod buffered;
 mod far;
 mod live;
+mod rows;
 mod stream;
