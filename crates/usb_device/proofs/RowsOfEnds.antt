@@ -6,7 +6,7 @@ use Rattle.std.proofs.Common.{Bool, Result, Ok, Err, IfOk, eqb-true}
 use Rattle.std.proofs.lemmas.Bool.Decides.{nat_tests}
 use Rattle.usb_device.specs.{begun_if, numbered_from, with_at}
 
-none_less : {P : Type 0} (n : ℕ) → n < 0 → P
+pub none_less : {P : Type 0} (n : ℕ) → n < 0 → P
 none_less n h = absurd (lt_zero n h)
   where
     lt_zero : (n : ℕ) → n < 0 → ⊥

@@ -4,6 +4,7 @@ pub mod SaidLengths
 pub mod EndpointSpecs
 pub mod Bulk
 pub mod Ends
+pub mod OutRows
 pub mod ServedBulk
 pub mod Request
 pub mod Transfer
@@ -43,6 +44,8 @@ unfoldable pub use Bulk.{change_bits}
 pub use Ends.{OutEnd, begun_if, end_numbers, given_on, hesitated, no_in, no_out, pace_by, paced_on}
 pub use Ends.{plugged_in_end, plugged_out, renewed, rested_in, rested_out, steady, taken_on}
 unfoldable pub use Ends.{numbered_from, with_at}
+pub use OutRows.{head_of, no_head, plugged_head, rested_head, taken_head, with_sink}
+unfoldable pub use OutRows.{joined}
 pub use ServedBulk.{AreServed}
 pub use OwnRequests.{bytes_given, fits, goes_so, is_or_any, is_to_host, own_bytes, own_place}
 pub use OwnRequests.{row_bytes}
@@ -142,6 +145,7 @@ pub use declared.endpoint_spec.EndpointData.{EndpointData}
 pub use declared.endpoint_spec.EndpointData.TheVariants.{Packets, Source}
 pub use declared.endpoint_spec.EndpointSpec.{EndpointSpec}
 pub use declared.ends.InEnd.{InEnd}
+pub use declared.ends.OutHead.{OutHead}
 pub use declared.ends.Pace.{Pace}
 pub use declared.hearing.HeardPid.{HeardPid}
 pub use declared.holders.Holder.{Holder}

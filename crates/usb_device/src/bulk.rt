@@ -1,6 +1,6 @@
 //! The endpoints of a device besides endpoint 0 (5.8, 11.12): which ones there are, their toggles
 //! and their halts.
-ghost use Rattle.std.specs.Prelude.{◌≡◌, ◌≤◌, true, [], IfNone, IfSome};
+ghost use Rattle.std.specs.Prelude.{◌≡◌, ◌≤◌, true, false, [], length, ◌==◌, is_some, IfNone, IfSome};
 ghost use Rattle.usb_descriptor.specs.Choice.{IsUsable, status_endpoint_of};
 ghost use Rattle.usb_descriptor.specs.Item.{items_of};
 ghost use Rattle.usb_device.specs.Request.{items_at};
@@ -42,12 +42,10 @@ pub enum ServedEndpoint {
     Changes,
 }
 
-/// The endpoints that a device serves.
+/// The endpoints that a configured device serves.
 #[derive(Clone, Copy, Debug)]
 pub struct ServedEndpoints {
-    /// The number and the maximum packet of the first bulk OUT endpoint.
-    pub bulk_out: Option<(u8, u8)>,
-    /// Those of the first bulk IN endpoint.
+    /// The number and the maximum packet of the first bulk IN endpoint, if the device has a source.
     pub bulk_in: Option<(u8, u8)>,
     /// All of them.
     pub table: UsableEndpoints,
@@ -156,7 +154,7 @@ fn bulk_in(is_in: bool, text: &[u8]) -> Option<(u8, u8)>
 }
 
 /// The first bulk endpoint of a direction that is served: its number and its maximum packet.
-fn bulk_at(spec: &DeviceSpec, registers: &Registers, is_in: bool) -> Option<(u8, u8)>
+pub(crate) fn bulk_at(spec: &DeviceSpec, registers: &Registers, is_in: bool) -> Option<(u8, u8)>
     ensures { result ≡ bulk_at spec.now registers.now is_in }
 {
     if spec.is_low() || registers.configuration == 0 {
@@ -177,7 +175,7 @@ fn table_of(low: bool, settings: &Settings, text: &[u8]) -> UsableEndpoints
 }
 
 /// All endpoints that are served.
-fn table_at(spec: &DeviceSpec, registers: &Registers) -> UsableEndpoints
+pub(crate) fn table_at(spec: &DeviceSpec, registers: &Registers) -> UsableEndpoints
     ensures { IsTableOf (served_at spec.now registers.now) result }
 {
     if registers.configuration == 0 {
@@ -208,15 +206,46 @@ fn status_number(spec: &DeviceSpec, registers: &Registers) -> u8
     }
 }
 
+/// The first bulk IN endpoint that is served, if it has a source to give.
+fn source_at(spec: &DeviceSpec, registers: &Registers) -> Option<(u8, u8)>
+    ensures { (length spec.now.source == 0) ≡ false
+        → result ≡ bulk_at spec.now registers.now true }
+{
+    if spec.source().is_empty() {
+        None
+    } else {
+        bulk_at(spec, registers, true)
+    }
+}
+
+/// The number of the status endpoint, if the device is a hub.
+fn status_at(spec: &DeviceSpec, registers: &Registers) -> u8
+    ensures { is_some spec.now.hub ≡ true → result ≡ status_number spec.now registers.now }
+{
+    if spec.hub().is_some() {
+        status_number(spec, registers)
+    } else {
+        0
+    }
+}
+
+/// No endpoints.
+pub fn none_served() -> ServedEndpoints {
+    ServedEndpoints {
+        bulk_in: None,
+        table: UsableEndpoints::none(),
+        status: 0,
+    }
+}
+
 /// The endpoints that are served by a device with these registers.
 pub fn served_endpoints(spec: &DeviceSpec, registers: &Registers) -> ServedEndpoints
     ensures { AreServed spec.now registers.now result }
 {
     ServedEndpoints {
-        bulk_out: bulk_at(spec, registers, false),
-        bulk_in: bulk_at(spec, registers, true),
+        bulk_in: source_at(spec, registers),
         table: table_at(spec, registers),
-        status: status_number(spec, registers),
+        status: status_at(spec, registers),
     }
 }
 

@@ -1,9 +1,10 @@
 //! The endpoints of a device besides endpoint 0, from the plug on: one row of those that take data,
 //! and one of those that give them.
-ghost use Rattle.std.specs.Prelude.{◌≡◌, ◌<◌, ◌≤◌, ◌+◌, true, false, length, map, get_or, None, option_copied, IfOk, OnErr};
+ghost use Rattle.std.specs.Prelude.{◌≡◌, ◌<◌, ◌≤◌, ◌+◌, ◌++◌, true, false, List, length, map, get_or, slice_set, [], None, option_copied, IfOk, OnErr};
 ghost use Rattle.usb_descriptor.specs.Usable.{belongs_to, end_at};
 ghost use Rattle.usb_device.specs.Bulk.{is_of_either};
-ghost use Rattle.usb_device.specs.Ends.{begun_if, no_out, no_in, rested_out, rested_in, with_at, taken_on, given_on, hesitated, numbered_from, renewed, paced_on, pace_by, plugged_out, plugged_in_end, end_numbers};
+ghost use Rattle.usb_device.specs.Ends.{begun_if, no_out, no_in, rested_in, with_at, given_on, hesitated, numbered_from, renewed, paced_on, pace_by, plugged_in_end};
+ghost use Rattle.usb_device.specs.OutRows.{head_of, joined, no_head, plugged_head, rested_head, taken_head};
 
 use crate::bulk::{EndpointState, RESTED, counted_down, is_last, turned};
 use crate::endpoint_spec::EndpointSpec;
@@ -14,7 +15,7 @@ use usb_descriptor::{UsableEndpoint, UsableEndpoints};
 use usb_request::endpoint_address::DIRECTION_IN;
 
 /// How many endpoints a direction has room for, endpoint 0 included (9.6.6).
-const ENDPOINTS: u8 = 16;
+const ENDPOINTS: usize = 16;
 
 /// The number of an endpoint: 0 to 15 (9.6.6).
 #[derive(Clone, Copy, Debug)]
@@ -70,6 +71,13 @@ pub struct Pace {
     /// How many packets it still moves until it halts; None if it does not halt by itself.
     pub until_halt: Option<u16>,
 }
+
+/// An endpoint that gives no NAK and never halts by itself.
+const STEADY: Pace = Pace {
+    naks: 0,
+    each: 0,
+    until_halt: None,
+};
 
 /// After one of its NAKs.
 fn hesitated(pace: Pace) -> Pace
@@ -157,76 +165,131 @@ fn plugged_in_end(spec: &DeviceSpec, number: u8) -> InEnd
     }
 }
 
-/// An OUT endpoint besides endpoint 0.
+/// An IN endpoint that has given nothing, and of which a plan says nothing.
+const PLAIN_IN: InEnd = InEnd {
+    state: RESTED,
+    pace: STEADY,
+    place: 0,
+};
+
+/// An OUT endpoint besides endpoint 0, but for what it has taken.
+#[derive(Clone, Copy, Debug)]
+pub struct OutHead {
+    /// Its toggle and its halt.
+    pub state: EndpointState,
+    /// How it hesitates, and when it halts.
+    pub pace: Pace,
+}
+
+/// An OUT endpoint of which a plan says nothing, at the plug.
+const PLAIN_OUT: OutHead = OutHead {
+    state: RESTED,
+    pace: STEADY,
+};
+
+/// As it is at the plug.
+fn plugged_head(spec: &DeviceSpec, number: u8) -> OutHead
+    ensures { result ≡ plugged_head spec.now number }
+{
+    OutHead {
+        state: RESTED,
+        pace: pace_by(spec.endpoints().row(number), spec.halt_after()),
+    }
+}
+
+/// It begins again.
+fn rested_head(head: OutHead) -> OutHead
+    ensures { result ≡ rested_head head }
+{
+    OutHead {
+        state: RESTED,
+        pace: renewed(head.pace),
+    }
+}
+
+/// After a packet that joined what it has taken; its plan may say that it halts.
+fn taken_head(halts: bool, head: OutHead) -> OutHead
+    ensures { result ≡ taken_head halts head }
+{
+    OutHead {
+        state: EndpointState {
+            toggle: turned(head.state).toggle,
+            halted: halts && is_last(head.pace.until_halt),
+        },
+        pace: paced_on(head.pace),
+    }
+}
+
+/// What an OUT endpoint has taken since the plug.
 #[derive(Debug, Drop)]
-struct OutEnd {
-    state: EndpointState,
-    pace: Pace,
-    /// What it has taken since the plug.
-    sink: Vec<u8>,
+pub(crate) struct Sink {
+    bytes: Vec<u8>,
 }
 
-impl Model for OutEnd {
-    ghost use Rattle.usb_device.specs.Ends.{OutEnd as AnOut};
+impl Model for Sink {
+    ghost use Rattle.std.specs.Prelude.{List, ℕ};
 
-    ghost Value = { AnOut };
+    ghost Value = { List ℕ };
 
-    ghost view = { λ end. record {
-      state = end.state;
-      pace = end.pace;
-      sink = end.sink.items;
-    } };
+    ghost view = { λ s. s.bytes.items };
 }
 
-impl OutEnd {
-    /// As it is at the plug.
-    fn plugged(alloc: Global, spec: &DeviceSpec, number: u8) -> Self
-        ensures { result ≡ plugged_out spec.now number }
+impl Sink {
+    /// It has taken nothing.
+    fn new(alloc: Global) -> Self
+        ensures { result ≡ [] }
     {
-        OutEnd {
-            state: RESTED,
-            pace: pace_by(spec.endpoints().row(number), spec.halt_after()),
-            sink: Vec::new(alloc),
+        Sink {
+            bytes: Vec::new(alloc),
         }
     }
 
-    /// It gave a NAK.
-    fn hesitate(&mut self)
-        ensures { self.new ≡ record self.old { pace = hesitated self.old.pace } }
+    fn as_slice(&self) -> &[u8]
+        ensures { result.now ≡ self.now }
     {
-        self.pace = hesitated(self.pace);
+        self.bytes.as_slice()
     }
 
-    /// It begins again.
-    fn begin_again(&mut self)
-        ensures { self.new ≡ rested_out self.old }
-    {
-        self.state = RESTED;
-        self.pace = renewed(self.pace);
-    }
-
-    /// It begins again, if this is so.
-    fn begin_again_if(&mut self, begins: bool)
-        ensures { self.new ≡ begun_if begins rested_out self.old }
-    {
-        if begins {
-            self.begin_again();
-        }
-    }
-
-    /// A packet joins what it has taken.
-    fn take(&mut self, halts: bool, bytes: &[u8]) -> Result<(), AllocError>
-        ensures taken { IfOk result (λ done. self.new ≡ taken_on halts bytes.now self.old) }
+    fn take(&mut self, bytes: &[u8]) -> Result<(), AllocError>
+        ensures taken { IfOk result (λ done. self.new ≡ self.old ++ bytes.now) }
         ensures refused { OnErr result (self.new ≡ self.old) }
     {
-        self.sink.extend_from_slice(bytes)?;
-        self.state = EndpointState {
-            toggle: turned(self.state).toggle,
-            halted: halts && is_last(self.pace.until_halt),
-        };
-        self.pace = paced_on(self.pace);
+        self.bytes.extend_from_slice(bytes)?;
         Ok(())
     }
+}
+
+/// What the endpoint at a place has taken.
+fn sink_at(sinks: &[Sink], place: usize) -> &[u8]
+    ensures { result.now ≡ get_or sinks.now place [] }
+{
+    match sinks.get(place) {
+        Some(sink) => sink.as_slice(),
+        None => &[],
+    }
+}
+
+/// There is a sink at a place from here on. Which bytes were taken stays.
+fn make_room(sinks: &mut Vec<Sink>, place: usize) -> Result<(), AllocError>
+    ensures same { (heads : List OutHead)
+        → joined heads sinks.new.items ≡ joined heads sinks.old.items }
+    ensures there { IfOk result (λ done. place < length sinks.new.items) }
+{
+    'room: while sinks.len() <= place {
+        let sink = Sink::new(*sinks.allocator());
+        sinks.push(sink)?;
+    }
+    Ok(())
+}
+
+/// Bytes join those of the sink at a place.
+fn grow(sinks: &mut [Sink], place: usize, bytes: &[u8]) -> Result<(), AllocError>
+    requires { place < length sinks.old }
+    ensures taken { IfOk result (λ done. sinks.new
+        ≡ slice_set sinks.old place (get_or sinks.old place [] ++ bytes.now)) }
+    ensures refused { OnErr result (sinks.new ≡ sinks.old) }
+{
+    sinks[place].take(bytes)
 }
 
 /// Whether an interface has an endpoint before or after it takes a setting.
@@ -265,12 +328,37 @@ fn rest_ins(row: &mut [InEnd])
 }
 
 #[cycle(rest_outs)]
-fn rest_outs(row: &mut [OutEnd])
-    ensures { row.new ≡ map rested_out row.old }
+fn rest_outs(row: &mut [OutHead])
+    ensures { row.new ≡ map rested_head row.old }
+{
+    if let Some((head, more)) = row.split_first_mut() {
+        *head = rested_head(*head);
+        rest_outs(more);
+    }
+}
+
+/// Each endpoint is as it is at the plug; the first has this number.
+#[cycle(plug_ins)]
+#[tactic(auto, unfolding(crate::specs::Ends::numbered_from))]
+fn plug_ins(row: &mut [InEnd], number: u8, spec: &DeviceSpec)
+    requires { number + length row.old ≤ 16 }
+    ensures { row.new ≡ numbered_from (λ e end. plugged_in_end spec.now e) number row.old }
 {
     if let Some((end, more)) = row.split_first_mut() {
-        end.begin_again();
-        rest_outs(more);
+        *end = plugged_in_end(spec, number);
+        plug_ins(more, number + 1, spec);
+    }
+}
+
+#[cycle(plug_outs)]
+#[tactic(auto, unfolding(crate::specs::Ends::numbered_from))]
+fn plug_outs(row: &mut [OutHead], number: u8, spec: &DeviceSpec)
+    requires { number + length row.old ≤ 16 }
+    ensures { row.new ≡ numbered_from (λ e head. plugged_head spec.now e) number row.old }
+{
+    if let Some((head, more)) = row.split_first_mut() {
+        *head = plugged_head(spec, number);
+        plug_outs(more, number + 1, spec);
     }
 }
 
@@ -301,7 +389,7 @@ fn begin_ins(
 #[cycle(begin_outs)]
 #[tactic(auto, unfolding(crate::specs::Ends::numbered_from))]
 fn begin_outs(
-    row: &mut [OutEnd],
+    row: &mut [OutHead],
     number: u8,
     interface: u8,
     before: &UsableEndpoints,
@@ -309,10 +397,12 @@ fn begin_outs(
 )
     requires { number + length row.old ≤ 16 }
     ensures { row.new ≡ numbered_from (λ e. begun_if
-        (is_of_either interface before.now after.now false e) rested_out) number row.old }
+        (is_of_either interface before.now after.now false e) rested_head) number row.old }
 {
-    if let Some((end, more)) = row.split_first_mut() {
-        end.begin_again_if(is_of_either(interface, before, after, number, false));
+    if let Some((head, more)) = row.split_first_mut() {
+        if is_of_either(interface, before, after, number, false) {
+            *head = rested_head(*head);
+        }
         begin_outs(more, number + 1, interface, before, after);
     }
 }
@@ -321,44 +411,39 @@ fn begin_outs(
 #[derive(Debug, Drop)]
 pub(crate) struct InEnds {
     row: [InEnd; 16],
+    /// Whether one may be other than a configuration leaves it.
+    moved: bool,
 }
 
 impl Model for InEnds {
-    ghost use Rattle.std.specs.Prelude.{◌≡◌, List, length};
+    ghost use Rattle.std.specs.Prelude.{◌≡◌, List, false, length, map};
+    ghost use Rattle.usb_device.specs.Ends.{rested_in};
     ghost use Rattle.usb_device.specs.declared.ends.InEnd.{InEnd};
 
     ghost Value = { List InEnd };
 
     ghost view = { λ e. e.row };
 
-    ghost invariant = { λ e. length e.row ≡ 16 };
+    ghost invariant = { λ e. (length e.row ≡ 16)
+        × (e.moved ≡ false → map rested_in e.row ≡ e.row) };
 }
 
 impl InEnds {
+    ghost use Rattle.usb_device.specs.Ends.{end_numbers};
+
     /// Those of a device that was just plugged.
     pub fn new(spec: &DeviceSpec) -> Self
         ensures { result ≡ map (plugged_in_end spec.now) end_numbers }
     {
-        InEnds {
-            row: [
-                plugged_in_end(spec, 0),
-                plugged_in_end(spec, 1),
-                plugged_in_end(spec, 2),
-                plugged_in_end(spec, 3),
-                plugged_in_end(spec, 4),
-                plugged_in_end(spec, 5),
-                plugged_in_end(spec, 6),
-                plugged_in_end(spec, 7),
-                plugged_in_end(spec, 8),
-                plugged_in_end(spec, 9),
-                plugged_in_end(spec, 10),
-                plugged_in_end(spec, 11),
-                plugged_in_end(spec, 12),
-                plugged_in_end(spec, 13),
-                plugged_in_end(spec, 14),
-                plugged_in_end(spec, 15),
-            ],
+        let mut ends = InEnds {
+            row: [PLAIN_IN; ENDPOINTS],
+            moved: false,
+        };
+        if !spec.endpoints().as_slice().is_empty() {
+            ends.moved = true;
+            plug_ins(&mut ends.row, 0, spec);
         }
+        ends
     }
 
     /// The one with a number.
@@ -404,6 +489,7 @@ impl InEnds {
     pub fn set(&mut self, number: EndpointNumber, end: InEnd)
         ensures { self.new ≡ with_at no_in number end self.old }
     {
+        self.moved = true;
         self.row[number.place()] = end;
     }
 
@@ -418,6 +504,7 @@ impl InEnds {
         ensures { self.new ≡ numbered_from (λ e. begun_if
             (is_of_either interface before.now after.now true e) rested_in) 0 self.old }
     {
+        self.moved = true;
         begin_ins(&mut self.row, 0, interface, before, after);
     }
 
@@ -425,55 +512,84 @@ impl InEnds {
     pub fn rest(&mut self)
         ensures { self.new ≡ map rested_in self.old }
     {
-        rest_ins(&mut self.row);
+        if self.moved {
+            rest_ins(&mut self.row);
+            self.moved = false;
+        }
     }
 }
 
 /// The OUT endpoints, by their numbers.
 #[derive(Debug, Drop)]
 pub(crate) struct OutEnds {
-    row: Vec<OutEnd>,
+    heads: [OutHead; 16],
+    /// Whether one may be other than a configuration leaves it.
+    moved: bool,
+    /// What they have taken since the plug; one beyond these has taken nothing.
+    sinks: Vec<Sink>,
 }
 
 impl Model for OutEnds {
-    ghost use Rattle.std.specs.Prelude.{◌≡◌, List, length};
+    ghost use Rattle.std.specs.Prelude.{◌≡◌, List, false, length, map};
     ghost use Rattle.usb_device.specs.Ends.{OutEnd as AnOut};
+    ghost use Rattle.usb_device.specs.OutRows.{joined, rested_head};
 
     ghost Value = { List AnOut };
 
-    ghost view = { λ e. e.row.items };
+    ghost view = { λ e. joined e.heads e.sinks.items };
 
-    ghost invariant = { λ e. length e.row.items ≡ 16 };
+    ghost invariant = { λ e. (length e.heads ≡ 16)
+        × (e.moved ≡ false → map rested_head e.heads ≡ e.heads) };
 }
 
 impl OutEnds {
+    ghost use Rattle.usb_device.specs.Ends.{end_numbers, plugged_out, rested_out, taken_on};
+    ghost use Rattle.usb_device.specs.OutRows.{with_sink};
+
     /// Those of a device that was just plugged.
-    ///
-    /// # Errors
-    ///
-    /// Memory was refused.
-    pub fn new(alloc: Global, spec: &DeviceSpec) -> Result<Self, AllocError>
-        ensures { IfOk result (λ e. e ≡ map (plugged_out spec.now) end_numbers) }
+    pub fn new(alloc: Global, spec: &DeviceSpec) -> Self
+        ensures { result ≡ map (plugged_out spec.now) end_numbers }
     {
-        let mut row = Vec::with_capacity(alloc, usize::from(ENDPOINTS))?;
-        'ends: for number in 0..ENDPOINTS {
-            row.push(OutEnd::plugged(alloc, spec, number))?;
+        let mut ends = OutEnds {
+            heads: [PLAIN_OUT; ENDPOINTS],
+            moved: false,
+            sinks: Vec::new(alloc),
+        };
+        if !spec.endpoints().as_slice().is_empty() || spec.halt_after().is_some() {
+            ends.moved = true;
+            plug_outs(&mut ends.heads, 0, spec);
         }
-        Ok(OutEnds { row })
+        ends
+    }
+
+    /// The one with a number, but for what it has taken.
+    fn head(&self, number: EndpointNumber) -> OutHead
+        ensures { result ≡ head_of (get_or self.now number no_out) }
+    {
+        self.heads[number.place()]
+    }
+
+    /// The one with a number is so, and has taken what it had.
+    fn set_head(&mut self, number: EndpointNumber, head: OutHead)
+        ensures { self.new
+            ≡ with_at no_out number (with_sink head (get_or self.old number no_out).sink) self.old }
+    {
+        self.moved = true;
+        self.heads[number.place()] = head;
     }
 
     /// The state of the one with a number.
     pub fn state(&self, number: EndpointNumber) -> EndpointState
         ensures { result ≡ (get_or self.now number no_out).state }
     {
-        self.row[number.place()].state
+        self.head(number).state
     }
 
     /// What the one with a number has taken since the plug.
     pub fn sink(&self, number: EndpointNumber) -> &[u8]
         ensures { result.now ≡ (get_or self.now number no_out).sink }
     {
-        self.row[number.place()].sink.as_slice()
+        sink_at(self.sinks.as_slice(), number.place())
     }
 
     /// Another state of the one with a number.
@@ -482,14 +598,15 @@ impl OutEnds {
             ≡ with_at no_out number (record (get_or self.old number no_out) { state = state })
             self.old }
     {
-        self.row[number.place()].state = state;
+        let head = self.head(number);
+        self.set_head(number, OutHead { state, ..head });
     }
 
     /// How the one with a number hesitates, and when it halts.
     pub fn pace(&self, number: EndpointNumber) -> Pace
         ensures { result ≡ (get_or self.now number no_out).pace }
     {
-        self.row[number.place()].pace
+        self.head(number).pace
     }
 
     /// The one with a number gave a NAK.
@@ -498,7 +615,14 @@ impl OutEnds {
             (record (get_or self.old number no_out)
             { pace = hesitated (get_or self.old number no_out).pace }) self.old }
     {
-        self.row[number.place()].hesitate();
+        let head = self.head(number);
+        self.set_head(
+            number,
+            OutHead {
+                pace: hesitated(head.pace),
+                ..head
+            },
+        );
     }
 
     /// The one with a number begins again.
@@ -506,7 +630,8 @@ impl OutEnds {
         ensures { self.new
             ≡ with_at no_out number (rested_out (get_or self.old number no_out)) self.old }
     {
-        self.row[number.place()].begin_again();
+        let head = rested_head(self.head(number));
+        self.set_head(number, head);
     }
 
     /// A packet joins what the one with a number has taken; its plan may say that it halts.
@@ -524,7 +649,13 @@ impl OutEnds {
             (taken_on halts bytes.now (get_or self.old number no_out)) self.old) }
         ensures refused { OnErr result (self.new ≡ self.old) }
     {
-        self.row[number.place()].take(halts, bytes)
+        let place = number.place();
+        make_room(&mut self.sinks, place)?;
+        grow(self.sinks.as_mut_slice(), place, bytes)?;
+        let head = taken_head(halts, self.heads[place]);
+        self.moved = true;
+        self.heads[place] = head;
+        Ok(())
     }
 
     /// An interface takes a setting: each endpoint that it has before or after begins again
@@ -538,13 +669,17 @@ impl OutEnds {
         ensures { self.new ≡ numbered_from (λ e. begun_if
             (is_of_either interface before.now after.now false e) rested_out) 0 self.old }
     {
-        begin_outs(self.row.as_mut_slice(), 0, interface, before, after);
+        self.moved = true;
+        begin_outs(&mut self.heads, 0, interface, before, after);
     }
 
     /// A configuration is taken (9.4.7): what they took stays.
     pub fn rest(&mut self)
         ensures { self.new ≡ map rested_out self.old }
     {
-        rest_outs(self.row.as_mut_slice());
+        if self.moved {
+            rest_outs(&mut self.heads);
+            self.moved = false;
+        }
     }
 }

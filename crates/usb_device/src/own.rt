@@ -1,6 +1,7 @@
 //! A device without its ports: its transfers, packet by packet (8.5).
-ghost use Rattle.std.specs.Prelude.{◌≡◌, ◌≤◌, ◌==◌, ℕ, List, Option, None, Some, nat_lt, if◌then◌else◌, is_some, length};
-ghost use Rattle.usb_device.specs.Bulk.{change_bytes, is_numbered, with_interface};
+ghost use Rattle.std.specs.Prelude.{◌≡◌, ◌≤◌, ◌<◌, ◌==◌, ◌&&◌, ℕ, List, Option, None, Some, IfSome, nat_lt, if◌then◌else◌, is_some, length};
+ghost use Rattle.usb_descriptor.specs.Usable.{IsPipeMost};
+ghost use Rattle.usb_device.specs.Bulk.{change_bytes, is_last, is_numbered, served_at, with_interface};
 ghost use Rattle.usb_device.specs.EndpointSpecs.{packet_in, place_behind};
 ghost use Rattle.usb_device.specs.declared.endpoint_spec.EndpointData.TheVariants as EndpointData;
 ghost use Rattle.usb_device.specs.DeviceSpecs.{Spec, hub_ports};
@@ -19,8 +20,8 @@ ghost use Rattle.usb_packet.specs.declared.Packet.TheVariants.{Token as token};
 
 use crate::answer::AnswerPid;
 use crate::bulk::{
-    EndpointState, RESTED, ServedEndpoint, ServedEndpoints, advanced, halted, is_numbered,
-    served_endpoints, tells_changes, turned,
+    EndpointState, RESTED, ServedEndpoint, ServedEndpoints, advanced, bulk_at, halted, is_last,
+    is_numbered, none_served, served_endpoints, table_at, tells_changes, turned,
 };
 use crate::effect::Effect;
 use crate::endpoint_spec::EndpointData;
@@ -37,7 +38,7 @@ use arrayvec::ArrayVec;
 use std::alloc::{AllocError, Global};
 use std::marker::Model;
 use std::rc::Rc;
-use usb_descriptor::Settings;
+use usb_descriptor::{Settings, UsableEndpoint};
 use usb_packet::{Packet, Toggle, TokenKind};
 use usb_request::Setup;
 use usb_request::endpoint_address::DIRECTION_IN;
@@ -49,7 +50,9 @@ use usb_request::endpoint_address::DIRECTION_IN;
 pub struct FunctionState {
     spec: Rc<DeviceSpec>,
     registers: Registers,
-    /// The endpoints of the configuration.
+    /// Whether an interface may have another setting than 0.
+    is_set: bool,
+    /// The endpoints of the configuration, if there is one.
     served: ServedEndpoints,
     /// What the packet before left.
     memory: RememberedPacket,
@@ -72,6 +75,8 @@ pub struct FunctionState {
 }
 
 impl Model for FunctionState {
+    ghost use Rattle.std.specs.Prelude.{◌≡◌, ◌==◌, false};
+    ghost use Rattle.usb_descriptor.specs.Settings.{default_settings};
     ghost use Rattle.usb_device.specs.Rows.{State};
     ghost use Rattle.usb_device.specs.Code.{stage_of};
     ghost use Rattle.usb_device.specs.ServedBulk.{AreServed};
@@ -91,7 +96,9 @@ impl Model for FunctionState {
       taken = d.taken.items;
     } };
 
-    ghost invariant = { λ d. AreServed d.spec.value d.registers d.served };
+    ghost invariant = { λ d. ((d.registers.configuration == 0) ≡ false
+        → AreServed d.spec.value d.registers d.served)
+        × (d.is_set ≡ false → d.registers.settings ≡ default_settings) };
 }
 
 fn hub_text(spec: &DeviceSpec) -> &[u8]
@@ -272,7 +279,7 @@ fn behind_data(data: &EndpointData, max: u8, place: u16) -> u16
 
 impl FunctionState {
     ghost use Rattle.usb_device.specs.StrayPackets.{is_for};
-    ghost use Rattle.std.specs.Prelude.{IfOk, OnErr, true, false, not, ◌&&◌, [], ◌∷◌};
+    ghost use Rattle.std.specs.Prelude.{IfOk, OnErr, true, false, not, [], ◌∷◌};
     ghost use Rattle.usb_device.specs.declared.transfer.InEndpoint.TheVariants as by;
     ghost use Rattle.usb_device.specs.Effects.{asks, asked_by_data, asked_by_setup};
     ghost use Rattle.usb_device.specs.Rows.{received, unread, forgotten, awaits_address, ends_with_address, fresh, reset_state, accepted, configured, set_to, begun, is_busy, nak_row, gives, in_row, status_row, out_row, ack_row, token_row, setup_row, payload_row, answered, unless_busy, endpoint_state, with_endpoint_state, bulk_of, in_end, out_end, in_max, out_max, next_packet, next_place, out_halts, taken_row, begun_again, source_row, in_ack_row, acknowledged, sink_row, sinks, in_end_row, out_end_row, end_sinks, data_row, payload_sinks, out_sinks, stage_takes, sink_grows, is_other_out, after_memory, with_endpoints, in_other_row, changes_row, new_changes_row};
@@ -286,18 +293,18 @@ impl FunctionState {
     pub fn new(alloc: Global, spec: &Rc<DeviceSpec>) -> Result<Box<Self>, AllocError>
         ensures { IfOk result (λ d. d.value ≡ fresh spec.now.value) }
     {
-        let outs = OutEnds::new(alloc, spec)?;
         let shared = spec.clone()?;
         Ok(Box::new(
             alloc,
             FunctionState {
                 spec: shared,
                 registers: at_reset(),
-                served: served_endpoints(spec, &at_reset()),
+                is_set: false,
+                served: none_served(),
                 memory: RememberedPacket::Nothing,
                 naks: 0,
                 progress: Progress::Idle,
-                outs,
+                outs: OutEnds::new(alloc, spec),
                 ins: InEnds::new(spec),
                 changes: RESTED,
                 held: None,
@@ -380,7 +387,8 @@ impl FunctionState {
         ensures { self.new ≡ reset_state self.old }
     {
         self.attempt_over();
-        self.take_registers(at_reset());
+        self.configure(0);
+        self.registers.address = 0;
         self.naks = 0;
         self.progress = Progress::Idle;
         self.held = None;
@@ -701,14 +709,6 @@ impl FunctionState {
         }
     }
 
-    /// The device has these registers, and serves the endpoints of these, from here on.
-    fn take_registers(&mut self, registers: Registers)
-        ensures { self.new ≡ record self.old { registers = registers } }
-    {
-        self.served = served_endpoints(&self.spec, &registers);
-        self.registers = registers;
-    }
-
     /// What a request makes of the registers at once.
     fn set_registers(&mut self, reaction: &Reaction)
         ensures { self.new ≡ record self.old {
@@ -728,19 +728,23 @@ impl FunctionState {
     fn configure(&mut self, value: u8)
         ensures { self.new ≡ configured self.old value }
     {
-        self.take_registers(Registers {
-            configuration: value,
-            settings: Settings::all_zero(),
-            ..self.registers
-        });
+        self.registers.configuration = value;
+        if self.is_set {
+            self.registers.settings = Settings::all_zero();
+            self.is_set = false;
+        }
+        if value != 0 {
+            self.served = served_endpoints(&self.spec, &self.registers);
+        }
     }
 
     /// An interface takes a setting, and the endpoints of that are served from here on (9.4.10).
     fn set_interface(&mut self, interface: u8, setting: u8)
         ensures { self.new ≡ set_to self.old interface setting }
     {
-        let registers = self.registers_set(interface, setting);
-        self.take_registers(registers);
+        self.is_set = true;
+        self.registers.settings.set(interface, setting);
+        self.served = served_endpoints(&self.spec, &self.registers);
     }
 
     /// The registers once an interface has a setting.
@@ -758,11 +762,10 @@ impl FunctionState {
         ensures { self.new ≡ with_endpoints self.old (takes_setting interface setting) }
     {
         let registers = self.registers_set(interface, setting);
-        let after = served_endpoints(&self.spec, &registers);
-        self.outs
-            .begin_setting(interface, &self.served.table, &after.table);
-        self.ins
-            .begin_setting(interface, &self.served.table, &after.table);
+        let before = table_at(&self.spec, &self.registers);
+        let after = table_at(&self.spec, &registers);
+        self.outs.begin_setting(interface, &before, &after);
+        self.ins.begin_setting(interface, &before, &after);
     }
 
     /// What a request makes of the endpoints.
@@ -1020,13 +1023,26 @@ impl FunctionState {
         }
     }
 
+    /// The endpoint with a number and a direction, if it is served.
+    fn served_end(&self, number: u8, is_in: bool) -> Option<UsableEndpoint>
+        ensures value { result ≡ served_at self.now.spec self.now.registers is_in number }
+        ensures number { IfSome result (λ end. number < 16) }
+        ensures most { IfSome result IsPipeMost }
+    {
+        if self.registers.configuration == 0 {
+            None
+        } else {
+            self.served.table.get(number, is_in)
+        }
+    }
+
     /// What an IN endpoint gives that no row of the plan names.
     fn source_of(&self, number: EndpointNumber) -> &[u8]
         ensures value { result.now ≡ (if is_numbered number (bulk_of self.now true)
             then self.now.spec.source else []) }
         ensures bound { length result.now ≤ 65535 }
     {
-        if is_numbered(number.get(), self.served.bulk_in) {
+        if self.registers.configuration != 0 && is_numbered(number.get(), self.served.bulk_in) {
             self.spec.source()
         } else {
             &[]
@@ -1068,7 +1084,9 @@ impl FunctionState {
         ensures { (answer_with result room.new, self.new)
             ≡ in_other_row self.old (row_of ports.now) ep }
     {
-        if ep == self.served.status && tells_changes(&self.spec, &self.registers) {
+        if !tells_changes(&self.spec, &self.registers) {
+            self.give_end(ep, room)
+        } else if ep == self.served.status {
             self.give_changes(ports, room)
         } else {
             self.give_end(ep, room)
@@ -1124,7 +1142,7 @@ impl FunctionState {
         ensures { (answer_with result room.new, self.new)
             ≡ in_end_row self.old ep (in_max self.old ep) }
     {
-        match self.served.table.get(ep, true) {
+        match self.served_end(ep, true) {
             Some(end) => self.give_source(EndpointNumber::new(ep), end.max, room),
             None => None,
         }
@@ -1159,7 +1177,7 @@ impl FunctionState {
     fn acknowledge_end(&mut self, ep: u8)
         ensures { self.new ≡ in_ack_row self.old ep (in_max self.old ep) }
     {
-        if let Some(end) = self.served.table.get(ep, true) {
+        if let Some(end) = self.served_end(ep, true) {
             let number = EndpointNumber::new(ep);
             let given = given_on(self.place_behind(number, end.max), self.ins.get(number));
             self.ins.set(number, given);
@@ -1179,7 +1197,7 @@ impl FunctionState {
         ensures grows { OnErr result
             (end_sinks self.old ep (out_max self.old ep) toggle bytes.now ≡ true) }
     {
-        match self.served.table.get(ep, false) {
+        match self.served_end(ep, false) {
             Some(end) => self.take_data(EndpointNumber::new(ep), end.max, toggle, bytes),
             None => {
                 self.attempt_over();
@@ -1230,7 +1248,7 @@ impl FunctionState {
             self.outs.hesitate(number);
             return Ok(AnswerPid::Nak);
         }
-        let halts = self.out_halts(number);
+        let halts = self.halts_next(number);
         self.outs.take(number, halts, bytes)?;
         Ok(AnswerPid::Ack)
     }
@@ -1240,6 +1258,17 @@ impl FunctionState {
         ensures { result ≡ out_halts self.now number }
     {
         self.spec.endpoints().row(number.get()).is_some()
-            || is_numbered(number.get(), self.served.bulk_out)
+            || is_numbered(
+                number.get(),
+                bulk_at(&self.spec, &self.registers, false),
+            )
+    }
+
+    /// Whether an OUT endpoint halts with its next packet.
+    fn halts_next(&self, number: EndpointNumber) -> bool
+        ensures { result ≡ (is_last (out_end self.now number).pace.until_halt
+            && out_halts self.now number) }
+    {
+        is_last(self.outs.pace(number).until_halt) && self.out_halts(number)
     }
 }

@@ -16,7 +16,7 @@ use crate::action::keys_given;
 use crate::entry_fault::{EntryFault, entry_at, fault_in_part, least_fault};
 use crate::fault::{Place, PlanFault};
 use crate::members::EventMembers;
-use crate::scene::Scene;
+use crate::scene::{Scene, all_said};
 use crate::value::number_or;
 use crate::verb::{Verb, action_of, other_keys, verb_at};
 use std::alloc::Global;
@@ -118,7 +118,8 @@ pub(crate) fn events_of(
     ensures fit { IfOk result (λ events. events_fit roots devices.now [] events ≡ true) }
 {
     let mut done = Events::new(alloc);
-    let mut scene = Scene::new(alloc, roots, wide, devices, tables);
+    let ports = all_said(alloc, tables)?;
+    let mut scene = Scene::new(alloc, roots, wide, devices, ports);
     for (i, value) in values.iter().enumerate() {
         let count = done.as_slice().len();
         let read = event_in(alloc, &scene, count, value.as_table());

@@ -1,6 +1,6 @@
 //! What an event meets.
 
-ghost use Rattle.std.specs.Prelude.{◌≡◌, [], OnOk, map, nat_le, option_map, position};
+ghost use Rattle.std.specs.Prelude.{◌≡◌, [], IfOk, OnOk, map, nat_le, option_map, position};
 ghost use Rattle.std.specs.Str.{bytes_eq};
 ghost use Rattle.toml.specs.View.{view};
 ghost use Rattle.usb_plan.specs.Scene.{is_port, ports_at, ports_said};
@@ -16,21 +16,19 @@ use usb_device::DeviceSpec;
 use usb_port::PortPath;
 use usb_world::Action;
 
-/// The root ports, whether hubs may be wide, the devices of the plan and the tables that describe them, and which
+/// The root ports, whether hubs may be wide, the devices of the plan, how many ports its table says of each, and which
 /// devices are plugged where.
 #[derive(Drop)]
 pub(crate) struct Scene<'a> {
     roots: u8,
     wide: bool,
     devices: &'a [DeviceSpec],
-    tables: &'a [Value],
+    ports: Vec<u64>,
     plugged: Plugged,
 }
 
 impl<'a> Model for Scene<'a> {
-    ghost use Rattle.std.specs.Prelude.{map};
-    ghost use Rattle.toml.specs.View.{view as data_of};
-    ghost use Rattle.usb_plan.specs.Scene.{SceneData, ports_said};
+    ghost use Rattle.usb_plan.specs.Scene.{SceneData};
 
     ghost Value = { SceneData };
 
@@ -38,7 +36,7 @@ impl<'a> Model for Scene<'a> {
       roots = s.roots;
       wide = s.wide;
       devices = s.devices.now;
-      ports = map ports_said (map data_of s.tables.now);
+      ports = s.ports.items;
       plugged = s.plugged;
     } };
 }
@@ -50,13 +48,13 @@ impl<'a> Scene<'a> {
         roots: u8,
         wide: bool,
         devices: &'a [DeviceSpec],
-        tables: &'a [Value],
+        ports: Vec<u64>,
     ) -> Self
         ensures { result ≡ record {
           roots = roots;
           wide = wide;
           devices = devices.now;
-          ports = map ports_said (map view tables.now);
+          ports = ports.items;
           plugged = [];
         } }
     {
@@ -64,7 +62,7 @@ impl<'a> Scene<'a> {
             roots,
             wide,
             devices,
-            tables,
+            ports,
             plugged: Plugged::new(alloc),
         }
     }
@@ -101,7 +99,7 @@ impl<'a> Scene<'a> {
     fn table_says(&self, index: Option<usize>, port: u8) -> bool
         ensures { result ≡ nat_le port (ports_at self.now.ports index) }
     {
-        u64::from(port) <= ports_at(self.tables, index)
+        u64::from(port) <= ports_at(self.ports.as_slice(), index)
     }
 
     /// Whether the path is a root port, or a port that a plugged device has and its table says. Where hubs are not
@@ -164,16 +162,27 @@ fn ports_said(table: &Value) -> u64
     }
 }
 
-/// How many ports its table says of the device of an index.
-#[tactic(auto, using(crate::proofs::Steps::said_found, crate::proofs::Steps::said_missing), unfolding(crate::specs::Scene::ports_at))]
-fn ports_at(tables: &[Value], index: Option<usize>) -> u64
-    ensures { result ≡ ports_at (map ports_said (map view tables.now)) index }
+/// How many ports its table says of each device.
+pub(crate) fn all_said(alloc: Global, tables: &[Value]) -> Result<Vec<u64>, AllocError>
+    ensures { IfOk result (λ ports. ports.items ≡ map ports_said (map view tables.now)) }
+{
+    let mut ports = Vec::with_capacity(alloc, tables.len())?;
+    'tables: for table in tables {
+        ports.push(ports_said(table))?;
+    }
+    Ok(ports)
+}
+
+/// How many ports are said of the device of an index.
+#[tactic(auto, unfolding(crate::specs::Scene::ports_at))]
+fn ports_at(ports: &[u64], index: Option<usize>) -> u64
+    ensures { result ≡ ports_at ports.now index }
 {
     match index {
         None => 0,
-        Some(index) => match tables.get(index) {
+        Some(index) => match ports.get(index) {
             None => 0,
-            Some(table) => ports_said(table),
+            Some(count) => *count,
         },
     }
 }

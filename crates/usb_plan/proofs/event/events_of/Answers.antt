@@ -16,7 +16,7 @@ unfolding plugged_by
 loop-i-init c = record {
   so_far = rw c.new-done.ensures;
   fit = rw c.new-done.ensures;
-  scene = rw (c.new-scene.ensures, c.new-done.ensures);
+  scene = rw (c.new-scene.ensures, c.in_ok-ports.ensures, c.new-done.ensures);
 }
 
 pub returns-in_err-event-clause-value : goal.returns-in_err-event-clause-value

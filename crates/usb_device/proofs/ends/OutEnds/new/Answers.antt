@@ -1,20 +1,24 @@
-use Rattle.std.proofs.Common.{◌≡◌, ℕ, ◌<◌, ◌+◌, ◌++◌, [], ◌∷◌, get_or, map, take, ap, ◌∙◌, arith}
-use Rattle.std.proofs.lemmas.List.{map-append, take_more}
-use Rattle.std.proofs.lemmas.List.FromFn.{get_or-range_with_len}
-use Rattle.usb_device.specs.{Spec, end_numbers, plugged_out}
+use Rattle.std.proofs.Common.{◌≡◌, ◌∙◌, sym, ap, refl, false, is_some, length, arith, []}
+use Rattle.std.proofs.lemmas.Bool.Decides.{nat_tests}
+use Rattle.usb_device.specs.{joined, plugged_head}
+use Rattle.usb_device.proofs.JoinedRows.{joined-plain, joined-plugged, numbered-all}
 use Rattle.usb_device.proofs.ends.OutEnds.new.Goals as goal
 
-numbered : (n : ℕ) → n < 16 → get_or end_numbers n 0 ≡ n
-numbered n h = omega (arith, get_or-range_with_len 0 16 n 0 h)
+pub returns-then-not-is_empty : goal.returns-then-not-is_empty
+returns-then-not-is_empty c = rw (c.plug_outs.ensures, c.new.ensures.items)
+    (ap (λ heads. joined heads []) (numbered-all (plugged_head c.args.spec.now) _ refl)
+    ∙ joined-plugged c.args.spec.now)
 
-one_more : (s : Spec) (n : ℕ) → n < 16 → map (plugged_out s) (take (n + 1) end_numbers)
-    ≡ map (plugged_out s) (take n end_numbers) ++ plugged_out s n ∷ []
-one_more s n h = ap (map (plugged_out s)) (take_more end_numbers n 0 h)
-    ∙ map-append (plugged_out s) (take n end_numbers) (get_or end_numbers n 0 ∷ [])
-    ∙ ap (λ k. map (plugged_out s) (take n end_numbers) ++ plugged_out s k ∷ []) (numbered n h)
-
-pub ends-preserved : goal.ends-preserved
-ends-preserved c =
-    let more = one_more c.args.spec.now c.ends.number (omega arith) in
-    let pushed = c.in_ok-push.ensures.items in
-    cc
+pub returns-else-is_some : goal.returns-else-is_some
+returns-else-is_some c =
+    let none_said : length c.args.spec.now.endpoints ≡ 0 = grind (
+      arith,
+      nat_tests,
+      c.is_empty.ensures,
+      c.if-not-is_empty.false,
+      c.as_slice.ensures.value,
+      c.endpoints.ensures.value,
+    ) in
+    let never : is_some c.args.spec.now.halt_after ≡ false =
+    ap is_some (sym c.halt_after.ensures.value) ∙ sym c.is_some.ensures ∙ c.if-is_some.false in
+    rw c.new.ensures.items (joined-plain c.args.spec.now none_said never)
