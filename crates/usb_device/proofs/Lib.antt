@@ -7,7 +7,6 @@ pub mod ToldChanges
 pub mod Endpoints
 pub mod RowsOfEnds
 pub mod JoinedRows
-pub mod KeptEnds
 pub mod ServedNumbers
 pub mod TakenSettings
 pub mod Repeated

@@ -1258,10 +1258,7 @@ impl FunctionState {
         ensures { result ≡ out_halts self.now number }
     {
         self.spec.endpoints().row(number.get()).is_some()
-            || is_numbered(
-                number.get(),
-                bulk_at(&self.spec, &self.registers, false),
-            )
+            || is_numbered(number.get(), bulk_at(&self.spec, &self.registers, false))
     }
 
     /// Whether an OUT endpoint halts with its next packet.
