@@ -284,7 +284,7 @@ fn plugs_at_port(action: &Action)
 pub fn event_copies(alloc: Global, events: &[Event]) -> Result<Vec<Event>, AllocError>
     ensures { IfOk result (λ v. v.items ≡ events.now) }
 {
-    let mut all = Vec::new(alloc);
+    let mut all = Vec::with_capacity(alloc, events.len())?;
     'events: for event in events {
         all.push(copy_of(alloc, event)?)?;
     }
