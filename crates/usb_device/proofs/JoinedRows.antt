@@ -2,7 +2,7 @@
 use Rattle.std.proofs.Common.{◌≡◌, ℕ, zero, suc, ◌+◌, ◌<◌, Bool, true, false, List, [], ◌∷◌, ◌++◌}
 use Rattle.std.proofs.Common.{Option, None, Some, is_some, length, map, get_or, slice_set, refl, sym, ap, ap₂, ◌∙◌, arith}
 use Rattle.usb_device.specs.{EndpointSpec, InEnd, OutEnd, OutHead, Spec, begun_if, end_numbers, head_of, joined, no_head, no_out}
-use Rattle.usb_device.specs.{numbered_from, plugged_head, plugged_in_end, plugged_out, rested_head}
+use Rattle.usb_device.specs.{numbered_from, plugged_head, plugged_out, rested_head}
 use Rattle.usb_device.specs.{rested_in, rested_out, taken_head, taken_on, with_at}
 use Rattle.usb_device.specs.{with_sink}
 use Rattle.usb_device.proofs.RowsOfEnds.{none_less}
