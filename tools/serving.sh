@@ -58,8 +58,8 @@ name_file() {
 tell_wait() {
   [ -t 0 ] && [ -t 2 ] || return 0
   case "$1" in
-    live) echo "usbplan: waits for the answer to each line, as 'roots 2' to the first (see LIVE.md)" >&2 ;;
-    far) echo "usbplan: waits for the lines of a host, the first is 'usbplan live 1' (see LIVE.md)" >&2 ;;
+    live) echo "usbplan: waits for the answer to each line, as 'roots 2' to the first (see live.md)" >&2 ;;
+    far) echo "usbplan: waits for the lines of a host, the first is 'usbplan live 1' (see live.md)" >&2 ;;
   esac
 }
 

@@ -1,4 +1,4 @@
-/* The host in C before a controller program of docs/LIVE.md. It reports what `usbplan live` reports, apart from the
+/* The host in C before a controller program of docs/output/live.md. It reports what `usbplan live` reports, apart from the
  * power that a hub's ports give.
  *
  * usage: far PROGRAM ARGUMENT ..      as far usbplan far PLAN

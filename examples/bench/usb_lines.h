@@ -1,4 +1,4 @@
-/* usb_lines.h: the lowest layer of a USB host stack in C, over the lines of docs/LIVE.md.
+/* usb_lines.h: the lowest layer of a USB host stack in C, over the lines of docs/output/live.md.
  *
  * Put these calls where the stack has its controller driver. The program asks on standard output and reads on standard
  * input: nothing else may be printed there, and standard error is free. The other side is `usbplan far PLAN`.

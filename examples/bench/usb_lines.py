@@ -1,4 +1,4 @@
-"""The lowest layer of a USB host in Python, over the lines of docs/LIVE.md.
+"""The lowest layer of a USB host in Python, over the lines of docs/output/live.md.
 
 The host asks on standard output and reads on standard input; `usbplan far PLAN` is the other side. It makes all waits.
 """

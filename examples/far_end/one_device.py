@@ -1,5 +1,5 @@
 #!/usr/bin/env python3
-"""Plays one device at one root port: a far end for a host that speaks the lines of docs/LIVE.md.
+"""Plays one device at one root port: a far end for a host that speaks the lines of docs/output/live.md.
 
 The device is that of examples/one_device.toml: it is plugged when the host first asks what is wanted, and the end is
 wanted then. `examples/far_end/check` tries it.

@@ -1,4 +1,4 @@
-/* Drives a UHCI controller from user space: a far end for a host that speaks the lines of docs/LIVE.md.
+/* Drives a UHCI controller from user space: a far end for a host that speaks the lines of docs/output/live.md.
  *
  * usage: uhci       as root on Linux; the host's lines come on standard input, the answers go to standard output
  *

@@ -1,4 +1,4 @@
-//! The drivers over a live bus (`docs/LIVE.md`): they do jobs, and say on standard error what they see.
+//! The drivers over a live bus (`docs/output/live.md`): they do jobs, and say on standard error what they see.
 
 use crate::disk::Disk;
 use crate::fault::DriverFault;

@@ -1,4 +1,4 @@
-//! The controller side of the live protocol (`docs/LIVE.md`), played from a plan on a simulated
+//! The controller side of the live protocol (`docs/output/live.md`), played from a plan on a simulated
 //! bus.
 //!
 //! # What is proved

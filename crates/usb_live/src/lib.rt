@@ -1,4 +1,4 @@
-//! The host of the live protocol (`docs/LIVE.md`): what `usbplan live` does.
+//! The host of the live protocol (`docs/output/live.md`): what `usbplan live` does.
 //!
 //! # What is proved
 //!

@@ -1,4 +1,4 @@
-//! The host's end of the live protocol (`docs/LIVE.md`): `StreamBus`, a `Bus` of which each attempt
+//! The host's end of the live protocol (`docs/output/live.md`): `StreamBus`, a `Bus` of which each attempt
 //! is a question. It is not *modelled*: what devices do is up to the controller side.
 //!
 //! # What is proved

@@ -1,4 +1,4 @@
-//! The lines of the live protocol (`docs/LIVE.md`): the host's questions and their answers.
+//! The lines of the live protocol (`docs/output/live.md`): the host's questions and their answers.
 //!
 //! # What is proved
 //!

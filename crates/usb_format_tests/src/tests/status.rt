@@ -1,4 +1,4 @@
-//! The line and the exit status of each fault of the program, as `docs/OUTPUT.md` and `docs/LIVE.md` have them.
+//! The line and the exit status of each fault of the program, as `docs/OUTPUT.md` and `docs/output/live.md` have them.
 use std::alloc::AllocError;
 use std::test::Fail;
 use usb_bus::BusFault;

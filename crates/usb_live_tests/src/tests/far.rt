@@ -318,7 +318,7 @@ const COURSE: Row = Row {
     ended: Ok(()),
 };
 
-/// The course of docs/LIVE.md, over examples/one_device.toml.
+/// The course of docs/output/live.md, over examples/one_device.toml.
 const PAGE: Row = Row {
     plan: r#"
 limit = 10000

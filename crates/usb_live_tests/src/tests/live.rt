@@ -6,7 +6,7 @@ use std::test::Fail;
 use usb_bus::Watched;
 use usb_live::{LiveEnd, LiveFault, WireFault, live};
 
-/// What a controller side with one device says up to its second `wait`: the course of docs/LIVE.md.
+/// What a controller side with one device says up to its second `wait`: the course of docs/output/live.md.
 const FAR: &str = "roots 1\n\
                    ok\n\
                    port 1 00010000\nok\n\
