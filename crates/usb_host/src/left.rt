@@ -13,18 +13,21 @@ pub(crate) struct LeftPorts<B: Bus> {
     at: [Option<[u8; 4]>; 8],
     // the status of a port, not left alone, that did not fit what was found there
     tried: [Option<[u8; 4]>; 8],
+    // whether a status was ever kept in either
+    is_used: bool,
     bus: PhantomData<B>,
 }
 
 impl<B: Bus> Model for LeftPorts<B> {
-    ghost use Rattle.std.specs.Prelude.{◌≡◌, true};
+    ghost use Rattle.std.specs.Prelude.{◌≡◌, false, true};
     ghost use Rattle.usb_host.specs.LeftPorts.{LeftStatuses, none_left};
 
     ghost Value = { LeftStatuses };
 
     ghost view = { λ ports. ports.at };
 
-    ghost invariant = { λ ports. B.modelled ≡ true → ports.at ≡ none_left };
+    ghost invariant = { λ ports. (B.modelled ≡ true → ports.at ≡ none_left)
+        × (ports.is_used ≡ false → ports.at ≡ none_left) };
 }
 
 impl<B: Bus> LeftPorts<B> {
@@ -35,6 +38,7 @@ impl<B: Bus> LeftPorts<B> {
         LeftPorts {
             at: [None; 8],
             tried: [None; 8],
+            is_used: false,
             bus: PhantomData,
         }
     }
@@ -49,8 +53,16 @@ impl<B: Bus> LeftPorts<B> {
         LeftPorts {
             at: self.at,
             tried: self.tried,
+            is_used: self.is_used,
             bus: PhantomData,
         }
+    }
+
+    /// Whether a status of a port was ever kept; if not, none is left alone.
+    pub(crate) fn is_used(&self) -> bool
+        ensures { result ≡ false → self.now ≡ none_left }
+    {
+        self.is_used
     }
 
     /// Whether a port is left alone.
@@ -81,6 +93,7 @@ impl<B: Bus> LeftPorts<B> {
         ensures { self.new ≡ slice_set self.old number (Some status) }
     {
         if number < 8 {
+            self.is_used = true;
             self.at[usize::from(number)] = Some(status);
         }
     }
@@ -98,6 +111,7 @@ impl<B: Bus> LeftPorts<B> {
         ensures { self.new ≡ self.old }
     {
         if number < 8 {
+            self.is_used = true;
             self.tried[usize::from(number)] = Some(status);
         }
     }

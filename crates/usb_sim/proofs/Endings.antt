@@ -2,13 +2,14 @@
 use Rattle.std.proofs.Common.{◌≡◌, Bool, true, false, if◌then◌else◌, Option, Some, None, Result, Ok}
 use Rattle.std.proofs.Common.{Err, OnOk, IfErr, IsErrAnd, ◌≢◌, ◌||◌, refl, sym, subst, ap, ◌∙◌}
 use Rattle.std.proofs.Common.{arith, ℕ, ◌==◌, List, IfOk, IsSome, is_some, ◌+◌}
+use Rattle.std.specs.Bool.{⊤}
 use Rattle.std.proofs.lemmas.Bool.{eq-eqb}
 use Rattle.usb_world.specs.declared.event.Ask.{Ask}
 use Rattle.usb_world.specs.{Attempt, Outcome, BusFault, Limit, Memory, Failed, World}
 use Rattle.usb_world.specs.{at_attempt, with_attempt, attempted, attempt, event, event_taken}
 use Rattle.usb_world.specs.{after_first_event, after, fault_of, Left, Coming, at_event, at_packet}
 use Rattle.usb_world.specs.{at_line, AttemptFails, IsCut, damage_in, AttemptEnds, AttemptsWithin}
-use Rattle.usb_world.specs.{to_come, EventEnds}
+use Rattle.usb_world.specs.{FitsMaximum, to_come, EventEnds}
 use Rattle.usb_device.specs.{Ports, held_addresses, repeats}
 use Rattle.usb_world.proofs.Interface.{spends_none, spends_wider}
 use Rattle.usb_tree.proofs.Interface.{unequal}
@@ -48,12 +49,6 @@ made a w sound e = if_false_is (w.attempts == w.limit) (record w { fault = Some 
 pub without_fault : (w v : World) (f : Option BusFault) → w ≡ v → w.fault ≡ None → f ≡ None
     → record w { fault = f } ≡ v
 without_fault w v f e sound is = ap (λ x. record w { fault = x }) (is ∙ sym sound) ∙ e
-
-pub made_exact : (r : Result Outcome BusFault) (a : Attempt) (w m : World) → w.fault ≡ None
-    → (w.attempts ≡ w.limit → ⊥)
-    → OnOk r (m ≡ with_attempt a (at_attempt w)) → OnOk r (m ≡ after (attempt a) w)
-made_exact (Ok o) a w m sound below e = e ∙ made a w sound below
-made_exact (Err x) a w m sound below e = e
 
 pub event_exact : (r : Result (Option (Option Ask)) BusFault) (w m : World) → w.fault ≡ None
     → OnOk r (m ≡ after_first_event w.left w) → OnOk r (m ≡ after event w)
@@ -167,27 +162,50 @@ limit_attempts a w t sound e = record {
   text = nothing_written Limit a w (record w { fault = Some Limit }) t refl refl;
 }
 
-ends_as : (r : Result Outcome BusFault) (w v : World) → w.fault ≡ None
-    → OnOk r (v.attempts ≡ w.attempts + 1) → v.fault ≡ fault_of r → IfErr r (λ x. x ≢ Limit)
-    → AttemptEnds w r v
-ends_as (Ok o) w v sound one told other = record { sound = sound; one = one; still = told }
-ends_as (Err f) w v sound one told other = record { told = told; at_limit = λ e. absurd (other e) }
+abbrev unit_ok : Result ⊤ BusFault
+unit_ok = Ok tt
 
--- it was made, or given up
-pub made_attempts : (r : Result Outcome BusFault) (a : Attempt) (w v : World)
-    (t s : Option (List ℕ)) → w.fault ≡ None → (w.attempts ≡ w.limit → ⊥) → AttemptMade a w t r v s
-    → Attempts a w t r v s
-made_attempts r a w v t s sound below made = record {
+-- it was made
+pub made_attempts : (a : Attempt) (o : Outcome) (w v : World) (t s : Option (List ℕ))
+    → w.fault ≡ None → (w.attempts ≡ w.limit → ⊥) → FitsMaximum a.max o
+    → AttemptMade a w t unit_ok o v s → Attempts a w t (Ok o) v s
+made_attempts a o w v t s sound below fits m = record {
   counts = record {
-    spends = made.spends;
-    ends = ends_as r w v sound made.one made.told made.other;
-    fits = made.fits;
+    spends = m.spends;
+    ends = record { sound = sound; one = m.one; still = m.told };
+    fits = fits;
     again = λ x h. absurd (cc (sound, h));
   };
-  exact = made_exact r a w v sound below made.exact;
-  outcome = made.outcome;
-  fails = λ none. fails_at r a w v made.told below made.other made.left;
-  text = made.text;
+  exact = m.exact ∙ made a w sound below;
+  outcome = m.outcome;
+  fails = λ none. tt;
+  text = m.text;
+}
+
+abbrev unit_fault : BusFault → Result ⊤ BusFault
+unit_fault f = Err f
+
+told_text : (f : BusFault) (t s : Option (List ℕ)) (text : List ℕ)
+    → WritesText (unit_fault f) t s text → WritesText (fault_result f) t s text
+told_text Limit t s text w = w
+told_text Memory t s text w = w
+told_text Failed t s text w = w
+
+-- it was given up
+pub cut_attempts : (a : Attempt) (f : BusFault) (o : Outcome) (w v : World)
+    (t s : Option (List ℕ)) → w.fault ≡ None → (w.attempts ≡ w.limit → ⊥)
+    → AttemptMade a w t (unit_fault f) o v s → Attempts a w t (Err f) v s
+cut_attempts a f o w v t s sound below m = record {
+  counts = record {
+    spends = m.spends;
+    ends = record { told = m.told; at_limit = λ e. absurd (m.other e) };
+    fits = tt;
+    again = λ x h. absurd (cc (sound, h));
+  };
+  exact = tt;
+  outcome = tt;
+  fails = λ none. fails_at (fault_result f) a w v m.told below m.other m.left;
+  text = told_text f t s _ m.text;
 }
 
 -- What an event is, at each of its ends

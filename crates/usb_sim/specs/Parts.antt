@@ -3,7 +3,7 @@
 use Rattle.std.specs.Prelude.{◌≡◌, ◌≢◌, ℕ, ◌+◌, List, Option, None, Some, Result, Ok, Err, OnOk}
 use Rattle.std.specs.Prelude.{OnErr, IfOk, IfErr, IsSome, true}
 use Rattle.usb_world.specs.{Attempt, BusFault, Limit, Memory, Failed, Outcome, World}
-use Rattle.usb_world.specs.{AnswerFits, AttemptsWithin, to_come, Coming, Left, after, attempt}
+use Rattle.usb_world.specs.{AttemptsWithin, to_come, Coming, Left, after, attempt}
 use Rattle.usb_world.specs.{fault_of, outcome_in, at_attempt, after_first_event, with_attempt}
 use Rattle.usb_world.specs.declared.event.Ask.{Ask}
 use Rattle.usb_sim.specs.declared.sim.SimBus.{SimBus}
@@ -40,18 +40,18 @@ pub record EventsCame {A : Type 0} (old : World) (before : Option (List ℕ))
   pub other : IfErr result (λ f. f ≢ Limit)
   pub text : WritesText result before now (lines_between old new)
 
--- the attempt was made behind the events that are due, or the bus gave it up
-pub record AttemptMade (a : Attempt) (old : World) (before : Option (List ℕ))
-    (result : Result Outcome BusFault) (new : World) (now : Option (List ℕ)) : Type 0 where
-  pub spends : AttemptsWithin 1 old new
-  pub one : OnOk result (new.attempts ≡ old.attempts + 1)
-  pub fits : AnswerFits a.max result
-  pub exact : OnOk result (new ≡ with_attempt a (at_attempt old))
-  pub left : IfErr result (λ f. Left a old f (record new { fault = None }))
-  pub outcome : IfOk result (λ outcome. outcome ≡ outcome_in a old)
-  pub told : new.fault ≡ fault_of result
-  pub other : IfErr result (λ f. f ≢ Limit)
-  pub text : WritesText result before now (step_lines a old new)
+-- the attempt was made behind the events that are due, and this came of it; or the bus gave it up
+pub record AttemptMade {A : Type 0} (a : Attempt) (old : World) (before : Option (List ℕ))
+    (result : Result A BusFault) (came : Outcome) (new : World) (now : Option (List ℕ)) : Type 0
+  where
+    pub spends : AttemptsWithin 1 old new
+    pub one : OnOk result (new.attempts ≡ old.attempts + 1)
+    pub exact : OnOk result (new ≡ with_attempt a (at_attempt old))
+    pub left : IfErr result (λ f. Left a old f (record new { fault = None }))
+    pub outcome : OnOk result (came ≡ outcome_in a old)
+    pub told : new.fault ≡ fault_of result
+    pub other : IfErr result (λ f. f ≢ Limit)
+    pub text : WritesText result before now (step_lines a old new)
 
 -- what an attempt that told a fault leaves: at the limit the trace as it was, behind a fault all as
 -- it was, and where it is the first to tell Failed a trace that has failed

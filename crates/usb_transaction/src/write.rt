@@ -2,15 +2,19 @@
 ghost use Rattle.std.specs.Prelude.{◌≡◌, ◌≤◌, ◌<◌, length, MatchResult, true};
 ghost use Rattle.usb_bus.specs.Traces.{Spends, StepRun, Steps};
 ghost use Rattle.usb_packet.specs.Toggles.{other};
+ghost use Rattle.usb_transaction.specs.AttemptLogs.{Transacted};
 ghost use Rattle.usb_transaction.specs.Calls.{SendsOut};
+ghost use Rattle.usb_transaction.specs.HeardOutcomes.{heard_when_sent};
 ghost use Rattle.usb_transaction.specs.HeardTries.{AfterFirst, further_bound};
 ghost use Rattle.usb_transaction.specs.Transactions.{BusTold, IsTarget, out_attempt, transaction_bound};
+ghost use Rattle.usb_world.specs.PlainAttempts.{attempt_data};
+ghost use Rattle.usb_world.specs.Worlds.{IsAttempt};
 
 use crate::attempt::attempt_of_out;
 use crate::heard_outcome::heard_when_sent;
 use crate::tries::Tries;
 use crate::{Done, Target, TransFault};
-use usb_bus::{Bus, Outcome};
+use usb_bus::{Attempt, Bus, Outcome};
 use usb_packet::Toggle;
 
 /// Sends one data packet of at most the target's maximum to an endpoint, 0 to 15 (8.5), again
@@ -45,8 +49,9 @@ pub fn data_out<B: Bus>(
     ensures toggle { MatchResult result (λ _. toggle.new ≡ other toggle.old)
         (λ _. toggle.new ≡ toggle.old) }
 {
-    match bus.attempt(&attempt_of_out(target, ep, *toggle, bytes)) {
-        Ok(first) => data_out_from(bus, target, ep, toggle, bytes, first),
+    let attempt = attempt_of_out(target, ep, *toggle, bytes);
+    match bus.attempt(&attempt) {
+        Ok(first) => send_on(bus, &attempt, toggle, first),
         Err(fault) => Err(TransFault::Bus(fault)),
     }
 }
@@ -71,7 +76,26 @@ pub(crate) fn data_out_from<B: Bus>(
     ensures toggle { MatchResult result (λ _. toggle.new ≡ other toggle.old)
         (λ _. toggle.new ≡ toggle.old) }
 {
-    let attempt = attempt_of_out(target, ep, *toggle, bytes);
+    send_on(bus, &attempt_of_out(target, ep, *toggle, bytes), toggle, first)
+}
+
+/// Makes the attempt of an OUT, whose first outcome was this, until its packet is acknowledged.
+fn send_on<B: Bus>(
+    bus: &mut B,
+    attempt: &Attempt,
+    toggle: &mut Toggle,
+    first: Outcome,
+) -> Result<Done, TransFault>
+    requires { IsAttempt (attempt_data attempt.now) }
+    ensures any_bus { Spends B.spent B.ports further_bound bus.old bus.new
+        × BusTold result (B.failed bus.new) }
+    ensures sends { B.modelled ≡ true → AfterFirst (attempt_data attempt.now)
+        first (B.world bus.old) (B.trace bus.old)
+        (λ old text. StepRun transaction_bound old text (B.world bus.new) (B.trace bus.new)
+        × Transacted heard_when_sent (attempt_data attempt.now) old result (B.world bus.new)) }
+    ensures toggle { MatchResult result (λ _. toggle.new ≡ other toggle.old)
+        (λ _. toggle.new ≡ toggle.old) }
+{
     let mut tries = Tries::new();
     let mut outcome = first;
     'tries: loop {
@@ -79,7 +103,7 @@ pub(crate) fn data_out_from<B: Bus>(
             *toggle = toggle.other();
             return Ok(Done::nothing());
         }
-        match bus.attempt(&attempt) {
+        match bus.attempt(attempt) {
             Ok(next) => outcome = next,
             Err(fault) => return Err(TransFault::Bus(fault)),
         }

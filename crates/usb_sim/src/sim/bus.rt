@@ -4,6 +4,7 @@ ghost use Rattle.usb_port.specs.PortStates.{off, status_of};
 ghost use Rattle.usb_device.specs.HolderIndex.{IsIndexOf};
 ghost use Rattle.usb_device.specs.Tree.{row_of, changed, called};
 ghost use Rattle.usb_port.specs.Calls.{IsSetFeature, IsClearFeature};
+ghost use Rattle.usb_world.specs.Exchanges.{outcome_of};
 ghost use Rattle.usb_world.specs.PlainAttempts.{attempt_data};
 ghost use Rattle.usb_world.specs.Worlds.{Attempted, FitsMaximum, IsAttempt, roots_of};
 ghost use Rattle.usb_world.specs.Steps.{AttemptFails, SetsRoot, ClearsRoot, after, root_call};
@@ -50,7 +51,10 @@ impl<T: Trace> Bus for SimBus<T> {
             self.fault = Some(BusFault::Limit);
             return Err(BusFault::Limit);
         }
-        self.make_attempt(attempt)
+        self.make_attempt(attempt)?;
+        let answer = &self.exchange.answer;
+        let max = attempt.destination().max;
+        Ok(outcome_of(answer, self.exchange.answer_mark, max))
     }
 
     fn root_ports(&self) -> u8 {
@@ -105,17 +109,18 @@ impl<T: Trace> SimBus<T> {
         self.losses = self.losses.after_clearing(call.clears_connection_change());
     }
 
-    /// The events that are due, and then an attempt and its line.
+    /// The events that are due, and then an attempt and its line. What came of it is in the exchange.
     #[tactic(auto, unfolding(usb_world::specs::Steps::at_attempt, usb_world::specs::Steps::with_attempt, usb_world::specs::Steps::outcome_in, usb_bus::specs::Lines::step_lines))]
-    fn make_attempt(&mut self, attempt: &Attempt) -> Result<Outcome, BusFault>
+    fn make_attempt(&mut self, attempt: &Attempt) -> Result<(), BusFault>
         requires attempt { IsAttempt (attempt_data attempt.now) }
         requires sound { (world_of self.old).fault ≡ None }
         requires within { (world_of self.old).attempts < (world_of self.old).limit }
-        ensures made { AttemptMade (attempt_data attempt.now) (world_of self.old)
-            (trace_of self.old) result (world_of self.new) (trace_of self.new) }
+        ensures made { let x = self.new.exchange in
+            AttemptMade (attempt_data attempt.now) (world_of self.old) (trace_of self.old) result
+            (outcome_of x.answer x.answer_mark (attempt_data attempt.now).max)
+            (world_of self.new) (trace_of self.new) }
         ensures trace { result ≡ Err Failed → T.failed (tracer_of self.new) ≡ true }
     {
-        let to = attempt.destination();
         self.take_due_events()?;
         self.shared |= self.holders.is_shared();
         let damage = damage_of(&self.damages, self.attempts + 1);
@@ -134,10 +139,11 @@ impl<T: Trace> SimBus<T> {
         self.attempts += 1;
         self.losses
             .count(self.exchange.change_cleared, self.exchange.address_lost);
+        let pre = attempt.destination().speed.has_pre();
         self.tracer
-            .put_attempt(self.attempts, to.speed.has_pre(), &self.exchange)?;
+            .put_attempt(self.attempts, pre, &self.exchange)?;
         self.fault = None;
-        Ok(outcome_of(&self.exchange.answer, self.exchange.answer_mark, to.max))
+        Ok(())
     }
 }
 

@@ -3,7 +3,7 @@ use Rattle.std.proofs.Common.{ap, ◌∙◌, arith, length}
 use Rattle.usb_device.specs.{Ports, row_of}
 use Rattle.usb_world.specs.{Attempt, Damage, Exchange, damage_of, exchange_in, lost_in}
 use Rattle.usb_packet.specs.{speed_has_pre}
-use Rattle.usb_world.specs.{Destination, attempt_data, outcome_of}
+use Rattle.usb_world.specs.{Destination, attempt_data}
 use Rattle.usb_world.specs.{AreOfDamages, counted, World, Consistent, IsCut, IsAttempt}
 use Rattle.usb_world.specs.{after_clearing}
 use Rattle.usb_world.specs.declared.losses.Losses.{Losses}
@@ -45,18 +45,14 @@ returns-clause-made g c =
     (c.damage_of-damage.ensures ∙ ap (λ (l : List Damage). damage_of l (mid.attempts + 1))
     c.deref.ensures.value) made.made made.ports c.count.ensures
     (c.is_shared.ensures ∙ mid.indexed.1) in
-    let pre : c.has_pre.result ≡ a.pre = c.has_pre.ensures
-    ∙ ap (λ (d : Destination). speed_has_pre d.speed) c.destination-to.ensures in
+    let pre : c.has_pre-pre.result ≡ a.pre = c.has_pre-pre.ensures
+    ∙ ap (λ (d : Destination). speed_has_pre d.speed) c.destination.ensures in
     record {
       spends = search rules;
       one = search rules;
-      fits = search rules;
       exact = there.exact;
       left = tt;
-      outcome = c.outcome_of.ensures.value
-          ∙ ap (λ (d : Destination). outcome_of c.make_exchange_by.new.exchange.answer
-          c.make_exchange_by.new.exchange.answer_mark d.max) c.destination-to.ensures
-          ∙ there.outcome;
+      outcome = there.outcome;
       told = search rules;
       other = tt;
       text = subst (Appends _ _) there.lines (Appends-trans _ _ _ _ _ came.text
@@ -78,12 +74,11 @@ returns-in_err-put_attempt-clause-made g c =
     (c.damage_of-damage.ensures ∙ ap (λ (l : List Damage). damage_of l (mid.attempts + 1))
     c.deref.ensures.value) made.made made.ports c.count.ensures
     (c.is_shared.ensures ∙ mid.indexed.1) in
-    let pre : c.has_pre.result ≡ a.pre = c.has_pre.ensures
-    ∙ ap (λ (d : Destination). speed_has_pre d.speed) c.destination-to.ensures in
+    let pre : c.has_pre-pre.result ≡ a.pre = c.has_pre-pre.ensures
+    ∙ ap (λ (d : Destination). speed_has_pre d.speed) c.destination.ensures in
     record {
       spends = search rules;
       one = search rules;
-      fits = search rules;
       exact = search rules;
       left = left_at_line c.from_residual-in_err-put_attempt.result a w _
           c.from_residual-in_err-put_attempt.ensures.1 there.exact;
@@ -122,7 +117,6 @@ returns-in_err-make_exchange_by-clause-made g c =
     record {
       spends = search rules;
       one = search rules;
-      fits = search rules;
       exact = search rules;
       left = left_at_packet c.from_residual-in_err-make_exchange_by.result a w (world_of mid) _
           c.make_exchange_by.new.roots
@@ -149,7 +143,6 @@ returns-in_err-take_due_events-clause-made g c =
     record {
       spends = spends_wider 0 1 w v came.spends (omega arith);
       one = search rules;
-      fits = search rules;
       exact = search rules;
       left = left_at_event c.from_residual.result a w (record v { fault = None }) came.cut;
       outcome = search rules;
