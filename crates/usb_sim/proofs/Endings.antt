@@ -8,7 +8,7 @@ use Rattle.usb_world.specs.declared.event.Ask.{Ask}
 use Rattle.usb_world.specs.{Attempt, Outcome, BusFault, Limit, Memory, Failed, World}
 use Rattle.usb_world.specs.{at_attempt, with_attempt, attempted, attempt, event, event_taken}
 use Rattle.usb_world.specs.{after_first_event, after, fault_of, Left, Coming, at_event, at_packet}
-use Rattle.usb_world.specs.{at_line, AttemptFails, IsCut, damage_in, AttemptEnds, AttemptsWithin}
+use Rattle.usb_world.specs.{at_line, AttemptFails, IsCut, damage_in, AttemptsWithin}
 use Rattle.usb_world.specs.{FitsMaximum, to_come, EventEnds}
 use Rattle.usb_device.specs.{Ports, held_addresses, repeats}
 use Rattle.usb_world.proofs.Interface.{spends_none, spends_wider}

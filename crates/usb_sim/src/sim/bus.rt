@@ -140,8 +140,7 @@ impl<T: Trace> SimBus<T> {
         self.losses
             .count(self.exchange.change_cleared, self.exchange.address_lost);
         let pre = attempt.destination().speed.has_pre();
-        self.tracer
-            .put_attempt(self.attempts, pre, &self.exchange)?;
+        self.tracer.put_attempt(self.attempts, pre, &self.exchange)?;
         self.fault = None;
         Ok(())
     }
