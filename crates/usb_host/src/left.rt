@@ -69,6 +69,7 @@ impl<B: Bus> LeftPorts<B> {
     pub(crate) fn has(&self, number: u8) -> bool
         ensures value { result ≡ is_some (slice_index_or self.now number None) }
         ensures none { B.modelled ≡ true → result ≡ false }
+        ensures empty { self.now ≡ none_left → result ≡ false }
     {
         match self.at.get(usize::from(number)) {
             Some(left) => left.is_some(),

@@ -50,32 +50,19 @@ impl<B: Bus> Host<B> {
         ensures changed { B.modelled ≡ true
             → result ≡ (root_port_at self.old.world number).connection_changed }
     {
-        if self.left.is_used() {
-            return self.has_changed_since(number);
-        }
-        if !has_root(&self.bus, number) {
-            return false;
-        }
-        PortStatus::from_bytes(self.bus.root_status(number)).connection_changed
-    }
-
-    /// The same where the status of some port was kept.
-    fn has_changed_since(&mut self, number: u8) -> bool
-        requires { B.modelled ≡ true → IsRootPort self.old.world number }
-        ensures rests { OnlyLeaves B.modelled self.old self.new }
-        ensures fewer { LeavesNoMore self.old.counts.left self.new.counts.left }
-        ensures changed { B.modelled ≡ true
-            → result ≡ (root_port_at self.old.world number).connection_changed }
-    {
         if !has_root(&self.bus, number) {
             return false;
         }
         let status = self.bus.root_status(number);
+        let changed = PortStatus::from_bytes(status).connection_changed;
+        if !self.left.is_used() {
+            return changed;
+        }
         if self.left.has_at(number, status) {
             return false;
         }
         self.left.shows(number, status);
-        PortStatus::from_bytes(status).connection_changed
+        changed
     }
 
     /// Leaves a root port alone if a clearing has not taken its change of connection away, as this status says
