@@ -1,6 +1,6 @@
 -- The pipes to a device.
 use Rattle.std.specs.Prelude.{◌≡◌, ⊤, ℕ, ◌≤◌, Bool, true, false, List, map, Option, Some, None}
-use Rattle.std.specs.Prelude.{[], is_some, if◌then◌else◌, length, replicate}
+use Rattle.std.specs.Prelude.{[], ◌∷◌, is_none, is_some, if◌then◌else◌, length, replicate, ◌&&◌}
 use Rattle.std.specs.Option.{option_map}
 use Rattle.arrayvec.specs.ArrayVec.{ArrayVec}
 use Rattle.usb_descriptor.specs.{EndpointKind, UsableEndpoint, default_settings}
@@ -118,6 +118,11 @@ new_pipe target is_in e (Some end) = Some (record {
   toggle = Zero;
   condition = Ready;
 })
+
+-- none of these numbers of a direction has an endpoint
+abbrev pub has_no_end : (ℕ → Option UsableEndpoint) → List ℕ → Bool
+has_no_end ends [] = true
+has_no_end ends (e ∷ more) = is_none (ends e) && has_no_end ends more
 
 -- to those of a direction, by their numbers
 abbrev pub row_of_ends : Target → Bool → (ℕ → Option UsableEndpoint) → List (Option PipeState)

@@ -1,9 +1,9 @@
 //! The pipes of one direction of a function, and marks of those that are lost.
 ghost use Rattle.std.specs.Prelude.{◌≡◌, ◌+◌, ◌≤◌, length, get_or, Some, None};
 ghost use Rattle.usb_descriptor.specs.Usable.{end_at};
-ghost use Rattle.usb_device.specs.Ends.{numbered_from, with_at};
+ghost use Rattle.usb_device.specs.Ends.{end_numbers, numbered_from, with_at};
 ghost use Rattle.usb_table.specs.InterfaceSettings.{cleared_row, mark_of, marked_row, replaced_if, replaced_row};
-ghost use Rattle.usb_table.specs.TablePipes.{new_pipe, none_lost, row_of_ends};
+ghost use Rattle.usb_table.specs.TablePipes.{has_no_end, new_pipe, none_lost, row_of_ends};
 ghost use Rattle.usb_transaction.specs.Transactions.{IsTarget};
 
 use std::marker::Model;
@@ -42,12 +42,38 @@ fn new_pipe(target: Target, ends: &UsableEndpoints, number: u8, is_in: bool) -> 
     Some(EndpointPipe::new(target, number, end, is_in))
 }
 
+/// Whether a direction of a device has no endpoint: most often one has none, and then no pipe has
+/// to be made.
+fn has_no_end(ends: &UsableEndpoints, is_in: bool) -> bool
+    ensures { result ≡ has_no_end (end_at ends.now is_in) end_numbers }
+{
+    ends.get(0, is_in).is_none()
+        && ends.get(1, is_in).is_none()
+        && ends.get(2, is_in).is_none()
+        && ends.get(3, is_in).is_none()
+        && ends.get(4, is_in).is_none()
+        && ends.get(5, is_in).is_none()
+        && ends.get(6, is_in).is_none()
+        && ends.get(7, is_in).is_none()
+        && ends.get(8, is_in).is_none()
+        && ends.get(9, is_in).is_none()
+        && ends.get(10, is_in).is_none()
+        && ends.get(11, is_in).is_none()
+        && ends.get(12, is_in).is_none()
+        && ends.get(13, is_in).is_none()
+        && ends.get(14, is_in).is_none()
+        && ends.get(15, is_in).is_none()
+}
+
 impl PipeRow {
     /// New pipes to the endpoints of one direction of a device.
     pub fn new(target: Target, ends: &UsableEndpoints, is_in: bool) -> Self
         requires { IsTarget target }
         ensures { result ≡ row_of_ends target is_in (end_at ends.now is_in) }
     {
+        if has_no_end(ends, is_in) {
+            return PipeRow { row: [None; 16] };
+        }
         PipeRow {
             row: [
                 new_pipe(target, ends, 0, is_in),
