@@ -70,6 +70,11 @@ stops_at ports sources source rest made tables fault h why = record {
   why = why;
 }
 
+-- memory may be refused once a table is made
+pub memory_at : (ports : ℕ) (source : Source) (table : List ℕ) → IsTable ports source table
+    → HasSourceFault source Memory
+memory_at ports source table h = inr (h.is_device.named, tt)
+
 -- no source is at fault where the writer failed
 not_write : (sources : List Source) (place : ℕ) → StopsAt sources place Write → ⊥
 not_write sources place h = elim h.why [

@@ -35,6 +35,7 @@ fn table_of(alloc: Global, ports: u8, source: &Source<'_>) -> Result<Vec<u8>, En
 }
 
 /// The tables of devices, one behind the other; a fault with the number of devices before it.
+#[tactic(auto, using(crate::proofs::Tables::made_zero, crate::proofs::Tables::made_more, crate::proofs::Tables::made_all, crate::proofs::Tables::stops_at, crate::proofs::Tables::memory_at))]
 pub(crate) fn tables_of(
     alloc: Global,
     ports: u8,

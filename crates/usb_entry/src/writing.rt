@@ -21,6 +21,7 @@ use usb_bus::{Watched, put_piece};
 /// - `Empty`, `Device`, `TooMany`, `Configuration`, `Missing`, `LeftOver`: as of [`entry_of`](crate::entry_of).
 /// - `Memory`: memory was refused.
 /// - `Write`, with the number of all devices: the writer failed. A prefix of the tables is written.
+#[tactic(auto, using(crate::proofs::Tables::stopped))]
 pub fn write_entries<W: Write>(
     alloc: Global,
     ports: u8,
