@@ -16,10 +16,11 @@ refuse_terminal() {
   fi
 }
 
-# The file that a command reads: the last of its words, if it has this number of them apart from its option; else `-`.
-last_word() {
-  local option=$1 count=$2 words=()
-  shift 3
+# Sets `words`: those behind the command, apart from its option with a value.
+set_words() {
+  local option=$1
+  words=()
+  shift 2
   while [ $# -gt 0 ]; do
     case "$1" in
       "$option") shift ;;
@@ -28,30 +29,38 @@ last_word() {
     esac
     shift || break
   done
-  if [ ${#words[@]} = "$count" ]; then
-    printf '%s' "${words[-1]}"
-  else
-    printf '%s' -
-  fi
 }
 
-# Sets `file`: the file that the command reads, `-` if it reads none. Ends if it cannot be read.
+# Ends if the file of a command cannot be read.
+see_file() {
+  [[ "$2" != -* ]] || return 0
+  if [ -d "$2" ]; then
+    [ "$1" = device ] || refuse "$2" "is a folder"
+    [ -e "$2/descriptors" ] || refuse "$2" "is a folder with no file 'descriptors'"
+  fi
+  [ -e "$2" ] || refuse "$2" "is not there"
+  [ -r "$2" ] || refuse "$2" "cannot be read"
+}
+
+# Sets `file`: the one file that the command reads, `-` if it reads none. Ends if a file cannot be read.
 name_file() {
+  local words=() i
   file=-
   case "$#:${1-}" in
     2:check | 2:tree | 2:draw | 2:run | 2:explain | 2:page | 2:pcap | 2:far) file=$2 ;;
     3:draw) [ "$2" != --ascii ] || file=$3 ;;
-    [345]:device) file=$(last_word --ports 2 "$@") ;;
-    [34]:explain) file=$(last_word --only 1 "$@") ;;
+    [34]:explain)
+      set_words --only "$@"
+      [ ${#words[@]} != 1 ] || file=${words[0]}
+      ;;
+    *:device)
+      set_words --ports "$@"
+      for ((i = 1; i < ${#words[@]}; i += 2)); do
+        see_file device "${words[i]}"
+      done
+      ;;
   esac
-  if [[ "$file" != -* ]]; then
-    if [ -d "$file" ]; then
-      [ "${1-}" = device ] || refuse "$file" "is a folder"
-      [ -e "$file/descriptors" ] || refuse "$file" "is a folder with no file 'descriptors'"
-    fi
-    [ -e "$file" ] || refuse "$file" "is not there"
-    [ -r "$file" ] || refuse "$file" "cannot be read"
-  fi
+  see_file "${1-}" "$file"
 }
 
 # Says on a terminal what the program waits for: the other side's lines, typed by a person.

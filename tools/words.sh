@@ -131,7 +131,7 @@ check_flag() {
 check_room() {
   local command=$1
   shift
-  [ $# -le ${#names[@]} ] || {
+  [ $# -le ${#names[@]} ] || [ "$command" = device ] || {
     shift ${#names[@]}
     refuse_words "unexpected argument '$1' found" "$(usage_of "$command")"
   }
@@ -152,7 +152,7 @@ check_count() {
 # Answers the words of a command where they ask for help or are wrong.
 check_command() {
   local command=$1 given='' flagged='' value='' words=() names
-  mapfile -t names < <(sed -n 's/^  \(<[A-Z]*>\)  .*/\1/p' "$help/$1.txt")
+  mapfile -t names < <(sed -n 's/^  \(<[A-Z ]*>[.]*\)  .*/\1/p' "$help/$1.txt")
   shift
   while [ $# -gt 0 ]; do
     case "$command:$1" in
@@ -189,6 +189,8 @@ check_command() {
   check_room "$command" "${words[@]}"
   check_count "$command" "${words[@]}"
   [ "$command:${given%% *}" != explain:--only ] || check_selection "$value"
+  [ "$command:$((${#words[@]} % 2))" != device:1 ] ||
+    refuse_words "'${words[-1]}' has no file: each device has a name and a file" "$(usage_of device)"
 }
 
 # Answers words that ask for no work of the program.

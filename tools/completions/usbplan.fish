@@ -10,7 +10,7 @@ complete -c usbplan -n '__fish_use_subcommand' -f -a run -d 'Run a plan, and pri
 complete -c usbplan -n '__fish_use_subcommand' -f -a explain -d 'Print a run with its requests in words'
 complete -c usbplan -n '__fish_use_subcommand' -f -a page -d 'Run a plan, and write a page of HTML'
 complete -c usbplan -n '__fish_use_subcommand' -f -a pcap -d 'Write the packets of a run for Wireshark'
-complete -c usbplan -n '__fish_use_subcommand' -f -a device -d 'Write the table of a plan for a real device'
+complete -c usbplan -n '__fish_use_subcommand' -f -a device -d 'Write the tables of a plan for real devices'
 complete -c usbplan -n '__fish_use_subcommand' -f -a far -d 'Answer a host as the devices of a plan would'
 complete -c usbplan -n '__fish_use_subcommand' -f -a live -d 'Run the host against another program'
 complete -c usbplan -n '__fish_use_subcommand' -f -a test -d 'Compare what the plans of a folder write with texts'

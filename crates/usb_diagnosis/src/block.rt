@@ -55,7 +55,7 @@ pub(crate) fn block_on<'a>(
         BeginsWith file.now layout.now.text.now fault (string_bytes lines)) }
 {
     let within = trouble.and_then(|trouble| trouble_within(trouble, fault));
-    let span = span_of(layout, entry.place(), trouble, within.as_ref(), fault);
+    let span = span_of(alloc, layout, entry, trouble, within.as_ref(), fault)?;
     let spot = spot_of(layout, span);
     let first = first_line(alloc, file, spot, fault)?;
     let mut rest = String::new(alloc);

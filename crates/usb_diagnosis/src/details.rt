@@ -92,22 +92,44 @@ fn span_at_key(
     Some(marked(layout, anchor, trouble, fault))
 }
 
+/// What is marked of an entry without a head, the top, that lacks a key: the key that is there in its place.
+fn misspelled_span(
+    alloc: Global,
+    layout: &Layout<'_>,
+    entry: &Entry<'_>,
+    trouble: Option<Trouble<'_>>,
+) -> Result<Option<Span>, AllocError> {
+    let Some(Trouble::Missing(key)) = trouble else {
+        return Ok(None);
+    };
+    let Some(name) = misspelled(alloc, entry.table(), entry.keys(), key)? else {
+        return Ok(None);
+    };
+    match key_at(layout, entry.place(), name) {
+        None => Ok(None),
+        Some(anchor) => Ok(Some(key_span(layout, anchor))),
+    }
+}
+
 /// What is marked of the trouble of an entry: what is at its key, and else where the entry begins.
 pub(crate) fn span_of(
+    alloc: Global,
     layout: &Layout<'_>,
-    place: Place,
+    entry: &Entry<'_>,
     trouble: Option<Trouble<'_>>,
     within: Option<&Within<'_>>,
     fault: PlanFault,
-) -> Option<Span> {
-    if let Some(span) = span_within(layout, place, within, fault) {
-        return Some(span);
+) -> Result<Option<Span>, AllocError> {
+    if let Some(span) = span_within(layout, entry.place(), within, fault) {
+        return Ok(Some(span));
     }
-    if let Some(span) = span_at_key(layout, place, trouble, fault) {
-        return Some(span);
+    if let Some(span) = span_at_key(layout, entry.place(), trouble, fault) {
+        return Ok(Some(span));
     }
-    let anchor = head_at(layout, place)?;
-    Some(key_span(layout, anchor))
+    match head_at(layout, entry.place()) {
+        None => misspelled_span(alloc, layout, entry, trouble),
+        Some(anchor) => Ok(Some(key_span(layout, anchor))),
+    }
 }
 
 /// Adds two blanks, the words for an entry, its name and its line:
@@ -338,14 +360,32 @@ fn key_names(alloc: Global, keys: &[PlanKey]) -> Result<Vec<&'static str>, Alloc
 }
 
 /// The keys of the table that have no meaning there.
-fn unknown_names<'a>(alloc: Global, told: &Told<'a>) -> Result<Vec<&'a str>, AllocError> {
+fn unknown_names<'a>(
+    alloc: Global,
+    table: &'a Table,
+    keys: &[PlanKey],
+) -> Result<Vec<&'a str>, AllocError> {
     let mut names = Vec::new(alloc);
-    for name in told.table.keys() {
-        if !is_known(told.keys, name.as_str()) {
+    for name in table.keys() {
+        if !is_known(keys, name.as_str()) {
             names.push(name.as_str())?;
         }
     }
     Ok(names)
+}
+
+/// The key that is there in the place of a missing one, if one is near.
+fn misspelled<'a>(
+    alloc: Global,
+    table: &'a Table,
+    keys: &[PlanKey],
+    key: PlanKey,
+) -> Result<Option<&'a str>, AllocError> {
+    let names = unknown_names(alloc, table, keys)?;
+    match nearest(alloc, key.name(), names.as_slice())? {
+        None => Ok(None),
+        Some(i) => Ok(names.get(i).copied()),
+    }
 }
 
 fn device_names<'a>(alloc: Global, devices: &'a [Value]) -> Result<Vec<&'a str>, AllocError> {
@@ -415,10 +455,10 @@ fn push_suggestion(
     told: &Told<'_>,
 ) -> Result<(), AllocError> {
     match told.trouble {
-        Trouble::Missing(key) => {
-            let names = unknown_names(alloc, told)?;
-            push_misspelled(alloc, out, key.name(), names.as_slice())
-        }
+        Trouble::Missing(key) => match misspelled(alloc, told.table, told.keys, key)? {
+            None => Ok(()),
+            Some(name) => push_misspelled(alloc, out, key.name(), name),
+        },
         Trouble::Unknown(name) => {
             let names = key_names(alloc, told.keys)?;
             push_meant(alloc, out, name, names.as_slice(), "`")
@@ -428,21 +468,15 @@ fn push_suggestion(
     }
 }
 
-/// Adds a line on the key that stands there in the place of a missing one, if one is near.
+/// Adds a line on the key that is there in the place of a missing one.
 fn push_misspelled(
     alloc: Global,
     out: &mut String,
     key: &str,
-    names: &[&str],
+    name: &str,
 ) -> Result<(), AllocError> {
-    let Some(i) = nearest(alloc, key, names)? else {
-        return Ok(());
-    };
-    let Some(name) = names.get(i) else {
-        return Ok(());
-    };
     out.push_str("  unknown key ")?;
-    push_key(alloc, out, *name)?;
+    push_key(alloc, out, name)?;
     out.push_str(": did you mean ")?;
     push_key(alloc, out, key)?;
     out.push_str("?\n")

@@ -1,3 +1,4 @@
 mod Descriptors
 mod Pieces
 mod Readings
+mod Tables

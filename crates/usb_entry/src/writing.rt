@@ -1,45 +1,43 @@
-//! A device's bytes in, the entry of a plan out.
-ghost use Rattle.std.specs.Prelude.{◌≡◌, ◌≢◌, Err, IsErrOf, true};
+//! The bytes of devices in, the entries of a plan out.
+ghost use Rattle.std.specs.Prelude.{◌≡◌, true, IfErr};
 ghost use Rattle.usb_bus.specs.Watch.{inner_of, has_failed};
-ghost use Rattle.usb_entry.specs.Writing.{WritesEntry};
+ghost use Rattle.usb_entry.specs.Writing.{MarksAtWrite, WritesEntries};
 
 use crate::fault::EntryFault;
-use crate::notes::Notes;
-use crate::reading::entry_of;
-use crate::text::entry_text;
+use crate::source::{Source, tables_of};
 use std::alloc::Global;
 use std::io::Write;
 use usb_bus::{Watched, put_piece};
 
-/// Writes the `[[device]]` table of a plan whose device has this name and these bytes, and this number of ports, 1 to
-/// 7, where it is a hub, with what Linux has of it beside these bytes.
+/// Writes the `[[device]]` tables of a plan for these devices, in order, each with this number of ports, 1 to 7, if it
+/// is a hub.
 ///
 /// # Errors
 ///
-/// The first that holds; nothing is written but at `Write`:
+/// The first that holds of the first device that has one, with the number of devices before it. Nothing is written but
+/// at `Write`:
 ///
 /// - `NoName`: the name is empty.
-/// - `Empty`, `Device`, `TooMany`, `Configuration`, `Missing`, `LeftOver`: as of [`entry_of`].
+/// - `Empty`, `Device`, `TooMany`, `Configuration`, `Missing`, `LeftOver`: as of [`entry_of`](crate::entry_of).
 /// - `Memory`: memory was refused.
-/// - `Write`: the writer failed. A prefix of the table is written.
-pub fn write_entry<W: Write>(
+/// - `Write`, with the number of all devices: the writer failed. A prefix of the tables is written.
+#[tactic(auto, using(crate::proofs::Tables::stopped))]
+pub fn write_entries<W: Write>(
     alloc: Global,
-    name: &str,
     ports: u8,
-    notes: &Notes<'_>,
-    bytes: &[u8],
+    sources: &[Source<'_>],
     writer: &mut Watched<W>,
-) -> Result<(), EntryFault>
-    ensures written { WritesEntry name.now ports notes.now bytes.now (W.contents (inner_of writer.old)) result
+) -> Result<(), (usize, EntryFault)>
+    ensures written { WritesEntries ports sources.now (W.contents (inner_of writer.old)) result
         (W.contents (inner_of writer.new)) }
-    ensures marked { IsErrOf result EntryFault.Write → has_failed writer.new ≡ true }
-    ensures unmarked { (result ≢ Err EntryFault.Write)
-        → has_failed writer.new ≡ has_failed writer.old }
+    ensures marked { MarksAtWrite result (has_failed writer.old) (has_failed writer.new) }
 {
-    if name.is_empty() {
-        return Err(EntryFault::NoName);
+    let tables = match tables_of(alloc, ports, sources) {
+        Ok(tables) => tables,
+        Err(fault) => return Err(fault),
+    };
+    match put_piece(writer, tables.as_slice()) {
+        Ok(()) => Ok(()),
+        Err(_) => Err((sources.len(), EntryFault::Write)),
     }
-    let entry = entry_of(alloc, bytes)?;
-    let text = entry_text(alloc, name, ports, notes, &entry)?;
-    Ok(put_piece(writer, text.as_slice())?)
 }

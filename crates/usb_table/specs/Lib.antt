@@ -59,7 +59,7 @@ pub use PipeRows.{polls_through, receives_miss, receives_through, row_at, row_ma
 pub use PipeRows.{sends_through, takes_bytes, through, unclear, way_to, with_pipe, with_rest}
 pub use TablePipes.{AreAbsent, AreFunctionPipes, ArePipesIf, ArePipesOf, ArePipesTo, IsEndPipe}
 pub use TablePipes.{IsPipe}
-pub use TablePipes.{IsPlace, IsStatusPipe, end_under, new_function, new_pipe, new_pipes}
+pub use TablePipes.{IsPlace, IsStatusPipe, end_under, has_no_end, new_function, new_pipe, new_pipes}
 pub use TablePipes.{new_pipes_to, new_row, new_status, no_pipes, none_lost, number_of}
 pub use TablePipes.{row_of_ends}
 pub use TablePipes.{usable_end}

@@ -1,13 +1,15 @@
 -- The program's command line, as `clap` reads it.
-use Rattle.std.specs.Prelude.{◌≡◌, ◌≤◌, Bool, List, [], ◌∷◌, ℕ, codes, Some, None, true, false}
+use Rattle.std.specs.Prelude.{◌≡◌, ◌≢◌, ◌≤◌, Bool, List, [], ◌∷◌, ℕ, codes, flat_map, Some, None}
+use Rattle.std.specs.Prelude.{true, false}
 use Rattle.std.specs.Str.Parse.{IsNumeral, digits_value, without_leading_plus}
-use Rattle.clap.specs.Walk.{Row, Rule, Text, first_of, one_of}
+use Rattle.clap.specs.Walk.{Row, Rule, Text, all_of, first_of, one_of}
 use Rattle.clap.specs.Simple.{App, new_app, new_rule, with_rule, with_subcommand, subcommand_of}
-use Rattle.clap.specs.declared.builder.action.ArgAction.TheVariants.{Set, SetTrue}
+use Rattle.clap.specs.declared.builder.action.ArgAction.TheVariants.{Append, Set, SetTrue}
 use Rattle.clap.specs.declared.builder.value_parser.ValueParser.TheVariants as parser
 use Rattle.usb_words.specs.declared.words.DeviceWords.{DeviceWords}
 use Rattle.usb_words.specs.declared.words.ExplainWords.{ExplainWords}
 use Rattle.usb_words.specs.declared.words.LiveWords.{LiveWords}
+use Rattle.usb_words.specs.declared.words.NamedFile.{NamedFile}
 use Rattle.usb_words.specs.declared.words.Words.{Words}
 use Rattle.usb_words.specs.declared.words.Words.TheVariants.{Stdin, Packet, Check, Tree, Draw, Run}
 use Rattle.usb_words.specs.declared.words.Words.TheVariants.{Explain, Page, Pcap, Device, Far, Live}
@@ -43,10 +45,14 @@ only_rule = record (new_rule (codes "only")) {
 abbrev pub explain_app : App
 explain_app = with_rule (text_app (codes "explain")) only_rule
 
--- the name that `device` wants before its file, and its number of ports, 1 to 7, which is 7 where
+-- the names and files that `device` wants in turn, and the number of ports, 1 to 7, which is 7 where
 -- it is left out
-abbrev pub name_rule : Rule
-name_rule = record (new_rule (codes "name")) { required = true; action = Some Set; value_names = 1 }
+abbrev pub devices_rule : Rule
+devices_rule = record (new_rule (codes "devices")) {
+  required = true;
+  action = Some Append;
+  value_names = 1;
+}
 
 abbrev pub ports_rule : Rule
 ports_rule = record (new_rule (codes "ports")) {
@@ -58,8 +64,7 @@ ports_rule = record (new_rule (codes "ports")) {
 }
 
 abbrev pub device_app : App
-device_app = with_rule (with_rule (with_rule (new_app (codes "device")) name_rule) text_rule)
-    ports_rule
+device_app = with_rule (with_rule (new_app (codes "device")) devices_rule) ports_rule
 
 -- the most questions that `live` asks, 2 ^ 63 - 1 where it is left out
 abbrev pub limit_rule : Rule
@@ -134,16 +139,30 @@ pub record ReadsExplain (words : List Text) (asked : ExplainWords) : Type 0 wher
   pub subcommand : subcommand_of program_app words ≡ Some (codes "explain", rows)
   pub explain : IsExplain rows asked
 
--- what clap reads from the words of `device`: its name, its file, and a numeral of 1 to 7
-pub record IsDevice (rows : List Row) (asked : DeviceWords) : Type 0 where
-  pub name : first_of (codes "name") rows ≡ Some asked.name.now
-  pub file : first_of (codes "text") rows ≡ Some asked.file.now
+-- a device's name and file, as its words
+abbrev pub words_of_file : NamedFile → List Text
+words_of_file f = f.name.now ∷ f.file.now ∷ []
+
+-- the words are the names and files of these devices, in turn
+pub record AreNamedFiles (words : List Text) (files : List NamedFile) : Type 0 where
+  pub some : files ≢ []
+  pub in_turn : words ≡ flat_map words_of_file files
+
+-- what clap reads as the number of ports: a numeral of 1 to 7
+pub record GivesPorts (rows : List Row) (ports : ℕ) : Type 0 where
   pub numeral : List ℕ
   pub given : one_of (codes "ports") rows ≡ Some numeral
   pub is_numeral : IsNumeral 10 (without_leading_plus numeral)
-  pub value : asked.ports ≡ digits_value 10 (without_leading_plus numeral)
-  pub least : 1 ≤ asked.ports
-  pub most : asked.ports ≤ 7
+  pub value : ports ≡ digits_value 10 (without_leading_plus numeral)
+  pub least : 1 ≤ ports
+  pub most : ports ≤ 7
+
+-- what clap reads from the words of `device`: its devices, and the number of ports
+pub record IsDevice (rows : List Row) (asked : DeviceWords) : Type 0 where
+  pub words : List Text
+  pub given : all_of (codes "devices") rows ≡ Some words
+  pub devices : AreNamedFiles words asked.devices.items
+  pub ports : GivesPorts rows asked.ports
 
 -- clap reads `device` from the words, with these
 pub record ReadsDevice (words : List Text) (asked : DeviceWords) : Type 0 where

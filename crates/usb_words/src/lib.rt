@@ -11,4 +11,4 @@ mod selection;
 mod words;
 
 pub use selection::{Selection, selection_of};
-pub use words::{DeviceWords, ExplainWords, LiveWords, WordFault, Words, read_words};
+pub use words::{DeviceWords, ExplainWords, LiveWords, NamedFile, WordFault, Words, read_words};

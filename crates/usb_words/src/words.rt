@@ -3,7 +3,7 @@ ghost use Rattle.std.specs.Prelude.{◌≡◌, IfOk, IfSome, List, map, true, fa
 ghost use Rattle.clap.specs.Simple.{app_of, subcommand_of, subcommand_rows_of, with_subcommand};
 ghost use Rattle.clap.specs.Matches.{found_of};
 ghost use Rattle.clap.specs.Walk.{Text, rows_of, rule_of};
-ghost use Rattle.usb_words.specs.CommandLine.{IsDevice, IsExplain, IsLive, ReadsWords, device_app, draw_app, explain_app, first_app, limit_rule, live_app, name_rule, only_rule, plain_app, ports_rule, program_app, run_app, text_app, text_rule, wide_rule, with_text};
+ghost use Rattle.usb_words.specs.CommandLine.{AreNamedFiles, GivesPorts, IsDevice, IsExplain, IsLive, ReadsWords, device_app, devices_rule, draw_app, explain_app, first_app, limit_rule, live_app, only_rule, plain_app, ports_rule, program_app, run_app, text_app, text_rule, wide_rule, with_text};
 
 use crate::selection::{Selection, selection_of};
 use clap::builder::ValueParser;
@@ -35,7 +35,7 @@ pub enum Words<'a> {
     Page(&'a str),
     /// The packets of a run, by the file of its text.
     Pcap(&'a str),
-    /// The entry of a plan that a device makes.
+    /// The entries of a plan that devices make.
     Device(DeviceWords<'a>),
     /// The far end of a bus, played from a plan, by the plan's file.
     Far(&'a str),
@@ -52,15 +52,22 @@ pub struct ExplainWords<'a> {
     pub file: &'a str,
 }
 
-/// What entry a device makes.
-#[derive(Clone, Copy, Debug)]
+/// What entries devices make.
+#[derive(Debug, Drop)]
 pub struct DeviceWords<'a> {
+    /// The devices in the order of the words, at least one.
+    pub devices: Vec<NamedFile<'a>>,
+    /// How many ports each has that is a hub, 1 to 7.
+    pub ports: u8,
+}
+
+/// A device that makes an entry.
+#[derive(Clone, Copy, Debug)]
+pub struct NamedFile<'a> {
     /// The entry's name.
     pub name: &'a str,
     /// The file of the device's descriptors, or the folder that has it.
     pub file: &'a str,
-    /// How many ports it has if it is a hub, 1 to 7.
-    pub ports: u8,
 }
 
 /// What host is before a far end.
@@ -84,12 +91,13 @@ pub enum WordFault {
 }
 
 /// Reads the words after the program's name: `packet HEX`, `check FILE`, `tree FILE`, `draw [--ascii] FILE`,
-/// `run FILE`, `explain [--only WHAT] FILE`, `page FILE`, `pcap FILE`, `device NAME FILE [--ports N]`, `far FILE`,
-/// `live [--limit N] [--wide-hubs]` or none.
+/// `run FILE`, `explain [--only WHAT] FILE`, `page FILE`, `pcap FILE`, `device NAME FILE [NAME FILE].. [--ports N]`,
+/// `far FILE`, `live [--limit N] [--wide-hubs]` or none.
 ///
 /// # Errors
 ///
-/// - `Refused`: `clap` reads no such command, is asked for the help or the version, or WHAT names no selection.
+/// - `Refused`: `clap` reads no such command, is asked for the help or the version, WHAT names no selection, or the
+///   last NAME has no FILE.
 /// - `Memory`: memory was refused.
 pub fn read_words<'a>(alloc: Global, words: &'a [&'a str]) -> Result<Words<'a>, WordFault>
     ensures { IfOk result (λ asked. ReadsWords (map (λ s. s.now) words.entry.now) asked) }
@@ -99,11 +107,27 @@ pub fn read_words<'a>(alloc: Global, words: &'a [&'a str]) -> Result<Words<'a>, 
         Err(error) if error.kind() == ErrorKind::OutOfMemory => return Err(WordFault::Memory),
         Err(error) => return Err(WordFault::Refused(error)),
     };
-    words_of(&matches).ok_or_else(|| refusal(alloc, &matches))
+    match words_of(alloc, &matches) {
+        Ok(Some(asked)) => Ok(asked),
+        Ok(None) => Err(refusal(alloc, &matches)),
+        Err(_) => Err(WordFault::Memory),
+    }
 }
 
-/// What the program's subcommand asks for, if it is one of the program's and has its text.
-fn words_of<'a>(matches: &ArgMatches<'a>) -> Option<Words<'a>>
+/// What the program's subcommand asks for, if it is one of the program's and has its texts.
+fn words_of<'a>(alloc: Global, matches: &ArgMatches<'a>) -> Result<Option<Words<'a>>, AllocError>
+    ensures { IfOk result (λ found. IfSome found (λ asked. (words : List Text)
+        → subcommand_rows_of matches.now ≡ subcommand_of program_app words
+        → ReadsWords words asked)) }
+{
+    match matches.subcommand() {
+        Some(("device", found)) => Ok(device_words(alloc, found)?.map(Words::Device)),
+        _ => Ok(plain_words(matches)),
+    }
+}
+
+/// What the program's subcommand asks for, if it is one of the program's but `device` and has its text.
+fn plain_words<'a>(matches: &ArgMatches<'a>) -> Option<Words<'a>>
     ensures { IfSome result (λ asked. (words : List Text)
         → subcommand_rows_of matches.now ≡ subcommand_of program_app words
         → ReadsWords words asked) }
@@ -120,7 +144,6 @@ fn words_of<'a>(matches: &ArgMatches<'a>) -> Option<Words<'a>>
         Some(("explain", found)) => Some(Words::Explain(explain_words(found)?)),
         Some(("page", found)) => Some(Words::Page(found.get_str("text")?)),
         Some(("pcap", found)) => Some(Words::Pcap(found.get_str("text")?)),
-        Some(("device", found)) => Some(Words::Device(device_words(found)?)),
         Some(("far", found)) => Some(Words::Far(found.get_str("text")?)),
         Some(("live", found)) => Some(Words::Live(live_words(found)?)),
         Some(_) => None,
@@ -128,16 +151,54 @@ fn words_of<'a>(matches: &ArgMatches<'a>) -> Option<Words<'a>>
 }
 
 /// What `device` asks for.
-fn device_words<'a>(found: &ArgMatches<'a>) -> Option<DeviceWords<'a>>
-    ensures { IfSome result (λ asked. IsDevice (rows_of (found_of found.now)) asked) }
+fn device_words<'a>(
+    alloc: Global,
+    found: &ArgMatches<'a>,
+) -> Result<Option<DeviceWords<'a>>, AllocError>
+    ensures { IfOk result (λ read. IfSome read (λ asked.
+        IsDevice (rows_of (found_of found.now)) asked)) }
 {
-    let name = found.get_str("name")?;
-    let file = found.get_str("text")?;
+    let Some(ports) = ports_of(found) else {
+        return Ok(None);
+    };
+    let Some(words) = found.get_strs("devices") else {
+        return Ok(None);
+    };
+    match named_files(alloc, words)? {
+        Some(devices) => Ok(Some(DeviceWords { devices, ports })),
+        None => Ok(None),
+    }
+}
+
+/// The number of ports of each hub whose entry `device` makes.
+fn ports_of(found: &ArgMatches<'_>) -> Option<u8>
+    ensures { IfSome result (λ ports. GivesPorts (rows_of (found_of found.now)) ports) }
+{
     let ports = found.get_one::<u8>("ports")?;
     if ports < 1 || ports > 7 {
         return None;
     }
-    Some(DeviceWords { name, file, ports })
+    Some(ports)
+}
+
+/// The devices whose names and files the words are, in turn. None if there is none, or the last has no file.
+fn named_files<'a>(
+    alloc: Global,
+    words: &[&'a str],
+) -> Result<Option<Vec<NamedFile<'a>>>, AllocError>
+    ensures { IfOk result (λ read. IfSome read (λ files.
+        AreNamedFiles (map (λ s. s.now) words.now) files.items)) }
+{
+    let mut files = Vec::new(alloc);
+    let mut rest = words;
+    'pairs: while let [name, file, more @ ..] = rest {
+        files.push(NamedFile { name, file })?;
+        rest = more;
+    }
+    if files.is_empty() || !rest.is_empty() {
+        return Ok(None);
+    }
+    Ok(Some(files))
 }
 
 /// What `live` asks for.
@@ -163,6 +224,7 @@ fn explain_words<'a>(found: &ArgMatches<'a>) -> Option<ExplainWords<'a>>
 fn refusal(alloc: Global, matches: &ArgMatches<'_>) -> WordFault {
     let error = match matches.subcommand() {
         Some(("explain", found)) => no_selection(alloc, found.get_str("only").unwrap_or("")),
+        Some(("device", found)) => no_file(alloc, found.get_strs("devices").unwrap_or(&[])),
         _ => no_command(alloc),
     };
     match error {
@@ -184,6 +246,14 @@ fn no_selection(alloc: Global, text: &str) -> Result<Error, AllocError> {
     )?;
     let mut explain = explain_command(alloc)?.bin_name("usbplan explain")?;
     explain.error(ErrorKind::ValueValidation, message.as_str())
+}
+
+/// The error of names and files in turn, of which the last name has no file.
+fn no_file(alloc: Global, words: &[&str]) -> Result<Error, AllocError> {
+    let name = words.last().copied().unwrap_or("");
+    let message = format!(in alloc; "'{name}' has no file: each device has a name and a file")?;
+    let mut device = device_command(alloc)?.bin_name("usbplan device")?;
+    device.error(ErrorKind::WrongNumberOfValues, message.as_str())
 }
 
 fn matches_of<'a>(alloc: Global, words: &'a [&'a str]) -> Result<ArgMatches<'a>, Error>
@@ -384,36 +454,33 @@ fn only<'a>(alloc: Global) -> Arg<'a>
         .help("Prints only the attempts to path:1.2 or to address:5, those of setup or of damage")
 }
 
-/// The command that makes the entry of a device.
+/// The command that makes the entries of devices.
 fn device_command<'a>(alloc: Global) -> Result<Command<'a>, AllocError>
     ensures { IfOk result (λ c. app_of c ≡ device_app) }
 {
     let plain = Command::new(alloc, "device").about(
-        "Writes the `[[device]]` table of a plan, from a device's descriptors in Linux",
+        "Writes the `[[device]]` tables of a plan, from devices' descriptors in Linux",
     );
-    let named = plain.arg(entry_name(alloc))?;
-    let file = text(
-        alloc,
-        "FILE",
-        "The folder of a device in sysfs, or its file `descriptors`; `-` is standard input",
-    );
-    let filed = named.arg(file)?;
-    filed.arg(ports(alloc))
+    let named = plain.arg(devices(alloc))?;
+    named.arg(ports(alloc))
 }
 
-/// The name of the entry that `device` makes.
-fn entry_name<'a>(alloc: Global) -> Arg<'a>
+/// The names and files of the devices whose entries `device` makes, in turn.
+fn devices<'a>(alloc: Global) -> Arg<'a>
     ensures local { result.global ≡ false }
-    ensures rule { rule_of result ≡ name_rule }
+    ensures rule { rule_of result ≡ devices_rule }
 {
-    Arg::new(alloc, "name")
+    Arg::new(alloc, "devices")
         .required(true)
-        .action(ArgAction::Set)
-        .value_name("NAME")
-        .help("The name that the plan gives the device")
+        .action(ArgAction::Append)
+        .value_name("NAME FILE")
+        .help(
+            "The name that the plan gives a device, and its folder in sysfs, or its file `descriptors`; \
+             `-` is standard input",
+        )
 }
 
-/// How many ports the hub has whose entry `device` makes.
+/// How many ports each hub has whose entry `device` makes.
 fn ports<'a>(alloc: Global) -> Arg<'a>
     ensures local { result.global ≡ false }
     ensures rule { rule_of result ≡ ports_rule }
@@ -424,7 +491,7 @@ fn ports<'a>(alloc: Global) -> Arg<'a>
         .value_name("N")
         .value_parser(ValueParser::unsigned(1, 7))
         .default_value("7")
-        .help("How many ports it has, if it is a hub: 1 to 7")
+        .help("How many ports each has that is a hub: 1 to 7")
 }
 
 /// The command that is a host before a far end.

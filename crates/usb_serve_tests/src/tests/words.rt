@@ -17,7 +17,7 @@ Commands:
   explain  Prints a run with its requests in words
   page     Runs a plan, and writes a page of HTML that shows the run
   pcap     Writes the packets of a run as a pcap file, for Wireshark
-  device   Writes the `[[device]]` table of a plan, from a device's descriptors in Linux
+  device   Writes the `[[device]]` tables of a plan, from devices' descriptors in Linux
   far      Answers a host, line by line, as the devices of a plan would
   live     Asks a far end on standard input and output, line by line, and tells it what the host found
   help     Print this message or the help of the given subcommand(s)
@@ -84,16 +84,15 @@ Options:
 ";
 
 const DEVICE_HELP: &str = "\
-Writes the `[[device]]` table of a plan, from a device's descriptors in Linux
+Writes the `[[device]]` tables of a plan, from devices' descriptors in Linux
 
-Usage: usbplan device [OPTIONS] <NAME> <FILE>
+Usage: usbplan device [OPTIONS] <NAME FILE>...
 
 Arguments:
-  <NAME>  The name that the plan gives the device
-  <FILE>  The folder of a device in sysfs, or its file `descriptors`; `-` is standard input
+  <NAME FILE>...  The name that the plan gives a device, and its folder in sysfs, or its file `descriptors`; `-` is standard input
 
 Options:
-      --ports <N>  How many ports it has, if it is a hub: 1 to 7 [default: 7]
+      --ports <N>  How many ports each has that is a hub: 1 to 7 [default: 7]
   -h, --help       Print help
 ";
 
@@ -202,6 +201,14 @@ error: invalid value 'x' for '--ports <N>': invalid digit found in string
 For more information, try '--help'.
 ";
 
+const NO_DEVICE_FILE: &str = "\
+error: 'hub' has no file: each device has a name and a file
+
+Usage: usbplan device [OPTIONS] <NAME FILE>...
+
+For more information, try '--help'.
+";
+
 const NO_SELECTION: &str = "\
 error: invalid value '8' for '--only <WHAT>': it is a path as path:1.2, an address as address:5, setup, damage or all
 
@@ -238,7 +245,7 @@ For more information, try '--help'.
 ";
 
 /// Words, and what they ask for, or the text that is shown in its place.
-const WORDS: [(&[&str], &str); 37] = [
+const WORDS: [(&[&str], &str); 38] = [
     (&["packet", "2D0010"], "Packet(\"2D0010\")"),
     (&[], "Stdin"),
     (&["tree", "plan.toml"], "Tree(\"plan.toml\")"),
@@ -258,16 +265,18 @@ const WORDS: [(&[&str], &str); 37] = [
     (&["draw", "--", "--ascii"], "Draw(false, \"--ascii\")"),
     (
         &["device", "mouse", "-"],
-        "Device(DeviceWords { name: \"mouse\", file: \"-\", ports: 7 })",
+        "Device(DeviceWords { devices: [NamedFile { name: \"mouse\", file: \"-\" }], ports: 7 })",
     ),
     (
         &["device", "--ports", "1", "a hub", "f"],
-        "Device(DeviceWords { name: \"a hub\", file: \"f\", ports: 1 })",
+        "Device(DeviceWords { devices: [NamedFile { name: \"a hub\", file: \"f\" }], ports: 1 })",
     ),
     (
-        &["device", "", "f", "--ports=07"],
-        "Device(DeviceWords { name: \"\", file: \"f\", ports: 7 })",
+        &["device", "", "f", "--ports=07", "m", "-"],
+        "Device(DeviceWords { devices: [NamedFile { name: \"\", file: \"f\" }, \
+         NamedFile { name: \"m\", file: \"-\" }], ports: 7 })",
     ),
+    (&["device", "mouse", "-", "hub"], NO_DEVICE_FILE),
     (&["device", "hub", "f", "--ports", "8"], EIGHT_PORTS),
     (&["device", "hub", "f", "--ports", "x"], NO_NUMBER),
     (&["list", "plan.toml"], NO_SUCH_COMMAND),

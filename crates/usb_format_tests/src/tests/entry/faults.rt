@@ -1,8 +1,6 @@
 //! What is reported of bytes that are no device, and that nothing is written then.
-use super::bytes_of;
+use super::{bytes_of, plain, written_of};
 use std::alloc::AllocError;
-use usb_bus::Watched;
-use usb_entry::{Notes, write_entry};
 
 /// Bytes in digits, a name, and what is reported.
 struct Row {
@@ -141,19 +139,13 @@ const ROWS: &[Row] = &[
 fn faults(rt: HostRuntime) -> Result<(), AllocError> {
     for row in ROWS {
         let bytes = bytes_of(rt.alloc(), row.digits)?;
-        let mut writer = Watched::new(Vec::new(rt.alloc()));
-        let told = match write_entry(
-            rt.alloc(),
-            row.name,
-            7,
-            &Notes::NONE,
-            bytes.as_slice(),
-            &mut writer,
-        ) {
+        let sources = [plain(row.name, bytes.as_slice())];
+        let (written, result) = written_of(rt.alloc(), 7, sources.as_slice());
+        let told = match result {
             Ok(()) => String::from_str(rt.alloc(), "written")?,
-            Err(fault) => fault.to_string(rt.alloc())?,
+            Err((_, fault)) => fault.to_string(rt.alloc())?,
         };
-        let is_so = told.as_str() == row.told && writer.into_inner().is_empty();
+        let is_so = told.as_str() == row.told && written.is_empty();
         assert!(rt; is_so, "not {}: {told}", row.told);
     }
     Ok(())

@@ -1,9 +1,7 @@
 //! What the reader of plans reads of the table: the bytes that came, under the name that was given.
-use super::bytes_of;
+use super::{bytes_of, plain, written_of};
 use std::alloc::{AllocError, Global};
 use std::process::Abort;
-use usb_bus::Watched;
-use usb_entry::{Notes, write_entry};
 use usb_plan::{PlanFault, read_plan};
 use usb_sim::Plan;
 
@@ -141,9 +139,8 @@ fn plan_of(alloc: Global, row: &Row, name: &str) -> Result<Result<Plan, PlanFaul
     let mut bytes = bytes_of(alloc, &[row.device])?;
     let configs = bytes_of(alloc, row.configs)?;
     bytes.extend_from_slice(configs.as_slice())?;
-    let mut writer = Watched::new(Vec::new(alloc));
-    let _ = write_entry(alloc, name, 4, &Notes::NONE, bytes.as_slice(), &mut writer);
-    let table = writer.into_inner();
+    let sources = [plain(name, bytes.as_slice())];
+    let (table, _) = written_of(alloc, 4, sources.as_slice());
     let mut text = String::from_str(alloc, "limit = 1\nroots = 1\n")?;
     text.push_str(str_of(table.as_slice()))?;
     Ok(read_plan(alloc, text.as_str()))

@@ -1,8 +1,7 @@
 //! Whole tables.
-use super::bytes_of;
+use super::{bytes_of, plain, written_of};
 use std::alloc::AllocError;
-use usb_bus::Watched;
-use usb_entry::{Notes, write_entry};
+use usb_entry::{Notes, Source};
 
 /// Bytes in digits, a name and a number of ports, and the table.
 struct Row {
@@ -58,16 +57,8 @@ const ROWS: &[Row] = &[
 fn tables(rt: HostRuntime) -> Result<(), AllocError> {
     for row in ROWS {
         let bytes = bytes_of(rt.alloc(), row.digits)?;
-        let mut writer = Watched::new(Vec::new(rt.alloc()));
-        let _ = write_entry(
-            rt.alloc(),
-            row.name,
-            row.ports,
-            &Notes::NONE,
-            bytes.as_slice(),
-            &mut writer,
-        );
-        let written = writer.into_inner();
+        let sources = [plain(row.name, bytes.as_slice())];
+        let (written, _) = written_of(rt.alloc(), row.ports, sources.as_slice());
         assert_eq!(rt; written.as_slice(), row.table.as_bytes(), "of {}", row.name);
     }
     Ok(())
@@ -133,10 +124,12 @@ const SMALL: &[&str] = &[
 fn notes_of_linux(rt: HostRuntime) -> Result<(), AllocError> {
     let bytes = bytes_of(rt.alloc(), SMALL)?;
     for (speed, product, lines) in NOTES {
-        let notes = Notes::of_texts(speed, product);
-        let mut writer = Watched::new(Vec::new(rt.alloc()));
-        let _ = write_entry(rt.alloc(), "d", 7, &notes, bytes.as_slice(), &mut writer);
-        let written = writer.into_inner();
+        let sources = [Source {
+            name: "d",
+            notes: Notes::of_texts(speed, product),
+            bytes: bytes.as_slice(),
+        }];
+        let (written, _) = written_of(rt.alloc(), 7, sources.as_slice());
         let starts = written.as_slice().starts_with(lines.as_bytes());
         assert!(rt; starts, "{speed} {product}");
     }

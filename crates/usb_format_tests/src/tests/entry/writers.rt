@@ -1,10 +1,10 @@
 //! A writer that fails.
-use super::bytes_of;
+use super::{bytes_of, plain};
 use std::alloc::AllocError;
 use std::io;
 use std::io::Write;
 use usb_bus::Watched;
-use usb_entry::{EntryFault, Notes, write_entry};
+use usb_entry::{EntryFault, write_entries};
 
 /// A writer that takes nothing.
 #[derive(Drop)]
@@ -25,14 +25,8 @@ fn a_writer_that_fails(rt: HostRuntime) -> Result<(), AllocError> {
     let digits = &["120110010000000834120100000100000001", "090209000001008032"];
     let bytes = bytes_of(rt.alloc(), digits)?;
     let mut writer = Watched::new(Closed);
-    let result = write_entry(
-        rt.alloc(),
-        "d",
-        7,
-        &Notes::NONE,
-        bytes.as_slice(),
-        &mut writer,
-    );
-    assert!(rt; result == Err(EntryFault::Write) && writer.failed());
+    let sources = [plain("d", bytes.as_slice())];
+    let result = write_entries(rt.alloc(), 7, sources.as_slice(), &mut writer);
+    assert!(rt; result == Err((1, EntryFault::Write)) && writer.failed());
     Ok(())
 }

@@ -61,7 +61,9 @@ p.toml:9:8: plan: device 1: bad value
 root = 1
 event = [{ after = -1 }, { do = "plgu", pth = "1" }, { do = "show", after = -1 }]
 "#,
-        told: r#"p.toml: plan: top: missing key
+        told: r#"p.toml:2:1: plan: top: missing key
+2 | root = 1
+  | ^^^^
   top: no key `roots`
   allowed: a number from 1 to 7
   such as: roots = 1

@@ -2,14 +2,22 @@
 use super::{Row, check_rows};
 use std::alloc::AllocError;
 
-const ROWS: [Row; 15] = [
+const ROWS: [Row; 17] = [
     Row {
         text: "",
         told: "p.toml: plan: top: missing key\n  top: no key `limit`\n  allowed: a number from 0 to 100000000000000\n  such as: limit = 10000\n",
     },
     Row {
         text: "limit = 1\nroot = 1\n",
-        told: "p.toml: plan: top: missing key\n  top: no key `roots`\n  allowed: a number from 1 to 7\n  such as: roots = 1\n  unknown key `root`: did you mean `roots`?\n",
+        told: "p.toml:2:1: plan: top: missing key\n2 | root = 1\n  | ^^^^\n  top: no key `roots`\n  allowed: a number from 1 to 7\n  such as: roots = 1\n  unknown key `root`: did you mean `roots`?\n",
+    },
+    Row {
+        text: "roots = 1\n# how long\n\"limt\" = 1\n[[event]]\nlimit = 1\n",
+        told: "p.toml:3:1: plan: top: missing key\n3 | \"limt\" = 1\n  | ^^^^^^\n  top: no key `limit`\n  allowed: a number from 0 to 100000000000000\n  such as: limit = 10000\n  unknown key `limt`: did you mean `limit`?\n",
+    },
+    Row {
+        text: "limit = 1\n[[rots]]\nlimit = 1\n",
+        told: "p.toml:2:1: plan: top: missing key\n2 | [[rots]]\n  | ^^^^^^^^\n  top: no key `roots`\n  allowed: a number from 1 to 7\n  such as: roots = 1\n  unknown key `rots`: did you mean `roots`?\n",
     },
     Row {
         text: "limit = -1\nroots = 1\n",

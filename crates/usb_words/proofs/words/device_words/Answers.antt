@@ -1,22 +1,13 @@
-use Rattle.std.proofs.Common.{◌∙◌, sym, codes}
-use Rattle.clap.specs.Matches.{found_of, one_text}
-use Rattle.clap.proofs.WalkLemmas.{first_value-rows, one_text-rows}
-use Rattle.usb_words.proofs.Numbers.{number_text}
+use Rattle.std.proofs.Common.{◌∙◌, sym, codes, map, rules}
+use Rattle.clap.specs.Matches.{found_of}
+use Rattle.clap.proofs.WalkLemmas.{raw_values-rows}
 use Rattle.usb_words.proofs.words.device_words.Goals as goal
 
-pub returns : goal.returns
-returns c =
-    let found = found_of c.args.found.now in
-    let text = number_text (one_text found (codes "ports")) c.get_one.result c.in_ok-ports.ports
-    c.get_one.ensures.none c.in_ok-ports.was in
-    let read = c.in_ok-ports.ensures.value text.0 text.1 in
-    record {
-      name = sym (first_value-rows found (codes "name")) ∙ sym c.in_ok-name.ensures;
-      file = sym (first_value-rows found (codes "text")) ∙ sym c.in_ok-file.ensures;
-      numeral = text.0;
-      given = sym (one_text-rows found (codes "ports")) ∙ text.1;
-      is_numeral = read.0.0.0;
-      value = read.0.1;
-      least = c.if-ports-lt1.false;
-      most = c.if-ports-gt7.false;
-    }
+pub returns-in-Some-2 : goal.returns-in-Some-2
+returns-in-Some-2 c = record {
+  words = map (λ s. s.now) c.in-Some-get_strs.words.now;
+  given = sym (raw_values-rows (found_of c.args.found.now) (codes "devices"))
+      ∙ sym c.in-Some-get_strs.ensures;
+  devices = search rules;
+  ports = c.in-Some.ensures;
+}

@@ -4,7 +4,7 @@ use Rattle.std.specs.Option.{is_none}
 use Rattle.usb_descriptor.specs.{UsableEndpoint, end_at}
 use Rattle.usb_device.specs.{end_numbers}
 use Rattle.usb_transaction.specs.{Target}
-use Rattle.usb_table.specs.TablePipes.{has_no_end, new_pipe}
+use Rattle.usb_table.specs.{has_no_end, new_pipe}
 use Rattle.usb_table.proofs.row.PipeRow.new.Goals as goal
 
 none_first : (target : Target) (is_in : Bool) (e : ℕ) (end : Option UsableEndpoint) (rest : Bool)

@@ -7,7 +7,7 @@ use Rattle.clap.specs.declared.parser.matches.ArgMatches.TheViews.{out-ArgMatche
 use Rattle.std.specs.Box.{box_value}
 use Rattle.clap.proofs.WalkLemmas.{first_value-rows, one_text-rows}
 use Rattle.usb_words.specs.{HasSubcommand, program_app}
-use Rattle.usb_words.proofs.words.words_of.Goals as goal
+use Rattle.usb_words.proofs.words.plain_words.Goals as goal
 
 -- the subcommand's name and rows as one pair
 pair_of : (m : ArgMatches) (n : Text) (rows : List Row) → Some n ≡ subcommand_name_of m
