@@ -76,7 +76,12 @@ pub(crate) fn data_out_from<B: Bus>(
     ensures toggle { MatchResult result (λ _. toggle.new ≡ other toggle.old)
         (λ _. toggle.new ≡ toggle.old) }
 {
-    send_on(bus, &attempt_of_out(target, ep, *toggle, bytes), toggle, first)
+    send_on(
+        bus,
+        &attempt_of_out(target, ep, *toggle, bytes),
+        toggle,
+        first,
+    )
 }
 
 /// Makes the attempt of an OUT, whose first outcome was this, until its packet is acknowledged.
