@@ -119,9 +119,9 @@ abbrev values_with_key : Bool → Bool → Bool → Bool → Bool → Bool → B
     → Bool → Data → EventValues → EventValues
 values_with_key a b c d e f g h m n o x v =
     if a then record v { verb = Some x }
-    else if b then record v { after = Some x }
-    else if c then record v { path = Some x }
-    else if d then record v { device = Some x }
+    else if b then record v { path = Some x }
+    else if c then record v { device = Some x }
+    else if d then record v { after = Some x }
     else if e then record v { bytes = Some x }
     else if f then record v { packets = Some x }
     else if g then record v { setup = Some x }
@@ -143,8 +143,8 @@ verb_kept = record {
   apart = λ l d v h. rw h (verb_spared _ _ _ _ _ _ _ _ _ _ d v);
 }
 
-after_spared : (a c d e f g h m n o : Bool) (x : Data) (v : EventValues)
-    → (values_with_key a false c d e f g h m n o x v).after ≡ v.after
+after_spared : (a b c e f g h m n o : Bool) (x : Data) (v : EventValues)
+    → (values_with_key a b c false e f g h m n o x v).after ≡ v.after
 after_spared false false false false false false false false false false x v = refl
 after_spared _ _ _ _ _ _ _ _ _ _ x v = refl
 
@@ -155,8 +155,8 @@ after_kept = record {
   apart = λ l d v h. rw h (after_spared _ _ _ _ _ _ _ _ _ _ d v);
 }
 
-path_spared : (a b d e f g h m n o : Bool) (x : Data) (v : EventValues)
-    → (values_with_key a b false d e f g h m n o x v).path ≡ v.path
+path_spared : (a c d e f g h m n o : Bool) (x : Data) (v : EventValues)
+    → (values_with_key a false c d e f g h m n o x v).path ≡ v.path
 path_spared false false false false false false false false false false x v = refl
 path_spared _ _ _ _ _ _ _ _ _ _ x v = refl
 
@@ -167,8 +167,8 @@ path_key_kept = record {
   apart = λ l d v h. rw h (path_spared _ _ _ _ _ _ _ _ _ _ d v);
 }
 
-device_spared : (a b c e f g h m n o : Bool) (x : Data) (v : EventValues)
-    → (values_with_key a b c false e f g h m n o x v).device ≡ v.device
+device_spared : (a b d e f g h m n o : Bool) (x : Data) (v : EventValues)
+    → (values_with_key a b false d e f g h m n o x v).device ≡ v.device
 device_spared false false false false false false false false false false x v = refl
 device_spared _ _ _ _ _ _ _ _ _ _ x v = refl
 
@@ -279,10 +279,21 @@ others_chosen false false false false false false false false false false false 
     or_not_false v.has_others
 others_chosen _ _ _ _ _ _ _ _ _ _ _ x v = or_not_true v.has_others
 
+-- the names of all keys have `after` second
+after_turned : (b c d r : Bool) → b || (c || (d || r)) ≡ d || (b || (c || r))
+after_turned true c true r = refl
+after_turned true c false r = refl
+after_turned false true true r = refl
+after_turned false true false r = refl
+after_turned false false d r = refl
+
 others_step : (l : List ℕ) (d : Data) (v : EventValues) → (with_value l d v).has_others
     ≡ v.has_others || not (list_any (bytes_eq l) all_event_keys)
 unfolding with_value
 others_step l d v = others_chosen _ _ _ _ _ _ _ _ _ _ _ d v
+    ∙ ap (λ b. v.has_others || not (bytes_eq l (codes "do") || b))
+    (after_turned (bytes_eq l (codes "path")) (bytes_eq l (codes "device"))
+    (bytes_eq l (codes "after")) _)
 
 either_other : (x a b : Bool) → (x || not a) || not b ≡ x || not (a && b)
 either_other true a b = refl

@@ -1,16 +1,13 @@
 -- Loops over values.
 use Rattle.std.proofs.Common.{◌≡◌, ℕ, ◌+◌, ◌<◌, ◌≤◌, List, [], ◌∷◌, length, get_or, drop, map}
 use Rattle.std.proofs.Common.{Result, Ok, Err, IfOk, refl, sym, ap, ◌∙◌, arith, ◌||◌, true, false}
-use Rattle.std.proofs.Common.{slice_get, slice_index_or, nat_lt, option_map, Option, Some, None}
-use Rattle.std.proofs.lemmas.Option.{slice_get-map, slice_get_past, slice_get_read}
 use Rattle.std.proofs.lemmas.List.{drop_more, drop_all, length_push, length-map}
-use Rattle.std.proofs.lemmas.Bool.{le-leb, lt-leb, ltb-true, ltb-false}
+use Rattle.std.proofs.lemmas.Bool.{le-leb, lt-leb}
 use Rattle.std.proofs.lemmas.List.Folds.{list_all-map}
 use Rattle.std.specs.List.{list_all, list_any}
 use Rattle.usb_plan.specs.{is_table, BadValue, Memory, fault_in_part, sooner, least_fault}
 use Rattle.usb_plan.specs.{EqualUnless, read_items, hex_in, data_list, items_from, with_item}
 use Rattle.usb_plan.specs.{texts_in, names, is_stall, share_address, tables_in}
-use Rattle.usb_plan.specs.{count_of, ports_at, ports_said}
 use Rattle.toml.specs.Data.{Data}
 use Rattle.usb_plan.specs.declared.entry_fault.EntryFault.{EntryFault}
 use Rattle.toml.specs.declared.value.Value.{Value}
@@ -42,33 +39,6 @@ view_drop vs i v lt is = ap (map view) (drop_more vs i v lt) ∙ rw (← is)
 pub data_list_view : (vs : List Value) → data_list (items_view vs) ≡ map view vs
 data_list_view [] = refl
 data_list_view (v ∷ vs) = ap (λ ds. view v ∷ ds) (data_list_view vs)
-
--- the ports that are said of the device of an index
-slice_get_said : (vs : List Value) (i : ℕ)
-    → slice_get (map ports_said (map view vs)) i
-    ≡ option_map (λ v. ports_said (view v)) (slice_get vs i)
-slice_get_said vs i = slice_get-map ports_said (map view vs) i
-    ∙ ap (option_map ports_said) (slice_get-map view vs i) ∙ said (slice_get vs i)
-  where
-    said : (o : Option Value)
-        → option_map ports_said (option_map view o) ≡ option_map (λ v. ports_said (view v)) o
-    said None = refl
-    said (Some v) = refl
-
-pub said_found : (vs : List Value) (i : ℕ) (v : Value) → true ≡ nat_lt i (length vs)
-    → v ≡ slice_index_or vs i v
-    → ports_at (map ports_said (map view vs)) (Some i) ≡ ports_said (view v)
-unfolding ports_at
-said_found vs i v within is = ap count_of (slice_get_said vs i
-    ∙ ap (option_map (λ v. ports_said (view v)))
-    (slice_get_read vs (length vs) i v refl (ltb-true i (length vs) (sym within)) is))
-
-pub said_missing : (vs : List Value) (i : ℕ) → false ≡ nat_lt i (length vs)
-    → ports_at (map ports_said (map view vs)) (Some i) ≡ 0
-unfolding ports_at
-said_missing vs i past = ap count_of (slice_get_said vs i
-    ∙ ap (option_map (λ v. ports_said (view v)))
-    (slice_get_past vs i (ltb-false i (length vs) (sym past))))
 
 pub are_tables_view : (vs : List Value) → list_all is_table (map view vs)
     ≡ list_all (λ v. is_table (view v)) vs

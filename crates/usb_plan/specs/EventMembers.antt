@@ -65,9 +65,9 @@ found m = record {
 unfoldable pub with_value : List ℕ → Data → EventValues → EventValues
 with_value key d v =
     if bytes_eq key (codes "do") then record v { verb = Some d }
-    else if bytes_eq key (codes "after") then record v { after = Some d }
     else if bytes_eq key (codes "path") then record v { path = Some d }
     else if bytes_eq key (codes "device") then record v { device = Some d }
+    else if bytes_eq key (codes "after") then record v { after = Some d }
     else if bytes_eq key (codes "bytes") then record v { bytes = Some d }
     else if bytes_eq key (codes "packets") then record v { packets = Some d }
     else if bytes_eq key (codes "setup") then record v { setup = Some d }

@@ -201,8 +201,9 @@ fn asked(path: PortPath, request: Request) -> Ask
     }
 }
 
+/// The plug of parts of which some may be faults.
 #[tactic(auto, unfolding(crate::specs::Action::plug))]
-fn plug(
+fn faulty_plug(
     path: Result<PortPath, EntryFault>,
     device: Result<usize, EntryFault>,
 ) -> Result<Action, EntryFault>
@@ -210,6 +211,20 @@ fn plug(
 {
     least_fault(&[fault_in_part(&path), fault_in_part(&device)])?;
     Ok(Action::Change(Change::Plug(path?, device?)))
+}
+
+/// The plug of these parts; that both are there is seen first.
+#[tactic(auto, unfolding(crate::specs::Action::plug, crate::specs::EntryFault::fault_in_part, crate::specs::EntryFault::least_fault, crate::specs::EntryFault::sooner))]
+fn plug(
+    path: Result<PortPath, EntryFault>,
+    device: Result<usize, EntryFault>,
+) -> Result<Action, EntryFault>
+    ensures { result ≡ plug path device }
+{
+    match (path, device) {
+        (Ok(path), Ok(device)) => Ok(Action::Change(Change::Plug(path, device))),
+        (path, device) => faulty_plug(path, device),
+    }
 }
 
 #[tactic(auto, unfolding(crate::specs::Action::send))]

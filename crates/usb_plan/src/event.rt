@@ -50,8 +50,9 @@ fn event_room(count: usize) -> Result<(), EntryFault>
     }
 }
 
+/// The event of parts of which some may be faults.
 #[tactic(auto, unfolding(crate::specs::Event::event_with))]
-fn event_with(
+fn faulty_event(
     action: Result<Action, EntryFault>,
     after: Result<u64, EntryFault>,
     keys: Result<(), EntryFault>,
@@ -69,6 +70,22 @@ fn event_with(
         after: after?,
         action: action?,
     })
+}
+
+/// The event of these parts; that they all are there is seen first.
+#[tactic(auto, unfolding(crate::specs::Event::event_with, crate::specs::EntryFault::fault_in_part, crate::specs::EntryFault::least_fault, crate::specs::EntryFault::sooner))]
+fn event_with(
+    action: Result<Action, EntryFault>,
+    after: Result<u64, EntryFault>,
+    keys: Result<(), EntryFault>,
+    room: Result<(), EntryFault>,
+) -> Result<Event, EntryFault>
+    ensures { result ≡ event_with action after keys room }
+{
+    match (action, after, keys, room) {
+        (Ok(action), Ok(after), Ok(()), Ok(())) => Ok(Event { after, action }),
+        (action, after, keys, room) => faulty_event(action, after, keys, room),
+    }
 }
 
 /// The event of a table whose `do` is that verb, in the scene, after this number of others.

@@ -57,9 +57,9 @@ impl<'a> EventMembers<'a> {
     {
         match key {
             "do" => self.verb = Some(value),
-            "after" => self.after = Some(value),
             "path" => self.path = Some(value),
             "device" => self.device = Some(value),
+            "after" => self.after = Some(value),
             "bytes" => self.bytes = Some(value),
             "packets" => self.packets = Some(value),
             "setup" => self.setup = Some(value),
