@@ -29,7 +29,8 @@ returns-in_err-event-clause-value c =
     rw (c.loop-i.invariant.scene, c.as_slice-count.ensures.value, c.as_table.ensures) at
     c.event_in-read.ensures in
     let why = c.in_err-event.field-0.0 in
-    unless_handed fault.Memory c.from_residual.result _ why c.from_residual.ensures.1
+    unless_handed fault.Memory c.from_residual-in_err-event.result _ why
+    c.from_residual-in_err-event.ensures.1
     (λ ne. sym c.loop-i.invariant.so_far ∙ events_from-next c.args.roots c.args.wide
     c.args.devices.now (map ports_said (map view c.args.tables.now)) c.loop-i.done
     c.args.values.now c.loop-i.i v (Err why) c.loop-i-test.true c.index-values-i.is
