@@ -16,7 +16,7 @@ refuse_terminal() {
   fi
 }
 
-# Sets `words`: those behind the command, apart from its option with a value.
+# Sets `words`: those behind the command, apart from its option with a value. None if there is another option.
 set_words() {
   local option=$1
   words=()
@@ -25,6 +25,15 @@ set_words() {
     case "$1" in
       "$option") shift ;;
       "$option"=*) ;;
+      --)
+        shift
+        words+=("$@")
+        return
+        ;;
+      -?*)
+        words=()
+        return
+        ;;
       *) words+=("$1") ;;
     esac
     shift || break
@@ -55,6 +64,8 @@ name_file() {
       ;;
     *:device)
       set_words --ports "$@"
+      # a name without a file is refused first
+      [ $((${#words[@]} % 2)) = 0 ] || words=()
       for ((i = 1; i < ${#words[@]}; i += 2)); do
         see_file device "${words[i]}"
       done

@@ -1,24 +1,11 @@
 -- Tables that are made one by one.
-use Rattle.std.proofs.Common.{◌≡◌, ◌∙◌, sym, ap, subst, refl, arith, ℕ, ◌+◌, Bool, List, [], ◌∷◌}
-use Rattle.std.proofs.Common.{◌++◌, length, append_assoc, length-append, Option, Err, inl, inr}
-use Rattle.std.proofs.lemmas.List.{append-nil}
+use Rattle.std.proofs.Common.{◌≡◌, ◌∙◌, sym, ap, subst, refl, arith, ℕ, ◌+◌, ◌<◌, ◌≤◌, Bool, List, [], ◌∷◌}
+use Rattle.std.proofs.Common.{◌++◌, length, get_or, take, drop, append_assoc, Option, Err, inl, inr}
+use Rattle.std.proofs.lemmas.List.{append-nil, length-take-le, take-append-drop, take_all, take_more}
 use Rattle.std.specs.List.{AllByRecursion}
-use Rattle.usb_entry.specs.{AreTables, Configuration, Device, Empty, EntryFault, HasSourceFault}
-use Rattle.usb_entry.specs.{IsSource, IsTable, LeftOver, MarksAtWrite, Memory, Missing, NoName}
-use Rattle.usb_entry.specs.{Source, StopsAt, TooMany, Write, WritesEntries}
-
--- these tables are of as many sources as are made, before the rest
-pub record MadeSoFar (ports : ℕ) (sources rest : List Source) (made : ℕ) (tables : List ℕ) :
-    Type 0 where
-  pub before : List Source
-  pub split : sources ≡ before ++ rest
-  pub count : made ≡ length before
-  pub total : made + length rest ≡ length sources
-  pub so_far : AreTables ports before tables
-
-pub made_zero : (ports : ℕ) (sources : List Source) → MadeSoFar ports sources sources 0 []
-made_zero ports sources =
-    record { before = []; split = refl; count = refl; total = refl; so_far = refl }
+use Rattle.usb_entry.specs.{AddsTable, AreTables, Configuration, Device, Empty, EntryFault}
+use Rattle.usb_entry.specs.{HasSourceFault, IsSource, IsTable, LeftOver, MarksAtWrite, Memory}
+use Rattle.usb_entry.specs.{Missing, NoName, Source, StopsAt, TooMany, Write, WritesEntries}
 
 tables-push : (ports : ℕ) (before : List Source) (source : Source) (tables table : List ℕ)
     → AreTables ports before tables → IsTable ports source table
@@ -27,48 +14,52 @@ tables-push ports [] source tables table h new =
     (table, [], new, refl, ap (λ t. t ++ table) h ∙ sym (append-nil table))
 tables-push ports (s ∷ before) source tables table h new = (
   h.0,
-  h.1.0 ++ table,
-  h.1.1.0,
-  tables-push ports before source h.1.0 table h.1.1.1.0 new,
-  ap (λ t. t ++ table) h.1.1.1.1 ∙ append_assoc h.0 h.1.0 table,
+  h.1 ++ table,
+  h.2,
+  tables-push ports before source h.1 table h.3 new,
+  ap (λ t. t ++ table) h.4 ∙ append_assoc h.0 h.1 table,
 )
 
-pub made_more : (ports : ℕ) (sources : List Source) (source : Source) (rest : List Source) (made : ℕ)
-    (tables table : List ℕ) → MadeSoFar ports sources (source ∷ rest) made tables
-    → IsTable ports source table → MadeSoFar ports sources rest (made + 1) (tables ++ table)
-made_more ports sources source rest made tables table h new = record {
-  before = h.before ++ source ∷ [];
-  split = h.split ∙ sym (append_assoc h.before (source ∷ []) rest);
-  count = omega (arith, h.count, length-append h.before (source ∷ []));
-  total = omega (arith, h.total);
-  so_far = tables-push ports h.before source tables table h.so_far new;
-}
+-- the table of one more is behind those of the first
+pub made_more : (ports : ℕ) (sources : List Source) (made : ℕ) (d : Source) (tables now : List ℕ)
+    → made < length sources → AreTables ports (take made sources) tables
+    → AddsTable ports (get_or sources made d) tables now
+    → AreTables ports (take (made + 1) sources) now
+made_more ports sources made d tables now lt h new =
+    let source = get_or sources made d in
+    let more = tables-push ports (take made sources) source tables new.0 h new.1 in
+    subst (λ s. AreTables ports s now) (sym (take_more sources made d lt))
+    (subst (AreTables ports (take made sources ++ source ∷ [])) (sym new.2) more)
 
 pub made_all : (ports : ℕ) (sources : List Source) (made : ℕ) (tables : List ℕ)
-    → MadeSoFar ports sources [] made tables → AreTables ports sources tables
-made_all ports sources made tables h =
-    subst (λ s. AreTables ports s tables) (sym (h.split ∙ append-nil h.before)) h.so_far
+    → length sources ≤ made → AreTables ports (take made sources) tables
+    → AreTables ports sources tables
+made_all ports sources made tables all h =
+    subst (λ s. AreTables ports s tables) (take_all made sources all) h
 
 each_is : (ports : ℕ) (before : List Source) (tables : List ℕ) → AreTables ports before tables
     → AllByRecursion IsSource before
 each_is ports [] tables h = tt
-each_is ports (s ∷ before) tables h = (
-  (h.1.1.0.device, h.1.1.0.is_device),
-  each_is ports before h.1.0 h.1.1.1.0,
-)
+each_is ports (s ∷ before) tables h =
+    ((h.2.device, h.2.is_device), each_is ports before h.1 h.3)
 
-pub stops_at : (ports : ℕ) (sources : List Source) (source : Source) (rest : List Source) (made : ℕ)
-    (tables : List ℕ) (fault : EntryFault) → MadeSoFar ports sources (source ∷ rest) made tables
-    → HasSourceFault source fault → StopsAt sources made fault
-stops_at ports sources source rest made tables fault h why = record {
-  before = h.before;
-  source = source;
-  rest = rest;
-  split = h.split;
-  count = h.count;
-  each = each_is ports h.before tables h.so_far;
-  why = why;
-}
+-- the first have tables, and the next has a fault
+pub stops_at : (ports : ℕ) (sources : List Source) (made : ℕ) (d : Source) (tables : List ℕ)
+    (fault : EntryFault) → made < length sources → AreTables ports (take made sources) tables
+    → HasSourceFault (get_or sources made d) fault → StopsAt sources made fault
+stops_at ports sources made d tables fault lt h why =
+    let source = get_or sources made d in
+    record {
+      before = take made sources;
+      source = source;
+      rest = drop (made + 1) sources;
+      split = sym (take-append-drop (made + 1) sources)
+          ∙ ap (λ l. l ++ drop (made + 1) sources) (take_more sources made d lt)
+          ∙ append_assoc (take made sources) (source ∷ []) (drop (made + 1) sources);
+      count = sym (length-take-le made sources (omega (arith, lt)));
+      each = each_is ports (take made sources) tables h;
+      why = why;
+    }
 
 -- memory may be refused once a table is made
 pub memory_at : (ports : ℕ) (source : Source) (table : List ℕ) → IsTable ports source table

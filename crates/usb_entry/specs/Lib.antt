@@ -17,8 +17,8 @@ unfoldable pub use Text.{entry_text, head_line, identity_lines, interface_line, 
 unfoldable pub use Text.{name_line}
 unfoldable pub use Text.{ports_line, setting_text, speed_line}
 unfoldable pub use Text.{known_speed_line}
-pub use Writing.{AreTables, HasSourceFault, IsNamedEntry, IsSource, IsTable, MarksAtWrite}
-pub use Writing.{StopsAt, WritesEntries}
+pub use Writing.{AddsTable, AreTables, HasSourceFault, IsNamedEntry, IsSource, IsTable}
+pub use Writing.{MarksAtWrite, StopsAt, WritesEntries}
 pub use declared.fault.EntryFault.{EntryFault}
 pub use declared.fault.EntryFault.TheVariants.{Configuration, Device, Empty, LeftOver, Memory}
 pub use declared.fault.EntryFault.TheVariants.{Missing, NoName, TooMany, Write}

@@ -21,6 +21,11 @@ pub record IsTable (ports : ℕ) (source : Source) (text : List ℕ) : Type 0 wh
   pub is_device : IsNamedEntry source.name.now source.bytes.now device
   pub written : text ≡ entry_text source.name.now ports source.notes device
 
+-- the table of the source's device is behind what was there
+abbrev pub AddsTable : ℕ → Source → List ℕ → List ℕ → Type 0
+AddsTable ports source before now = (table : List ℕ) × IsTable ports source table
+    × (now ≡ before ++ table)
+
 -- the text is the tables of all sources, in order
 abbrev pub AreTables : ℕ → List Source → List ℕ → Type 0
 AreTables ports [] text = text ≡ []

@@ -1,6 +1,6 @@
 //! Devices that make entries, and their tables.
-ghost use Rattle.std.specs.Prelude.{IfErr, IfOk};
-ghost use Rattle.usb_entry.specs.Writing.{AreTables, HasSourceFault, IsTable, StopsAt};
+ghost use Rattle.std.specs.Prelude.{IfErr, IfOk, OnOk};
+ghost use Rattle.usb_entry.specs.Writing.{AddsTable, AreTables, HasSourceFault, IsTable, StopsAt};
 
 use crate::fault::EntryFault;
 use crate::notes::Notes;
@@ -34,8 +34,26 @@ fn table_of(alloc: Global, ports: u8, source: &Source<'_>) -> Result<Vec<u8>, En
     }
 }
 
+/// Adds the table of a device.
+#[tactic(auto, using(crate::proofs::Tables::memory_at))]
+fn push_table(
+    alloc: Global,
+    ports: u8,
+    tables: &mut Vec<u8>,
+    source: &Source<'_>,
+) -> Result<(), EntryFault>
+    ensures ok { OnOk result (AddsTable ports source.now tables.old.items tables.new.items) }
+    ensures err { IfErr result (HasSourceFault source.now) }
+{
+    let table = table_of(alloc, ports, source)?;
+    match tables.extend_from_slice(table.as_slice()) {
+        Ok(()) => Ok(()),
+        Err(_) => Err(EntryFault::Memory),
+    }
+}
+
 /// The tables of devices, one behind the other; a fault with the number of devices before it.
-#[tactic(auto, using(crate::proofs::Tables::made_zero, crate::proofs::Tables::made_more, crate::proofs::Tables::made_all, crate::proofs::Tables::stops_at, crate::proofs::Tables::memory_at))]
+#[tactic(auto, using(crate::proofs::Tables::made_all, crate::proofs::Tables::stops_at))]
 pub(crate) fn tables_of(
     alloc: Global,
     ports: u8,
@@ -45,19 +63,11 @@ pub(crate) fn tables_of(
     ensures err { IfErr result (λ fault. StopsAt sources.now fault.0 fault.1) }
 {
     let mut tables = Vec::new(alloc);
-    let mut made = 0;
-    let mut rest = sources;
-    'sources: while let [source, more @ ..] = rest {
-        match table_of(alloc, ports, source) {
-            Ok(table) => {
-                if tables.extend_from_slice(table.as_slice()).is_err() {
-                    return Err((made, EntryFault::Memory));
-                }
-            }
+    'sources: for (made, source) in sources.iter().enumerate() {
+        match push_table(alloc, ports, &mut tables, source) {
+            Ok(()) => {}
             Err(fault) => return Err((made, fault)),
         }
-        made += 1;
-        rest = more;
     }
     Ok(tables)
 }

@@ -1,9 +1,7 @@
-use Rattle.std.proofs.Common.{length}
-use Rattle.usb_entry.proofs.Tables.{MadeSoFar}
+use Rattle.std.proofs.Common.{take}
+use Rattle.usb_entry.specs.{AreTables}
 use Rattle.usb_entry.proofs.source.tables_of.Given as goal
 
+-- the tables so far are those of the sources so far
 abbrev pub invariant-sources : goal.invariant-sources
-invariant-sources l = MadeSoFar l.ports l.sources l.rest l.made l.tables.items
-
-abbrev pub decreases-sources : goal.decreases-sources
-decreases-sources l = length l.rest
+invariant-sources l = AreTables l.ports (take l.made l.sources) l.tables.items
