@@ -1,5 +1,5 @@
 # shellcheck shell=bash disable=SC2154
-# What `usbplan` and `tools/prove` share: names of the executables that are kept, and how one is kept. The caller sets
+# What `usbplan`, `tools/optimise` and `tools/prove` share: names of the executables that are kept, and how one is kept. The caller sets
 # `here`, the top of the checkout.
 #
 # An executable's name has the digest of all that it is made of: the files below crates/, but for what `rt` leaves in
@@ -70,13 +70,16 @@ name_sources() {
   fi
 }
 
-# Sets `proved`, `optimised` and `checked`: where executables of the sources as they stand are kept.
+# Sets `proved`, `optimised`, `quick` and `checked`: where executables of the sources as they stand are kept, and
+# `module`, what the optimised one is made of.
 name_builds() {
   local of
   name_sources
   proved=$kept/proved-$of
   optimised=$kept/optimised-$of
+  quick=$kept/quick-$of
   checked=$kept/checked-$of
+  module=$kept/module-$of
 }
 
 # Whether any executable is kept, of whatever sources.
@@ -137,6 +140,14 @@ find_compiler() {
   [ -z "$missing" ]
 }
 
+# Links an object file of the program. False where that fails.
+link() {
+  "$linker" "$1" "${archives[@]}" -lm -o "$2" 2>>"$room/notes" || {
+    missing="'$linker' ended with status $?"
+    return 1
+  }
+}
+
 # Shows on a terminal what is being done, and since how many seconds.
 show() {
   [ ! -t 2 ] || printf '\rusbplan: %s, %d s ' "$1" $((SECONDS - $2)) >&2
@@ -154,7 +165,7 @@ keep() {
   [ "$("$one" <"$crate/stdin" 2>/dev/null)" = "$(cat "$crate/stdout")" ] || stop "the program was made, but does not work"
   name_builds
   case "$at" in
-    "$proved" | "$optimised" | "$checked") ;;
+    "$proved" | "$optimised" | "$quick" | "$checked") ;;
     *) stop "the sources changed while the program was made: call again" ;;
   esac
   find "$kept" -maxdepth 1 -type f -name "$(basename "${at%-*}")-*" -delete
