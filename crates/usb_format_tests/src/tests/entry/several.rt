@@ -10,6 +10,9 @@ const MOUSE: &[&str] = &[
 
 const STICK: &[&str] = &["120100020000004034127956000100000001", "090209000001008032"];
 
+/// A device descriptor alone.
+const CUT: &[&str] = &["120100020000004034127956000100000001"];
+
 #[test]
 fn tables_in_order(rt: HostRuntime) -> Result<(), AllocError> {
     let (mouse, stick) = (bytes_of(rt.alloc(), MOUSE)?, bytes_of(rt.alloc(), STICK)?);
@@ -25,12 +28,11 @@ fn tables_in_order(rt: HostRuntime) -> Result<(), AllocError> {
 
 #[test]
 fn one_of_several_is_wrong(rt: HostRuntime) -> Result<(), AllocError> {
-    let (mouse, stick) = (bytes_of(rt.alloc(), MOUSE)?, bytes_of(rt.alloc(), STICK)?);
-    let cut = &stick.as_slice()[..18];
+    let (mouse, cut) = (bytes_of(rt.alloc(), MOUSE)?, bytes_of(rt.alloc(), CUT)?);
     let three = [
         plain("m", mouse.as_slice()),
-        plain("s", cut),
-        plain("", cut),
+        plain("s", cut.as_slice()),
+        plain("", cut.as_slice()),
     ];
     let (written, result) = written_of(rt.alloc(), 7, three.as_slice());
     assert!(rt; written.is_empty() && result == Err((1, EntryFault::Missing(18))));

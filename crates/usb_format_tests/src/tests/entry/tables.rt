@@ -120,15 +120,20 @@ const SMALL: &[&str] = &[
     "0902120001010080320904000000FF000000",
 ];
 
+/// A device named `d` with these bytes, and what Linux says of it.
+fn noted<'a>(speed: &'a str, product: &'a str, bytes: &'a [u8]) -> Source<'a> {
+    Source {
+        name: "d",
+        notes: Notes::of_texts(speed, product),
+        bytes,
+    }
+}
+
 #[test]
 fn notes_of_linux(rt: HostRuntime) -> Result<(), AllocError> {
     let bytes = bytes_of(rt.alloc(), SMALL)?;
     for (speed, product, lines) in NOTES {
-        let sources = [Source {
-            name: "d",
-            notes: Notes::of_texts(speed, product),
-            bytes: bytes.as_slice(),
-        }];
+        let sources = [noted(speed, product, bytes.as_slice())];
         let (written, _) = written_of(rt.alloc(), 7, sources.as_slice());
         let starts = written.as_slice().starts_with(lines.as_bytes());
         assert!(rt; starts, "{speed} {product}");
