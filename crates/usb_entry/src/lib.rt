@@ -7,7 +7,7 @@
 //!   that it counts, each whole, with nothing after them (*IsEntry*). Each fault has its cause, and
 //!   its byte (*HasEntryFault*).
 //! - `write_entries` writes *entry_text* of each device in order, or a prefix of that if the writer
-//!   failed. If one is no device it writes nothing, and tells the first that is none (*StopsAt*).
+//!   failed. If one is no device it writes nothing, and reports the first that is none (*StopsAt*).
 //!
 //! *Only tested*: that a plan's reader gets exactly those bytes from the table, and that bytes of a
 //! real device are not refused.

@@ -3,7 +3,7 @@
 //! # What is proved
 //!
 //! - `plugged` lists the devices that are plugged in the bus's world (*ArePlugged*, `usb_judge`). So
-//!   what `judge` tells of a listing beside them is so in that world (`judged_world`).
+//!   what `judge` says of a listing beside them is so in that world (`judged_world`).
 //!
 //! A device below 7 ports has no path, and counts as none. No event of a plan plugs one there.
 #![tactic(auto)]
