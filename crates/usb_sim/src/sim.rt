@@ -210,6 +210,20 @@ impl<T: Trace> SimBus<T> {
         self.attempts
     }
 
+    /// The damages of the plan, in the order of their attempts.
+    pub fn damages(&self) -> &[Damage]
+        ensures { result.now ≡ (world_of self.now).damages }
+    {
+        self.damages.as_slice()
+    }
+
+    /// Whether at some attempt two reachable devices held one address.
+    pub fn has_shared_address(&self) -> bool
+        ensures { result ≡ (world_of self.now).shared }
+    {
+        self.shared
+    }
+
     /// How often a device did not see the host's ACK of the status stage of SET_ADDRESS, at which it was to take its
     /// address (9.4.6).
     pub fn address_losses(&self) -> u64
