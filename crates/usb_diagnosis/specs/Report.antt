@@ -47,6 +47,7 @@ plan_report p = plan_lines p ++ remark_lines p.wide p.devices
 
 -- the entry that a fault is told of
 abbrev pub place_of : PlanFault → Option Place
+place_of (plan.OnlyFar place) = Some place
 place_of (plan.MissingKey place) = Some place
 place_of (plan.BadValue place) = Some place
 place_of (plan.BadHex place) = Some place
@@ -60,6 +61,7 @@ place_of plan.Memory = None
 -- what is wrong there
 abbrev pub fault_name : PlanFault → List ℕ
 fault_name plan.Syntax = codes "syntax"
+fault_name (plan.OnlyFar place) = codes "when is for far alone"
 fault_name (plan.MissingKey place) = codes "missing key"
 fault_name (plan.BadValue place) = codes "bad value"
 fault_name (plan.BadHex place) = codes "bad hex"

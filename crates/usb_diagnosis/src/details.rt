@@ -51,6 +51,7 @@ fn marked(layout: &Layout<'_>, anchor: Anchor, trouble: Trouble<'_>, fault: Plan
         (Trouble::Wrong(key, value), PlanFault::BadHex(_)) => {
             marked_digits(layout, anchor, key, value)
         }
+        (_, PlanFault::OnlyFar(_)) => key_span(layout, anchor),
         (Trouble::Wrong(_, _), _) => value_span(layout, anchor),
         _ => key_span(layout, anchor),
     }

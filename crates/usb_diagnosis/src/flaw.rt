@@ -126,6 +126,7 @@ pub(crate) fn flaw_of(key: PlanKey, value: &Value) -> Option<Flaw> {
         Kind::Word => is_word(value, key.words()),
         Kind::Words => are_words(value, key.words()),
         Kind::Tables | Kind::Endpoints => are_tables(value),
+        Kind::Place => false,
         Kind::Address => is_number_in(value, 1, 15) || is_number_in(value, 129, 143),
         Kind::Hex(most) => return hex_flaw(value, most),
         Kind::Setup => return setup_flaw(value),

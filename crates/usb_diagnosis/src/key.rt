@@ -53,6 +53,8 @@ pub(crate) enum PlanKey {
     Packet,
     How,
     Bit,
+    /// `when`, which stands in a plan for `usbplan far` alone.
+    When,
 }
 
 /// The keys at the top.
@@ -246,6 +248,9 @@ const IN_PACKETS: &str =
     "at most 1000 texts, each of two hexadecimal digits for each of at most 64 bytes, at an IN \
     endpoint without `source`";
 
+const WHEN_WORDS: &str =
+    "in its place `after` of an event or `attempt` of a damage; usbplan far alone reads `when`";
+
 /// What stands at a key.
 #[derive(Clone, Copy, Debug, PartialEq, Eq)]
 pub(crate) enum Kind {
@@ -273,6 +278,8 @@ pub(crate) enum Kind {
     Hexes(usize, usize),
     /// An array of tables.
     Tables,
+    /// A place in the run of another host.
+    Place,
 }
 
 impl PlanKey {
@@ -326,6 +333,7 @@ impl PlanKey {
             PlanKey::Packet => "packet",
             PlanKey::How => "how",
             PlanKey::Bit => "bit",
+            PlanKey::When => "when",
         }
     }
 
@@ -362,6 +370,7 @@ impl PlanKey {
             PlanKey::Attempt => Kind::Number(1, (1 << 63) - 1),
             PlanKey::Packet => Kind::Number(1, 3),
             PlanKey::Bit => Kind::Number(0, 535),
+            PlanKey::When => Kind::Place,
         }
     }
 
@@ -421,6 +430,7 @@ impl PlanKey {
             PlanKey::Packet => "1, 2 or 3",
             PlanKey::How => "\"lose\", \"pre\" or \"flip\"",
             PlanKey::Bit => "a number from 0 to 535, beside how = \"flip\" alone",
+            PlanKey::When => WHEN_WORDS,
         }
     }
 

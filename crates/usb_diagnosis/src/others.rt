@@ -19,6 +19,7 @@ use crate::nearest::nearest;
 use crate::path_slip::is_no_path;
 use crate::trouble::{
     Trouble, flaw_at, has_other_class, is_known, is_named, is_taken_name, last_attempt, number_at,
+    wrong_at,
 };
 use std::alloc::{AllocError, Global};
 use toml::{Table, Value};
@@ -107,10 +108,11 @@ fn has_setup(entry: &Entry<'_>) -> bool {
     }
 }
 
-/// Whether an entry that lacks the key has a fault for that.
+/// Whether an entry that lacks the key has a fault for that: `when` stands in place of `attempt`.
 fn lacks(entry: &Entry<'_>, key: PlanKey) -> bool {
     match (key, entry.text(PlanKey::Do)) {
         (PlanKey::Bytes, Some("control")) => has_setup(entry) && entry.needs(key),
+        (PlanKey::Attempt, _) => entry.value(PlanKey::When).is_none(),
         _ => entry.needs(key),
     }
 }
@@ -210,6 +212,30 @@ fn has_known_keys(entry: &Entry<'_>) -> bool {
     }
 }
 
+/// Whether `when` is a key of the entry, in a plan for another host.
+fn takes_when(entry: &Entry<'_>) -> bool {
+    match entry.place() {
+        Place::Event(_) => has_known_keys(entry),
+        Place::Damage(_) => true,
+        Place::Top | Place::Device(_) => false,
+    }
+}
+
+/// The fault of an entry with the key `when`.
+fn found_far<'a>(entry: &Entry<'a>) -> Option<Found<'a>>
+    ensures { IfSome result (λ found. (place_of found.fault ≡ Some entry.now.place)
+        × IsTroubleOf entry.now.place (table_view entry.now.table.now) found.trouble) }
+{
+    if !takes_when(entry) {
+        return None;
+    }
+    let trouble = wrong_at(entry, PlanKey::When)?;
+    Some(Found {
+        fault: PlanFault::OnlyFar(entry.place()),
+        trouble,
+    })
+}
+
 /// Adds the lines on a fault, if they are not those of the first fault, and there is room.
 #[tactic(auto, using(crate::proofs::Blocks::blocks_more))]
 fn push_found<'a>(
@@ -269,6 +295,31 @@ fn push_keys<'a>(
     Ok(())
 }
 
+/// Adds the lines on the key `when`.
+fn push_far<'a>(
+    alloc: Global,
+    blocks: &mut Blocks,
+    subject: &Subject<'a>,
+    entry: &Entry<'a>,
+) -> Result<(), AllocError>
+    requires blocks { AreBlocks subject.now.file.now subject.now.layout.now.text.now
+        (table_view subject.now.document.now) blocks.now.texts.items }
+    requires there { entry_in (table_view subject.now.document.now) entry.now.place
+        ≡ Some (table_view entry.now.table.now) }
+    ensures { OnOk result (AreBlocks subject.now.file.now subject.now.layout.now.text.now
+        (table_view subject.now.document.now) blocks.new.texts.items) }
+{
+    match found_far(entry) {
+        None => Ok(()),
+        Some(found) => push_found(alloc, blocks, subject, entry, found),
+    }
+}
+
+/// Whether the key is `when`, where that has a fault of its own.
+fn is_when(entry: &Entry<'_>, name: &str) -> bool {
+    name == PlanKey::When.name() && takes_when(entry)
+}
+
 /// Whether the name is near to that of a key that the entry lacks.
 fn is_meant(alloc: Global, entry: &Entry<'_>, name: &str) -> Result<bool, AllocError> {
     for key in entry.keys() {
@@ -298,7 +349,8 @@ fn push_unknown<'a>(
 {
     let keys = entry.keys();
     'names: for name in entry.table().keys() {
-        if !is_known(keys, name.as_str()) && !is_meant(alloc, entry, name.as_str())? {
+        let has_place = is_when(entry, name.as_str());
+        if !has_place && !is_known(keys, name.as_str()) && !is_meant(alloc, entry, name.as_str())? {
             let found = Found {
                 fault: PlanFault::BadValue(entry.place()),
                 trouble: Trouble::Unknown(name.as_str()),
@@ -323,6 +375,7 @@ fn push_entry<'a>(
     ensures { OnOk result (AreBlocks subject.now.file.now subject.now.layout.now.text.now
         (table_view subject.now.document.now) blocks.new.texts.items) }
 {
+    push_far(alloc, blocks, subject, entry)?;
     push_keys(alloc, blocks, subject, entry)?;
     if has_known_keys(entry) {
         push_unknown(alloc, blocks, subject, entry)?;

@@ -119,6 +119,7 @@ fn fault_name(fault: PlanFault) -> &'static str
 {
     match fault {
         PlanFault::Syntax => "syntax",
+        PlanFault::OnlyFar(_) => "when is for far alone",
         PlanFault::MissingKey(_) => "missing key",
         PlanFault::BadValue(_) => "bad value",
         PlanFault::BadHex(_) => "bad hex",
@@ -135,7 +136,8 @@ pub(crate) fn place_of(fault: PlanFault) -> Option<Place>
     ensures { result ≡ place_of fault }
 {
     match fault {
-        PlanFault::MissingKey(place)
+        PlanFault::OnlyFar(place)
+        | PlanFault::MissingKey(place)
         | PlanFault::BadValue(place)
         | PlanFault::BadHex(place)
         | PlanFault::UnknownDevice(place)

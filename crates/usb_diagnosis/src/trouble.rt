@@ -52,7 +52,7 @@ fn flawed<'a>(entry: &Entry<'a>, flaw: Flaw) -> Option<Trouble<'a>>
 }
 
 /// What is wrong with the value at the key, if one stands there.
-fn wrong_at<'a>(entry: &Entry<'a>, key: PlanKey) -> Option<Trouble<'a>>
+pub(crate) fn wrong_at<'a>(entry: &Entry<'a>, key: PlanKey) -> Option<Trouble<'a>>
     ensures { IfSome result (IsTroubleOf entry.now.place (table_view entry.now.table.now)) }
 {
     let value = entry.value(key)?;
@@ -249,6 +249,7 @@ pub(crate) fn trouble_of<'a>(entry: &Entry<'a>, fault: PlanFault) -> Option<Trou
     ensures { IfSome result (IsTroubleOf entry.now.place (table_view entry.now.table.now)) }
 {
     match fault {
+        PlanFault::OnlyFar(_) => wrong_at(entry, PlanKey::When),
         PlanFault::MissingKey(_) => match missing_key(entry) {
             None => missing_within(entry),
             Some(key) => Some(Trouble::Missing(key)),

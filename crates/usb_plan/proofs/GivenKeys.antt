@@ -11,7 +11,7 @@ use Rattle.usb_plan.specs.{PathEndpoint, PathSetting, PathSetup, Said, names_com
 use Rattle.usb_plan.specs.{only_named, keys_at, EventValues, event_values, verb_at}
 use Rattle.usb_plan.specs.{action_of, other_keys, SceneData, keys_of, event_keys, verb_fits}
 use Rattle.usb_plan.specs.{keys_given, after_at, event_room, event_with, event_given, event_of}
-use Rattle.usb_plan.specs.{event_in}
+use Rattle.usb_plan.specs.{event_in, no_when}
 use Rattle.usb_plan.specs.declared.verb.Verb.{Verb}
 use Rattle.usb_plan.specs.declared.action.OtherKeys.TheVariants.{Path}
 use Rattle.usb_plan.proofs.EventWalks.{same_text, at_first, at_later}
@@ -260,15 +260,25 @@ event_in_refused scene count ms v fault same is =
     ap (λ x. verb_at x.verb) (sym same) ∙ is in
     rw told refl
 
+pub event_in_far : (scene : SceneData) (count : ℕ) (ms : Members) (v : EventValues) (verb : Verb)
+    (fault : EntryFault) → v ≡ event_values ms → verb_at v.verb ≡ Ok verb
+    → no_when (get_member (codes "when") ms) ≡ Err fault → event_in scene count (Some ms) ≡ Err fault
+unfolding event_in event_values
+event_in_far scene count ms v verb fault same is far =
+    let told : verb_at (get_member (codes "do") ms) ≡ Ok verb = ap (λ x. verb_at x.verb) (sym same)
+    ∙ is in
+    rw (told, far) refl
+
 pub event_in_given : (scene : SceneData) (count : ℕ) (ms : Members) (v : EventValues) (verb : Verb)
-    → v ≡ event_values ms
-    → verb_at v.verb ≡ Ok verb → event_in scene count (Some ms) ≡ event_given verb scene count v
+    (u : Unit {0}) → v ≡ event_values ms
+    → verb_at v.verb ≡ Ok verb → no_when (get_member (codes "when") ms) ≡ Ok u
+    → event_in scene count (Some ms) ≡ event_given verb scene count v
 unfolding event_in event_of event_given event_values
-event_in_given scene count ms v verb same is =
+event_in_given scene count ms v verb u same is alone =
     let told : verb_at (get_member (codes "do") ms) ≡ Ok verb = ap (λ x. verb_at x.verb) (sym same)
     ∙ is in
     let of : event_of verb scene count ms ≡ event_given verb scene count (event_values ms) =
     ap (λ keys. event_with (action_of verb scene (event_values ms))
     (after_at (get_member (codes "after") ms)) keys (event_room count))
     (sym (keys_given-event_values (other_keys verb) ms)) in
-    rw told (of ∙ ap (event_given verb scene count) (sym same))
+    rw (told, alone) (of ∙ ap (event_given verb scene count) (sym same))

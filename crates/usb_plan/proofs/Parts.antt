@@ -29,7 +29,8 @@ use Rattle.usb_plan.specs.declared.action.Request.{Request}
 use Rattle.usb_plan.specs.declared.action.Request.TheVariants.{Read, Write}
 use Rattle.usb_plan.specs.{event_with, event_of, event_in, attempt_at, packet_number, way_at}
 use Rattle.usb_plan.specs.{no_bit, flip_at, harm_of, harm_by, damage_with, read_damage}
-use Rattle.usb_plan.specs.{damage_entry, limit_at, roots_at, top_with, top_of, TopFits}
+use Rattle.usb_plan.specs.{PlanFault, IsPlaced, damage_entry, no_when, placed_damage, limit_at}
+use Rattle.usb_plan.specs.{roots_at, top_with, top_of, TopFits}
 use Rattle.usb_plan.specs.declared.plan.Top.{Top}
 use Rattle.usb_plan.specs.declared.quirks.Quirks.{Quirks}
 use Rattle.usb_plan.specs.declared.bulk.Bulk.{Bulk}
@@ -589,7 +590,8 @@ unfolding event_in
 event_in_ok scene count o e h =
     let ms = bind_good (ok_or o BadValue) _ e h in
     let verb = bind_good (verb_at (get_member (codes "do") ms.value)) _ e ms.rest in
-    event_of_ok verb.value scene count ms.value e verb.rest
+    let alone = bind_good (no_when (get_member (codes "when") ms.value)) _ e verb.rest in
+    event_of_ok verb.value scene count ms.value e alone.rest
 
 attempt_at_ok : (last : ℕ) (o : Option Data) (n : ℕ) → attempt_at last o ≡ Ok n → (last < n)
     × (n < 2 ^ 63)
@@ -665,11 +667,45 @@ read_damage_ok last count ms d h =
       most = attempt.1;
     }
 
+placed_damage_ok : (number attempt : ℕ) (ms : Members) (d : Damage)
+    → placed_damage number attempt ms ≡ Ok d → IsPlaced number attempt d
+unfolding placed_damage damage_with
+placed_damage_ok number attempt ms d told =
+    let h = entry_at_ok _ _ d told in
+    let how = harm_by (way_at (get_member (codes "how") ms)) (get_member (codes "bit") ms) in
+    let e0 = bind_good (least_fault _) _ d h in
+    let e2 = bind_good (packet_number (get_member (codes "packet") ms)) _ d e0.rest in
+    let e3 = bind_good how _ d e2.rest in
+    let left = good_part _ e0.value 4 (damage.damage_room (number - 1)) e0.good refl in
+    let same_attempt : attempt ≡ d.attempt = cc e3.rest in
+    let same_packet : e2.value ≡ d.packet = cc e3.rest in
+    let same_harm : e3.value ≡ d.harm = cc e3.rest in
+    let packet = packet_number_ok (get_member (codes "packet") ms) d.packet
+    (e2.good ∙ ap Ok same_packet) in
+    let harm = harm_by_ok (way_at (get_member (codes "how") ms)) (get_member (codes "bit") ms)
+    d.harm (e3.good ∙ ap Ok same_harm) in
+    record {
+      fits = λ some. rw (
+        lt-ltb 0 d.attempt (rw (← same_attempt) some),
+        le-leb 1 d.packet packet.0,
+        le-leb d.packet 3 packet.1,
+        harm,
+      );
+      room = omega (arith, damage_room_ok (number - 1) left.0 left.1);
+    }
+
+pub placed_damage_is : (number attempt : ℕ) (ms : Members) (r : Result Damage PlanFault)
+    → r ≡ placed_damage number attempt ms → IfOk r (IsPlaced number attempt)
+placed_damage_is number attempt ms (Ok d) same = placed_damage_ok number attempt ms d (sym same)
+placed_damage_is number attempt ms (Err fault) same = tt
+
 pub damage_entry_ok : (last count : ℕ) (o : Option Members) (d : Damage)
     → damage_entry last count o ≡ Ok d → Comes last count d
 unfolding damage_entry
-damage_entry_ok last count o d h = let ms = bind_good (ok_or o BadValue) _ d h in
-    read_damage_ok last count ms.value d ms.rest
+damage_entry_ok last count o d h =
+    let ms = bind_good (ok_or o BadValue) _ d h in
+    let alone = bind_good (no_when (get_member (codes "when") ms.value)) _ d ms.rest in
+    read_damage_ok last count ms.value d alone.rest
 
 limit_at_ok : (o : Option Data) (n : ℕ) → limit_at o ≡ Ok n → n ≤ 10 ^ 14
 unfolding limit_at

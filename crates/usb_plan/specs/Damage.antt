@@ -1,6 +1,6 @@
 -- The `damage` entries of the document.
-use Rattle.std.specs.Prelude.{ℕ, codes, List, [], ◌∷◌, ◌++◌, ◌+◌, ◌-◌, ◌^◌, length, Option, Some}
-use Rattle.std.specs.Prelude.{None, ok_or, Result, Ok, Err, nat_lt, if◌then◌else◌}
+use Rattle.std.specs.Prelude.{◌≡◌, ◌≤◌, ℕ, codes, List, [], ◌∷◌, ◌++◌, ◌+◌, ◌-◌, ◌^◌, length}
+use Rattle.std.specs.Prelude.{true, Option, Some, None, ok_or, Result, Ok, Err, nat_lt, if◌then◌else◌}
 use Rattle.std.specs.Str.{bytes_eq}
 use Rattle.toml.specs.Data.{Data, Members, get_member, as_table}
 use Rattle.usb_plan.specs.declared.entry_fault.EntryFault.{EntryFault}
@@ -10,9 +10,9 @@ use Rattle.usb_plan.specs.declared.damage.Way.TheVariants as way
 use Rattle.usb_plan.specs.declared.fault.Place.TheVariants as place
 use Rattle.usb_plan.specs.declared.fault.PlanFault.{PlanFault}
 use Rattle.usb_plan.specs.EntryFault.{fault_in_part, least_fault, entry_at, ◌>>=◌}
-use Rattle.usb_plan.specs.Keys.{keys_at}
+use Rattle.usb_plan.specs.Keys.{keys_at, no_when}
 use Rattle.usb_plan.specs.Value.{read_text, number_at}
-use Rattle.usb_world.specs.{Damage, Harm, Lose, LosePre, Flip}
+use Rattle.usb_world.specs.{Damage, Harm, Lose, LosePre, Flip, damage_fits}
 
 -- the key `attempt`: after the last one
 unfoldable pub attempt_at : ℕ → Option Data → Result ℕ EntryFault
@@ -79,8 +79,29 @@ read_damage last count ms =
     (keys_at damage_keys ms)
     (damage_room count)
 
+abbrev pub placed_keys : List (List ℕ)
+placed_keys = codes "when" ∷ codes "packet" ∷ codes "how" ∷ codes "bit" ∷ []
+
+-- the damage of that number, of a table with `when`, to this attempt
+unfoldable pub placed_damage : ℕ → ℕ → Members → Result Damage PlanFault
+placed_damage number attempt ms =
+    entry_at (place.Damage number) (damage_with (Ok attempt)
+    (packet_number (get_member (codes "packet") ms))
+    (harm_by (way_at (get_member (codes "how") ms)) (get_member (codes "bit") ms))
+    (keys_at placed_keys ms)
+    (damage_room (number - 1)))
+
+-- it fits its attempt, and there is room for it
+pub record IsPlaced (number attempt : ℕ) (d : Damage) : Type 0 where
+  pub fits : 1 ≤ attempt → damage_fits 0 d ≡ true
+  pub room : number ≤ 10000
+
+-- nothing else of a damage is looked at where it has the key `when`
 unfoldable pub damage_entry : ℕ → ℕ → Option Members → Result Damage EntryFault
-damage_entry last count table = ok_or table BadValue >>= read_damage last count
+damage_entry last count table = do
+  ms ← ok_or table BadValue
+  u ← no_when (get_member (codes "when") ms)
+  read_damage last count ms
 
 -- the attempt of the last damage, that number with none
 unfoldable pub last_from : ℕ → List Damage → ℕ

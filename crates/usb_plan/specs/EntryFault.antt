@@ -8,7 +8,8 @@ use Rattle.usb_plan.specs.declared.fault.Place.{Place}
 use Rattle.usb_plan.specs.declared.fault.PlanFault.{PlanFault}
 use Rattle.usb_plan.specs.declared.fault.PlanFault.TheVariants as fault
 use Rattle.usb_plan.specs.declared.entry_fault.EntryFault.{EntryFault}
-use Rattle.usb_plan.specs.declared.entry_fault.EntryFault.TheVariants.{Memory, MissingKey, BadValue}
+use Rattle.usb_plan.specs.declared.entry_fault.EntryFault.TheVariants.{Memory, OnlyFar}
+use Rattle.usb_plan.specs.declared.entry_fault.EntryFault.TheVariants.{MissingKey, BadValue}
 use Rattle.usb_plan.specs.declared.entry_fault.EntryFault.TheVariants.{BadHex, UnknownDevice}
 use Rattle.usb_plan.specs.declared.entry_fault.EntryFault.TheVariants.{BadPath, PortTaken}
 use Rattle.usb_plan.specs.declared.entry_fault.EntryFault.TheVariants.{PortEmpty}
@@ -16,6 +17,7 @@ use Rattle.usb_plan.specs.declared.entry_fault.EntryFault.TheVariants.{PortEmpty
 -- the number of a fault; refused memory comes before all
 abbrev pub rank : EntryFault → ℕ
 rank Memory = 0
+rank OnlyFar = 1
 rank MissingKey = 2
 rank BadValue = 3
 rank BadHex = 4
@@ -53,6 +55,7 @@ least_fault (fault ∷ faults) = sooner fault (least_fault faults)
 
 unfoldable pub at : Place → EntryFault → PlanFault
 at place Memory = fault.Memory
+at place OnlyFar = fault.OnlyFar place
 at place MissingKey = fault.MissingKey place
 at place BadValue = fault.BadValue place
 at place BadHex = fault.BadHex place

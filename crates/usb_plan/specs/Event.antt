@@ -8,6 +8,7 @@ use Rattle.usb_plan.specs.declared.verb.Verb.{Verb}
 use Rattle.usb_plan.specs.declared.fault.Place.TheVariants as place
 use Rattle.usb_plan.specs.declared.fault.PlanFault.{PlanFault}
 use Rattle.usb_plan.specs.EntryFault.{fault_in_part, least_fault, entry_at, ◌>>=◌}
+use Rattle.usb_plan.specs.Keys.{no_when}
 use Rattle.usb_plan.specs.Value.{number_or}
 use Rattle.usb_plan.specs.Verb.{verb_at, other_keys, action_of}
 use Rattle.usb_plan.specs.EventMembers.{EventValues, event_values}
@@ -47,11 +48,12 @@ event_of verb scene count ms =
     event_with (action_of verb scene (event_values ms)) (after_at (get_member (codes "after") ms))
     (keys_of (other_keys verb) ms) (event_room count)
 
--- nothing else of an event is looked at where its `do` is absent or unknown
+-- nothing else of an event is looked at where its `do` is absent or unknown, nor beside `when`
 unfoldable pub event_in : SceneData → ℕ → Option Members → Result Event EntryFault
 event_in scene count table = do
   ms ← ok_or table BadValue
   verb ← verb_at (get_member (codes "do") ms)
+  u ← no_when (get_member (codes "when") ms)
   event_of verb scene count ms
 
 -- the events so far and those of the values; the first is number n, and so many ports are said of

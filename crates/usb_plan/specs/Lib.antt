@@ -26,7 +26,7 @@ unfoldable pub use EntryFault.{at, entry_at, fault_in_part, least, least_fault, 
 pub use Value.{data_list, hex_read, is_table}
 unfoldable pub use Value.{byte_at, hex_bytes, hex_in, number_at, number_in, number_or, read_items}
 unfoldable pub use Value.{read_text, tables_in, text_in}
-unfoldable pub use Keys.{keys_at, only_named}
+unfoldable pub use Keys.{keys_at, no_when, only_named}
 unfoldable pub use Texts.{items_from, texts_in, with_item}
 unfoldable pub use Hub.{built_ports, class_at, hub_at, hub_in, hub_of, hub_with, is_agreed}
 unfoldable pub use Hub.{is_low_speed, is_other, no_hub}
@@ -65,13 +65,13 @@ unfoldable pub use Action.{unplug_of, verb_fits, write_bytes, write_with}
 unfoldable pub use Verb.{action_of, other_keys, verb_at, verb_named}
 unfoldable pub use Event.{after_at, event_given, event_in, event_of, event_room, event_with}
 unfoldable pub use Event.{events_from}
-pub use Damage.{damage_keys}
+pub use Damage.{IsPlaced, damage_keys, placed_keys}
 unfoldable pub use Damage.{attempt_at, damage_entry, damage_room, damage_with, damages_from}
-unfoldable pub use Damage.{flip_at, harm_by, harm_of, last_from, no_bit, packet_number, read_damage}
-unfoldable pub use Damage.{way_at, way_named}
-pub use Plan.{TopFits, top_keys, values_in}
-unfoldable pub use Plan.{entries_at, entries_in, limit_at, plan_of, plan_with, read, roots_at}
-unfoldable pub use Plan.{spelled_plan, top_of, top_with, values_at}
+unfoldable pub use Damage.{flip_at, harm_by, harm_of, last_from, no_bit, packet_number}
+unfoldable pub use Damage.{placed_damage, read_damage, way_at, way_named}
+pub use Plan.{TopFits, entries_of, top_keys, values_in}
+unfoldable pub use Plan.{entries_at, entries_in, limit_at, plan_of, plan_of_entries, plan_with}
+unfoldable pub use Plan.{read, roots_at, spelled_plan, top_of, top_with, values_at}
 pub use Attempts.{enough_for, is_look, is_look_at, looks_in, moved_in, total_after, total_at}
 unfoldable pub use Attempts.{bound_of, greatest_total, moved, plugged_total}
 pub use declared.action.OtherKeys.{OtherKeys}
@@ -83,5 +83,6 @@ pub use declared.device.DeviceTexts.{DeviceTexts}
 pub use declared.device.Identity.{Identity}
 pub use declared.digits.TheConstants.{DIGITS}
 pub use declared.entry_fault.EntryFault.TheVariants.{BadHex, BadPath, BadValue, Memory, MissingKey}
+pub use declared.entry_fault.EntryFault.TheVariants.{OnlyFar}
 pub use declared.entry_fault.EntryFault.TheVariants.{PortEmpty, PortTaken, UnknownDevice}
 pub use declared.fault.PlanFault.{PlanFault}

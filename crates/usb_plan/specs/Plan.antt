@@ -95,13 +95,19 @@ plan_with top devices events damages = do
     damages = harms;
   })
 
+-- the values at a key of the top
+abbrev pub entries_of : List ℕ → Members → List Data
+entries_of key ms = values_at (get_member key ms)
+
+-- the plan of a table's top and devices, with these events and damages
+unfoldable pub plan_of_entries : Members → List Data → List Data → Result PlanData PlanFault
+plan_of_entries ms events damages =
+    entry_at place.Top (top_of ms)
+    >>= λ top. plan_with top (entries_of (codes "device") ms) events damages
+
 -- the plan that a table describes: top, devices, events, damages
 unfoldable pub plan_of : Members → Result PlanData PlanFault
-plan_of ms =
-    entry_at place.Top (top_of ms)
-    >>= λ top. plan_with top (values_at (get_member (codes "device") ms))
-    (values_at (get_member (codes "event") ms))
-    (values_at (get_member (codes "damage") ms))
+plan_of ms = plan_of_entries ms (entries_of (codes "event") ms) (entries_of (codes "damage") ms)
 
 unfoldable pub read : Option Members → Result PlanData PlanFault
 read None = Err fault.Syntax

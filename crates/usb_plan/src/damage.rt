@@ -5,11 +5,11 @@ ghost use Rattle.toml.specs.View.{view, table_view};
 ghost use Rattle.usb_world.specs.Plans.{damages_fit};
 ghost use Rattle.usb_plan.specs.EntryFault.{EqualUnless};
 ghost use Rattle.usb_plan.specs.declared.fault.PlanFault.TheVariants.{Memory as NoMemory};
-ghost use Rattle.usb_plan.specs.Damage.{attempt_at, packet_number, way_named, way_at, no_bit, flip_at, harm_of, harm_by, damage_room, damage_with, read_damage, damage_entry, damages_from};
+ghost use Rattle.usb_plan.specs.Damage.{attempt_at, packet_number, way_named, way_at, no_bit, flip_at, harm_of, harm_by, damage_room, damage_with, placed_damage, IsPlaced, read_damage, damage_entry, damages_from};
 
 use crate::entry_fault::{EntryFault, entry_at, fault_in_part, least_fault};
 use crate::fault::{Place, PlanFault};
-use crate::keys::keys_at;
+use crate::keys::{keys_at, no_when};
 use crate::value::{number_at, read_text, value_at};
 use std::alloc::Global;
 use toml::{Table, Value};
@@ -155,12 +155,45 @@ fn read_damage(last: u64, count: usize, table: &Table) -> Result<Damage, EntryFa
     damage_with(attempt, packet, harm, keys, damage_room(count))
 }
 
+/// The damage of a number that a table with `when` describes, to this attempt.
+#[tactic(auto, unfolding(crate::specs::Damage::placed_damage))]
+fn placed_in(number: usize, attempt: u64, table: &Table) -> Result<Damage, PlanFault>
+    ensures { result ≡ placed_damage number attempt (table_view table.now) }
+{
+    let packet = packet_number(value_at(table, "packet"));
+    let harm = harm_by(way_at(value_at(table, "how")), value_at(table, "bit"));
+    let keys = keys_at(table, &["when", "packet", "how", "bit"]);
+    let room = damage_room(number.saturating_sub(1));
+    entry_at(
+        Place::Damage(number),
+        damage_with(Ok(attempt), packet, harm, keys, room),
+    )
+}
+
+/// Reads the `damage` entry of a number, counted from 1, that has `when` in place of `attempt`. It is a damage to this
+/// attempt.
+///
+/// # Errors
+///
+/// - `MissingKey`: the table lacks `packet` or `how`, or `bit` with `how = "flip"`.
+/// - `BadValue`: another key is there, a value is of a wrong kind or out of range, `bit` is there without
+///   `how = "flip"`, or the number is over 10,000.
+pub fn placed_damage(number: usize, attempt: u64, table: &Table) -> Result<Damage, PlanFault>
+    ensures value { result ≡ placed_damage number attempt (table_view table.now) }
+    ensures placed { IfOk result (IsPlaced number attempt) }
+{
+    placed_in(number, attempt, table)
+}
+
+/// If it has the key `when`, the rest of the damage is ignored.
 #[tactic(auto, unfolding(crate::specs::Damage::damage_entry))]
 fn damage_entry(last: u64, count: usize, table: Option<&Table>) -> Result<Damage, EntryFault>
     requires { last < 2 ^ 63 }
     ensures { result ≡ damage_entry last count (option_map (λ t. table_view t.now) table.entry) }
 {
-    read_damage(last, count, table.ok_or(EntryFault::BadValue)?)
+    let table = table.ok_or(EntryFault::BadValue)?;
+    no_when(value_at(table, "when"))?;
+    read_damage(last, count, table)
 }
 
 /// The damages that the values describe, or the first fault.

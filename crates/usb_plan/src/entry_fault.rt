@@ -13,6 +13,7 @@ use std::alloc::AllocError;
 #[derive(Clone, Copy, Debug, PartialEq, Eq, PartialOrd, Ord)]
 pub(crate) enum EntryFault {
     Memory,
+    OnlyFar,
     MissingKey,
     BadValue,
     BadHex,
@@ -32,6 +33,7 @@ impl EntryFault {
     {
         match self {
             EntryFault::Memory => PlanFault::Memory,
+            EntryFault::OnlyFar => PlanFault::OnlyFar(place),
             EntryFault::MissingKey => PlanFault::MissingKey(place),
             EntryFault::BadValue => PlanFault::BadValue(place),
             EntryFault::BadHex => PlanFault::BadHex(place),

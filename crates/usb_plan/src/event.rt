@@ -15,9 +15,10 @@ ghost use Rattle.usb_plan.specs.Event.{after_at, event_room, event_with, event_g
 use crate::action::keys_given;
 use crate::entry_fault::{EntryFault, entry_at, fault_in_part, least_fault};
 use crate::fault::{Place, PlanFault};
+use crate::keys::no_when;
 use crate::members::EventMembers;
 use crate::scene::{Scene, all_said};
-use crate::value::number_or;
+use crate::value::{number_or, value_at};
 use crate::verb::{Verb, action_of, other_keys, verb_at};
 use std::alloc::Global;
 use toml::{Table, Value};
@@ -105,7 +106,7 @@ fn event_given(
     event_with(action, after, keys, event_room(count))
 }
 
-/// If `do` is absent or unknown, the rest of the event is ignored.
+/// If `do` is absent or unknown, the rest of the event is ignored. So it is beside the key `when`.
 #[tactic(auto, unfolding(crate::specs::Event::event_in))]
 fn event_in(
     alloc: Global,
@@ -116,8 +117,10 @@ fn event_in(
     ensures { EqualUnless Memory result
         (event_in scene.now count (option_map (λ t. table_view t.now) table.entry)) }
 {
-    let members = EventMembers::of(table.ok_or(EntryFault::BadValue)?);
+    let table = table.ok_or(EntryFault::BadValue)?;
+    let members = EventMembers::of(table);
     let verb = verb_at(members.verb)?;
+    no_when(value_at(table, "when"))?;
     event_given(alloc, verb, scene, count, &members)
 }
 

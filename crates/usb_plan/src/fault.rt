@@ -42,6 +42,9 @@ pub enum PlanFault {
     /// The text is no TOML document, or has a number of more than 64 bits.
     #[error("plan: syntax")]
     Syntax,
+    /// The entry has the key `when`, whose place only the run of another host can say.
+    #[error("plan: {0}: when is for far alone")]
+    OnlyFar(Place),
     /// The entry lacks a key that it needs.
     #[error("plan: {0}: missing key")]
     MissingKey(Place),

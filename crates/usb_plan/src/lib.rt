@@ -34,6 +34,8 @@ mod value;
 mod verb;
 
 pub use attempts::bound;
+pub use damage::placed_damage;
 pub use fault::{Place, PlanFault};
-pub use plan::read_plan;
+pub use keys::only_named;
+pub use plan::{entries_of, plan_of_entries, plan_of_table, read_plan};
 pub use usb_world::Plan;

@@ -6,7 +6,7 @@ ghost use Rattle.toml.specs.View.{view, table_view};
 ghost use Rattle.usb_plan.specs.declared.fault.PlanFault.TheVariants.{Memory};
 ghost use Rattle.usb_plan.specs.EntryFault.{EqualUnless};
 ghost use Rattle.usb_plan.specs.Keys.{keys_at};
-ghost use Rattle.usb_plan.specs.Plan.{limit_at, roots_at, entries_in, entries_at, values_at, top_keys, top_with, top_of, plan_with, plan_of, spelled_plan, TopFits};
+ghost use Rattle.usb_plan.specs.Plan.{limit_at, roots_at, entries_in, entries_at, entries_of, values_at, top_keys, top_with, top_of, plan_with, plan_of, plan_of_entries, spelled_plan, TopFits};
 
 use crate::damage::damages_of;
 use crate::device::devices_of;
@@ -166,16 +166,44 @@ fn plan_with(
     Ok(Plan::new(top.limit, top.roots, top.wide, specs, events, damages))
 }
 
-/// The plan that a table describes, or its first fault.
-#[tactic(auto, unfolding(crate::specs::Plan::plan_of))]
-fn plan_of(alloc: Global, table: &Table) -> Result<Plan, PlanFault>
-    ensures { EqualUnless Memory result (plan_of (table_view table.now)) }
+/// The values of the array at a key of a document's top, none without that array.
+pub fn entries_of<'a>(table: &'a Table, key: &str) -> &'a [Value]
+    ensures { map view result.now ≡ entries_of key.now (table_view table.now) }
+{
+    values_at(value_at(table, key))
+}
+
+/// Reads the plan of a document's top and devices, with these values as its events and damages.
+///
+/// # Errors
+///
+/// Those of `read_plan`, but for `Syntax`.
+#[tactic(auto, unfolding(crate::specs::Plan::plan_of_entries))]
+pub fn plan_of_entries(
+    alloc: Global,
+    table: &Table,
+    events: &[Value],
+    damages: &[Value],
+) -> Result<Plan, PlanFault>
+    ensures { EqualUnless Memory result
+        (plan_of_entries (table_view table.now) (map view events.now) (map view damages.now)) }
 {
     let top = entry_at(Place::Top, top_of(table))?;
-    let devices = values_at(value_at(table, "device"));
-    let events = values_at(value_at(table, "event"));
-    let damages = values_at(value_at(table, "damage"));
-    plan_with(alloc, top, devices, events, damages)
+    plan_with(alloc, top, entries_of(table, "device"), events, damages)
+}
+
+/// Reads the plan that a document describes.
+///
+/// # Errors
+///
+/// Those of `read_plan`, but for `Syntax`.
+#[tactic(auto, unfolding(crate::specs::Plan::plan_of))]
+pub fn plan_of_table(alloc: Global, table: &Table) -> Result<Plan, PlanFault>
+    ensures { EqualUnless Memory result (plan_of (table_view table.now)) }
+{
+    let events = entries_of(table, "event");
+    let damages = entries_of(table, "damage");
+    plan_of_entries(alloc, table, events, damages)
 }
 
 /// Reads the plan that a TOML text spells.
@@ -185,7 +213,7 @@ fn plan_of(alloc: Global, table: &Table) -> Result<Plan, PlanFault>
 /// - `Syntax`: the text is no TOML document.
 /// - The fault of the first entry with one, in the order top, devices, events, damages. In one entry
 ///   it is the first in the order of `PlanFault`. If the `do` of an event is absent or unknown, its
-///   other keys are not read.
+///   other keys are not read. Beside `when` nothing else of an entry is.
 /// - `Memory`: memory was refused. It says nothing of the text.
 #[tactic(auto, unfolding(crate::specs::Plan::read, crate::specs::Plan::spelled_plan))]
 pub fn read_plan(alloc: Global, text: &str) -> Result<Plan, PlanFault>
@@ -202,5 +230,5 @@ pub fn read_plan(alloc: Global, text: &str) -> Result<Plan, PlanFault>
             });
         }
     };
-    plan_of(alloc, &table)
+    plan_of_table(alloc, &table)
 }

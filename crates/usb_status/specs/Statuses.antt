@@ -36,6 +36,7 @@ abbrev pub serve_status : ServeFault → ℕ
 serve_status serve.Read = 4
 serve_status serve.TooLong = 1
 serve_status (serve.Plan plan.Syntax) = 1
+serve_status (serve.Plan (plan.OnlyFar place)) = 1
 serve_status (serve.Plan (plan.MissingKey place)) = 1
 serve_status (serve.Plan (plan.BadValue place)) = 1
 serve_status (serve.Plan (plan.BadHex place)) = 1

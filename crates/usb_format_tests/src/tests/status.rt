@@ -16,7 +16,7 @@ use usb_text::{LineFault, PacketFault};
 /// A fault, its line and its exit status.
 type Row = (Fault, &'static str, u8);
 
-const ROWS: [Row; 39] = [
+const ROWS: [Row; 40] = [
     (
         Fault::NoText,
         "error: invalid UTF-8 was detected in one or more arguments",
@@ -34,6 +34,11 @@ const ROWS: [Row; 39] = [
     (
         Fault::Serve(ServeFault::Plan(PlanFault::Syntax)),
         "plan: syntax",
+        1,
+    ),
+    (
+        Fault::Serve(ServeFault::Plan(PlanFault::OnlyFar(Place::Event(2)))),
+        "plan: event 2: when is for far alone",
         1,
     ),
     (

@@ -3,7 +3,15 @@ use super::{FUNCTION, Row, check_rows};
 use std::alloc::AllocError;
 
 /// An event that begins on line 8.
-const EVENTS: [Row; 27] = [
+const EVENTS: [Row; 29] = [
+    Row {
+        text: "[[event]]\ndo = \"show\"\n[[event]]\ndo = \"news\"\nwhen = { request = \"set_address\", path = \"1\" }\n",
+        told: "p.toml:12:1: plan: event 2: when is for far alone\n12 | when = { request = \"set_address\", path = \"1\" }\n   | ^^^^\n  event 2, line 10: `when` is { path = \"1\", request = \"set_address\" }\n  allowed: in its place `after` of an event or `attempt` of a damage; usbplan far alone reads `when`\n",
+    },
+    Row {
+        text: "[[damage]]\npacket = 1\nhow = \"lose\"\nwhen = { wait = true }\n",
+        told: "p.toml:11:1: plan: damage 1: when is for far alone\n11 | when = { wait = true }\n   | ^^^^\n  damage 1, line 8: `when` is { wait = true }\n  allowed: in its place `after` of an event or `attempt` of a damage; usbplan far alone reads `when`\n",
+    },
     Row {
         text: "[[event]]\npath = \"1\"\n",
         told: "p.toml:8:1: plan: event 1: missing key\n8 | [[event]]\n  | ^^^^^^^^^\n  event 1, line 8: no key `do`\n  allowed: \"plug\", \"unplug\", \"show\", \"send\", \"receive\", \"clear\", \"interrupt\", \"control\", \"interface\", \"look\" or \"news\"\n  such as: do = \"plug\"\n",

@@ -8,7 +8,7 @@ struct Listed {
     told: &'static str,
 }
 
-const LISTS: [Listed; 7] = [
+const LISTS: [Listed; 8] = [
     Listed {
         text: r#"limit = 1
 roots = 8
@@ -230,6 +230,58 @@ p.toml:8:11: plan: device 1: bad hex
   device 1 "a", line 3: `request` is [{ answer = "0", request = 1, type = 192 }]
   request[0].answer, an odd number of digits: 1
   allowed: at most 64 tables, each with `type`, `request`, and what the device does about it
+"#,
+    },
+    // A `when` makes one fault, and beside it `attempt` is not wanted. A device has no such key.
+    Listed {
+        text: r#"limit = 1
+roots = 1
+when = 1
+[[event]]
+do = "look"
+path = "1"
+[[event]]
+do = "show"
+when = { wait = true }
+after = -1
+[[event]]
+when = 1
+[[damage]]
+when = { request = "get_status" }
+packet = 1
+"#,
+        told: r#"p.toml:3:1: plan: top: bad value
+3 | when = 1
+  | ^^^^
+  top: unknown key `when`
+  allowed: `limit`, `roots`, `wide_hubs`, `device`, `event`, `damage`
+p.toml:9:1: plan: event 2: when is for far alone
+9 | when = { wait = true }
+  | ^^^^
+  event 2, line 7: `when` is { wait = true }
+  allowed: in its place `after` of an event or `attempt` of a damage; usbplan far alone reads `when`
+p.toml:10:9: plan: event 2: bad value
+10 | after = -1
+   |         ^^
+  event 2, line 7: `after` is -1
+  allowed: a number from 0 to 1000000000
+p.toml:11:1: plan: event 3: missing key
+11 | [[event]]
+   | ^^^^^^^^^
+  event 3, line 11: no key `do`
+  allowed: "plug", "unplug", "show", "send", "receive", "clear", "interrupt", "control", "interface", "look" or "news"
+  such as: do = "plug"
+p.toml:14:1: plan: damage 1: when is for far alone
+14 | when = { request = "get_status" }
+   | ^^^^
+  damage 1, line 13: `when` is { request = "get_status" }
+  allowed: in its place `after` of an event or `attempt` of a damage; usbplan far alone reads `when`
+p.toml:13:1: plan: damage 1: missing key
+13 | [[damage]]
+   | ^^^^^^^^^^
+  damage 1, line 13: no key `how`
+  allowed: "lose", "pre" or "flip"
+  such as: how = "lose"
 "#,
     },
     // Without `setup`, nothing says whether `bytes` is needed.

@@ -3,7 +3,7 @@ use super::{Cases, FUNCTION, check};
 use std::alloc::AllocError;
 
 /// Lines of the first damage.
-const DAMAGES: [Cases; 6] = [
+const DAMAGES: [Cases; 7] = [
     Cases {
         told: "plan",
         texts: &[
@@ -53,6 +53,14 @@ const DAMAGES: [Cases; 6] = [
     Cases {
         told: "plan: event 1: port empty",
         texts: &["attempt = 0\n[[event]]\ndo = \"unplug\"\npath = \"1\""],
+    },
+    Cases {
+        told: "plan: damage 1: when is for far alone",
+        texts: &[
+            "when = { wait = true }\npacket = 1\nhow = \"lose\"",
+            "when = 1",
+            "when = {}\nattempt = 0\npacket = 9\nhow = 1\nbit = \"\"\nafter = 1",
+        ],
     },
     Cases {
         told: "plan: syntax",

@@ -3,7 +3,7 @@ use super::{Cases, FUNCTION, check};
 use std::alloc::AllocError;
 
 /// Lines of the first event.
-const EVENTS: [Cases; 8] = [
+const EVENTS: [Cases; 9] = [
     Cases {
         told: "plan",
         texts: &[
@@ -209,8 +209,17 @@ const EVENTS: [Cases; 8] = [
         ],
     },
     Cases {
+        told: "plan: event 1: when is for far alone",
+        texts: &[
+            "do = \"plug\"\npath = \"1\"\ndevice = \"fn\"\nwhen = { reset = 1 }",
+            "do = \"send\"\nwhen = 1",
+            "do = \"unplug\"\npath = \"8\"\nafter = -1\nextra = 1\nwhen = \"\"",
+        ],
+    },
+    Cases {
         told: "plan: event 1: missing key",
         texts: &[
+            "when = { wait = true }",
             "do = \"plug\"\npath = \"8\"\nbytes = \"\"",
             "do = \"unplug\"",
             "path = \"8\"\ndevice = 1",
