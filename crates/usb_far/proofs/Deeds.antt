@@ -5,19 +5,21 @@ use Rattle.std.proofs.Common.{slice_index_or}
 use Rattle.std.proofs.KnownBytes.{Appends-nil}
 use Rattle.std.proofs.lemmas.Bool.{false≢true}
 use Rattle.std.proofs.lemmas.List.{map-append, take_more}
+use Rattle.std.specs.Prelude.{IsSome, OnErr, OnOk, Result}
 use Rattle.std.specs.Io.KnownBytes.{Appends}
 use Rattle.usb_port.specs.{PortState, off, status_of, PortCall}
 use Rattle.usb_world.specs.declared.event.Ask.{Ask}
-use Rattle.usb_world.specs.{Attempt, Outcome, World, roots_of, EventEnds, after, attempt, event}
+use Rattle.usb_world.specs.{Attempt, BusFault, Outcome, PutLine, World, roots_of, EventEnds, after}
+use Rattle.usb_world.specs.{attempt, event}
 use Rattle.usb_world.specs.{outcome_in, root_call}
-use Rattle.usb_bus.specs.{lines_between, next_due, step_lines, Attempts, TakesEvent}
+use Rattle.usb_bus.specs.{lines_between, next_due, step_lines, AppendsFront, Attempts, TakesEvent}
 use Rattle.usb_wire.specs.{Answer, Answered, Asked, Done, RootsAndRows, Question}
 use Rattle.usb_wire.specs.{kind_asked}
 use Rattle.usb_wire.specs.declared.question.Question.TheVariants.{Hello}
 use Rattle.usb_far.specs.{LongSend, Far, IsDone, Played, SendsTooMuch, attempt_done, call_done}
 use Rattle.usb_far.specs.{answer_in, came_of, done, due_wanted, hello_done, is_poll, outcome_answer}
 use Rattle.usb_far.specs.{part_wanted, restart_done, sending_in, unseen_in, wait_done, wanted_done}
-use Rattle.usb_far.specs.{ChangesTold, Replied, Replies, ToSend, Wanted, far_done, line_of, may_ask}
+use Rattle.usb_far.specs.{FarFault, PutsLine, bus_told, ChangesTold, Replied, Replies, ToSend, Wanted, far_done, line_of, may_ask}
 use Rattle.usb_far.specs.{rest_behind, status_lines, told_behind}
 use Rattle.usb_far.specs.declared.far_end.Phase.TheVariants.{Asks}
 
@@ -189,6 +191,26 @@ made_reply q a old mid new answer said r may kind d told is left came same =
       traced = subst (λ t. Appends old.trace.bytes t.bytes (done q old.far).traced) (sym same)
           d.traced;
     }
+
+-- a line of report, from what the bus did
+pub line_put : (line : List ℕ) (old new : Played) (result : Result (Unit {0}) FarFault)
+    (bus : Result (Unit {0}) BusFault) → result ≡ bus_told bus
+    → PutLine old.far.world bus new.far.world
+    → AppendsFront old.trace.bytes new.trace.bytes (line ++ 10 ∷ [])
+    → OnOk bus (Appends old.trace.bytes new.trace.bytes (line ++ 10 ∷ []))
+    → (IsSome old.far.world.fault → new ≡ old)
+    → (old.far.world.fault ≡ None → OnErr bus (new.trace.failed ≡ true))
+    → new.far ≡ record old.far { world = new.far.world } → PutsLine line old result new
+line_put line old new result bus is step front whole again failed far = record {
+  bus = bus;
+  is = is;
+  step = step;
+  front = front;
+  whole = whole;
+  again = again;
+  failed = failed;
+  far = far;
+}
 
 -- the statuses of one port more
 pub status_more : (row : List PortState) (k : ℕ) (all : List (List ℕ)) (status : List ℕ)

@@ -10,6 +10,7 @@ use Rattle.std.proofs.lemmas.Bool.{false≢true}
 use Rattle.std.proofs.lemmas.List.{take-append-le, take_all}
 use Rattle.std.proofs.lemmas.List.Elements.{All-append}
 use Rattle.std.specs.Io.KnownBytes.{Appends, Consumes}
+use Rattle.arrayvec.specs.ArrayVec.{ArrayVec}
 use Rattle.usb_bus.specs.{is_some_text}
 use Rattle.usb_lines.specs.{EndsLine, FailsToFlush, Flushes, IsNextLine, IsUnbroken, OutPipe, Pipe}
 use Rattle.usb_lines.specs.{LineFault, Read, Cut, Reads}
@@ -23,7 +24,8 @@ use Rattle.usb_far.specs.{MayGoOn, Misread, OnlyReads, OnlyReadsLine, Passed, Pa
 use Rattle.usb_far.specs.{LineReplied, ReadsEnd, ReadsOn, ReadsQuestion, ReadsTold, reading_in}
 use Rattle.usb_far.specs.{Scene, InTurn, ServedNone, ServedOne, ServedSome, ServesNext, CauseOf}
 use Rattle.usb_far.specs.{is_told, AllReplies, GoesOn, IsUnwritten, RowEnds, RowFront, RowReplied}
-use Rattle.usb_far.specs.{RowStops, and_then}
+use Rattle.usb_far.specs.{RowStops, and_then, HostLine, TakesLine}
+use Rattle.usb_far.specs.declared.told.HostLine.TheVariants as host
 use Rattle.usb_far.specs.{brings_full, is_taken, may_ask_as, rest_behind}
 use Rattle.usb_far.specs.declared.far_end.Phase.TheVariants.{Asks}
 use Rattle.usb_far.specs.{passed, phase_behind}
@@ -120,10 +122,10 @@ told_long old new mid front rest more p full one read last ended reads told next
 }
 
 -- it has no reply
-pub told_served : (old new : Scene) (front : List ℕ)
+told_line : (old new : Scene) (front : List ℕ)
     → ReadsTold (reading_in old) front (reading_in new) → new.writer ≡ old.writer
     → ServedOne old new
-told_served old new front t writer =
+told_line old new front t writer =
     let f = old.played.far in
     let far : new.played.far ≡ record f { phase = phase_behind f.phase (take 1024 t.line) } =
     ap (λ p. p.far) t.moved ∙ ap (λ l. record f { phase = phase_behind f.phase l }) t.begins in
@@ -133,6 +135,13 @@ told_served old new front t writer =
           (LineReplied.told t.line t.unbroken (sym (ap (is_told f.phase) t.begins) ∙ t.told));
       passes = only_read old new (t.line ++ 10 ∷ []) t.whole (ap (λ p. p.trace) t.moved) writer;
     }
+
+pub told_served : (old new : Scene) (l : HostLine) (front : ArrayVec ℕ) → l ≡ host.Told front
+    → TakesLine (reading_in old) (Ok l) (reading_in new) → new.writer ≡ old.writer
+    → ServedOne old new
+told_served old new l front is took writer =
+    told_line old new front.items
+    (subst (λ m. TakesLine (reading_in old) (Ok m) (reading_in new)) is took) writer
 
 -- ---- questions
 
@@ -281,12 +290,20 @@ asked_line old new q there all =
       };
     }
 
-pub asked_served : (old new : Scene) (mid : Played) (q : Question)
-    → ReadsQuestion old.played.far.phase old.reader q new.reader → mid ≡ old.played
+-- the line that asks it was taken
+taken : (old : Scene) (mid : Played) (behind : Pipe) (l : HostLine) (q : Question)
+    → l ≡ host.Asked q → TakesLine (reading_in old) (Ok l) (at_reader mid behind)
+    → ReadsQuestion old.played.far.phase old.reader q behind × (mid ≡ old.played)
+taken old mid behind l q is took =
+    subst (λ m. TakesLine (reading_in old) (Ok m) (at_reader mid behind)) is took
+
+pub asked_served : (old new : Scene) (mid : Played) (l : HostLine) (q : Question)
+    → l ≡ host.Asked q → TakesLine (reading_in old) (Ok l) (at_reader mid new.reader)
     → AllReplies q old.writer mid new.played new.writer → ServedOne old new
-asked_served old new mid q there same all =
-    asked_line old new q there
-    (subst (λ p. AllReplies q old.writer p new.played new.writer) same all)
+asked_served old new mid l q is took all =
+    let there = taken old mid new.reader l q is took in
+    asked_line old new q there.0
+    (subst (λ p. AllReplies q old.writer p new.played new.writer) there.1 all)
 
 pub question_read : (phase : Phase) (old new : Pipe) (line : List ℕ) (q : Question)
     → IsUnbroken line → Consumes old.bytes new.bytes (line ++ 10 ∷ []) → new.failed ≡ old.failed
@@ -335,13 +352,15 @@ row_ends old new asked left mid w f there front (inl (inr un, writer)) =
 row_ends old new asked left mid w f there front (inr (is, torn)) =
     subst (CauseOf old new) (sym is) (CauseOf.unwritten asked left there front torn)
 
-pub row_stopped : (old new : Scene) (mid : Played) (asked : Question) (f : FarFault)
-    → ReadsQuestion old.played.far.phase old.reader asked new.reader → mid ≡ old.played
+pub row_stopped : (old new : Scene) (mid : Played) (l : HostLine) (asked : Question)
+    (f : FarFault) → l ≡ host.Asked asked
+    → TakesLine (reading_in old) (Ok l) (at_reader mid new.reader)
     → RowStops asked old.writer mid f new.played new.writer → CauseOf old new f
-row_stopped old new mid asked f there same stops =
+row_stopped old new mid l asked f is took stops =
+    let there = taken old mid new.reader l asked is took in
     let s : RowStops asked old.writer old.played f new.played new.writer =
-    subst (λ p. RowStops asked old.writer p f new.played new.writer) same stops in
-    row_ends old new asked s.left s.mid s.w f there s.front s.stops
+    subst (λ p. RowStops asked old.writer p f new.played new.writer) there.1 stops in
+    row_ends old new asked s.left s.mid s.w f there.0 s.front s.stops
 
 -- a reply that was not written to its end, or not flushed
 reply_torn : (q : Question) (mid new : Played) (w now : OutPipe) (r : Replied) → Replies q mid r new

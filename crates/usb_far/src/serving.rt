@@ -7,6 +7,7 @@ ghost use Rattle.usb_far.specs.Serving.{RepliesAll, ServesHost, ServesNext, scen
 
 use crate::far_end::FarEnd;
 use crate::fault::FarFault;
+use crate::reply::Replied;
 use crate::told::HostLine;
 use std::io::{Read, Write};
 use usb_bus::Watched;
@@ -80,15 +81,15 @@ impl<T: Trace> FarEnd<T> {
     {
         let mut asked = question;
         'attempts: loop {
-            let reply = match self.reply(&asked) {
+            let Replied { lines, rest, .. } = match self.reply(&asked) {
                 Ok(reply) => reply,
                 Err(fault) => return Err(fault),
             };
-            match put_lines(writer, reply.lines.as_slice()) {
+            match put_lines(writer, lines.as_slice()) {
                 Ok(()) => {}
                 Err(_) => return Err(FarFault::Write),
             }
-            match reply.rest {
+            match rest {
                 Some(rest) => asked = rest,
                 None => return Ok(()),
             }

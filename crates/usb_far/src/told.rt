@@ -1,5 +1,5 @@
 //! The host's lines, one by one.
-ghost use Rattle.std.specs.Prelude.{◌≡◌, ◌∷◌, ◌++◌, [], ℕ, length, IfErr, IfOk};
+ghost use Rattle.std.specs.Prelude.{◌≡◌, ◌≤◌, ◌∷◌, ◌++◌, [], ℕ, length, IfErr, IfOk};
 ghost use Rattle.std.specs.Io.KnownBytes.{Consumes};
 ghost use Rattle.usb_lines.specs.Lines.{IsUnbroken};
 ghost use Rattle.usb_lines.specs.Pipes.{Pipe as APipe, pipe_of};
@@ -55,7 +55,8 @@ impl<T: Trace> FarEnd<T> {
 
     /// What a line of at most 1,024 bytes is.
     fn whole_line(&mut self, line: ArrayVec<u8, 1024>) -> Result<HostLine, FarFault>
-        requires { IsUnbroken line.items }
+        requires unbroken { IsUnbroken line.items }
+        requires short { length line.items ≤ 1024 }
         // Whichever reader gave that line.
         ensures { (before behind : APipe)
             → Consumes before.bytes behind.bytes (line.items ++ 10 ∷ [])
@@ -63,11 +64,12 @@ impl<T: Trace> FarEnd<T> {
             → TakesLine (record { played = played_of self.old; reader = before }) result
             (record { played = played_of self.new; reader = behind }) }
     {
-        if is_told(self.phase, line.as_slice()) {
-            self.phase = phase_behind(self.phase, line.as_slice());
+        let bytes = line.as_slice();
+        if is_told(self.phase, bytes) {
+            self.phase = phase_behind(self.phase, bytes);
             return Ok(HostLine::Told(line));
         }
-        match question_in(self.phase, line.as_slice()) {
+        match question_in(self.phase, bytes) {
             Ok(question) => Ok(HostLine::Asked(question)),
             Err(fault) => Err(fault),
         }
@@ -88,12 +90,13 @@ impl<T: Trace> FarEnd<T> {
             → TakesLine (record { played = played_of self.old; reader = before }) result
             (reading R.remaining self.new reader.new) }
     {
-        if !is_told(self.phase, front.as_slice()) {
+        let bytes = front.as_slice();
+        if !is_told(self.phase, bytes) {
             return Err(FarFault::LineTooLong);
         }
         match skip_line(reader) {
             Ok(()) => {
-                self.phase = phase_behind(self.phase, front.as_slice());
+                self.phase = phase_behind(self.phase, bytes);
                 Ok(HostLine::Told(front))
             }
             Err(fault) => Err(FarFault::from(fault)),

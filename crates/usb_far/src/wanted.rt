@@ -48,7 +48,7 @@ impl Model for Sending {
 }
 
 impl Sending {
-    ghost use Rattle.std.specs.Prelude.{◌≡◌, ◌≤◌, drop, length};
+    ghost use Rattle.std.specs.Prelude.{◌≡◌, ◌≤◌, drop, length, IsTrue};
 
     /// All of a send.
     fn new(path: PortPath, endpoint: Option<EndpointAddress>, bytes: SentBytes) -> Sending
@@ -72,10 +72,19 @@ impl Sending {
     /// Whether one line has room for all that is left.
     #[tactic(auto, unfolding(crate::specs::Sends::fits_line))]
     fn fits_line(&self) -> bool
-        ensures { result ≡ fits_line self.now }
+        ensures value { result ≡ fits_line self.now }
+        ensures few { IsTrue result → length self.now.bytes ≤ line_limit self.now.endpoint }
     {
         let count = self.rest().len();
         count <= line_limit(self.endpoint) && self.path.text().len() + 2 * count <= SEND_ROOM
+    }
+
+    /// The answer that requests to send a part of it.
+    fn request(&self, part: &[u8]) -> Answer
+        requires { length part.now ≤ line_limit self.now.endpoint }
+        ensures { result ≡ send_answer self.now.path self.now.endpoint part.now }
+    {
+        send_answer(self.path.duplicate(), self.endpoint, part)
     }
 
     /// The same without its first bytes.
@@ -83,8 +92,9 @@ impl Sending {
         requires { count ≤ length self.bytes }
         ensures { result ≡ record self { bytes = drop count self.bytes } }
     {
+        let left = self.rest().len() - count;
         Sending {
-            sent: self.sent + count,
+            sent: self.bytes.as_slice().len() - left,
             ..self
         }
     }
@@ -97,13 +107,13 @@ pub(crate) fn next_part(sending: Sending) -> Wanted
     let rest = sending.rest();
     if sending.fits_line() {
         return Wanted {
-            answer: send_answer(sending.path.duplicate(), sending.endpoint, rest),
+            answer: sending.request(rest),
             sending: None,
         };
     }
-    let count = rest.len().min(PART_SIZE);
+    let count = PART_SIZE.min(rest.len());
     Wanted {
-        answer: send_answer(sending.path.duplicate(), sending.endpoint, &rest[..count]),
+        answer: sending.request(&rest[..count]),
         sending: Some(sending.without(count)),
     }
 }
