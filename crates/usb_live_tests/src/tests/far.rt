@@ -911,7 +911,7 @@ fn say_all(
     requires { IsQuestion question }
 {
     let mut asked = question;
-    for _ in 0..64u8 {
+    'attempts: for _ in 0..64u8 {
         let before = far.bus().attempts();
         let Ok(reply) = far.reply(&asked) else {
             return Err(AllocError);
