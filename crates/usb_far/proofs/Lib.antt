@@ -1,2 +1,3 @@
 mod Deeds
 mod Lines
+mod Sends

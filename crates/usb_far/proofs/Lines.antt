@@ -10,19 +10,22 @@ use Rattle.std.proofs.lemmas.Bool.{false≢true}
 use Rattle.std.proofs.lemmas.List.{take-append-le, take_all}
 use Rattle.std.proofs.lemmas.List.Elements.{All-append}
 use Rattle.std.specs.Io.KnownBytes.{Appends, Consumes}
+use Rattle.arrayvec.specs.ArrayVec.{ArrayVec}
 use Rattle.usb_bus.specs.{is_some_text}
 use Rattle.usb_lines.specs.{EndsLine, FailsToFlush, Flushes, IsNextLine, IsUnbroken, OutPipe, Pipe}
-use Rattle.usb_lines.specs.{LineFault, Read, Cut}
-use Rattle.usb_wire.specs.{Answer, Answered, Asked, IsQuestion, IsQuestionLine, kind_asked}
+use Rattle.usb_lines.specs.{LineFault, Read, Cut, Reads}
+use Rattle.usb_wire.specs.{Answer, Answered, Asked, IsQuestion, kind_asked}
 use Rattle.usb_wire.specs.{said_line, Question}
 use Rattle.usb_wire.specs.declared.question.Asked.TheVariants as asked
 use Rattle.usb_wire.specs.declared.question.Question.TheVariants.{Ins, Outs}
-use Rattle.usb_far.specs.{Phase, FarFault, Far, HasNoReply, IsReplied, Played, Replies, done}
-use Rattle.usb_far.specs.{may_ask, reading_fault, AllReplied, HasNoQuestion, HasQuestion, MayGoOn}
-use Rattle.usb_far.specs.{OnlyReads, OnlyReadsLine, Passed, Passes, ReadsOn, ReadsQuestion, Replied}
-use Rattle.usb_far.specs.{Scene, InTurn, ServedOne, ServedSome, ServesNext, CauseOf, and_then}
+use Rattle.usb_far.specs.{Phase, FarFault, Far, HasNoReply, IsReplied, Played, Replied, Replies}
+use Rattle.usb_far.specs.{done, may_ask, reading_fault, AllReplied, HasNoQuestion, HasQuestion}
+use Rattle.usb_far.specs.{MayGoOn, Misread, OnlyReads, OnlyReadsLine, Passed, Passes, Reading}
+use Rattle.usb_far.specs.{LineReplied, ReadsEnd, ReadsOn, ReadsQuestion, ReadsTold, reading_in}
+use Rattle.usb_far.specs.{Scene, InTurn, ServedNone, ServedOne, ServedSome, ServesNext, CauseOf}
 use Rattle.usb_far.specs.{is_told, AllReplies, GoesOn, IsUnwritten, RowEnds, RowFront, RowReplied}
-use Rattle.usb_far.specs.{RowStops}
+use Rattle.usb_far.specs.{RowStops, and_then, HostLine, TakesLine}
+use Rattle.usb_far.specs.declared.told.HostLine.TheVariants as host
 use Rattle.usb_far.specs.{brings_full, is_taken, may_ask_as, rest_behind}
 use Rattle.usb_far.specs.declared.far_end.Phase.TheVariants.{Asks}
 use Rattle.usb_far.specs.{passed, phase_behind}
@@ -38,8 +41,8 @@ and_false false = refl
 
 -- ---- bytes that were read
 
-abbrev pub in_scene : Played → Pipe → OutPipe → Scene
-in_scene played reader writer = record { played = played; reader = reader; writer = writer }
+abbrev pub at_reader : Played → Pipe → Reading
+at_reader played reader = record { played = played; reader = reader }
 
 -- the first of bytes that were read behind others
 first_of_long : (front rest : List ℕ) (more : ℕ) → length front ≡ 1024
@@ -53,68 +56,92 @@ not_nil : (bytes rest : List ℕ) → 0 < length bytes → bytes ++ rest ≢ []
 not_nil [] rest some none = absurd (omega (arith, some))
 not_nil (c ∷ bytes) rest some none = cc
 
--- ---- what is told
+-- this much was read of one line, and nothing was answered
+only_read : (old new : Scene) (bytes : List ℕ) → Reads old.reader bytes new.reader
+    → new.played.trace ≡ old.played.trace → new.writer ≡ old.writer
+    → Passes old (passed bytes [] []) new
+only_read old new bytes reads trace writer = record {
+  read = reads.read;
+  written = subst (λ w. Appends old.writer.bytes w.bytes []) (sym writer)
+      (Appends-nil old.writer.bytes);
+  traced = subst (λ t. Appends old.played.trace.bytes t.bytes []) (sym trace)
+      (Appends-nil old.played.trace.bytes);
+  reads = reads.unmarked;
+  writes = ap (λ w. w.failed) writer;
+  flushed = ap (λ w. w.pending) writer ∙ sym (and_true old.writer.pending);
+}
 
-behind_told : (f : Far) (line : List ℕ) (p : Phase) → IsUnbroken line
-    → is_told f.phase (take 1024 line) ≡ true → p ≡ phase_behind f.phase (take 1024 line)
-    → Replied f (passed (line ++ 10 ∷ []) [] []) (record f { phase = p })
-behind_told f line p one told next =
-    subst (λ q. Replied f (passed (line ++ 10 ∷ []) [] []) (record f { phase = q })) (sym next)
-    (Replied.told line one told)
+-- ---- the end, and what is told
 
-told_line : (old new : Scene) (line : List ℕ) (p : Phase) → IsUnbroken line
-    → Consumes old.reader.bytes new.reader.bytes (line ++ 10 ∷ [])
-    → is_told old.played.far.phase (take 1024 line) ≡ true
-    → p ≡ phase_behind old.played.far.phase (take 1024 line)
-    → new.played.far ≡ record old.played.far { phase = p } → new.played.trace ≡ old.played.trace
-    → ReadsOn old new → new.writer ≡ old.writer → ServedOne old new
-told_line old new line p one read told next far trace reads writer = record {
-  passed = passed (line ++ 10 ∷ []) [] [];
-  replied = subst (Replied old.played.far (passed (line ++ 10 ∷ []) [] [])) (sym far)
-      (behind_told old.played.far line p one told next);
-  passes = record {
-    read = read;
-    written = subst (λ w. Appends old.writer.bytes w.bytes []) (sym writer)
-        (Appends-nil old.writer.bytes);
-    traced = subst (λ t. Appends old.played.trace.bytes t.bytes []) (sym trace)
-        (Appends-nil old.played.trace.bytes);
-    reads = reads;
-    writes = ap (λ w. w.failed) writer;
-    flushed = ap (λ w. w.pending) writer ∙ sym (and_true old.writer.pending);
-  };
+pub end_read : (old new : Scene) → ReadsEnd (reading_in old) (reading_in new)
+    → new.writer ≡ old.writer → ServedNone old new
+end_read old new end writer = record {
+  passes = only_read old new [] end.nothing (ap (λ p. p.trace) end.same) writer;
+  ended = end.ended;
+  same = ap (λ p. p.far) end.same;
 }
 
 -- a line that tells something
-pub told_whole : (old new : Scene) (line : List ℕ) (p : Phase) → IsUnbroken line
-    → length line ≤ 1024
-    → Consumes old.reader.bytes new.reader.bytes (line ++ 10 ∷ []) → ReadsOn old new
-    → is_told old.played.far.phase line ≡ true → p ≡ phase_behind old.played.far.phase line
-    → new.played.far ≡ record old.played.far { phase = p } → new.played.trace ≡ old.played.trace
-    → new.writer ≡ old.writer → ServedOne old new
-told_whole old new line p one short read reads told next far trace writer =
-    let all : line ≡ take 1024 line = sym (take_all 1024 line short) in
-    told_line old new line p one read (subst (λ l. is_told old.played.far.phase l ≡ true) all told)
-    (next ∙ ap (phase_behind old.played.far.phase) all) far trace reads writer
+pub told_whole : (old new : Reading) (line : List ℕ) (p : Phase) → IsUnbroken line
+    → length line ≤ 1024 → Consumes old.reader.bytes new.reader.bytes (line ++ 10 ∷ [])
+    → ReadsOn old new → is_told old.played.far.phase line ≡ true
+    → p ≡ phase_behind old.played.far.phase line
+    → new.played ≡ record old.played { far = record old.played.far { phase = p } }
+    → ReadsTold old line new
+told_whole old new line p one short read reads told next played = record {
+  line = line;
+  unbroken = one;
+  whole = record { read = read; unmarked = reads };
+  begins = sym (take_all 1024 line short);
+  told = told;
+  moved = played ∙ ap (λ q. record old.played { far = record old.played.far { phase = q } }) next;
+}
 
 -- a long one, of which the front was read first
-pub told_long : (old new : Scene) (mid : Pipe) (front rest : List ℕ) (more : ℕ) (p : Phase)
+pub told_long : (old new : Reading) (mid : Pipe) (front rest : List ℕ) (more : ℕ) (p : Phase)
     → length front ≡ 1024 → IsUnbroken (front ++ more ∷ [])
     → Consumes old.reader.bytes mid.bytes (front ++ more ∷ []) → IsUnbroken rest
     → Consumes mid.bytes new.reader.bytes (rest ++ 10 ∷ [])
     → ReadsOn old new → is_told old.played.far.phase front ≡ true
     → p ≡ phase_behind old.played.far.phase front
-    → new.played.far ≡ record old.played.far { phase = p } → new.played.trace ≡ old.played.trace
-    → new.writer ≡ old.writer → ServedOne old new
-told_long old new mid front rest more p full one read last ended reads told next far trace writer =
-    let line = (front ++ more ∷ []) ++ rest in
-    let is : front ≡ take 1024 line = sym (first_of_long front rest more full) in
-    told_line old new line p (All-append (λ c. c ≢ 10) (front ++ more ∷ []) rest one last)
-    (subst (Consumes old.reader.bytes new.reader.bytes)
-    (sym (append_assoc (front ++ more ∷ []) rest (10 ∷ [])))
-    (Consumes-trans old.reader.bytes mid.bytes new.reader.bytes (front ++ more ∷ [])
-    (rest ++ 10 ∷ []) read ended))
-    (subst (λ l. is_told old.played.far.phase l ≡ true) is told) (next
-    ∙ ap (phase_behind old.played.far.phase) is) far trace reads writer
+    → new.played ≡ record old.played { far = record old.played.far { phase = p } }
+    → ReadsTold old front new
+told_long old new mid front rest more p full one read last ended reads told next played = record {
+  line = (front ++ more ∷ []) ++ rest;
+  unbroken = All-append (λ c. c ≢ 10) (front ++ more ∷ []) rest one last;
+  whole = record {
+    read = subst (Consumes old.reader.bytes new.reader.bytes)
+        (sym (append_assoc (front ++ more ∷ []) rest (10 ∷ [])))
+        (Consumes-trans old.reader.bytes mid.bytes new.reader.bytes (front ++ more ∷ [])
+        (rest ++ 10 ∷ []) read ended);
+    unmarked = reads;
+  };
+  begins = sym (first_of_long front rest more full);
+  told = told;
+  moved = played ∙ ap (λ q. record old.played { far = record old.played.far { phase = q } }) next;
+}
+
+-- it has no reply
+told_line : (old new : Scene) (front : List ℕ)
+    → ReadsTold (reading_in old) front (reading_in new) → new.writer ≡ old.writer
+    → ServedOne old new
+told_line old new front t writer =
+    let f = old.played.far in
+    let far : new.played.far ≡ record f { phase = phase_behind f.phase (take 1024 t.line) } =
+    ap (λ p. p.far) t.moved ∙ ap (λ l. record f { phase = phase_behind f.phase l }) t.begins in
+    record {
+      passed = passed (t.line ++ 10 ∷ []) [] [];
+      replied = subst (LineReplied f (passed (t.line ++ 10 ∷ []) [] [])) (sym far)
+          (LineReplied.told t.line t.unbroken (sym (ap (is_told f.phase) t.begins) ∙ t.told));
+      passes = only_read old new (t.line ++ 10 ∷ []) t.whole (ap (λ p. p.trace) t.moved) writer;
+    }
+
+pub told_served : (old new : Scene) (l : HostLine) (front : ArrayVec ℕ) → l ≡ host.Told front
+    → TakesLine (reading_in old) (Ok l) (reading_in new) → new.writer ≡ old.writer
+    → ServedOne old new
+told_served old new l front is took writer =
+    told_line old new front.items
+    (subst (λ m. TakesLine (reading_in old) (Ok m) (reading_in new)) is took) writer
 
 -- ---- questions
 
@@ -175,15 +202,12 @@ rest_may : (q : Question) (mid new : Far) (lines : List ℕ) (rest : Question)
 rest_may q mid new lines rest r e = may_attempt new.phase (kind_asked rest)
     (ap (λ (f : Far). f.phase) r.far) (rest_kind q r.answer rest e)
 
--- and so may the row
 row_may : (asked : Question) (old : Played) (before : OutPipe) (mid : Played) (w : OutPipe)
-    (q : Question)
-    → RowFront asked old before mid w q → may_ask mid.far.phase q ≡ true
-    → may_ask old.far.phase asked ≡ true
+    (q : Question) → RowFront asked old before mid w q → may_ask old.far.phase asked ≡ true
+    → may_ask mid.far.phase q ≡ true
 row_may asked old before mid w q RowFront.begun may = may
-row_may asked old before mid w q
-    (RowFront.further {mid = m} {w = v} {q = p} front r e traced gone) may =
-    row_may asked old before m v p front r.asks
+row_may asked old before mid w q (RowFront.further front r e traced gone) may =
+    rest_may _ _ _ _ q r e
 
 -- texts that went out one behind the other
 pending_then : (a b c : Bool) (xs ys : List ℕ) → b ≡ (a && not (is_some_text xs))
@@ -241,24 +265,23 @@ gone_so asked old before new now rest
     }
 
 -- a question that was answered, of a row each attempt
-pub asked_line : (old new : Scene) (line : List ℕ) (q : Question) → IsUnbroken line
-    → Consumes old.reader.bytes new.reader.bytes (line ++ 10 ∷ [])
-    → ReadsOn old new → HasQuestion line q
+asked_line : (old new : Scene) (q : Question)
+    → ReadsQuestion old.played.far.phase old.reader q new.reader
     → AllReplies q old.writer old.played new.played new.writer → ServedOne old new
-asked_line old new line q one read reads there all =
+asked_line old new q there all =
     let so = gone_so q old.played old.writer all.mid all.w all.last all.front in
     let tail : List ℕ = (done all.last all.mid.far).traced in
     record {
-      passed = passed (line ++ 10 ∷ []) (so.said ++ all.lines) (so.traced ++ tail);
-      replied = Replied.asked line q one there.is there.asks
+      passed = passed (there.line ++ 10 ∷ []) (so.said ++ all.lines) (so.traced ++ tail);
+      replied = LineReplied.asked there.line q there.unbroken there.question there.asks
           (RowReplied.over so.goes all.replied all.over);
       passes = record {
-        read = read;
+        read = there.whole.read;
         written = Appends-trans old.writer.bytes all.w.bytes new.writer.bytes so.said all.lines
             so.written all.gone.written;
         traced = Appends-trans old.played.trace.bytes all.mid.trace.bytes new.played.trace.bytes
             so.traced tail so.trace all.traced;
-        reads = reads;
+        reads = there.whole.unmarked;
         writes = all.gone.unmarked ∙ so.unmarked;
         flushed = pending_then old.writer.pending all.w.pending new.writer.pending so.said
             all.lines so.flushed
@@ -267,95 +290,82 @@ asked_line old new line q one read reads there all =
       };
     }
 
-reads_question : (old new : Scene) (line : List ℕ) (q : Question) → IsUnbroken line
-    → Consumes old.reader.bytes new.reader.bytes (line ++ 10 ∷ [])
-    → ReadsOn old new → IsQuestion q → IsQuestionLine line q → may_ask old.played.far.phase q ≡ true
-    → ReadsQuestion old q new
-reads_question old new line q one read reads is asks may = record {
+-- the line that asks it was taken
+taken : (old : Scene) (mid : Played) (behind : Pipe) (l : HostLine) (q : Question)
+    → l ≡ host.Asked q → TakesLine (reading_in old) (Ok l) (at_reader mid behind)
+    → ReadsQuestion old.played.far.phase old.reader q behind × (mid ≡ old.played)
+taken old mid behind l q is took =
+    subst (λ m. TakesLine (reading_in old) (Ok m) (at_reader mid behind)) is took
+
+pub asked_served : (old new : Scene) (mid : Played) (l : HostLine) (q : Question)
+    → l ≡ host.Asked q → TakesLine (reading_in old) (Ok l) (at_reader mid new.reader)
+    → AllReplies q old.writer mid new.played new.writer → ServedOne old new
+asked_served old new mid l q is took all =
+    let there = taken old mid new.reader l q is took in
+    asked_line old new q there.0
+    (subst (λ p. AllReplies q old.writer p new.played new.writer) there.1 all)
+
+pub question_read : (phase : Phase) (old new : Pipe) (line : List ℕ) (q : Question)
+    → IsUnbroken line → Consumes old.bytes new.bytes (line ++ 10 ∷ []) → new.failed ≡ old.failed
+    → HasQuestion phase line q → ReadsQuestion phase old q new
+question_read phase old new line q one read reads there = record {
   line = line;
   unbroken = one;
-  question = is;
-  asks = asks;
-  may = may;
-  read = read;
-  reads = reads;
+  whole = record { read = read; unmarked = reads };
+  question = there.is;
+  asks = there.asks;
+  may = there.may;
 }
 
 -- ---- lines that are not answered
 
-only_line : (old new : Scene) (line : List ℕ) → IsUnbroken line → length line ≤ 1024
-    → is_told old.played.far.phase line ≡ false
-    → Consumes old.reader.bytes new.reader.bytes (line ++ 10 ∷ []) → ReadsOn old new
-    → new.played ≡ old.played → new.writer ≡ old.writer → OnlyReadsLine old line new
-only_line old new line one short other read reads played writer = record {
-  unbroken = one;
-  short = short;
-  other = other;
-  read = read;
-  reads = reads;
-  played = played;
-  writer = writer;
-}
-
 -- one that asks nothing
-pub no_question_there : (old new : Scene) (line : List ℕ) (f : FarFault) → HasNoQuestion line f
-    → IsUnbroken line → length line ≤ 1024 → is_told old.played.far.phase line ≡ false
-    → Consumes old.reader.bytes new.reader.bytes (line ++ 10 ∷ []) → ReadsOn old new
-    → new.played ≡ old.played → new.writer ≡ old.writer → CauseOf old new f
-no_question_there old new line f (inl bad) one short other read reads played writer =
-    subst (CauseOf old new) (sym bad.0)
-    (CauseOf.unprintable line (only_line old new line one short other read reads played writer)
-    bad.1)
-no_question_there old new line f (inr none) one short other read reads played writer =
-    subst (CauseOf old new) (sym none.0)
-    (CauseOf.no_question line (only_line old new line one short other read reads played writer)
-    none.1
-    (λ q is asks. absurd (none.2 q is asks)))
-
--- one that is not answered to its end: an attempt of a row has no reply, or its reply was not written
-no_question_first : (old new : Scene) (line : List ℕ) (asked left : Question) (mid : Played)
-    (w : OutPipe) (f : FarFault) → RowFront asked old.played old.writer mid w left
-    → f ≡ fault.NoQuestion → may_ask mid.far.phase left ≡ false → new.played ≡ mid → new.writer ≡ w
-    → HasQuestion line asked → IsUnbroken line → length line ≤ 1024
+pub no_question_there : (old new : Reading) (line : List ℕ) (f : FarFault)
+    → HasNoQuestion old.played.far.phase line f → IsUnbroken line → length line ≤ 1024
     → is_told old.played.far.phase line ≡ false
     → Consumes old.reader.bytes new.reader.bytes (line ++ 10 ∷ []) → ReadsOn old new
-    → CauseOf old new f
-no_question_first old new line asked left mid w f RowFront.begun is may played writer there one short other
-    read reads =
-    subst (CauseOf old new) (sym is)
-    (CauseOf.no_question line (only_line old new line one short other read reads played writer)
-    there.printable
-    (λ p at stands. ap (may_ask old.played.far.phase) (there.only p at stands) ∙ may))
-no_question_first old new line asked left mid w f (RowFront.further front r e traced gone) is may played
-    writer there one short other read reads =
-    absurd (false≢true (sym may ∙ rest_may _ _ _ _ left r e))
+    → new.played ≡ old.played → Misread old new f
+no_question_there old new line f none one short other read reads played =
+    let only : OnlyReadsLine old line new = record {
+      unbroken = one;
+      short = short;
+      other = other;
+      whole = record { read = read; unmarked = reads };
+      played = played;
+    } in
+    elim none [
+      | inl bad ↦ subst (Misread old new) (sym bad.0) (Misread.unprintable line only bad.1)
+      | inr none ↦ subst (Misread old new) (sym none.0)
+          (Misread.no_question line only none.1 none.2)
+    ]
 
-pub row_stopped : (old new : Scene) (line : List ℕ) (asked left : Question) (mid : Played)
-    (w : OutPipe) (f : FarFault) → RowFront asked old.played old.writer mid w left
-    → RowEnds left mid w f new.played new.writer
-    → HasQuestion line asked → IsUnbroken line → length line ≤ 1024
-    → is_told old.played.far.phase line ≡ false
-    → Consumes old.reader.bytes new.reader.bytes (line ++ 10 ∷ []) → ReadsOn old new
-    → CauseOf old new f
-row_stopped old new line asked left mid w f front (inl (inl none, writer)) there one short other
-    read reads =
-    no_question_first old new line asked left mid w f front none.0 none.1 none.2 writer there one
-    short other read reads
-row_stopped old new line asked left mid w f front (inl (inr un, writer)) there one short other read
-    reads =
-    CauseOf.unanswered f asked left (reads_question old new line asked one read reads there.is
-    there.asks (row_may asked old.played old.writer mid w left front un.0)) front un.1 writer
-row_stopped old new line asked left mid w f front (inr (is, torn)) there one short other read reads
-    =
-    subst (CauseOf old new) (sym is)
-    (CauseOf.unwritten asked left (reads_question old new line asked one read reads there.is
-    there.asks (row_may asked old.played old.writer mid w left front torn.replied.asks)) front torn)
+-- an attempt of a row has no reply, or its reply was not written
+row_ends : (old new : Scene) (asked left : Question) (mid : Played) (w : OutPipe) (f : FarFault)
+    → ReadsQuestion old.played.far.phase old.reader asked new.reader
+    → RowFront asked old.played old.writer mid w left
+    → RowEnds left mid w f new.played new.writer → CauseOf old new f
+row_ends old new asked left mid w f there front (inl (inl none, writer)) =
+    absurd (false≢true (sym none.1
+    ∙ row_may asked old.played old.writer mid w left front there.may))
+row_ends old new asked left mid w f there front (inl (inr un, writer)) =
+    CauseOf.unanswered f asked left there front un.1 writer
+row_ends old new asked left mid w f there front (inr (is, torn)) =
+    subst (CauseOf old new) (sym is) (CauseOf.unwritten asked left there front torn)
+
+pub row_stopped : (old new : Scene) (mid : Played) (l : HostLine) (asked : Question)
+    (f : FarFault) → l ≡ host.Asked asked
+    → TakesLine (reading_in old) (Ok l) (at_reader mid new.reader)
+    → RowStops asked old.writer mid f new.played new.writer → CauseOf old new f
+row_stopped old new mid l asked f is took stops =
+    let there = taken old mid new.reader l asked is took in
+    let s : RowStops asked old.writer old.played f new.played new.writer =
+    subst (λ p. RowStops asked old.writer p f new.played new.writer) there.1 stops in
+    row_ends old new asked s.left s.mid s.w f there.0 s.front s.stops
 
 -- a reply that was not written to its end, or not flushed
-reply_torn : (q : Question) (mid new : Played) (w now : OutPipe) (lines : List ℕ)
-    (rest : Option Question) → Replies q mid new lines rest → FailsToFlush w lines now
-    → IsUnwritten q mid w new now
-reply_torn q mid new w now lines rest replied torn = record {
+reply_torn : (q : Question) (mid new : Played) (w now : OutPipe) (r : Replied) → Replies q mid r new
+    → FailsToFlush w r.lines.items now → IsUnwritten q mid w new now
+reply_torn q mid new w now r replied torn = record {
   gone = torn.gone;
   rest = torn.rest;
   replied = subst (IsReplied q mid.far new.far) torn.split replied.replied;
@@ -367,45 +377,41 @@ reply_torn q mid new w now lines rest replied torn = record {
 
 -- ---- the replies to a question, one by one
 
-pub row_less : (q : Question) (mid new : Played) (lines : List ℕ) (rest : Option Question)
-    (more : Question) → IsQuestion q → Replies q mid new lines rest → rest ≡ Some more
-    → row_size more < row_size q
-row_less q mid new lines rest more h r is =
-    rest_less q r.replied.answer more h (sym r.left ∙ is)
+pub row_less : (q : Question) (mid new : Played) (r : Replied) (more : Question) → IsQuestion q
+    → Replies q mid r new → r.rest ≡ Some more → row_size more < row_size q
+row_less q mid new r more h replies is =
+    rest_less q replies.replied.answer more h (sym replies.left ∙ is)
 
 pub row_further : (asked q more : Question) (old mid new : Played) (before w now : OutPipe)
-    (lines : List ℕ) (rest : Option Question) → RowFront asked old before mid w q
-    → Replies q mid new lines rest → rest ≡ Some more → Flushes w lines now
-    → RowFront asked old before new now more
-row_further asked q more old mid new before w now lines rest front r is gone =
-    RowFront.further front r.replied (sym r.left ∙ is) r.traced gone
+    (r : Replied) → RowFront asked old before mid w q → Replies q mid r new → r.rest ≡ Some more
+    → Flushes w r.lines.items now → RowFront asked old before new now more
+row_further asked q more old mid new before w now r front replies is gone =
+    RowFront.further front replies.replied (sym replies.left ∙ is) replies.traced gone
 
 pub all_replied : (asked q : Question) (old mid new : Played) (before w now : OutPipe)
-    (lines : List ℕ) (rest : Option Question) → RowFront asked old before mid w q
-    → Replies q mid new lines rest → rest ≡ None → Flushes w lines now
-    → AllReplies asked before old new now
-all_replied asked q old mid new before w now lines rest front r none gone = record {
+    (r : Replied) → RowFront asked old before mid w q → Replies q mid r new → r.rest ≡ None
+    → Flushes w r.lines.items now → AllReplies asked before old new now
+all_replied asked q old mid new before w now r front replies none gone = record {
   mid = mid;
   w = w;
   last = q;
-  lines = lines;
+  lines = r.lines.items;
   front = front;
-  replied = r.replied;
-  over = sym r.left ∙ none;
-  traced = r.traced;
+  replied = replies.replied;
+  over = sym replies.left ∙ none;
+  traced = replies.traced;
   gone = gone;
 }
 
 pub row_unwritten : (asked q : Question) (old mid new : Played) (before w now : OutPipe)
-    (lines : List ℕ) (rest : Option Question) → RowFront asked old before mid w q
-    → Replies q mid new lines rest → FailsToFlush w lines now
-    → RowStops asked before old fault.Write new now
-row_unwritten asked q old mid new before w now lines rest front r torn = record {
+    (r : Replied) → RowFront asked old before mid w q → Replies q mid r new
+    → FailsToFlush w r.lines.items now → RowStops asked before old fault.Write new now
+row_unwritten asked q old mid new before w now r front replies torn = record {
   mid = mid;
   w = w;
   left = q;
   front = front;
-  stops = inr (refl, reply_torn q mid new w now lines rest r torn);
+  stops = inr (refl, reply_torn q mid new w now r replies torn);
 }
 
 pub row_unreplied : (asked q : Question) (old mid new : Played) (before w : OutPipe)
@@ -420,56 +426,50 @@ row_unreplied asked q old mid new before w f front none = record {
 }
 
 -- the front of a line
-only_bytes : (old new : Scene) (bytes : List ℕ) → IsUnbroken bytes
+only_bytes : (old new : Reading) (bytes : List ℕ) → IsUnbroken bytes
     → Consumes old.reader.bytes new.reader.bytes bytes
-    → new.played ≡ old.played → new.writer ≡ old.writer → OnlyReads old bytes new
-only_bytes old new bytes one read played writer =
-    record { unbroken = one; read = read; played = played; writer = writer }
+    → new.played ≡ old.played → OnlyReads old bytes new
+only_bytes old new bytes one read played = record { unbroken = one; read = read; played = played }
 
 -- in a line of at most 1,024 bytes the reader failed, or the input ended
-pub not_read : (played : Played) (before behind : Pipe) (writer : OutPipe) (e : LineFault) (f :
-    FarFault)
+pub not_read : (played : Played) (before behind : Pipe) (e : LineFault) (f : FarFault)
     → f ≡ reading_fault e
     → IsNextLine before.bytes behind.bytes (Err e) → (e ≡ Read → behind.failed ≡ true)
     → (e ≢ Read → behind.failed ≡ before.failed)
-    → CauseOf (in_scene played before writer) (in_scene played behind writer) f
-not_read played before behind writer Read f is front failed still =
-    subst (CauseOf (in_scene played before writer) (in_scene played behind writer)) (sym is)
-    (CauseOf.unread front.bytes (only_bytes _ _ front.bytes front.unbroken front.read refl refl)
+    → Misread (at_reader played before) (at_reader played behind) f
+not_read played before behind Read f is front failed still =
+    subst (Misread (at_reader played before) (at_reader played behind)) (sym is)
+    (Misread.unread front.bytes (only_bytes _ _ front.bytes front.unbroken front.read refl)
     (λ _. front.few) (failed refl))
-not_read played before behind writer Cut f is front failed still =
-    subst (CauseOf (in_scene played before writer) (in_scene played behind writer)) (sym is)
-    (CauseOf.cut_off front.bytes front.some (only_bytes _ _ front.bytes front.unbroken front.read
-    refl refl) (λ _. front.few)
+not_read played before behind Cut f is front failed still =
+    subst (Misread (at_reader played before) (at_reader played behind)) (sym is)
+    (Misread.cut_off front.bytes front.some
+    (only_bytes _ _ front.bytes front.unbroken front.read refl) (λ _. front.few)
     (still (λ (same : Cut ≡ Read). cc)) (inl front.ended))
 
 -- a long line that tells nothing
-pub too_long : (played : Played) (before behind : Pipe) (writer : OutPipe) (front : List ℕ) (more :
-    ℕ)
+pub too_long : (played : Played) (before behind : Pipe) (front : List ℕ) (more : ℕ)
     → length front ≡ 1024 → IsUnbroken (front ++ more ∷ [])
     → Consumes before.bytes behind.bytes (front ++ more ∷ []) → behind.failed ≡ before.failed
     → is_told played.far.phase front ≡ false
-    → CauseOf (in_scene played before writer) (in_scene played behind writer) fault.LineTooLong
-too_long played before behind writer front more full one read still other =
+    → Misread (at_reader played before) (at_reader played behind) fault.LineTooLong
+too_long played before behind front more full one read still other =
     let first : take 1024 (front ++ more ∷ []) ≡ front =
     take-append-le 1024 front (more ∷ []) (omega arith) ∙ take_all 1024 front (omega arith) in
-    CauseOf.too_long (front ++ more ∷ []) (only_bytes _ _ (front ++ more ∷ []) one read refl refl)
+    Misread.too_long (front ++ more ∷ []) (only_bytes _ _ (front ++ more ∷ []) one read refl)
     (omega (arith, length-append front (more ∷ [])))
     (ap (is_told played.far.phase) first ∙ other) still
 
 -- one that tells something, of which the rest was not read
-pub long_front : (played : Played) (before mid behind : Pipe) (writer : OutPipe) (front rest : List
-    ℕ)
-    (more : ℕ) → length front ≡ 1024 → IsUnbroken (front ++ more ∷ [])
+long_front : (played : Played) (before mid behind : Pipe) (front rest : List ℕ) (more : ℕ)
+    → length front ≡ 1024 → IsUnbroken (front ++ more ∷ [])
     → IsUnbroken rest → Consumes before.bytes mid.bytes (front ++ more ∷ [])
     → Consumes mid.bytes behind.bytes rest
-    → OnlyReads (in_scene played before writer) ((front ++ more ∷ []) ++ rest)
-    (in_scene played behind writer)
-long_front played before mid behind writer front rest more full one last read ended = record {
+    → OnlyReads (at_reader played before) ((front ++ more ∷ []) ++ rest) (at_reader played behind)
+long_front played before mid behind front rest more full one last read ended = record {
   unbroken = All-append (λ c. c ≢ 10) (front ++ more ∷ []) rest one last;
   read = Consumes-trans before.bytes mid.bytes behind.bytes (front ++ more ∷ []) rest read ended;
   played = refl;
-  writer = refl;
 }
 
 may_go_on_longer : (phase : Phase) (front rest : List ℕ) (more : ℕ) → length front ≡ 1024
@@ -477,28 +477,25 @@ may_go_on_longer : (phase : Phase) (front rest : List ℕ) (more : ℕ) → leng
 may_go_on_longer phase front rest more full told other =
     absurd (false≢true (sym other ∙ ap (is_told phase) (first_of_long front rest more full) ∙ told))
 
-pub not_skipped : (played : Played) (before mid behind : Pipe) (writer : OutPipe) (front : List ℕ)
-    (more : ℕ)
+pub not_skipped : (played : Played) (before mid behind : Pipe) (front : List ℕ) (more : ℕ)
     (e : LineFault) (f : FarFault) → f ≡ reading_fault e
     → length front ≡ 1024 → IsUnbroken (front ++ more ∷ [])
     → Consumes before.bytes mid.bytes (front ++ more ∷ []) → mid.failed ≡ before.failed
     → is_told played.far.phase front ≡ true → EndsLine mid.bytes behind.bytes (Err e)
     → (e ≡ Read → behind.failed ≡ true) → (e ≢ Read → behind.failed ≡ mid.failed)
-    → CauseOf (in_scene played before writer) (in_scene played behind writer) f
-not_skipped played before mid behind writer front more Read f is full one read on told rest failed
-    still =
-    subst (CauseOf (in_scene played before writer) (in_scene played behind writer)) (sym is)
-    (CauseOf.unread ((front ++ more ∷ []) ++ rest.bytes)
-    (long_front played before mid behind writer front rest.bytes more full one rest.unbroken
+    → Misread (at_reader played before) (at_reader played behind) f
+not_skipped played before mid behind front more Read f is full one read on told rest failed still =
+    subst (Misread (at_reader played before) (at_reader played behind)) (sym is)
+    (Misread.unread ((front ++ more ∷ []) ++ rest.bytes)
+    (long_front played before mid behind front rest.bytes more full one rest.unbroken
     read rest.read)
     (may_go_on_longer played.far.phase front rest.bytes more full told) (failed refl))
-not_skipped played before mid behind writer front more Cut f is full one read on told rest failed
-    still =
-    subst (CauseOf (in_scene played before writer) (in_scene played behind writer)) (sym is)
-    (CauseOf.cut_off ((front ++ more ∷ []) ++ rest.bytes)
+not_skipped played before mid behind front more Cut f is full one read on told rest failed still =
+    subst (Misread (at_reader played before) (at_reader played behind)) (sym is)
+    (Misread.cut_off ((front ++ more ∷ []) ++ rest.bytes)
     (λ none. not_nil (front ++ more ∷ []) rest.bytes
     (omega (arith, length-append front (more ∷ []))) none)
-    (long_front played before mid behind writer front rest.bytes more full one rest.unbroken read
+    (long_front played before mid behind front rest.bytes more full one rest.unbroken read
     rest.read)
     (may_go_on_longer played.far.phase front rest.bytes more full told)
     (still (λ (same : Cut ≡ Read). cc) ∙ on)

@@ -1,28 +1,24 @@
 -- The far end as plain data, what it does at each question, and the lines that go out behind it.
-use Rattle.std.specs.Prelude.{◌≡◌, ◌⊎◌, ◌&&◌, ◌||◌, ℕ, ◌+◌, ◌*◌, ◌==◌, nat_lt, Bool, true, false, not}
-use Rattle.std.specs.Prelude.{if◌then◌else◌, List, [], ◌∷◌, ◌++◌, length, map, Option, Some, None, Err}
-use Rattle.std.specs.Prelude.{◌-◌, drop, take}
+use Rattle.std.specs.Prelude.{◌≡◌, ◌⊎◌, ◌&&◌, ◌||◌, ℕ, ◌+◌, ◌==◌, nat_lt, Bool, true, false, not}
+use Rattle.std.specs.Prelude.{if◌then◌else◌, List, [], ◌∷◌, ◌++◌, length, map, Option, Some, None}
+use Rattle.std.specs.Prelude.{◌-◌, drop, take, is_some, IsSome, Result, Ok, Err, OnOk, OnErr}
 use Rattle.std.specs.Io.KnownBytes.{Appends}
 use Rattle.std.specs.Str.{bytes_eq}
 use Rattle.usb_packet.specs.{TokenKind, OutTok, InTok, SetupTok, Speed, Zero, speed_has_pre}
 use Rattle.usb_packet.specs.{speed_is_low, Toggle, is_same, other}
-use Rattle.usb_port.specs.{PortCall, path_text, status_of}
+use Rattle.usb_port.specs.{PortCall, status_of}
 use Rattle.usb_request.specs.{bytes_of, Setup as SetupData}
-use Rattle.usb_world.specs.declared.event.Ask.{Ask}
-use Rattle.usb_world.specs.declared.event.Ask.TheVariants as ask
-use Rattle.usb_world.specs.{Attempt, BusFault, Destination, Failed, Outcome, World, IsRootPort}
-use Rattle.usb_world.specs.{Write}
-use Rattle.usb_world.specs.{root_row, roots_of, after, attempt, event, outcome_in, root_call}
+use Rattle.usb_world.specs.{Attempt, BusFault, Destination, Failed, Outcome, PutLine, World}
+use Rattle.usb_world.specs.{IsRootPort, root_row, roots_of, after, attempt, damage_of, event}
+use Rattle.usb_world.specs.{outcome_in, root_call}
 use Rattle.usb_world.specs.declared.types.Outcome.TheVariants as outcome
 use Rattle.usb_sim.specs.{Ghosts, trace_of, tracer_of, world_of}
-use Rattle.usb_bus.specs.{lines_between, next_due, step_lines, Attempts, TakesEvent}
+use Rattle.usb_bus.specs.{lines_between, next_due, step_lines, AppendsFront, Attempts, TakesEvent}
 use Rattle.usb_lines.specs.{Pipe, LineFault}
 use Rattle.usb_lines.specs.declared.line.LineFault.TheVariants as line
-use Rattle.usb_wire.specs.{said_line, send_limit, send_room, send_to_limit, write_limit}
-use Rattle.usb_wire.specs.{kind_asked, Answer}
-use Rattle.usb_wire.specs.{RootsAndRows, Ack, Nak, Stall, ControlOut, ClearOf, Poll, ReceiveFrom, SendTo}
-use Rattle.usb_wire.specs.{Nothing, Data, Done, Show, End, Send, Receive, Clear, ControlIn, Look}
-use Rattle.usb_wire.specs.{Interface, News, Said, Changed, Answered, Asked, DataPacket, Endpoint, Question}
+use Rattle.usb_wire.specs.{said_line, kind_asked, Answer}
+use Rattle.usb_wire.specs.{RootsAndRows, Ack, Nak, Stall, Nothing, Data, Done}
+use Rattle.usb_wire.specs.{Said, Changed, Answered, Asked, DataPacket, Endpoint, Question}
 use Rattle.usb_wire.specs.declared.question.Asked.TheVariants as asked
 use Rattle.usb_wire.specs.declared.question.Question.TheVariants.{Hello, Setup, Out, In, Port}
 use Rattle.usb_wire.specs.declared.question.Question.TheVariants.{Ins, Outs, Restart, Wait}
@@ -31,18 +27,29 @@ use Rattle.usb_far.specs.declared.far_end.Phase.{Phase}
 use Rattle.usb_far.specs.declared.far_end.Phase.TheVariants.{New, Asks, Tells}
 use Rattle.usb_far.specs.declared.fault.FarFault.{FarFault}
 use Rattle.usb_far.specs.declared.fault.FarFault.TheVariants as fault
+use Rattle.usb_far.specs.declared.reply.Came.{Came}
+use Rattle.usb_far.specs.declared.reply.Came.TheVariants as came
+use Rattle.usb_far.specs.declared.reply.Replied.{Replied}
+use Rattle.usb_far.specs.Sends.{ToSend}
+use Rattle.usb_far.specs.Requested.{answer_in, due_wanted, part_wanted, sending_in}
 
--- the far end: the world of its bus, the statuses of root ports as they were told last, whether an
--- event came in the polls that brought nothing since the last other question, and what the host
--- does
+-- the far end: the world of its bus, the statuses of root ports as they were told last, whether the
+-- host may not have seen an event, what is left of a send, and what the host does
 pub record Far : Type 0 where
   pub world : World
   pub told : List (List ℕ)
-  pub came : Bool
+  pub unseen : Bool
+  pub sending : Option ToSend
   pub phase : Phase
 
 abbrev pub far_of : {T : Type 0} {g : Ghosts T} → FarEnd T g → Far
-far_of f = record { world = world_of f.bus; told = f.told.items; came = f.came; phase = f.phase }
+far_of f = record {
+  world = world_of f.bus;
+  told = f.told.items;
+  unseen = f.unseen;
+  sending = f.sending;
+  phase = f.phase;
+}
 
 -- the same, with its trace
 pub record Played : Type 0 where
@@ -61,7 +68,13 @@ statuses w = map status_of (root_row w)
 
 -- before the first question, what was told is what is so
 abbrev pub far_begun : World → Far
-far_begun w = record { world = w; told = statuses w; came = false; phase = New }
+far_begun w = record {
+  world = w;
+  told = statuses w;
+  unseen = false;
+  sending = None;
+  phase = New;
+}
 
 -- ---- attempts
 
@@ -132,13 +145,14 @@ is_poll a o = is_in_token a.kind && not (a.ep == 0) && brings_nothing o
 
 -- ---- what is done at a question
 
--- the answer, where a line has room for it; the world behind it, and whether an event came that the
--- host may not have seen;
--- the lines of the trace, and whether the bus makes an attempt or lets an event come
+-- the answer, where a line has room for it; behind it the world, whether the host may not have seen
+-- an event, and what is left of a send; the lines of the trace, and whether the bus makes an attempt or
+-- lets an event come
 pub record Deed : Type 0 where
   pub answer : Option Answer
   pub world : World
-  pub came : Bool
+  pub unseen : Bool
+  pub sending : Option ToSend
   pub traced : List ℕ
   pub by_bus : Bool
 
@@ -146,18 +160,25 @@ pub record Deed : Type 0 where
 abbrev pub IsFaultless : Deed → Type 0
 IsFaultless d = d.by_bus ≡ true → d.world.fault ≡ None
 
--- an event came in the last attempts, all of them polls that brought nothing
-abbrev pub came_in : Bool → Bool → ℕ → ℕ → Bool
-came_in false came before now = false
-came_in true true before now = true
-came_in true false before now = not (now == before)
+-- the plan damages the attempt that was made last
+abbrev pub is_damaged : World → Bool
+is_damaged w = is_some (damage_of w.damages w.attempts)
+
+-- since the last question other than a poll that brought nothing, an event came in such a poll, or
+-- such a poll was damaged: of this attempt, of what was so before it, of the events before it, and of
+-- the world behind it
+abbrev pub unseen_in : Bool → Bool → ℕ → World → Bool
+unseen_in false unseen before w = false
+unseen_in true true before w = true
+unseen_in true false before w = not (w.taken == before) || is_damaged w
 
 unfoldable pub attempt_done : Attempt → Far → Deed
 attempt_done a f = record {
   answer = Some (outcome_answer (outcome_in a f.world));
   world = after (attempt a) f.world;
-  came = came_in (is_poll a (outcome_in a f.world)) f.came f.world.taken
-      (after (attempt a) f.world).taken;
+  unseen = unseen_in (is_poll a (outcome_in a f.world)) f.unseen f.world.taken
+      (after (attempt a) f.world);
+  sending = f.sending;
   traced = step_lines a f.world (after (attempt a) f.world);
   by_bus = true;
 }
@@ -166,7 +187,8 @@ unfoldable pub call_done : ℕ → PortCall → Far → Deed
 call_done number call f = record {
   answer = Some Done;
   world = after (root_call call number) f.world;
-  came = false;
+  unseen = false;
+  sending = f.sending;
   traced = [];
   by_bus = false;
 }
@@ -176,71 +198,50 @@ unfoldable pub restart_done : Far → Deed
 restart_done f = record {
   answer = Some Done;
   world = f.world;
-  came = false;
+  unseen = false;
+  sending = f.sending;
   traced = [];
   by_bus = false;
 }
 
--- as many bytes as a line has room for
-unfoldable pub send_wanted : List ℕ → List ℕ → Option Answer
-send_wanted path bytes =
-    if nat_lt send_limit (length bytes) || nat_lt send_room (length (path_text path) + 2 * length bytes)
-    then None else Some (Send path (record { items = bytes }))
+-- the next part of a send goes, or else the next event comes
+abbrev pub wanted_done : Option ToSend → World → Deed
+wanted_done (Some s) w = record {
+  answer = Some (part_wanted s).answer;
+  world = w;
+  unseen = false;
+  sending = (part_wanted s).sending;
+  traced = [];
+  by_bus = false;
+}
+wanted_done None w = record {
+  answer = answer_in (due_wanted (next_due w));
+  world = after event w;
+  unseen = false;
+  sending = sending_in (due_wanted (next_due w));
+  traced = lines_between w (after event w);
+  by_bus = true;
+}
 
-unfoldable pub send_to_wanted : List ℕ → ℕ → List ℕ → Option Answer
-send_to_wanted path endpoint bytes =
-    if nat_lt send_to_limit (length bytes) then None
-    else Some (SendTo path endpoint (record { items = bytes }))
-
-unfoldable pub write_wanted : List ℕ → Write → Option Answer
-write_wanted path request =
-    if nat_lt write_limit (length request.bytes) then None
-    else Some (ControlOut path (record { setup = request.setup; bytes = request.bytes }))
-
-abbrev pub asked_answer : Ask → Option Answer
-asked_answer (ask.Show said) = Some Show
-asked_answer (ask.Send path bytes) = send_wanted path bytes
-asked_answer (ask.Receive path packets) = Some (Receive path packets)
-asked_answer (ask.Clear path) = Some (Clear path)
-asked_answer (ask.SendTo path endpoint bytes) = send_to_wanted path endpoint bytes
-asked_answer (ask.ReceiveFrom path endpoint packets) = Some (ReceiveFrom path endpoint packets)
-asked_answer (ask.Poll path endpoint) = Some (Poll path endpoint)
-asked_answer (ask.ClearOf path endpoint) = Some (ClearOf path endpoint)
-asked_answer (ask.SetInterface path interface setting) = Some (Interface path interface setting)
-asked_answer (ask.ControlIn path request) = Some (ControlIn path request)
-asked_answer (ask.ControlOut path request) = write_wanted path request
-asked_answer (ask.Look path) = Some (Look path)
-asked_answer ask.News = Some News
-
--- what an event asks, and the end where none is left
-abbrev pub due_answer : Option (Option Ask) → Option Answer
-due_answer None = Some End
-due_answer (Some None) = Some Done
-due_answer (Some (Some asked)) = asked_answer asked
-
+-- where the host may not have seen an event, it is to look once more
 unfoldable pub wait_done : Far → Deed
 wait_done f =
-    if f.came then record {
+    if f.unseen then record {
       answer = Some Done;
       world = f.world;
-      came = false;
+      unseen = false;
+      sending = f.sending;
       traced = [];
-      by_bus =
-          false;
+      by_bus = false;
     }
-    else record {
-      answer = due_answer (next_due f.world);
-      world = after event f.world;
-      came = false;
-      traced = lines_between f.world (after event f.world);
-      by_bus = true;
-    }
+    else wanted_done f.sending f.world
 
 unfoldable pub hello_done : Far → Deed
 hello_done f = record {
   answer = Some (RootsAndRows (roots_of f.world));
   world = f.world;
-  came = f.came;
+  unseen = f.unseen;
+  sending = f.sending;
   traced = [];
   by_bus = false;
 }
@@ -262,7 +263,7 @@ done Wait f = wait_done f
 pub record IsDone (d : Deed) (old : Played) (answer : Answer) (new : Played) : Type 0 where
   pub answered : d.answer ≡ Some answer
   pub made : IsFaultless d
-  pub far : new.far ≡ record old.far { world = d.world; came = d.came }
+  pub far : new.far ≡ record old.far { world = d.world; unseen = d.unseen; sending = d.sending }
   pub traced : Appends old.trace.bytes new.trace.bytes d.traced
 
 -- ---- why a question is not answered
@@ -285,12 +286,12 @@ pub record HasNoPort (number : ℕ) (old : Played) (f : FarFault) (new : Played)
 pub record IsEventGivenUp (old : Played) (f : FarFault) (new : Played) : Type 0 where
   pub bus : BusFault
   pub is : f ≡ fault.Bus bus
-  pub due : old.far.came ≡ false
+  pub due : (old.far.unseen ≡ false) × (old.far.sending ≡ None)
   pub takes : TakesEvent old.far.world old.trace.bytes (Err bus) new.far.world new.trace.bytes
   pub failed : bus ≡ Failed → old.far.world.fault ≡ None → new.trace.failed ≡ true
   pub far : new.far ≡ record old.far { world = new.far.world }
 
--- the next event came, and what it sends has no room in a line
+-- the next event came, and what it writes has no room in a line
 pub record SendsTooMuch (old : Played) (f : FarFault) (new : Played) : Type 0 where
   pub is : f ≡ fault.LongSend
   pub none : (wait_done old.far).answer ≡ None
@@ -400,7 +401,12 @@ may_ask phase q = may_ask_as phase (kind_asked q)
 
 -- behind the deed
 abbrev pub far_done : Question → Far → Far
-far_done q f = record f { world = (done q f).world; came = (done q f).came }
+far_done q f =
+    record f {
+      world = (done q f).world;
+      unseen = (done q f).unseen;
+      sending = (done q f).sending;
+    }
 
 abbrev pub far_after : Question → Far → Far
 far_after q f = record (far_done q f) {
@@ -419,13 +425,17 @@ pub record IsReplied (q : Question) (old new : Far) (lines : List ℕ) : Type 0 
   pub far : new ≡ far_after q old
   pub is : lines ≡ status_lines (kind_asked q) (far_done q old) ++ line_of (Answered answer)
 
--- of the private functions
+-- what the answer to an attempt says of it
+abbrev pub came_of : Answer → Came
+came_of Ack = came.Taken
+came_of Nothing = came.Nothing
+came_of _ = came.Other
 
 -- the reply was made, and the deed traced; of a row this is left
-pub record Replies (q : Question) (old new : Played) (lines : List ℕ) (rest : Option Question) :
-    Type 0 where
-  pub replied : IsReplied q old.far new.far lines
-  pub left : rest ≡ rest_behind q replied.answer
+pub record Replies (q : Question) (old : Played) (r : Replied) (new : Played) : Type 0 where
+  pub replied : IsReplied q old.far new.far r.lines.items
+  pub left : r.rest ≡ rest_behind q replied.answer
+  pub kind : r.came ≡ came_of replied.answer
   pub traced : Appends old.trace.bytes new.trace.bytes (done q old.far).traced
 
 -- the question may not stand there, or is not answered
@@ -433,6 +443,27 @@ abbrev pub HasNoReply : Question → Played → FarFault → Played → Type 0
 HasNoReply q old f new =
     ((f ≡ fault.NoQuestion) × (may_ask old.far.phase q ≡ false) × (new ≡ old))
     ⊎ ((may_ask old.far.phase q ≡ true) × IsUnanswered q old f new)
+
+-- ---- lines of report
+
+abbrev pub bus_told : Result (Unit {0}) BusFault → Result (Unit {0}) FarFault
+bus_told (Ok done) = Ok done
+bus_told (Err bus) = Err (fault.Bus bus)
+
+-- a line was put into the trace, or the bus told its fault: a front of it where the trace failed, and
+-- nothing where a fault was told before
+pub record PutsLine (line : List ℕ) (old : Played) (result : Result (Unit {0}) FarFault)
+    (new : Played) : Type 0 where
+  pub bus : Result (Unit {0}) BusFault
+  pub is : result ≡ bus_told bus
+  pub step : PutLine old.far.world bus new.far.world
+  pub front : AppendsFront old.trace.bytes new.trace.bytes (line ++ 10 ∷ [])
+  pub whole : OnOk bus (Appends old.trace.bytes new.trace.bytes (line ++ 10 ∷ []))
+  pub again : IsSome old.far.world.fault → new ≡ old
+  pub failed : old.far.world.fault ≡ None → OnErr bus (new.trace.failed ≡ true)
+  pub far : new.far ≡ record old.far { world = new.far.world }
+
+-- of the private functions
 
 abbrev pub reading_fault : LineFault → FarFault
 reading_fault line.Read = fault.Read

@@ -1,52 +1,18 @@
 -- What is read and what goes out, line by line, and why it ends.
-use Rattle.std.specs.Prelude.{◌≡◌, ◌≢◌, ◌⊎◌, ℕ, ◌+◌, ◌-◌, ◌^◌, ◌≤◌, Bool, true, false, not, ◌&&◌}
-use Rattle.std.specs.Prelude.{◌||◌}
-use Rattle.std.specs.Prelude.{if◌then◌else◌, List, [], ◌∷◌, ◌++◌, take, codes, length, nat_eq}
+use Rattle.std.specs.Prelude.{◌≡◌, ◌⊎◌, ℕ, ◌+◌, ◌-◌, ◌^◌, Bool, true, false, not, ◌&&◌, ◌||◌}
+use Rattle.std.specs.Prelude.{List, [], ◌∷◌, ◌++◌, take}
 use Rattle.std.specs.Prelude.{Option, None, Some, Result, Ok, Err}
-use Rattle.std.specs.List.{starts_with}
-use Rattle.std.specs.Str.{bytes_eq}
 use Rattle.std.specs.Io.KnownBytes.{Appends, Consumes, IsAtEnd}
 use Rattle.usb_sim.specs.{Ghosts}
 use Rattle.usb_bus.specs.{Watched, is_some_text}
 use Rattle.usb_lines.specs.{Flushes, IsUnbroken, OutPipe, Pipe, out_pipe_of, pipe_of}
-use Rattle.usb_wire.specs.{IsQuestion, IsQuestionLine, all_printable, Question}
+use Rattle.usb_wire.specs.{IsQuestion, IsQuestionLine, Question}
 use Rattle.usb_far.specs.declared.far_end.FarEnd.{FarEnd}
-use Rattle.usb_far.specs.declared.far_end.Phase.{Phase}
-use Rattle.usb_far.specs.declared.far_end.Phase.TheVariants.{New, Asks, Tells}
 use Rattle.usb_far.specs.declared.fault.FarFault.{FarFault}
 use Rattle.usb_far.specs.declared.fault.FarFault.TheVariants as fault
-use Rattle.usb_far.specs.FarEnd.{Far, HasNoReply, IsReplied, IsUnanswered, Played, done, may_ask}
+use Rattle.usb_far.specs.FarEnd.{Far, HasNoReply, IsReplied, IsUnanswered, Played, done}
 use Rattle.usb_far.specs.FarEnd.{played_of, rest_behind}
-
-abbrev pub begins_with : List ℕ → List ℕ → Bool
-begins_with line word = starts_with nat_eq line word
-
--- the first line of a listing, or of news
-abbrev pub begins_block : List ℕ → Bool
-begins_block line = begins_with line (codes "listing ") || bytes_eq line (codes "news")
-
--- how a transfer or a look went
-abbrev pub is_report : List ℕ → Bool
-is_report line =
-    begins_with line (codes "send ")
-    || begins_with line (codes "receive ")
-    || begins_with line (codes "interrupt ")
-    || begins_with line (codes "clear ")
-    || begins_with line (codes "interface ")
-    || begins_with line (codes "control ")
-    || begins_with line (codes "look ")
-
--- a line of a listing or of news, or how a transfer or a look went
-abbrev pub is_told : Phase → List ℕ → Bool
-is_told New line = false
-is_told Asks line = begins_block line || is_report line
-is_told Tells line = true
-
--- a listing goes on up to its end, and so do news
-abbrev pub phase_behind : Phase → List ℕ → Phase
-phase_behind New line = New
-phase_behind Asks line = if begins_block line then Tells else Asks
-phase_behind Tells line = if bytes_eq line (codes "end") then Asks else Tells
+use Rattle.usb_far.specs.Told.{Misread, Reading, ReadsQuestion, is_told, phase_behind}
 
 -- ---- lines that are answered
 
@@ -82,18 +48,18 @@ pub data RowReplied (asked : Question) (old : Far) : List ℕ → List ℕ → F
 -- a line was read, and its reply is this: of a question its lines, of what is told none. Of a told
 -- line
 -- of more than 1,024 bytes the first 1,024 count
-pub data Replied (old : Far) : Passed → Far → Type 0 where
+pub data LineReplied (old : Far) : Passed → Far → Type 0 where
   asked : {new : Far} {reply traced : List ℕ} (line : List ℕ) (q : Question)
       → IsUnbroken line → IsQuestion q → IsQuestionLine line q → RowReplied q old reply traced new
-      → Replied old (passed (line ++ 10 ∷ []) reply traced) new
+      → LineReplied old (passed (line ++ 10 ∷ []) reply traced) new
   told : (line : List ℕ) → IsUnbroken line → is_told old.phase (take 1024 line) ≡ true
-      → Replied old (passed (line ++ 10 ∷ []) [] [])
+      → LineReplied old (passed (line ++ 10 ∷ []) [] [])
       (record old { phase = phase_behind old.phase (take 1024 line) })
 
 -- so many lines were read, one after the other, and their replies are these
 pub data AllReplied (old : Far) : ℕ → Passed → Far → Type 0 where
   none : AllReplied old 0 (passed [] [] []) old
-  next : {count : ℕ} {mid new : Far} {p q : Passed} → AllReplied old count p mid → Replied mid q new
+  next : {count : ℕ} {mid new : Far} {p q : Passed} → AllReplied old count p mid → LineReplied mid q new
       → AllReplied old (count + 1) (and_then p q) new
 
 -- ---- what is seen of all that
@@ -122,42 +88,10 @@ pub record Passes (old : Scene) (p : Passed) (new : Scene) : Type 0 where
   pub writes : new.writer.failed ≡ old.writer.failed
   pub flushed : new.writer.pending ≡ (old.writer.pending && not (is_some_text p.said))
 
+abbrev pub reading_in : Scene → Reading
+reading_in s = record { played = s.played; reader = s.reader }
+
 -- ---- why a line stops the far end
-
--- this much was read, and nothing was done
-pub record OnlyReads (old : Scene) (bytes : List ℕ) (new : Scene) : Type 0 where
-  pub unbroken : IsUnbroken bytes
-  pub read : Consumes old.reader.bytes new.reader.bytes bytes
-  pub played : new.played ≡ old.played
-  pub writer : new.writer ≡ old.writer
-
--- a line may go on behind these bytes
-abbrev pub MayGoOn : Phase → List ℕ → Type 0
-MayGoOn phase bytes = is_told phase (take 1024 bytes) ≡ false → length bytes ≤ 1024
-
--- the reader did not fail
-abbrev pub ReadsOn : Scene → Scene → Type 0
-ReadsOn old new = new.reader.failed ≡ old.reader.failed
-
--- a line of at most 1,024 bytes was read that tells nothing, and nothing was done
-pub record OnlyReadsLine (old : Scene) (line : List ℕ) (new : Scene) : Type 0 where
-  pub unbroken : IsUnbroken line
-  pub short : length line ≤ 1024
-  pub other : is_told old.played.far.phase line ≡ false
-  pub read : Consumes old.reader.bytes new.reader.bytes (line ++ 10 ∷ [])
-  pub reads : ReadsOn old new
-  pub played : new.played ≡ old.played
-  pub writer : new.writer ≡ old.writer
-
--- a line was read that asks a question which may stand there
-pub record ReadsQuestion (old : Scene) (q : Question) (new : Scene) : Type 0 where
-  pub line : List ℕ
-  pub unbroken : IsUnbroken line
-  pub question : IsQuestion q
-  pub asks : IsQuestionLine line q
-  pub may : may_ask old.played.far.phase q ≡ true
-  pub read : Consumes old.reader.bytes new.reader.bytes (line ++ 10 ∷ [])
-  pub reads : ReadsOn old new
 
 -- the replies to the first attempts of a row have gone out, each was flushed before the next attempt,
 -- and this is left of the row; nothing yet, where all of the question is left
@@ -184,25 +118,14 @@ pub record IsUnwritten (q : Question) (old : Played) (before : OutPipe) (new : P
 
 -- the cause of each fault, with what was read, done and written in that line
 pub data CauseOf (old new : Scene) : FarFault → Type 0 where
-  unread : (bytes : List ℕ) → OnlyReads old bytes new → MayGoOn old.played.far.phase bytes
-      → new.reader.failed ≡ true → CauseOf old new fault.Read
-  cut_off : (bytes : List ℕ) → bytes ≢ [] → OnlyReads old bytes new
-      → MayGoOn old.played.far.phase bytes
-      → ReadsOn old new → IsAtEnd new.reader.bytes ⊎ (2 ^ 64 ≤ length bytes)
-      → CauseOf old new fault.HostGone
-  too_long : (bytes : List ℕ) → OnlyReads old bytes new → length bytes ≡ 1025
-      → is_told old.played.far.phase (take 1024 bytes) ≡ false → ReadsOn old new
-      → CauseOf old new fault.LineTooLong
-  unprintable : (line : List ℕ) → OnlyReadsLine old line new → all_printable line ≡ false
-      → CauseOf old new fault.BadCharacter
-  no_question : (line : List ℕ) → OnlyReadsLine old line new → all_printable line ≡ true
-      → ((q : Question) → IsQuestion q → IsQuestionLine line q → may_ask old.played.far.phase q
-      ≡ false)
-      → CauseOf old new fault.NoQuestion
+  misread : {f : FarFault} → Misread (reading_in old) (reading_in new) f → new.writer ≡ old.writer
+      → CauseOf old new f
   unanswered : {mid : Played} {w : OutPipe} (f : FarFault) (q left : Question)
-      → ReadsQuestion old q new → RowFront q old.played old.writer mid w left
+      → ReadsQuestion old.played.far.phase old.reader q new.reader
+      → RowFront q old.played old.writer mid w left
       → IsUnanswered left mid f new.played → new.writer ≡ w → CauseOf old new f
-  unwritten : {mid : Played} {w : OutPipe} (q left : Question) → ReadsQuestion old q new
+  unwritten : {mid : Played} {w : OutPipe} (q left : Question)
+      → ReadsQuestion old.played.far.phase old.reader q new.reader
       → RowFront q old.played old.writer mid w left
       → IsUnwritten left mid w new.played new.writer → CauseOf old new fault.Write
 
@@ -211,7 +134,7 @@ pub data CauseOf (old new : Scene) : FarFault → Type 0 where
 -- one line was read, and its reply has gone out and was flushed
 pub record ServedOne (old new : Scene) : Type 0 where
   pub passed : Passed
-  pub replied : Replied old.played.far passed new.played.far
+  pub replied : LineReplied old.played.far passed new.played.far
   pub passes : Passes old passed new
 
 -- so many lines, each answered before the next one was read: between two of them just those before
@@ -300,17 +223,3 @@ abbrev pub RepliesAll : Question → OutPipe → Played → Result (Unit {0}) Fa
     → Type 0
 RepliesAll q before old (Ok _) new now = AllReplies q before old new now
 RepliesAll q before old (Err f) new now = RowStops q before old f new now
-
--- a line that asks nothing
-abbrev pub HasNoQuestion : List ℕ → FarFault → Type 0
-HasNoQuestion line f =
-    ((f ≡ fault.BadCharacter) × (all_printable line ≡ false))
-    ⊎ ((f ≡ fault.NoQuestion) × (all_printable line ≡ true)
-    × ((q : Question) → IsQuestion q → IsQuestionLine line q → ⊥))
-
--- a line that asks this question and no other
-pub record HasQuestion (line : List ℕ) (q : Question) : Type 0 where
-  pub is : IsQuestion q
-  pub asks : IsQuestionLine line q
-  pub only : (p : Question) → IsQuestion p → IsQuestionLine line p → p ≡ q
-  pub printable : all_printable line ≡ true

@@ -4,27 +4,26 @@ ghost use Rattle.usb_world.specs.Steps.{after, opening, root_call};
 ghost use Rattle.usb_world.specs.PlainAttempts.{attempt_data};
 ghost use Rattle.usb_world.specs.Worlds.{IsAttempt, IsRootPort};
 ghost use Rattle.usb_bus.specs.Watch.{has_failed};
-ghost use Rattle.usb_sim.specs.Sim.{trace_of, world_of};
+ghost use Rattle.usb_sim.specs.Sim.{trace_of, tracer_of, world_of};
 ghost use Rattle.usb_lines.specs.Pipes.{pipe_of};
 ghost use Rattle.usb_wire.specs.Questions.{IsEndpoint, IsQuestion};
-ghost use Rattle.usb_far.specs.FarEnd.{IsEventGivenUp, IsGivenUp, HasNoPort, IsDone, IsUnanswered, SendsTooMuch, attempt_done, call_done, asked_answer, came_in, done, due_answer, restart_done, send_to_wanted, send_wanted, statuses, wait_done, write_wanted};
+ghost use Rattle.usb_far.specs.FarEnd.{IsEventGivenUp, IsGivenUp, HasNoPort, IsDone, IsUnanswered, SendsTooMuch, attempt_done, call_done, done, is_damaged, restart_done, statuses, unseen_in, wait_done};
 
 use crate::attempt::{answer_of, in_attempt, is_poll, out_attempt, packet_attempt, setup_attempt};
 use crate::fault::FarFault;
 use crate::row::first_of;
+use crate::wanted::{Sending, due_wanted, next_part};
 use arrayvec::ArrayVec;
 use std::alloc::{AllocError, Global};
 use std::io::Write;
 use usb_bus::{Attempt, Bus, Watched};
-use usb_port::{PortCall, PortPath};
-use usb_request::EndpointAddress;
+use usb_port::PortCall;
 use usb_request::feature::{
     C_PORT_CONNECTION, C_PORT_ENABLE, C_PORT_RESET, PORT_ENABLE, PORT_POWER, PORT_RESET,
 };
-use usb_sim::{Ask, Plan, SentBytes, SimBus, Trace, Tracer, WriteRequest};
-use usb_wire::{
-    Answer, ControlWrite, Endpoint, Question, SEND_LIMIT, SEND_ROOM, SEND_TO_LIMIT, WRITE_LIMIT,
-};
+use usb_sim::{Plan, SimBus, Trace, Tracer, Untraced};
+use usb_wire::{Answer, Endpoint, Question};
+use usb_world::damage_of;
 
 /// The statuses of root ports, port 1 first.
 pub(crate) type Statuses = ArrayVec<[u8; 4], 7>;
@@ -46,8 +45,11 @@ pub struct FarEnd<T: Trace> {
     pub(crate) bus: SimBus<T>,
     /// What the status of each root port was when it was last reported.
     pub(crate) told: Statuses,
-    /// An event came in the polls that brought nothing since the last other question.
-    pub(crate) came: bool,
+    /// The host may not have seen an event: one came in the polls that brought nothing since the last other question,
+    /// or one of these polls was damaged.
+    pub(crate) unseen: bool,
+    /// What is left of a send that takes several lines.
+    pub(crate) sending: Option<Sending>,
     pub(crate) phase: Phase,
 }
 
@@ -66,19 +68,75 @@ impl<W: Write + Drop> FarEnd<Tracer<W>> {
             (played_of far).trace ≡ pipe_of W.contents writer) }
     {
         match SimBus::new(alloc, plan, writer) {
-            Ok(bus) => Ok(FarEnd {
-                told: statuses(&bus),
-                bus,
-                came: false,
-                phase: Phase::New,
-            }),
+            Ok(bus) => Ok(FarEnd::begun(bus)),
             Err((error, _)) => Err(error),
         }
     }
 }
 
+impl FarEnd<Untraced> {
+    ghost use Rattle.usb_far.specs.FarEnd.{far_begun, far_of};
+
+    /// The same, which makes no line of its trace.
+    ///
+    /// # Errors
+    ///
+    /// Memory was refused.
+    pub fn untraced(alloc: Global, plan: &Plan) -> Result<FarEnd<Untraced>, AllocError>
+        ensures { IfOk result (λ far. far_of far ≡ far_begun (opening plan.now)) }
+    {
+        Ok(FarEnd::begun(SimBus::untraced(alloc, plan)?))
+    }
+}
+
 impl<T: Trace> FarEnd<T> {
-    ghost use Rattle.usb_far.specs.FarEnd.{far_of, played_of};
+    ghost use Rattle.usb_far.specs.FarEnd.{PutsLine, far_begun, far_of, played_of};
+
+    /// The controller side of a bus, before the first question.
+    fn begun(bus: SimBus<T>) -> Self
+        ensures far { far_of result ≡ far_begun (world_of bus) }
+        ensures trace { (played_of result).trace
+            ≡ record { bytes = trace_of bus; failed = T.failed (tracer_of bus) } }
+    {
+        FarEnd {
+            told: statuses(&bus),
+            bus,
+            unseen: false,
+            sending: None,
+            phase: Phase::New,
+        }
+    }
+
+    /// The bus, as it is now.
+    pub fn bus(&self) -> &SimBus<T>
+        ensures world { world_of result.now ≡ (far_of self.now).world }
+        ensures trace { (played_of self.now).trace
+            ≡ record { bytes = trace_of result.now; failed = T.failed (tracer_of result.now) } }
+    {
+        &self.bus
+    }
+
+    /// What the host does now.
+    pub fn phase(&self) -> Phase
+        ensures { result ≡ (far_of self.now).phase }
+    {
+        self.phase
+    }
+
+    /// Writes a line of report to the trace, given without its newline. It takes no memory.
+    ///
+    /// # Errors
+    ///
+    /// `Bus`, with the fault that the bus reported before, and nothing is written. Or with `Failed` if the trace failed
+    /// in this call, and a prefix of the line is written.
+    pub fn put_line(&mut self, line: &[u8]) -> Result<(), FarFault>
+        ensures { PutsLine line.now (played_of self.old) result (played_of self.new) }
+    {
+        match self.bus.put_line(line) {
+            Ok(()) => Ok(()),
+            Err(fault) => Err(FarFault::Bus(fault)),
+        }
+    }
 
     /// Does what is asked, and answers it; of a row, its first attempt.
     pub(crate) fn answer(&mut self, question: &Question) -> Result<Answer, FarFault>
@@ -143,7 +201,7 @@ impl<T: Trace> FarEnd<T> {
             Err(fault) => return Err(FarFault::Bus(fault)),
         };
         let poll = is_poll(attempt, &outcome);
-        self.came = came_in(poll, self.came, taken, self.bus.events_taken());
+        self.unseen = unseen_in(poll, self.unseen, taken, &self.bus);
         Ok(answer_of(outcome))
     }
 
@@ -159,7 +217,7 @@ impl<T: Trace> FarEnd<T> {
             return Err(FarFault::BadNumber);
         }
         call_root(&mut self.bus, number, call);
-        self.came = false;
+        self.unseen = false;
         Ok(Answer::Done)
     }
 
@@ -172,12 +230,12 @@ impl<T: Trace> FarEnd<T> {
     {
         self.bus
             .restart_endpoint(endpoint.address, endpoint.number, is_in);
-        self.came = false;
+        self.unseen = false;
         Answer::Done
     }
 
-    /// Returns what is requested: nothing if an event came that the host may not have seen, else what the next event
-    /// asks.
+    /// Returns what is requested: nothing if the host may not have seen an event, else the next part of a send, or
+    /// what the next event asks.
     fn wait(&mut self) -> Result<Answer, FarFault>
         ensures done { IfOk result (λ answer.
             IsDone (wait_done (far_of self.old)) (played_of self.old) answer (played_of self.new)) }
@@ -185,13 +243,21 @@ impl<T: Trace> FarEnd<T> {
             IsEventGivenUp (played_of self.old) fault (played_of self.new)
             ⊎ SendsTooMuch (played_of self.old) fault (played_of self.new)) }
     {
-        if self.came {
-            self.came = false;
+        if self.unseen {
+            self.unseen = false;
             return Ok(Answer::Done);
         }
+        if let Some(sending) = self.sending.take() {
+            let wanted = next_part(sending);
+            self.sending = wanted.sending;
+            return Ok(wanted.answer);
+        }
         match self.bus.apply_next_event() {
-            Ok(due) => match answer_of_due(due) {
-                Some(answer) => Ok(answer),
+            Ok(due) => match due_wanted(due) {
+                Some(wanted) => {
+                    self.sending = wanted.sending;
+                    Ok(wanted.answer)
+                }
                 None => Err(FarFault::LongSend),
             },
             Err(fault) => Err(FarFault::Bus(fault)),
@@ -199,15 +265,22 @@ impl<T: Trace> FarEnd<T> {
     }
 }
 
-/// Whether an event came in the last polls that brought nothing: in those before, or in this one.
-fn came_in(poll: bool, came: bool, before: u64, now: u64) -> bool
-    ensures { result ≡ came_in poll came before now }
+/// Whether the host may not have seen an event: it is so from before, or it is so of this poll that brought nothing.
+fn unseen_in<T: Trace>(poll: bool, unseen: bool, before: u64, bus: &SimBus<T>) -> bool
+    ensures { result ≡ unseen_in poll unseen before (world_of bus.now) }
 {
-    match (poll, came) {
+    match (poll, unseen) {
         (false, _) => false,
         (true, true) => true,
-        (true, false) => now != before,
+        (true, false) => bus.events_taken() != before || is_damaged(bus),
     }
+}
+
+/// Whether the plan damages the attempt that was made last.
+fn is_damaged<T: Trace>(bus: &SimBus<T>) -> bool
+    ensures { result ≡ is_damaged (world_of bus.now) }
+{
+    damage_of(bus.damages(), bus.attempts()).is_some()
 }
 
 /// The statuses of all root ports.
@@ -236,88 +309,4 @@ fn call_root<T: Trace>(bus: &mut SimBus<T>, port: u8, call: PortCall)
         PortCall::ClearEnableChange => bus.root_clear(port, C_PORT_ENABLE),
         PortCall::ClearResetChange => bus.root_clear(port, C_PORT_RESET),
     }
-}
-
-/// What an event asks, as it is reported; `None` if it sends or writes more than a line has room for.
-fn answer_of_due(due: Option<Option<Ask>>) -> Option<Answer>
-    ensures { result ≡ due_answer due }
-{
-    match due {
-        None => Some(Answer::End),
-        Some(None) => Some(Answer::Done),
-        Some(Some(ask)) => asked_answer(ask),
-    }
-}
-
-fn asked_answer(ask: Ask) -> Option<Answer>
-    ensures { result ≡ asked_answer ask }
-{
-    match ask {
-        Ask::Show { .. } => Some(Answer::Show),
-        Ask::Send(path, bytes) => send_answer(path, &bytes),
-        Ask::Receive(path, packets) => Some(Answer::Receive { path, packets }),
-        Ask::Clear(path) => Some(Answer::Clear(path)),
-        Ask::SendTo(path, endpoint, bytes) => send_to_answer(path, endpoint, &bytes),
-        Ask::ReceiveFrom(path, endpoint, packets) => Some(Answer::ReceiveFrom {
-            path,
-            endpoint,
-            packets,
-        }),
-        Ask::Poll(path, endpoint) => Some(Answer::Poll { path, endpoint }),
-        Ask::ClearOf(path, endpoint) => Some(Answer::ClearOf { path, endpoint }),
-        Ask::SetInterface(path, interface, setting) => Some(Answer::Interface {
-            path,
-            interface,
-            setting,
-        }),
-        Ask::ControlIn(path, request) => Some(Answer::ControlIn { path, request }),
-        Ask::ControlOut(path, request) => write_answer(path, &request),
-        Ask::Look(path) => Some(Answer::Look(path)),
-        Ask::News => Some(Answer::News),
-    }
-}
-
-/// What is to be sent, if a line has room for it.
-#[tactic(auto, unfolding(crate::specs::FarEnd::send_wanted))]
-fn send_answer(path: PortPath, bytes: &SentBytes) -> Option<Answer>
-    ensures { result ≡ send_wanted path bytes.now }
-{
-    let count = bytes.as_slice().len();
-    if count > SEND_LIMIT || path.text().len() + 2 * count > SEND_ROOM {
-        return None;
-    }
-    let mut sent = ArrayVec::new();
-    sent.try_extend_from_slice(bytes.as_slice()).unwrap();
-    Some(Answer::Send { path, bytes: sent })
-}
-
-/// What is to be sent to an endpoint that is named, if a line has room for it.
-#[tactic(auto, unfolding(crate::specs::FarEnd::send_to_wanted))]
-fn send_to_answer(path: PortPath, endpoint: EndpointAddress, bytes: &SentBytes) -> Option<Answer>
-    ensures { result ≡ send_to_wanted path endpoint bytes.now }
-{
-    if bytes.as_slice().len() > SEND_TO_LIMIT {
-        return None;
-    }
-    let mut sent = ArrayVec::new();
-    sent.try_extend_from_slice(bytes.as_slice()).unwrap();
-    Some(Answer::SendTo {
-        path,
-        endpoint,
-        bytes: sent,
-    })
-}
-
-/// What is to be written, if a line has room for it.
-#[tactic(auto, unfolding(crate::specs::FarEnd::write_wanted))]
-fn write_answer(path: PortPath, request: &WriteRequest) -> Option<Answer>
-    ensures { result ≡ write_wanted path request.now }
-{
-    if request.bytes().len() > WRITE_LIMIT {
-        return None;
-    }
-    let mut bytes = ArrayVec::new();
-    bytes.try_extend_from_slice(request.bytes()).unwrap();
-    let request = ControlWrite::new(request.setup(), bytes)?;
-    Some(Answer::ControlOut { path, request })
 }

@@ -27,8 +27,7 @@ pub enum FarFault {
     /// The input ended in mid-line.
     #[error("host gone")]
     HostGone,
-    /// An event sends more than 500 bytes, more than 490 to an endpoint that is named, or writes more
-    /// than 480 to endpoint 0. Not every line has room for them.
+    /// An event writes more than 480 bytes to endpoint 0. No line has room for them.
     #[error("too much to send")]
     LongSend,
     /// The simulated bus has failed.

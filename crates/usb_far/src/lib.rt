@@ -11,6 +11,9 @@
 //! - At a fault the lines before it were answered, and nothing more was. Each fault has its cause
 //!   (*CauseOf*).
 //!
+//! A caller's own loop is made of the same pieces: `next_line` (*TakesLine*), `reply` (*Replies*) and `put_line`
+//! (*PutsLine*).
+//!
 //! *Only tested*: the words of the faults.
 #![tactic(auto)]
 
@@ -20,7 +23,11 @@ mod fault;
 mod reply;
 mod row;
 mod serving;
+mod told;
+mod wanted;
 
-pub use far_end::FarEnd;
+pub use far_end::{FarEnd, Phase};
 pub use fault::FarFault;
+pub use reply::{Came, Replied, Reply};
 pub use serving::serve;
+pub use told::HostLine;

@@ -1,40 +1,60 @@
 //! The lines that go out after a question.
 ghost use Rattle.std.specs.Prelude.{◌≡◌, ◌+◌, ◌*◌, ◌≤◌, ◌∷◌, ◌++◌, [], length, IfErr, IfOk, IfSome};
 ghost use Rattle.usb_wire.specs.Questions.{IsQuestion};
-ghost use Rattle.usb_far.specs.FarEnd.{ChangesTold, HasNoReply, Replies, behind_first, is_first, line_of, may_ask, pushes};
+ghost use Rattle.usb_far.specs.FarEnd.{ChangesTold, HasNoReply, Replies, behind_first, came_of, is_first, line_of, may_ask, pushes};
 
 use crate::far_end::{FarEnd, Phase, statuses};
 use crate::fault::FarFault;
 use crate::row::rest_behind;
 use arrayvec::ArrayVec;
 use usb_sim::Trace;
-use usb_wire::{Asked, Question, Said, said_line};
+use usb_wire::{Answer, Asked, Question, Said, said_line};
 
 /// Room for the status of each root port and an answer: eight lines of up to 1,026 bytes.
 const ROOM: usize = 8216;
 
-/// The lines that go out after a question.
-pub(crate) type Reply = ArrayVec<u8, ROOM>;
+/// The lines that go out after a question, each with its newline.
+pub type Reply = ArrayVec<u8, ROOM>;
+
+/// The reply to a question, or to the first attempt of a row.
+#[derive(Debug, Drop)]
+pub struct Replied {
+    /// Its lines: those of root ports, and the answer.
+    pub lines: Reply,
+    /// What is left of a row: its attempt moved a packet, and was not the last one.
+    pub rest: Option<Question>,
+    /// What the answer says of an attempt.
+    pub came: Came,
+}
+
+/// What the answer to an attempt says.
+#[derive(Clone, Copy, Debug, PartialEq, Eq)]
+pub enum Came {
+    /// `ACK`: the data were taken (8.4.5).
+    Taken,
+    /// `none`: no good answer came.
+    Nothing,
+    /// Another answer, or one to another question.
+    Other,
+}
 
 impl<T: Trace> FarEnd<T> {
     ghost use Rattle.usb_far.specs.FarEnd.{far_of, played_of};
 
-    /// Does what is asked, of a row its first attempt, and gives the lines to that: the statuses of root ports that are
-    /// not what was last reported, and the answer. Gives what is left of the row, too.
+    /// Does what is asked, of a row its first attempt, and returns the lines to that: the statuses of root ports that are
+    /// not what was last reported, and the answer.
     ///
     /// # Errors
     ///
-    /// `NoQuestion` if it is the hello and not the first question, or the first one and not the hello. `BadNumber` if
-    /// there is no such root port. `LongSend` if an event sends or writes more than a line has room for. Else the fault of
-    /// the bus.
-    pub(crate) fn reply(
-        &mut self,
-        question: &Question,
-    ) -> Result<(Reply, Option<Question>), FarFault>
+    /// - `NoQuestion`: it is the hello and not the first question, or the first one and not the hello.
+    /// - `BadNumber`: there is no such root port.
+    /// - `LongSend`: an event writes more than 480 bytes to endpoint 0.
+    /// - `Bus`: the simulated bus has failed.
+    pub fn reply(&mut self, question: &Question) -> Result<Replied, FarFault>
         requires { IsQuestion question.now }
-        ensures replied { IfOk result (λ reply. Replies question.now (played_of self.old)
-            (played_of self.new) reply.0.items reply.1) }
-        ensures rest { IfOk result (λ reply. IfSome reply.1 IsQuestion) }
+        ensures replied { IfOk result (λ reply.
+            Replies question.now (played_of self.old) reply (played_of self.new)) }
+        ensures rest { IfOk result (λ reply. IfSome reply.rest IsQuestion) }
         ensures fault { IfErr result (λ fault.
             HasNoReply question.now (played_of self.old) fault (played_of self.new)) }
     {
@@ -47,9 +67,10 @@ impl<T: Trace> FarEnd<T> {
             Err(fault) => return Err(fault),
         };
         let rest = rest_behind(question, &answer);
+        let came = came_of(&answer);
         let mut lines = self.changes(asked);
         push_said(&mut lines, &Said::Answered(answer));
-        Ok((lines, rest))
+        Ok(Replied { lines, rest, came })
     }
 
     /// The lines of root ports whose status is not what was last reported, which it is then.
@@ -70,8 +91,19 @@ impl<T: Trace> FarEnd<T> {
     }
 }
 
+/// What an answer says of an attempt.
+fn came_of(answer: &Answer) -> Came
+    ensures { result ≡ came_of answer.now }
+{
+    match answer {
+        Answer::Ack => Came::Taken,
+        Answer::Nothing => Came::Nothing,
+        _ => Came::Other,
+    }
+}
+
 /// Whether the question may come there: the hello first, and no other one.
-fn may_ask(phase: Phase, question: &Question) -> bool
+pub(crate) fn may_ask(phase: Phase, question: &Question) -> bool
     ensures { result ≡ may_ask phase question.now }
 {
     match (phase, question.asked()) {

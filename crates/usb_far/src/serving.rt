@@ -1,20 +1,19 @@
 //! The host's lines in, the controller side's lines out.
-ghost use Rattle.std.specs.Prelude.{◌≡◌, ◌≤◌, ◌∷◌, ◌++◌, [], ℕ, length, IfErr, IfOk};
-ghost use Rattle.std.specs.Io.KnownBytes.{Consumes};
-ghost use Rattle.usb_lines.specs.Lines.{IsUnbroken};
-ghost use Rattle.usb_lines.specs.Pipes.{OutPipe as AnOutPipe, Pipe as APipe, out_pipe_of, pipe_of};
-ghost use Rattle.usb_wire.specs.Words.{all_printable, is_printable};
+ghost use Rattle.std.specs.Prelude.{◌≡◌};
+ghost use Rattle.usb_lines.specs.Pipes.{out_pipe_of};
 ghost use Rattle.usb_far.specs.FarEnd.{played_of};
 ghost use Rattle.usb_wire.specs.Questions.{IsQuestion};
-ghost use Rattle.usb_far.specs.Serving.{HasNoQuestion, HasQuestion, RepliesAll, ServesHost, ServesNext, begins_block, begins_with, is_report, is_told, phase_behind, scene};
+ghost use Rattle.usb_far.specs.Serving.{RepliesAll, ServesHost, ServesNext, scene};
 
-use crate::far_end::{FarEnd, Phase};
+use crate::far_end::FarEnd;
 use crate::fault::FarFault;
+use crate::reply::Replied;
+use crate::told::HostLine;
 use std::io::{Read, Write};
 use usb_bus::Watched;
-use usb_lines::{Line, put_lines, read_line, skip_line};
+use usb_lines::put_lines;
 use usb_sim::Trace;
-use usb_wire::{Question, read_question};
+use usb_wire::Question;
 
 /// Answers the host's lines until its input ends, or until a fault.
 ///
@@ -28,8 +27,7 @@ use usb_wire::{Question, read_question};
 /// - `BadCharacter`: a byte of such a line is no printable ASCII.
 /// - `NoQuestion`: such a line is no question, or the hello is not the first one.
 /// - `BadNumber`: there is no such root port.
-/// - `LongSend`: an event sends more than 500 bytes, more than 490 to an endpoint that is named, or
-///   writes more than 480 to endpoint 0.
+/// - `LongSend`: an event writes more than 480 bytes to endpoint 0.
 /// - `Bus`: the simulated bus has failed.
 /// - `Write`: the writer failed.
 pub fn serve<T: Trace, R: Read, W: Write>(
@@ -60,46 +58,13 @@ impl<T: Trace> FarEnd<T> {
         ensures { ServesNext (scene R.remaining W.contents self.old reader.old writer.old) result
             (scene R.remaining W.contents self.new reader.new writer.new) }
     {
-        match read_line(reader) {
-            Ok(Line::Ended) => Ok(false),
-            Ok(Line::Whole(line)) => self.take_line(line.as_slice(), writer),
-            Ok(Line::Long(front)) => self.skip_told(front.as_slice(), reader),
-            Err(fault) => Err(FarFault::from(fault)),
-        }
-    }
-
-    /// Answers a line, or ignores it if it reports something.
-    fn take_line<W: Write>(
-        &mut self,
-        line: &[u8],
-        writer: &mut Watched<W>,
-    ) -> Result<bool, FarFault>
-        requires unbroken { IsUnbroken line.now }
-        requires short { length line.now ≤ 1024 }
-        // Whichever reader gave that line.
-        ensures { (before behind : APipe) → Consumes before.bytes behind.bytes (line.now ++ 10 ∷ [])
-            → behind.failed ≡ before.failed → ServesNext
-            (record {
-              played = played_of self.old;
-              reader = before;
-              writer = out_pipe_of W.contents writer.old;
-            }) result
-            (record {
-              played = played_of self.new;
-              reader = behind;
-              writer = out_pipe_of W.contents writer.new;
-            }) }
-    {
-        if is_told(self.phase, line) {
-            self.phase = phase_behind(self.phase, line);
-            return Ok(true);
-        }
-        let question = match question_in(line) {
-            Ok(question) => question,
-            Err(fault) => return Err(fault),
-        };
-        match self.reply_all(question, writer) {
-            Ok(()) => Ok(true),
+        match self.next_line(reader) {
+            Ok(HostLine::Ended) => Ok(false),
+            Ok(HostLine::Told(_)) => Ok(true),
+            Ok(HostLine::Asked(question)) => match self.reply_all(question, writer) {
+                Ok(()) => Ok(true),
+                Err(fault) => Err(fault),
+            },
             Err(fault) => Err(fault),
         }
     }
@@ -116,7 +81,7 @@ impl<T: Trace> FarEnd<T> {
     {
         let mut asked = question;
         'attempts: loop {
-            let (lines, rest) = match self.reply(&asked) {
+            let Replied { lines, rest, .. } = match self.reply(&asked) {
                 Ok(reply) => reply,
                 Err(fault) => return Err(fault),
             };
@@ -127,129 +92,6 @@ impl<T: Trace> FarEnd<T> {
             match rest {
                 Some(rest) => asked = rest,
                 None => return Ok(()),
-            }
-        }
-    }
-
-    /// Ignores a long line that reports something, of which a prefix was read.
-    fn skip_told<R: Read>(
-        &mut self,
-        front: &[u8],
-        reader: &mut Watched<R>,
-    ) -> Result<bool, FarFault>
-        requires { length front.now ≡ 1024 }
-        // Whatever the reader was before it gave that front, and whichever the writer.
-        ensures { (before : APipe) (writer : AnOutPipe) (more : ℕ) → IsUnbroken (front.now ++ more ∷ [])
-            → Consumes before.bytes (pipe_of R.remaining reader.old).bytes (front.now ++ more ∷ [])
-            → (pipe_of R.remaining reader.old).failed ≡ before.failed → ServesNext
-            (record { played = played_of self.old; reader = before; writer = writer }) result
-            (record {
-              played = played_of self.new;
-              reader = pipe_of R.remaining reader.new;
-              writer = writer;
-            }) }
-    {
-        if !is_told(self.phase, front) {
-            return Err(FarFault::LineTooLong);
-        }
-        match skip_line(reader) {
-            Ok(()) => {
-                self.phase = phase_behind(self.phase, front);
-                Ok(true)
-            }
-            Err(fault) => Err(FarFault::from(fault)),
-        }
-    }
-}
-
-/// The question that a line asks.
-fn question_in(line: &[u8]) -> Result<Question, FarFault>
-    ensures asked { IfOk result (HasQuestion line.now) }
-    ensures fault { IfErr result (HasNoQuestion line.now) }
-{
-    if !all_printable(line) {
-        return Err(FarFault::BadCharacter);
-    }
-    match read_question(line) {
-        Some(question) => Ok(question),
-        None => Err(FarFault::NoQuestion),
-    }
-}
-
-fn all_printable(line: &[u8]) -> bool
-    ensures { result ≡ all_printable line.now }
-{
-    line.iter().all(|byte| is_printable(*byte))
-}
-
-fn is_printable(byte: u8) -> bool
-    ensures { result ≡ is_printable byte }
-{
-    (b' '..=b'~').contains(&byte)
-}
-
-/// Whether a line reports something: it is of a listing or of news, or how a transfer or a look
-/// went.
-fn is_told(phase: Phase, line: &[u8]) -> bool
-    ensures { result ≡ is_told phase line.now }
-{
-    match phase {
-        Phase::New => false,
-        Phase::Asks => begins_block(line) || is_report(line),
-        Phase::Tells => true,
-    }
-}
-
-/// Whether a line is the first one of a listing or of news.
-fn begins_block(line: &[u8]) -> bool
-    ensures { result ≡ begins_block line.now }
-{
-    begins_with(line, b"listing ") || line == NEWS
-}
-
-/// Whether a line is how a transfer or a look went.
-fn is_report(line: &[u8]) -> bool
-    ensures { result ≡ is_report line.now }
-{
-    begins_with(line, b"send ")
-        || begins_with(line, b"receive ")
-        || begins_with(line, b"interrupt ")
-        || begins_with(line, b"clear ")
-        || begins_with(line, b"interface ")
-        || begins_with(line, b"control ")
-        || begins_with(line, b"look ")
-}
-
-fn begins_with(line: &[u8], word: &[u8]) -> bool
-    ensures { result ≡ begins_with line.now word.now }
-{
-    line.starts_with(word)
-}
-
-/// The first line of news.
-const NEWS: &[u8] = b"news";
-
-/// The last line of a listing, and of news.
-const BLOCK_END: &[u8] = b"end";
-
-/// What the host does after a line that reports something.
-fn phase_behind(phase: Phase, line: &[u8]) -> Phase
-    ensures { result ≡ phase_behind phase line.now }
-{
-    match phase {
-        Phase::New => Phase::New,
-        Phase::Asks => {
-            if begins_block(line) {
-                Phase::Tells
-            } else {
-                Phase::Asks
-            }
-        }
-        Phase::Tells => {
-            if line == BLOCK_END {
-                Phase::Asks
-            } else {
-                Phase::Tells
             }
         }
     }

@@ -1,14 +1,18 @@
 //! A test is a loop over rows: what a host says, and what the controller side of a plan says to it.
+ghost use Rattle.usb_wire.specs.Questions.{IsQuestion};
+
 use std::alloc::{AllocError, Global};
 use std::io;
 use std::io::{Error, ErrorKind, Read, Write};
 use std::test::Fail;
 use usb_bus::{BusFault, Watched};
-use usb_far::{FarEnd, FarFault, serve};
+use usb_far::{Came, FarEnd, FarFault, HostLine, Phase, serve};
 use usb_plan::read_plan;
+use usb_sim::Untraced;
+use usb_wire::Question;
 
 /// A disk that is plugged, pulled out in the fourth attempt and plugged elsewhere, and what its user wants then; the
-/// last of that is to send 501 bytes.
+/// last of that is to write 481 bytes.
 const PLAN: &str = r#"
 limit = 8
 roots = 2
@@ -52,8 +56,9 @@ path = "2"
 do = "show"
 
 [[event]]
-do = "send"
+do = "control"
 path = "2"
+setup = "210900020000E101"
 bytes = """\
 0000000000000000000000000000000000000000000000000000000000000000000000000000000000000000000000000000\
 0000000000000000000000000000000000000000000000000000000000000000000000000000000000000000000000000000\
@@ -64,8 +69,7 @@ bytes = """\
 0000000000000000000000000000000000000000000000000000000000000000000000000000000000000000000000000000\
 0000000000000000000000000000000000000000000000000000000000000000000000000000000000000000000000000000\
 0000000000000000000000000000000000000000000000000000000000000000000000000000000000000000000000000000\
-0000000000000000000000000000000000000000000000000000000000000000000000000000000000000000000000000000\
-00"""
+00000000000000000000000000000000000000000000000000000000000000"""
 "#;
 
 /// A hub, and a device that is plugged beside it in the sixth attempt.
@@ -123,6 +127,65 @@ packet = 1
 how = "lose"
 "#;
 
+/// The same, and so is the next one.
+const LOST_POLLS: &str = r#"
+limit = 100
+roots = 2
+
+[[device]]
+name = "hub"
+speed = "full"
+descriptor = "120100020900004001000200000100000001"
+configs = ["09021900010100C000090400000109000000070581030100FF"]
+ports = 4
+self_powered = true
+
+[[event]]
+do = "plug"
+path = "1"
+device = "hub"
+
+[[event]]
+do = "plug"
+path = "2"
+device = "hub"
+after = 5
+
+[[damage]]
+attempt = 6
+packet = 1
+how = "lose"
+
+[[damage]]
+attempt = 7
+packet = 1
+how = "lose"
+"#;
+
+/// One hub, and its first poll is lost.
+const LOST_QUIET_POLL: &str = r#"
+limit = 100
+roots = 2
+
+[[device]]
+name = "hub"
+speed = "full"
+descriptor = "120100020900004001000200000100000001"
+configs = ["09021900010100C000090400000109000000070581030100FF"]
+ports = 4
+self_powered = true
+
+[[event]]
+do = "plug"
+path = "1"
+device = "hub"
+
+[[damage]]
+attempt = 5
+packet = 1
+how = "lose"
+"#;
+
 /// What a driver of a plan wants of endpoint 0, of an interface, of a port and of the news.
 const DRIVER: &str = r#"
 limit = 8
@@ -158,7 +221,7 @@ path = "1"
 do = "news"
 "#;
 
-/// What a driver of a plan wants of endpoints that it names; the last of that is to send 491 bytes.
+/// What a driver of a plan wants of endpoints that it names.
 const NAMED: &str = r#"
 limit = 8
 roots = 1
@@ -184,22 +247,6 @@ endpoint = 0x81
 do = "clear"
 path = "1"
 endpoint = 1
-
-[[event]]
-do = "send"
-path = "1"
-endpoint = 15
-bytes = """\
-0000000000000000000000000000000000000000000000000000000000000000000000000000000000000000000000000000\
-0000000000000000000000000000000000000000000000000000000000000000000000000000000000000000000000000000\
-0000000000000000000000000000000000000000000000000000000000000000000000000000000000000000000000000000\
-0000000000000000000000000000000000000000000000000000000000000000000000000000000000000000000000000000\
-0000000000000000000000000000000000000000000000000000000000000000000000000000000000000000000000000000\
-0000000000000000000000000000000000000000000000000000000000000000000000000000000000000000000000000000\
-0000000000000000000000000000000000000000000000000000000000000000000000000000000000000000000000000000\
-0000000000000000000000000000000000000000000000000000000000000000000000000000000000000000000000000000\
-0000000000000000000000000000000000000000000000000000000000000000000000000000000000000000000000000000\
-0000000000000000000000000000000000000000000000000000000000000000000000000000000000"""
 "#;
 
 /// A device with bulk endpoints of packets of 8 bytes, which gives 20 bytes.
@@ -508,14 +555,14 @@ const ROWS: &[Row] = &[
               control 1 0009010000000000\ninterface 1 255 0\nlook 1\nnews\nend\n",
         ended: Ok(()),
     },
-    // what it wants of endpoints that it names, up to one byte more than a line has room for
+    // what it wants of endpoints that it names
     Row {
         plan: NAMED,
         host: "usbplan live 1\nwait\nsend 1 02 failed no device\nwait\n\
                receive 1.2 8F failed no device\nwait\ninterrupt 1 81 nothing\nwait\n\
                clear 1 01 failed no device\nwait\n",
-        far: "roots 1 2\nsend 1 02 0A0B\nreceive 1.2 8F 3\ninterrupt 1 81\nclear 1 01\n",
-        ended: Err((10, FarFault::LongSend)),
+        far: "roots 1 2\nsend 1 02 0A0B\nreceive 1.2 8F 3\ninterrupt 1 81\nclear 1 01\nend\n",
+        ended: Ok(()),
     },
     // an event that came in the last polls, which brought nothing, is told before the next one is taken
     Row {
@@ -537,6 +584,28 @@ const ROWS: &[Row] = &[
         far: "roots 2 2\nport 1 00010000\nok\nport 2 00010000\nok\nport 1 01010100\nok\n\
               port 1 03011100\nok\nACK\nDATA1 -\nACK\nDATA1 -\nNAK\nport 2 01010100\nnone\nNAK\nok\nend\n",
         plan: LOST_POLL,
+        ended: Ok(()),
+    },
+    // and once more where the next poll is lost, too
+    Row {
+        host: "usbplan live 1\nport 1 set PORT_POWER\nport 2 set PORT_POWER\nwait\n\
+               port 1 set PORT_RESET\nSETUP 0.0 / DATA0 0005010000000000\nIN 0.0 8\n\
+               SETUP 1.0 / DATA0 0009010000000000\nIN 1.0 8\nIN 1.1 1\nIN 1.1 1\nwait\nIN 1.1 1\nwait\n\
+               IN 1.1 1\nwait\n",
+        far: "roots 2 2\nport 1 00010000\nok\nport 2 00010000\nok\nport 1 01010100\nok\n\
+              port 1 03011100\nok\nACK\nDATA1 -\nACK\nDATA1 -\nNAK\nport 2 01010100\nnone\nok\nnone\nok\n\
+              NAK\nend\n",
+        plan: LOST_POLLS,
+        ended: Ok(()),
+    },
+    // a poll that was lost, in which no event came
+    Row {
+        host: "usbplan live 1\nport 1 set PORT_POWER\nport 2 set PORT_POWER\nwait\n\
+               port 1 set PORT_RESET\nSETUP 0.0 / DATA0 0005010000000000\nIN 0.0 8\n\
+               SETUP 1.0 / DATA0 0009010000000000\nIN 1.0 8\nIN 1.1 1\nIN 1.1 1\nwait\nIN 1.1 1\nwait\n",
+        far: "roots 2 2\nport 1 00010000\nok\nport 2 00010000\nok\nport 1 01010100\nok\n\
+              port 1 03011100\nok\nACK\nDATA1 -\nACK\nDATA1 -\nnone\nNAK\nok\nNAK\nend\n",
+        plan: LOST_QUIET_POLL,
         ended: Ok(()),
     },
     // and not where another question stands between
@@ -690,6 +759,171 @@ fn courses(rt: HostRuntime) -> Result<(), Fail> {
         let played = play(rt.alloc(), row.plan, row.host.as_bytes(), u64::MAX)?;
         assert_eq!(rt; text_of(played.far.as_slice()), row.far, "{}", row.host);
         assert_eq!(rt; played.ended, row.ended, "{}", row.host);
+    }
+    Ok(())
+}
+
+/// A send, and the numbers of bytes of the lines that it takes.
+#[derive(Clone, Copy)]
+struct Sent {
+    path: &'static str,
+    /// Endpoint 15 is named.
+    named: bool,
+    parts: &'static [u16],
+}
+
+const SENDS: &[Sent] = &[
+    Sent {
+        path: "1",
+        named: false,
+        parts: &[0],
+    },
+    Sent {
+        path: "1",
+        named: false,
+        parts: &[500],
+    },
+    Sent {
+        path: "1",
+        named: false,
+        parts: &[448, 53],
+    },
+    Sent {
+        path: "1",
+        named: false,
+        parts: &[448, 500],
+    },
+    Sent {
+        path: "1",
+        named: false,
+        parts: &[448, 448, 104],
+    },
+    Sent {
+        path: "7.15.15.15.15.15.15",
+        named: false,
+        parts: &[499],
+    },
+    Sent {
+        path: "7.15.15.15.15.15.15",
+        named: false,
+        parts: &[448, 52],
+    },
+    Sent {
+        path: "1",
+        named: true,
+        parts: &[490],
+    },
+    Sent {
+        path: "1",
+        named: true,
+        parts: &[448, 43],
+    },
+    Sent {
+        path: "7.15.15.15.15.15.15",
+        named: true,
+        parts: &[448, 448, 104],
+    },
+];
+
+/// A send goes in as many lines as it takes, before the next event comes.
+#[test]
+fn sends(rt: HostRuntime) -> Result<(), Fail> {
+    for sent in SENDS {
+        let mut plan = String::from_str(rt.alloc(), "limit = 8\nroots = 7\nwide_hubs = true\n")?;
+        plan.push_str("[[event]]\ndo = \"send\"\npath = \"")?;
+        plan.push_str(sent.path)?;
+        plan.push_str(if sent.named {
+            "\"\nendpoint = 15"
+        } else {
+            "\""
+        })?;
+        plan.push_str("\nbytes = \"")?;
+        let mut host = String::from_str(rt.alloc(), "usbplan live 1\n")?;
+        let mut far = String::from_str(rt.alloc(), "roots 7 2\n")?;
+        for part in sent.parts {
+            host.push_str("wait\nsend 1 failed no device\n")?;
+            far.push_str("send ")?;
+            far.push_str(sent.path)?;
+            far.push_str(if sent.named { " 0F " } else { " " })?;
+            push_part(&mut far, *part)?;
+            far.push_str(if *part == 0 { "-\n" } else { "\n" })?;
+            push_part(&mut plan, *part)?;
+        }
+        plan.push_str("\"\n[[event]]\ndo = \"show\"\n")?;
+        host.push_str("wait\n")?;
+        far.push_str("show\n")?;
+        let played = play(rt.alloc(), plan.as_str(), host.as_bytes(), u64::MAX)?;
+        assert_eq!(rt; text_of(played.far.as_slice()), far.as_str());
+        assert_eq!(rt; played.ended, Ok(()));
+    }
+    Ok(())
+}
+
+/// The digits of a part, each byte of which is that of its place.
+fn push_part(text: &mut String, count: u16) -> Result<(), AllocError> {
+    for place in 0..count {
+        for digit in [place % 256 / 16, place % 16] {
+            text.push(
+                char::from_digit(u32::from(digit), 16)
+                    .unwrap_or('?')
+                    .to_ascii_uppercase(),
+            )?;
+        }
+    }
+    Ok(())
+}
+
+/// A loop of its own over the pieces says what `serve` says, gets each reported line, and sees the attempts.
+#[test]
+fn pieces(rt: HostRuntime) -> Result<(), Fail> {
+    for row in [COURSE, BULK_ROWS] {
+        let whole = play(rt.alloc(), row.plan, row.host.as_bytes(), u64::MAX)?;
+        let Ok(plan) = read_plan(rt.alloc(), row.plan) else {
+            return Err(Fail::from(AllocError));
+        };
+        let mut far = FarEnd::untraced(rt.alloc(), &plan)?;
+        let mut reader = Watched::new(row.host.as_bytes());
+        let mut said = Vec::new(rt.alloc());
+        let mut told = Vec::new(rt.alloc());
+        for _ in 0..100u8 {
+            match far.next_line(&mut reader) {
+                Ok(HostLine::Ended) => break,
+                Ok(HostLine::Told(line)) => told.extend_from_slice(line.as_slice())?,
+                Ok(HostLine::Asked(question)) => say_all(&mut far, question, &mut said)?,
+                Err(fault) => assert_eq!(rt; Some(fault), None),
+            }
+        }
+        assert_eq!(rt; said.as_slice(), whole.far.as_slice());
+        assert_eq!(rt; far.phase(), Phase::Asks);
+        assert_eq!(rt; far.put_line(b"over"), Ok(()));
+        let begins = text_of(told.as_slice());
+        assert!(rt; row.plan != PLAN || begins.starts_with("send 1 failed no device"));
+    }
+    Ok(())
+}
+
+/// The replies to a question. An attempt that was taken, or had no good answer, was made.
+fn say_all(
+    far: &mut FarEnd<Untraced>,
+    question: Question,
+    said: &mut Vec<u8>,
+) -> Result<(), AllocError>
+    requires { IsQuestion question }
+{
+    let mut asked = question;
+    'attempts: for _ in 0..64u8 {
+        let before = far.bus().attempts();
+        let Ok(reply) = far.reply(&asked) else {
+            return Err(AllocError);
+        };
+        if reply.came != Came::Other && far.bus().attempts() == before {
+            return Err(AllocError);
+        }
+        said.extend_from_slice(reply.lines.as_slice())?;
+        match reply.rest {
+            Some(rest) => asked = rest,
+            None => return Ok(()),
+        }
     }
     Ok(())
 }

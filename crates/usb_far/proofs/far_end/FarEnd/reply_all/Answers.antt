@@ -10,13 +10,13 @@ attempts-init g c = (c.requires, RowFront.begun)
 pub attempts-preserved : goal.attempts-preserved
 attempts-preserved g c = (
   subst (λ r. IfSome r IsQuestion) c.in-Some.is c.in-Ok.ensures.rest,
-  row_further _ _ _ _ _ _ _ _ _ _ _ c.attempts.invariant.1 c.in-Ok.ensures.replied c.in-Some.is
+  row_further _ _ _ _ _ _ _ _ _ _ c.attempts.invariant.1 c.in-Ok.ensures.replied c.in-Some.is
       (rw c.as_slice.ensures.value at c.in-Ok-put_lines.ensures),
 )
 
 pub attempts-smaller : goal.attempts-smaller
 attempts-smaller g c =
-    row_less _ _ _ _ _ _ c.attempts.invariant.0 c.in-Ok.ensures.replied c.in-Some.is
+    row_less _ _ _ _ _ c.attempts.invariant.0 c.in-Ok.ensures.replied c.in-Some.is
 
 pub returns-in-Err : goal.returns-in-Err
 returns-in-Err g c =
@@ -24,10 +24,10 @@ returns-in-Err g c =
 
 pub returns-in-Err-put_lines : goal.returns-in-Err-put_lines
 returns-in-Err-put_lines g c =
-    row_unwritten _ _ _ _ _ _ _ _ _ _ c.attempts.invariant.1 c.in-Ok.ensures.replied
+    row_unwritten _ _ _ _ _ _ _ _ _ c.attempts.invariant.1 c.in-Ok.ensures.replied
     (rw c.as_slice.ensures.value at c.in-Err-put_lines.ensures)
 
 pub returns-in-None : goal.returns-in-None
 returns-in-None g c =
-    all_replied _ _ _ _ _ _ _ _ _ _ c.attempts.invariant.1 c.in-Ok.ensures.replied c.in-None.is
+    all_replied _ _ _ _ _ _ _ _ _ c.attempts.invariant.1 c.in-Ok.ensures.replied c.in-None.is
     (rw c.as_slice.ensures.value at c.in-Ok-put_lines.ensures)
