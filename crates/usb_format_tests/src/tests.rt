@@ -7,3 +7,4 @@ mod listing;
 mod page;
 mod pcap;
 mod status;
+mod verdict;
