@@ -1,0 +1,27 @@
+//! What a host does wrong on the bus, and in what it reports of received data. The verdict on its
+//! listings is in `usb_judge`.
+//!
+//! # What is proved
+//!
+//! - `judge_attempt` returns a remark exactly if it holds of the attempt (*judged*,
+//!   `specs/Holders.antt`).
+//! - `Outs` keeps which packets of the host have no answer, and so judges its toggles
+//!   (`specs/Answers.antt`).
+//! - `Window` keeps the places in a device's source at which the next data may begin. It returns
+//!   none exactly if data are at none of them (`specs/Sources.antt`).
+#![tactic(auto)]
+
+mod attempts;
+mod holders;
+mod lines;
+mod outs;
+mod packet_size;
+mod remark;
+mod steps;
+mod window;
+
+pub use attempts::{judge_attempt, resets_empty};
+pub use lines::{data_line, empty_line, remark_line};
+pub use outs::{Outs, Unanswered};
+pub use remark::Remark;
+pub use window::Window;
