@@ -5,7 +5,7 @@ use Rattle.std.specs.List.{list_any}
 use Rattle.usb_packet.specs.{Toggle, is_same}
 use Rattle.usb_world.specs.declared.types.Attempt.{Attempt}
 use Rattle.usb_world.specs.declared.types.Attempt.TheVariants.{Setup, Out, In}
-use Rattle.usb_world.specs.{Destination, Outcome, destination_of}
+use Rattle.usb_world.specs.{Destination, Outcome}
 use Rattle.usb_world.specs.declared.types.Outcome.TheVariants as outcome
 use Rattle.usb_conduct.specs.declared.outs.Unanswered.{Unanswered}
 use Rattle.usb_conduct.specs.declared.remark.Remark.{Remark}
@@ -85,15 +85,12 @@ left_by (In to) = if to.number == 0 then Some (unanswered to None) else None
 abbrev pub without : ℕ → ℕ → List Unanswered → List Unanswered
 without address number left = filter (λ u. not (is_of address number u)) left
 
-abbrev pub with_left : List Unanswered → Option Unanswered → List Unanswered
-with_left left None = left
-with_left left (Some u) = without u.address u.number left ++ u ∷ []
-
-abbrev pub after_answer : List Unanswered → Attempt → Outcome → List Unanswered
-after_answer left a outcome.Nothing = with_left left (left_by a)
-after_answer left a outcome.Ack =
-    without (destination_of a).address (destination_of a).number left
-after_answer left a other = left
+-- an endpoint is left so without an answer, and no longer with ACK
+abbrev pub after_answer : List Unanswered → Option Unanswered → Outcome → List Unanswered
+after_answer left None o = left
+after_answer left (Some u) outcome.Nothing = without u.address u.number left ++ u ∷ []
+after_answer left (Some u) outcome.Ack = without u.address u.number left
+after_answer left (Some u) other = left
 
 abbrev pub after_attempt : List Unanswered → Attempt → Outcome → List Unanswered
-after_attempt left a o = after_answer (after_token left a) a o
+after_attempt left a o = after_answer (after_token left a) (left_by a) o

@@ -1,7 +1,7 @@
 //! What an attempt says of the packets without an answer, and what it leaves of them.
 ghost use Rattle.std.specs.Prelude.{◌≡◌, map, OnOk};
 ghost use Rattle.std.specs.List.{list_any};
-ghost use Rattle.usb_conduct.specs.Answers.{after_answer, after_attempt, after_token, is_ack, is_dropped, is_of, is_other, is_skipped, is_sure, is_unanswered, left_by, skips_retry, toggle_forgotten, unanswered, with_left, without};
+ghost use Rattle.usb_conduct.specs.Answers.{after_answer, after_attempt, after_token, is_ack, is_dropped, is_of, is_other, is_skipped, is_sure, is_unanswered, left_by, skips_retry, toggle_forgotten, unanswered, without};
 
 use crate::outs::Unanswered;
 use std::alloc::AllocError;
@@ -101,7 +101,7 @@ pub(crate) fn note(
         (left.new.items ≡ after_attempt left.old.items attempt.now outcome.now) }
 {
     note_token(left, attempt);
-    note_answer(left, attempt, outcome)
+    note_answer(left, left_by(attempt), outcome)
 }
 
 /// Notes a SETUP, which may begin the toggles of a device anew.
@@ -130,24 +130,27 @@ fn forget_toggle(unanswered: &mut Unanswered, address: u8)
     }
 }
 
-/// Notes an outcome.
+/// Notes the outcome of an attempt that leaves an endpoint so if it has no answer.
 fn note_answer(
     left: &mut Vec<Unanswered>,
-    attempt: &Attempt,
+    unanswered: Option<Unanswered>,
     outcome: &Outcome,
 ) -> Result<(), AllocError>
     ensures { OnOk result
-        (left.new.items ≡ after_answer left.old.items attempt.now outcome.now) }
+        (left.new.items ≡ after_answer left.old.items unanswered outcome.now) }
 {
+    let Some(unanswered) = unanswered else {
+        return Ok(());
+    };
     match outcome {
-        Outcome::Nothing => add(left, left_by(attempt)),
-        Outcome::Ack => {
-            let to = attempt.destination();
-            remove(left, to.address, to.number);
-            Ok(())
+        Outcome::Nothing => {
+            remove(left, unanswered.address, unanswered.number);
+            left.push(unanswered)?;
         }
-        Outcome::Payload(..) | Outcome::Nak | Outcome::Stall => Ok(()),
+        Outcome::Ack => remove(left, unanswered.address, unanswered.number),
+        Outcome::Payload(..) | Outcome::Nak | Outcome::Stall => {}
     }
+    Ok(())
 }
 
 /// The endpoint that an attempt leaves without an answer, if it is one that is kept.
@@ -174,20 +177,6 @@ fn unanswered(to: Destination, toggle: Option<Toggle>) -> Unanswered
         address: to.address,
         number: to.number,
         toggle,
-    }
-}
-
-/// Adds an endpoint, in place of what was kept of it.
-fn add(left: &mut Vec<Unanswered>, more: Option<Unanswered>) -> Result<(), AllocError>
-    ensures { OnOk result (left.new.items ≡ with_left left.old.items more) }
-{
-    match more {
-        None => Ok(()),
-        Some(unanswered) => {
-            remove(left, unanswered.address, unanswered.number);
-            left.push(unanswered)?;
-            Ok(())
-        }
     }
 }
 
