@@ -9,18 +9,18 @@ use crate::remark::Remark;
 use usb_judge::PluggedDevice;
 use usb_world::Attempt;
 
-/// What is wrong with an attempt that is about to be made, where these devices are plugged; None if
+/// What is wrong with an attempt that is about to be made, if these devices are plugged; None if
 /// nothing is.
 ///
-/// - `TwoDevices`: two devices that packets reach hold the address (9.1.2, 9.4.6).
-/// - `Nobody`: none does.
-/// - `OtherSpeed`: the one that does so does not read packets of this speed (8.6.5). Low speed at a
-///   root port goes with PRE or without, below a hub with PRE.
-/// - `TooLong`: an OUT sends more bytes than the maximum packet of the endpoint. That of endpoint 0
-///   is in the device descriptor (9.6.1), that of another one in the configuration that the device
-///   has, the greatest of all settings (9.6.6). If there is no such endpoint, nothing is wrong.
+/// - `TwoDevices`: at least two devices that packets reach hold the address (9.1.2, 9.4.6).
+/// - `Nobody`: no device that packets reach holds it.
+/// - `OtherSpeed`: one device holds it, and does not read packets of this speed (8.6.5). A low-speed
+///   device at a root port reads them with PRE or without, one below a hub with PRE alone.
+/// - `TooLong`: an OUT sends more bytes than the maximum packet of the endpoint. For endpoint 0 the
+///   device descriptor says it (9.6.1). For another one it is the greatest of all settings of the
+///   configuration that the device has (9.6.6). If that has no such endpoint, nothing is wrong.
 ///
-/// If it is of another speed, its length is not judged.
+/// At another speed, the length is not judged.
 pub fn judge_attempt(plugged: &[PluggedDevice<'_>], attempt: &Attempt) -> Option<Remark>
     ensures { result ≡ judged plugged.now attempt.now }
 {

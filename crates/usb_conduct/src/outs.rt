@@ -65,13 +65,15 @@ impl Outs {
     /// What was wrong with the toggle of an attempt; None if nothing was.
     ///
     /// - `OtherToggle`: an OUT to an endpoint other than 0 had data and an ACK, and the device did
-    ///   not take them: its toggle is not the one that is due (8.6). It is not judged if that
-    ///   endpoint left a packet without an answer and has acknowledged none since, or endpoint 0
-    ///   did. A packet that is sent again is then not taken twice, and a request may have begun the
-    ///   toggles anew.
+    ///   not take them. Its toggle is not the one that is due (8.6).
     ///
-    /// `taken_before` and `taken_after` count the bytes that the endpoint has taken since the plug:
-    /// before the attempt, and after it, before the next event comes.
+    /// This is not judged if that endpoint, or endpoint 0, left a packet without an answer and has
+    /// acknowledged none since. The device may have taken such a packet, which then comes twice, and
+    /// such a request may have begun the toggles anew.
+    ///
+    /// `taken_before` and `taken_after` count the bytes that the endpoint has taken since the plug,
+    /// before the attempt and after it. No event may come between. If no device or several hold the
+    /// address, both are the same number.
     ///
     /// # Errors
     ///

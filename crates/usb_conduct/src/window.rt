@@ -9,7 +9,8 @@ const PACKET: usize = 64;
 /// counts bytes from 0, `least` to `most`.
 ///
 /// A device gives its source by its first bulk IN endpoint, each byte once and in order, from the
-/// plug on. A reset or a configuration does not begin it again.
+/// plug on. A reset does not begin it again. If another configuration has another first bulk IN
+/// endpoint, that one begins it anew: a window is that of one endpoint.
 #[derive(Clone, Copy, Debug, PartialEq, Eq)]
 pub struct Window {
     /// The first place.
@@ -26,10 +27,10 @@ impl Window {
         Window { least: 0, most: 0 }
     }
 
-    /// After a host reported these data of a source; None if it goes on with them from no place of
-    /// the window, so that they are other data.
+    /// After a host reported these data; None if they are at no place of the window, so that they
+    /// are other data than the device gave.
     ///
-    /// If it does from several places, the data may be from each of them.
+    /// If they are at several places, the next data may begin after each of them.
     pub fn after_data(self, source: &[u8], bytes: &[u8]) -> Option<Window>
         ensures some { IfSome result (IsAfter source.now bytes.now self) }
         ensures none { IfNone result (HasNoPlace source.now bytes.now self) }
@@ -41,8 +42,8 @@ impl Window {
         })
     }
 
-    /// After a receive failed: the device may have given any part of the rest of its source, which
-    /// the host does not report.
+    /// After a receive failed: the device may have given any part of the rest of its source, and the
+    /// host reports none of it.
     pub fn after_loss(self, source: &[u8]) -> Window
         ensures { result ≡ after_loss source.now self }
     {
@@ -52,8 +53,8 @@ impl Window {
         }
     }
 
-    /// After the toggles began anew: a halt was cleared, an interface was set, or the device was
-    /// configured. If the ACK of the last packet was lost, it comes again.
+    /// After the endpoint's toggle began anew: its halt was cleared, its interface was set, or the
+    /// device was configured (9.4.5). If the ACK of the last packet was lost, that packet comes again.
     pub fn after_clear(self) -> Window
         ensures { result ≡ after_clear self }
     {
