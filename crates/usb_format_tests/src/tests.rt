@@ -1,4 +1,5 @@
 //! One module a crate.
+mod conduct;
 mod drawing;
 mod entry;
 mod explain;
