@@ -1,0 +1,28 @@
+use mir.Raw.{raw}
+use base.Shift.{Keyless}
+use denote.Memory.{lone}
+use denote.RawPtr.{Ptr}
+use denote.Struct.Struct.{exits_of}
+use denote.Struct.Owning.{shape, fields, to}
+use denote.Param.Send.{IsSend, AllSend, owning_send, struct_send, sendable}
+use Rattle.std.proofs.Crossing as heap
+use Rattle.std_alloc.proofs.SendSync.{quiet, lies}
+use Rattle.std.proofs.alloc.Global.TheSendSync as of_heap
+use Rattle.std.specs.Prelude.{Some, None}
+use Rattle.std.specs.Global.{Global}
+use Rattle.std.specs.declared.option.Option.{Option}
+use Rattle.usb_linked.specs.declared.devices.Devices.{Devices}
+use Rattle.usb_linked.specs.contracts.devices.Devices as devices
+use Rattle.usb_linked.proofs.devices.Devices.TheSendSync.{the_send}
+use Rattle.usb_devices.specs.{slot_owns}
+use Rattle.usb_devices.specs.contracts.slot.Slot.{the_row, the_type}
+
+slot_keyless : (a : Global) (p : Ptr) (m : Option Devices) → Keyless (slot_owns a p m)
+slot_keyless a p None = tt
+slot_keyless a p (Some x) = (lies devices.the_row the_send p x, heap.frees.frees a (raw (lone devices.the_row.mir)) p)
+
+pub send : IsSend the_row
+send =
+    let all : AllSend (fields the_type) = (search sendable, (of_heap.the_field_send, tt)) in
+    owning_send the_type all (λ d. slot_keyless d.alloc d.at d.held)
+    (λ k. quiet (to the_type) (exits_of k (fields the_type)) ((struct_send (shape the_type) all).leaving k))
