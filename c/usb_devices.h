@@ -13,8 +13,8 @@
  *
  * - A `struct usb_devices` is zeroed before its first call. It may be moved between two calls, and is never copied.
  *   Only this library reads or writes it.
- * - One call at a time for one handle, from one place: not from a signal handler. Different handles have nothing in
- *   common, and a program may have any number. Another thread takes one over only by a lock or an atomic.
+ * - One call at a time for one handle, all from one thread, and none from a signal handler. Different handles have
+ *   nothing in common, and a program may have any number, also on different threads.
  * - No pointer is NULL, not even with a length of 0. What a call is given lies apart from the handle, and needs to be
  *   good until the call returns.
  * - A call needs at most USB_DEVICES_STACK bytes of stack, and the three functions of heap.c. It keeps no state
@@ -69,15 +69,15 @@ uint8_t usb_devices_open(struct usb_devices *devices, const void *plan, size_t l
  * answers them, and the answers wait until they are fetched. A line that reports something, as those of a listing, has
  * no answer.
  *
- * Returns USB_DEVICES_DONE, or the fault of the first line that has one: USB_DEVICES_LIMIT to USB_DEVICES_HALF_LINE, or
- * USB_DEVICES_NO_MEMORY. The answers of the lines before it wait, and nothing more is done: each later call returns the
- * same fault. After USB_DEVICES_NO_MEMORY a prefix of that line's answer may wait, too. USB_DEVICES_CLOSED: the handle is
- * closed. */
+ * Returns USB_DEVICES_DONE, or the fault of the first line that has one: USB_DEVICES_LIMIT to USB_DEVICES_LONG_SEND, or
+ * USB_DEVICES_NO_MEMORY. The answers of the lines before it wait, and those to the first attempts of its row. Nothing
+ * more is done then: each later call returns the same fault. After USB_DEVICES_NO_MEMORY a prefix of one more answer may
+ * wait, too. USB_DEVICES_CLOSED: the handle is closed. */
 uint8_t usb_devices_ask(struct usb_devices *devices, const void *lines, size_t length);
 
 /* Moves the bytes that wait into `room`, in order and each once, until nothing waits or the room is full. Returns their
- * number: 0 if nothing waits or the handle is closed. The rest of the room stays as it was. What is left over waits on,
- * and is copied to another place once at each call. */
+ * number: 0 if nothing waits or the handle is closed. The rest of the room stays as it was. The next usb_devices_ask
+ * frees the memory of the bytes that were fetched. */
 size_t usb_devices_said(struct usb_devices *devices, void *room, size_t length);
 
 /* Closes the handle and frees all that it holds, also what waits. Returns USB_DEVICES_DONE, or USB_DEVICES_CLOSED if it

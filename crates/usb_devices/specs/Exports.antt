@@ -52,7 +52,8 @@ Opens None text number (Some new) = (number ≡ 0) × linked.Opens text new
 Opens None text number None = StaysClosed text number
 
 -- a call of an open handle, which stays open
-pub record Asked (old : DevicesState) (lines : List ℕ) (number : ℕ) (new : DevicesState) : Type 0 where
+pub record Asked (old : DevicesState) (lines : List ℕ) (number : ℕ) (new : DevicesState)
+    : Type 0 where
   pub result : Result (Unit {0}) FarFault
   pub asks : linked.Asks old lines result new
   pub returned : number ≡ ask_number result

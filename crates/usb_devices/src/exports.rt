@@ -39,8 +39,9 @@ pub extern "C" fn usb_devices_open(alloc: Global, handle: &mut Handle, plan: &[u
 /// Asks lines of a host, each with its newline (`docs/output/live.md`). They are answered in order,
 /// as `usbplan far` does, and the answers wait in the handle.
 ///
-/// Returns 0, or one of these. At the first fault the answers of the lines before it wait, and
-/// nothing more is done. Each later call returns the same number:
+/// Returns 0, or one of these. At the first fault the answers of the lines before it wait, and those
+/// to the first attempts of its row. Nothing more is done then: each later call returns the same
+/// number.
 ///
 /// - 3: the handle is closed.
 /// - 6: the attempts made equal the plan's limit.
@@ -50,7 +51,7 @@ pub extern "C" fn usb_devices_open(alloc: Global, handle: &mut Handle, plan: &[u
 /// - 10: the plan has no such root port.
 /// - 11: the last line has no newline.
 /// - 12: the next event sends more than a line has room for.
-/// - 1: memory was refused. Of the answer that found none a prefix may wait.
+/// - 1: memory was refused. A prefix of one more answer may wait.
 /// - 13: the reader or the trace failed, which these never do.
 #[unsafe(no_mangle)]
 pub extern "C" fn usb_devices_ask(alloc: Global, handle: &mut Handle, lines: &[u8]) -> u8

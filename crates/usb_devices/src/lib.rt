@@ -8,12 +8,15 @@
 //! - Into C's memory go the bytes that were said, each once and in order; nothing else.
 //! - `usb_devices_close` alone ends the devices, and no call loses them.
 //!
-//! *Neither*: that memory was refused if 1 is returned by `usb_devices_open`.
+//! *Neither*: that memory was refused if `usb_devices_open` returns 1; that 13 is never returned.
 //!
 //! # What C owes, and nothing checks
 //!
-//! The same as `usb_handle`: a handle is zeros before its first call, is never copied, and gets one
-//! call at a time; no pointer is null, and what a call is given lies apart.
+//! - A handle is zeros before its first call. C reads and writes nothing in it. It may be moved,
+//!   and never copied.
+//! - All calls at a handle come from one thread, one at a time, and none from a signal handler.
+//! - No pointer is null, not even with a length of 0. The handle and a call's bytes lie apart.
+//! - The heap's three functions, which C links, are one allocator.
 #![tactic(auto)]
 
 mod calls;

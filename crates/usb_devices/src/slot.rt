@@ -78,5 +78,3 @@ impl Slot {
         }
     }
 }
-
-unsafe impl Send for Slot {}

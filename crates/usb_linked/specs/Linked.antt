@@ -1,8 +1,8 @@
 -- The devices of a plan, what they have said and nobody has fetched, and what each call does.
-use Rattle.std.specs.Prelude.{◌≡◌, ◌≢◌, ℕ, min, Bool, false, List, [], ◌++◌, length, take, drop}
+use Rattle.std.specs.Prelude.{◌≡◌, ◌≢◌, ℕ, min, false, List, [], ◌++◌, length, take, drop}
 use Rattle.std.specs.Prelude.{IsUtf8, Option, None, Some, Result, Ok, Err}
 use Rattle.usb_world.specs.{PlanData, opening}
-use Rattle.usb_plan.specs.{spelled_plan, PlanFault}
+use Rattle.usb_plan.specs.{spelled_plan}
 use Rattle.usb_plan.specs.declared.fault.PlanFault.TheVariants as plan
 use Rattle.usb_far.specs.{FarFault, Played, Scene, ServesHost, far_begun, played_of}
 use Rattle.usb_linked.specs.declared.devices.Devices.{Devices}
@@ -17,7 +17,11 @@ pub record DevicesState : Type 0 where
   pub fault : Option FarFault
 
 abbrev pub devices_state : Devices → DevicesState
-devices_state b = record { played = played_of b.far; waits = b.said.items; fault = b.fault }
+devices_state d = record {
+  played = played_of d.far;
+  waits = drop d.fetched d.said.items;
+  fault = d.fault;
+}
 
 -- ---- open
 
@@ -44,10 +48,10 @@ IsUnopened text (Plan f) = IsUtf8 text × (f ≢ plan.Memory) × (spelled_plan t
 
 -- the lines are to be read, and the answers go behind the bytes that wait
 abbrev pub scene_of : DevicesState → List ℕ → Scene
-scene_of b lines = record {
-  played = b.played;
+scene_of d lines = record {
+  played = d.played;
   reader = record { bytes = Some lines; failed = false };
-  writer = record { bytes = Some b.waits; failed = false; pending = false };
+  writer = record { bytes = Some d.waits; failed = false; pending = false };
 }
 
 -- the fault without the number of its line
@@ -67,11 +71,12 @@ pub record AsksOn (old : DevicesState) (lines : List ℕ) (result : Result (Unit
   pub serves : ServesHost (scene_of old lines) served behind
   pub played : new.played ≡ behind.played
   pub waits : behind.writer.bytes ≡ Some new.waits
-  pub result : result ≡ fault_of served
+  pub returned : result ≡ fault_of served
   pub fault : new.fault ≡ fault_in result
 
 -- after a fault nothing is done, and the fault is reported again
-abbrev pub AsksIn : Option FarFault → DevicesState → List ℕ → Result (Unit {0}) FarFault → DevicesState → Type 0
+abbrev pub AsksIn : Option FarFault → DevicesState → List ℕ → Result (Unit {0}) FarFault
+    → DevicesState → Type 0
 AsksIn (Some f) old lines result new = (result ≡ Err f) × (new ≡ old)
 AsksIn None old lines result new = AsksOn old lines result new
 
@@ -81,8 +86,8 @@ Asks old lines result new = AsksIn old.fault old lines result new
 -- ---- fetch
 
 -- the first bytes that wait go into the room, until it is full, and wait no more
-pub record Fetches (old : DevicesState) (room : List ℕ) (count : ℕ) (new : DevicesState) (now : List ℕ)
-    : Type 0 where
+pub record Fetches (old : DevicesState) (room : List ℕ) (count : ℕ) (new : DevicesState)
+    (now : List ℕ) : Type 0 where
   pub counted : count ≡ min (length old.waits) (length room)
   pub moved : now ≡ take count old.waits ++ drop count room
   pub rest : new ≡ record old { waits = drop count old.waits }

@@ -1,15 +1,14 @@
 //! The devices of a plan, and what they have said.
-ghost use Rattle.std.specs.Prelude.{IfErr, IfOk};
-ghost use Rattle.usb_linked.specs.Linked.{Asks, Fetches, IsPlanOf, IsUnopened, Opens, devices_state};
+ghost use Rattle.std.specs.Prelude.{◌≤◌, length};
 
 use crate::fault::OpenFault;
+use crate::text::plan_of;
 use std::alloc::Global;
 use std::cmp::min;
 use std::io::{Sink, sink};
 use std::mem::replace;
 use usb_bus::Watched;
 use usb_far::{FarEnd, FarFault, serve};
-use usb_plan::{Plan, PlanFault, read_plan};
 use usb_sim::Tracer;
 
 /// The devices of a plan as the controller side of a host's lines, and the bytes that they have
@@ -19,11 +18,17 @@ pub struct Devices {
     alloc: Global,
     far: FarEnd<Tracer<Sink>>,
     said: Vec<u8>,
+    /// How many of those bytes were fetched.
+    fetched: usize,
     /// Why nothing more is said.
     fault: Option<FarFault>,
+    ghost within: { fetched ≤ length said.items },
 }
 
 impl Devices {
+    ghost use Rattle.std.specs.Prelude.{◌≡◌, [], IfErr, IfOk};
+    ghost use Rattle.usb_linked.specs.Linked.{Asks, Fetches, IsUnopened, Opens, devices_state};
+
     /// The devices of the plan that a TOML text spells. Nothing was asked yet: all root ports are
     /// off.
     ///
@@ -42,6 +47,7 @@ impl Devices {
                 alloc,
                 far,
                 said: Vec::new(alloc),
+                fetched: 0,
                 fault: None,
             }),
             Err(_) => Err(OpenFault::Memory),
@@ -54,18 +60,19 @@ impl Devices {
     /// # Errors
     ///
     /// The fault of the first line that has one, as `usb_far::serve` says. The answers of the lines
-    /// before it wait. `Write`: memory was refused, and of that line's answer a prefix waits.
-    /// `HostGone`: the last line has no newline. Every later call reports the same fault, and does
-    /// nothing.
+    /// before it wait, and those to the first attempts of its row. Every later call reports the same
+    /// fault, and does nothing.
+    ///
+    /// - `Write`: memory was refused. A prefix of one more answer waits.
+    /// - `HostGone`: the last line has no newline.
     pub fn ask(&mut self, lines: &[u8]) -> Result<(), FarFault>
         ensures { Asks (devices_state self.old) lines.now result (devices_state self.new) }
     {
         if let Some(fault) = self.fault {
             return Err(fault);
         }
-        let said = replace(&mut self.said, Vec::new(self.alloc));
         let mut reader = Watched::new(lines);
-        let mut writer = Watched::new(said);
+        let mut writer = Watched::new(self.take_waiting());
         let served = serve(&mut self.far, &mut reader, &mut writer);
         self.said = writer.into_inner();
         match served {
@@ -80,26 +87,25 @@ impl Devices {
     /// Moves as many of the bytes that wait into the room as it has space for, in order. Returns
     /// how many; the rest of the room stays as it was.
     pub fn fetch(&mut self, room: &mut [u8]) -> usize
-        ensures { Fetches (devices_state self.old) room.old result (devices_state self.new) room.new }
+        ensures { Fetches (devices_state self.old) room.old result (devices_state self.new)
+            room.new }
     {
-        let count = min(self.said.len(), room.len());
-        room[..count].copy_from_slice(&self.said[..count]);
-        self.said.drain(..count);
+        let waiting = &self.said[self.fetched..];
+        let count = min(waiting.len(), room.len());
+        room[..count].copy_from_slice(&waiting[..count]);
+        self.fetched += count;
         count
     }
-}
 
-/// The plan that these bytes spell.
-fn plan_of(alloc: Global, text: &[u8]) -> Result<Plan, OpenFault>
-    ensures plan { IfOk result (IsPlanOf text.now) }
-    ensures fault { IfErr result (IsUnopened text.now) }
-{
-    let Ok(text) = str::from_utf8(text) else {
-        return Err(OpenFault::NoText);
-    };
-    match read_plan(alloc, text) {
-        Ok(plan) => Ok(plan),
-        Err(PlanFault::Memory) => Err(OpenFault::Memory),
-        Err(fault) => Err(OpenFault::Plan(fault)),
+    /// Takes the bytes that wait out.
+    fn take_waiting(&mut self) -> Vec<u8>
+        ensures waiting { result.items ≡ (devices_state self.old).waits }
+        ensures left { devices_state self.new ≡ record (devices_state self.old) { waits = [] } }
+        ensures none { self.new.fetched ≡ 0 }
+    {
+        let mut said = replace(&mut self.said, Vec::new(self.alloc));
+        said.drain(..self.fetched);
+        self.fetched = 0;
+        said
     }
 }

@@ -1,5 +1,5 @@
-//! The devices of a plan in the process of a test: lines of a host in, the lines of `usbplan far` out
-//! (`docs/output/live.md`). `usb_devices` makes it a library for C.
+//! The devices of a plan in the process of a test: lines of a host in, the lines of `usbplan far`
+//! out (`docs/output/live.md`). `usb_devices` makes it a library for C.
 //!
 //! # What is proved
 //!
@@ -14,6 +14,7 @@ mod devices;
 mod fault;
 #[cfg(test)]
 mod tests;
+mod text;
 
 pub use devices::Devices;
 pub use fault::OpenFault;
