@@ -2,6 +2,7 @@
  * power that a hub's ports give.
  *
  * usage: far PROGRAM ARGUMENT ..      as far usbplan far PLAN
+ *        far PLAN                     compiled with LINKED: the devices of usb_devices.h, in the same process
  *
  * With WIDE_HUBS in the environment the host takes wide hubs. With ROWS the controller makes rows of packets.
  */
@@ -15,11 +16,42 @@
 
 enum { LONGEST = 1024, BYTES = 65536 };
 
-static FILE *to, *from;
 static uint32_t statuses[USB_ROOTS + 1];
 static char line[LONGEST + 2];
 
 /* ---- Lines ---- */
+
+#ifdef LINKED
+#include "usb_devices.h"
+
+static struct usb_devices devices;
+
+static bool start(char **words)
+{
+    static char plan[1 << 20];
+    FILE *file = fopen(words[0], "rb");
+    size_t length = file ? fread(plan, 1, sizeof plan, file) : 0;
+    return file && !fclose(file) && usb_devices_open(&devices, plan, length) == USB_DEVICES_DONE;
+}
+
+static bool put_line(void)
+{
+    strcat(line, "\n");
+    return usb_devices_ask(&devices, line, strlen(line)) == USB_DEVICES_DONE;
+}
+
+/* Takes the next line, byte by byte. */
+static bool get_line(void)
+{
+    for (size_t length = 0; length + 1 < sizeof line && usb_devices_said(&devices, line + length, 1) == 1; length++)
+        if (line[length] == '\n') {
+            line[length] = '\0';
+            return true;
+        }
+    return false;
+}
+#else
+static FILE *to, *from;
 
 static bool start(char **words)
 {
@@ -43,14 +75,27 @@ static bool start(char **words)
     return to && from;
 }
 
+static bool put_line(void)
+{
+    return fprintf(to, "%s\n", line) > 0 && !fflush(to);
+}
+
+static bool get_line(void)
+{
+    if (!fgets(line, sizeof line, from))
+        return false;
+    line[strcspn(line, "\n")] = '\0';
+    return true;
+}
+#endif
+
 /* Writes the line, and reads its answer after the statuses before it. */
 static const char *ask(void)
 {
-    fprintf(to, "%s\n", line);
-    fflush(to);
-    while (fgets(line, sizeof line, from)) {
+    if (!put_line())
+        return "end";
+    while (get_line()) {
         unsigned number, byte[4];
-        line[strcspn(line, "\n")] = '\0';
         if (sscanf(line, "port %u %2x%2x%2x%2x", &number, byte, byte + 1, byte + 2, byte + 3) != 5
             || number > USB_ROOTS)
             return line;

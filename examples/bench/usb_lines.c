@@ -8,8 +8,26 @@
 
 enum { ROOTS = 7, LINE = 1026 };
 
-static char line[LINE];
+static char line[LINE]; /* a question, or the answer to it */
+static size_t used;     /* the length of the question so far */
 static struct usb_port ports[ROOTS + 1];
+
+/* The two ends of the lines: standard output and input, or those of usb_linked.c, which includes this file. Each
+ * returns whether it went well. A line has its newline, and `room` gets a zero after it. */
+static bool put_line(const char *text, size_t length);
+static bool get_line(char *room, size_t size);
+
+#ifndef USB_LINKED
+static bool put_line(const char *text, size_t length)
+{
+    return fwrite(text, 1, length, stdout) == length && fflush(stdout) == 0;
+}
+
+static bool get_line(char *room, size_t size)
+{
+    return fgets(room, (int)size, stdin) != NULL;
+}
+#endif
 
 static void give_up(const char *why)
 {
@@ -17,10 +35,22 @@ static void give_up(const char *why)
     exit(4);
 }
 
+/* Adds words to the question, as printf does. */
+static void add(const char *form, ...)
+{
+    va_list words;
+    va_start(words, form);
+    int count = vsnprintf(line + used, sizeof line - used, form, words);
+    va_end(words);
+    if (count < 0 || (size_t)count >= sizeof line - used)
+        give_up("a question without room");
+    used += (size_t)count;
+}
+
 /* Reads a line into `line`, without its newline. */
 static void read_line(void)
 {
-    if (fgets(line, sizeof line, stdin) == NULL)
+    if (!get_line(line, sizeof line))
         give_up("the other side is gone");
     size_t length = strcspn(line, "\n");
     if (line[length] != '\n')
@@ -62,8 +92,10 @@ static bool read_port(void)
 /* Ends a question with its newline, and reads the answer into `line`. */
 static void ask(void)
 {
-    if (putchar('\n') == EOF || fflush(stdout) != 0)
+    add("\n");
+    if (!put_line(line, used))
         give_up("the other side is gone");
+    used = 0;
     do
         read_line();
     while (read_port());
@@ -71,7 +103,7 @@ static void ask(void)
 
 unsigned usb_begin(void)
 {
-    printf("usbplan live 1");
+    add("usbplan live 1");
     ask();
     if (strncmp(line, "roots ", 6) != 0 || line[6] < '1' || line[6] > '0' + ROOTS)
         give_up("no number of root ports");
@@ -82,11 +114,11 @@ unsigned usb_begin(void)
 
 static void write_packet(const struct usb_packet *packet)
 {
-    printf(" DATA%u ", packet->toggle);
+    add(" DATA%u ", packet->toggle);
     if (packet->size == 0)
-        putchar('-');
+        add("-");
     for (unsigned i = 0; i < packet->size; i++)
-        printf("%02X", packet->bytes[i]);
+        add("%02X", packet->bytes[i]);
 }
 
 static enum usb_outcome read_outcome(struct usb_packet *came)
@@ -110,11 +142,11 @@ static enum usb_outcome read_outcome(struct usb_packet *came)
 enum usb_outcome usb_attempt(enum usb_token token, struct usb_target to, struct usb_packet *packet)
 {
     static const char *const lows[] = {"", "low ", "PRE "}, *const tokens[] = {"SETUP", "OUT", "IN"};
-    printf("%s%s %u.%u", lows[to.speed], tokens[token], to.address, to.endpoint);
+    add("%s%s %u.%u", lows[to.speed], tokens[token], to.address, to.endpoint);
     if (token == USB_IN) {
-        printf(" %u", to.most);
+        add(" %u", to.most);
     } else {
-        printf(" /%s", to.speed == USB_LOW_BELOW_HUB ? " PRE" : "");
+        add(" /%s", to.speed == USB_LOW_BELOW_HUB ? " PRE" : "");
         write_packet(packet);
     }
     ask();
@@ -128,7 +160,7 @@ struct usb_port usb_port_status(unsigned port)
 
 static void call_port(unsigned port, const char *call, const char *feature)
 {
-    printf("port %u %s %s", port, call, feature);
+    add("port %u %s %s", port, call, feature);
     ask();
     if (strcmp(line, "ok") != 0)
         give_up("no answer to a call at a port");
@@ -146,7 +178,7 @@ void usb_port_clear(unsigned port, const char *feature)
 
 enum usb_wanted usb_wait(void)
 {
-    printf("wait");
+    add("wait");
     ask();
     if (strcmp(line, "ok") == 0)
         return USB_NOTHING;
