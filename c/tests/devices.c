@@ -100,10 +100,10 @@ static void check_faults(void)
     static char send[2048], longest[1100];
     memset(longest, 'A', sizeof longest - 2);
     longest[sizeof longest - 2] = '\n';
-    int length = sprintf(send, "%s", PLAN("100", ", { do = \"send\", path = \"1\", bytes = \"@\" }"));
+    int length = sprintf(send, "%s", PLAN("100", ", { do = \"control\", path = \"1\", setup = \"210900020000E101\", bytes = \"@\" }"));
     char *at = strchr(send, '@');
-    memmove(at + 1002, at + 1, (size_t)(send + length - at));
-    memset(at, 'A', 1002);
+    memmove(at + 962, at + 1, (size_t)(send + length - at));
+    memset(at, 'A', 962);
     check_fault(plan, "wai\n", USB_DEVICES_NO_QUESTION);
     check_fault(plan, "usbplan live 1\n", USB_DEVICES_NO_QUESTION);
     check_fault(plan, "wait\t\n", USB_DEVICES_BAD_CHARACTER);

@@ -13,6 +13,7 @@ _usbplan() {
       ;;
     draw) options='--ascii --help' ;;
     device) options='--ports --help' ;;
+    far) options='--judge --limit --rounds --help' ;;
     live) options='--limit --wide-hubs --help' ;;
     explain) options='--only --help' ;;
     test) options='--accept --help' kind=-d ;;

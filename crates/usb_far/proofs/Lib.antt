@@ -1,3 +1,3 @@
 mod Deeds
-mod Lines
+pub mod Lines
 mod Sends

@@ -14,4 +14,4 @@ mod number;
 
 pub use bytes::read_bytes;
 pub use fault::ListingFault;
-pub use line::{ListingLine, read_listing_line};
+pub use line::{ListingLine, cut_space, read_listing_line};

@@ -148,8 +148,8 @@ fn three_words(text: &str) -> Option<(&str, &str, &str)>
     }
 }
 
-/// What is before the first space, and behind it.
-fn cut_space(text: &str) -> Option<(&str, &str)>
+/// What is before the first space of a text, and behind it; None if it has none.
+pub fn cut_space(text: &str) -> Option<(&str, &str)>
     ensures { cut_space text.now ≡ option_map (λ cut. (cut.0.now, cut.1.now)) result }
 {
     text.split_once(' ')

@@ -1,10 +1,11 @@
-//! A host against the controller side that plays a plan, both in memory.
+//! A host against the controller side that plays a plan and judges it, both in memory.
 use std::alloc::{AllocError, Global};
 use std::cell::RefCell;
 use std::io;
 use std::io::{Error, ErrorKind, Read, Write};
+use usb_bench::{Judge, judge_host};
 use usb_bus::Watched;
-use usb_far::{FarEnd, serve};
+use usb_far::FarEnd;
 use usb_live::{LiveEnd, live};
 use usb_sim::{Plan, Tracer};
 
@@ -16,11 +17,13 @@ const LIMIT: u64 = 1_000_000;
 struct Link {
     alloc: Global,
     far: FarEnd<Tracer<Vec<u8>>>,
+    judge: Judge,
     /// What the controller side has said, and how much of that was read.
     answers: Vec<u8>,
     read: usize,
-    /// What the host has reported.
+    /// What the host has reported, and all that it has written.
     told: Vec<u8>,
+    asked: Vec<u8>,
 }
 
 impl Link {
@@ -28,9 +31,18 @@ impl Link {
     fn take(&mut self, lines: &[u8]) -> io::Result<()> {
         let mut reader = Watched::new(lines);
         let mut writer = Watched::new(Vec::new(self.alloc));
-        if serve(&mut self.far, &mut reader, &mut writer).is_err() {
+        let judged = judge_host(
+            self.alloc,
+            &mut self.judge,
+            &mut self.far,
+            None,
+            &mut reader,
+            &mut writer,
+        );
+        if judged.is_err() {
             return Err(Error::from(ErrorKind::Other));
         }
+        self.asked.extend_from_slice(lines)?;
         let said = writer.into_inner();
         self.answers.extend_from_slice(said.as_slice())?;
         if said.is_empty() {
@@ -77,6 +89,10 @@ pub(crate) struct Course {
     pub(crate) ended: Result<(), LiveEnd>,
     /// The lines that were reported.
     pub(crate) told: Vec<u8>,
+    /// All lines of the host.
+    pub(crate) asked: Vec<u8>,
+    /// Whether nothing that the host did or reported was wrong.
+    pub(crate) is_right: bool,
 }
 
 /// The course of a host against a controller side that plays a plan.
@@ -87,6 +103,8 @@ pub(crate) fn course_of(alloc: Global, plan: &Plan) -> Result<Course, AllocError
         answers: Vec::new(alloc),
         read: 0,
         told: Vec::new(alloc),
+        asked: Vec::new(alloc),
+        judge: Judge::new(alloc),
     });
     let ends = Ends(&link);
     let (ended, _reader, _writer) = live(
@@ -96,6 +114,16 @@ pub(crate) fn course_of(alloc: Global, plan: &Plan) -> Result<Course, AllocError
         LIMIT,
         plan.wide_hubs(),
     );
-    let Link { told, .. } = link.into_inner();
-    Ok(Course { ended, told })
+    let Link {
+        told,
+        asked,
+        judge,
+        ..
+    } = link.into_inner();
+    Ok(Course {
+        ended,
+        told,
+        asked,
+        is_right: judge.is_right(),
+    })
 }

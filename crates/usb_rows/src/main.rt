@@ -1,14 +1,16 @@
 //! Runs the rows of `data/`: plans, each in both modes, explained, by a host over two pipes, and by
-//! a driver of records, and packets in digits. Prints a line for each that is not as expected, and
+//! a driver of records, packets in digits, and listings that are judged. Prints a line for each that is not as expected, and
 //! both numbers.
 #![tactic(auto)]
 
 mod driven;
+mod judged;
 mod listed;
 mod live;
 mod record;
 
 use driven::told_of;
+use judged::judgements_of;
 use live::course_of;
 use std::alloc::{AllocError, Global};
 use std::rt::Files;
@@ -26,6 +28,10 @@ const NAMES: &str = "names.txt";
 
 /// A line for each packet: digits, and after a tab each its lines or the fault that is reported.
 const PACKETS: &str = "packets.tsv";
+
+/// A line for each listing that is not of what is plugged: the NAME of its row, its lines, and what is judged of it, after a
+/// tab each.
+const MUTATED: &str = "mutated.tsv";
 
 /// The most events of a plan that is driven: each question is made on a copy of the host.
 const MOST_EVENTS: usize = 100;
@@ -50,6 +56,7 @@ fn main(rt: HostRuntime) -> io::Result<()> {
     let mut tally = Tally { rows: 0, differ: 0 };
     serve_plans(&rt, &mut tally)?;
     read_packets(&rt, &mut tally)?;
+    judge_listings(&rt, &mut tally)?;
     println!(rt; "{} rows, {} differ", tally.rows, tally.differ)
 }
 
@@ -64,6 +71,33 @@ fn serve_plans<R: Files + Print + AllocGlobal>(rt: &R, tally: &mut Tally) -> io:
         tally.count(run && tree && live && driven && explained);
     }
     Ok(())
+}
+
+fn judge_listings<R: Files + Print + AllocGlobal>(rt: &R, tally: &mut Tally) -> io::Result<()> {
+    let text = fs::read_to_string(rt, MUTATED)?;
+    'listings: for line in text.lines() {
+        let as_wanted = is_judged(rt, line)?;
+        tally.count(as_wanted);
+    }
+    Ok(())
+}
+
+/// Whether a listing is judged as expected. Prints a line where it is not.
+fn is_judged<R: Files + Print + AllocGlobal>(rt: &R, line: &str) -> io::Result<bool> {
+    let alloc = rt.alloc();
+    let (name, rest) = line.split_once('\t').unwrap_or((line, ""));
+    let (listing, wanted) = rest.split_once('\t').unwrap_or(("", ""));
+    let Some(plan) = plan_in(rt, name)? else {
+        println!(rt; "{name} judged: no such row")?;
+        return Ok(false);
+    };
+    let course = course_of(alloc, &plan)?;
+    let judged = judgements_of(alloc, &plan, course.asked.as_slice(), listing)?;
+    let as_wanted = judged.as_str() == wanted;
+    if !as_wanted {
+        println!(rt; "{name} judged: {judged}, not {wanted}, of {listing}")?;
+    }
+    Ok(as_wanted)
 }
 
 /// Whether a row's plan is served as expected. Prints a line where it is not.
@@ -98,7 +132,7 @@ fn is_as_wanted<R: Files + Print + AllocGlobal>(
 }
 
 /// Whether a host against the controller side of a row's plan reports what is expected in mode Tree, but for the bound
-/// and for what refused devices said.
+/// and for what refused devices said, and is judged right.
 /// Rows that do not end well are left out.
 fn is_told_live<R: Files + Print + AllocGlobal>(rt: &R, name: &str) -> io::Result<bool> {
     let alloc = rt.alloc();
@@ -117,7 +151,10 @@ fn is_told_live<R: Files + Print + AllocGlobal>(rt: &R, name: &str) -> io::Resul
         println!(rt; "{name} live: told otherwise")?;
         return Ok(false);
     }
-    Ok(true)
+    if !course.is_right {
+        println!(rt; "{name} live: judged wrong")?;
+    }
+    Ok(course.is_right)
 }
 
 /// Whether a driver before the simulated bus of a row's plan reports what is expected in mode Tree,

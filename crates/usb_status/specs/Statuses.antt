@@ -1,6 +1,6 @@
--- The program's exit status: 0 all was done; 1 a text, a packet, descriptors or a line are
--- refused; 2
--- the words name no command; 3 the limit is reached; 4 memory, or input or output, failed.
+-- The program's exit status: 0 all was done; 1 a text, a packet, descriptors or a line are refused,
+-- or a host is judged wrong; 2 the words name no command; 3 a limit is reached; 4 memory, or input
+-- or output, failed.
 use Rattle.std.specs.Prelude.{ℕ, Result, Ok, Err}
 use Rattle.usb_world.specs.{BusFault}
 use Rattle.usb_world.specs.declared.types.BusFault.TheVariants as bus
@@ -18,6 +18,8 @@ use Rattle.usb_entry.specs.{EntryFault}
 use Rattle.usb_entry.specs.declared.fault.EntryFault.TheVariants as entry
 use Rattle.usb_far.specs.{FarFault}
 use Rattle.usb_far.specs.declared.fault.FarFault.TheVariants as far
+use Rattle.usb_bench.specs.{BenchFault}
+use Rattle.usb_bench.specs.declared.fault.BenchFault.TheVariants as bench
 use Rattle.usb_stream.specs.{LiveFault}
 use Rattle.usb_stream.specs.declared.fault.LiveFault.TheVariants as stream
 use Rattle.usb_live.specs.{LiveEnd}
@@ -91,6 +93,12 @@ far_status (far.Bus bus.Memory) = 4
 far_status (far.Bus bus.Failed) = 4
 far_status far.Write = 4
 
+-- of a host that is judged
+abbrev pub bench_status : BenchFault → ℕ
+bench_status (bench.Far why) = far_status why
+bench_status bench.NoRest = 3
+bench_status bench.Memory = 4
+
 -- of a far end's lines
 abbrev pub live_status : LiveEnd → ℕ
 live_status (live.Line number stream.Read) = 4
@@ -112,6 +120,8 @@ fault_status (fault.Pcap why) = pcap_status why
 fault_status (fault.Device why) = device_status why
 fault_status fault.LongDevice = 1
 fault_status (fault.Far number why) = far_status why
+fault_status (fault.Bench number why) = bench_status why
+fault_status fault.Judged = 1
 fault_status (fault.Live end) = live_status end
 fault_status fault.Refused = 1
 fault_status fault.Closed = 4

@@ -7,6 +7,7 @@ ghost use Rattle.usb_status.specs.Checks.{checked};
 
 use std::alloc::{AllocError, AllocFailed};
 use thiserror::Error;
+use usb_bench::BenchFault;
 use usb_diagnosis::{CheckFault, Verdict};
 use usb_entry::EntryFault;
 use usb_explain::ExplainFault;
@@ -46,6 +47,12 @@ pub enum Fault {
     /// A host was not answered to the end of its input, but up to the line of this number.
     #[error("line {0}: {1}")]
     Far(u64, FarFault),
+    /// A host was not judged to the end of its input, but up to the line of this number.
+    #[error("line {0}: {1}")]
+    Bench(u64, BenchFault),
+    /// A host was judged, and something was wrong; what it was is written.
+    #[error("host judged wrong")]
+    Judged,
     /// A far end was not asked to the end that it wants.
     #[error("{0}")]
     Live(LiveEnd),
@@ -126,6 +133,14 @@ impl From<(u64, FarFault)> for Fault {
 
     fn from(why: (u64, FarFault)) -> Fault {
         Fault::Far(why.0, why.1)
+    }
+}
+
+impl From<(u64, BenchFault)> for Fault {
+    ghost from_gives = { λ why e. e ≡ fault.Bench why.0 why.1 };
+
+    fn from(why: (u64, BenchFault)) -> Fault {
+        Fault::Bench(why.0, why.1)
     }
 }
 

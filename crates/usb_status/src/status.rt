@@ -1,8 +1,9 @@
 //! The program's exit status.
 ghost use Rattle.std.specs.Prelude.{◌≡◌};
-ghost use Rattle.usb_status.specs.Statuses.{device_status, exit_status, explain_status, far_status, fault_status, line_status, live_status, pcap_status, serve_status};
+ghost use Rattle.usb_status.specs.Statuses.{bench_status, device_status, exit_status, explain_status, far_status, fault_status, line_status, live_status, pcap_status, serve_status};
 
 use crate::fault::Fault;
+use usb_bench::BenchFault;
 use usb_bus::BusFault;
 use usb_entry::EntryFault;
 use usb_explain::ExplainFault;
@@ -17,7 +18,8 @@ use usb_text::LineFault;
 /// All was done.
 const DONE: u8 = 0;
 
-/// A plan, a packet, a run's text, a device's descriptors, a line of a host or of a far end are refused.
+/// A plan, a packet, a run's text, a device's descriptors, a line of a host or of a far end are refused, or a host is
+/// judged wrong.
 const REFUSED: u8 = 1;
 
 /// The words name no command.
@@ -44,7 +46,7 @@ fn fault_status(fault: Fault) -> u8
 {
     match fault {
         Fault::Words | Fault::NoText => WORDS,
-        Fault::LongDevice | Fault::Refused => REFUSED,
+        Fault::LongDevice | Fault::Refused | Fault::Judged => REFUSED,
         Fault::Closed => FAILED,
         Fault::Line(why) => line_status(why),
         Fault::Serve(why) => serve_status(why),
@@ -52,6 +54,7 @@ fn fault_status(fault: Fault) -> u8
         Fault::Pcap(why) => pcap_status(why),
         Fault::Device(why) => device_status(why),
         Fault::Far(_, why) => far_status(why),
+        Fault::Bench(_, why) => bench_status(why),
         Fault::Live(end) => live_status(end),
     }
 }
@@ -120,6 +123,16 @@ fn far_status(fault: FarFault) -> u8
         | FarFault::LongSend => REFUSED,
         FarFault::Bus(BusFault::Limit) => LIMIT,
         FarFault::Read | FarFault::HostGone | FarFault::Bus(_) | FarFault::Write => FAILED,
+    }
+}
+
+fn bench_status(fault: BenchFault) -> u8
+    ensures { result ≡ bench_status fault }
+{
+    match fault {
+        BenchFault::Far(why) => far_status(why),
+        BenchFault::NoRest => LIMIT,
+        BenchFault::Memory => FAILED,
     }
 }
 

@@ -1,6 +1,6 @@
 -- The program's command line, as `clap` reads it.
-use Rattle.std.specs.Prelude.{◌≡◌, ◌≢◌, ◌≤◌, Bool, List, [], ◌∷◌, ℕ, codes, flat_map, Some, None}
-use Rattle.std.specs.Prelude.{true, false}
+use Rattle.std.specs.Prelude.{◌≡◌, ◌≢◌, ◌≤◌, Bool, List, [], ◌∷◌, ℕ, codes, flat_map, Option, Some}
+use Rattle.std.specs.Prelude.{None, true, false}
 use Rattle.std.specs.Str.Parse.{IsNumeral, digits_value, without_leading_plus}
 use Rattle.clap.specs.Walk.{Row, Rule, Text, all_of, first_of, one_of}
 use Rattle.clap.specs.Simple.{App, new_app, new_rule, with_rule, with_subcommand, subcommand_of}
@@ -8,6 +8,7 @@ use Rattle.clap.specs.declared.builder.action.ArgAction.TheVariants.{Append, Set
 use Rattle.clap.specs.declared.builder.value_parser.ValueParser.TheVariants as parser
 use Rattle.usb_words.specs.declared.words.DeviceWords.{DeviceWords}
 use Rattle.usb_words.specs.declared.words.ExplainWords.{ExplainWords}
+use Rattle.usb_words.specs.declared.words.FarWords.{FarWords}
 use Rattle.usb_words.specs.declared.words.LiveWords.{LiveWords}
 use Rattle.usb_words.specs.declared.words.NamedFile.{NamedFile}
 use Rattle.usb_words.specs.declared.words.Words.{Words}
@@ -89,6 +90,36 @@ wide_rule = record (new_rule (codes "wide-hubs")) {
 abbrev pub live_app : App
 live_app = with_rule (with_rule (new_app (codes "live")) limit_rule) wide_rule
 
+-- whether `far` judges the host
+abbrev pub judge_rule : Rule
+judge_rule = record (new_rule (codes "judge")) {
+  long = Some (codes "judge");
+  action =
+      Some SetTrue;
+}
+
+-- the most attempts of the host, as many as a plan may allow, and the most without a wait; either may
+-- be left out
+abbrev pub attempts_rule : Rule
+attempts_rule = record (new_rule (codes "limit")) {
+  long = Some (codes "limit");
+  action = Some Set;
+  value_names = 1;
+  parser = Some (parser.Unsigned 0 100000000000000);
+}
+
+abbrev pub rounds_rule : Rule
+rounds_rule = record (new_rule (codes "rounds")) {
+  long = Some (codes "rounds");
+  action = Some Set;
+  value_names = 1;
+  parser = Some (parser.Unsigned 1 100000000000000);
+}
+
+abbrev pub far_app : App
+far_app = with_rule (with_rule (with_rule (text_app (codes "far")) judge_rule) attempts_rule)
+    rounds_rule
+
 -- the program takes its words without its name, and has a version
 abbrev pub plain_app : App
 plain_app = let app = new_app (codes "usbplan") in
@@ -109,9 +140,9 @@ run_app = with_text (with_subcommand first_app draw_app.top) (codes "run")
 
 abbrev pub program_app : App
 program_app =
-    with_subcommand (with_text (with_subcommand
+    with_subcommand (with_subcommand (with_subcommand
     (with_text (with_text (with_subcommand run_app explain_app.top) (codes "page"))
-    (codes "pcap")) device_app.top) (codes "far")) live_app.top
+    (codes "pcap")) device_app.top) far_app.top) live_app.top
 
 -- clap reads this subcommand from the words, with this text
 pub record HasSubcommand (words : List Text) (name text : List ℕ) : Type 0 where
@@ -170,6 +201,28 @@ pub record ReadsDevice (words : List Text) (asked : DeviceWords) : Type 0 where
   pub subcommand : subcommand_of program_app words ≡ Some (codes "device", rows)
   pub device : IsDevice rows asked
 
+-- what clap reads as a number that may be left out
+abbrev pub GivesNumber : Option Text → Option ℕ → Type 0
+GivesNumber None read = read ≡ None
+GivesNumber (Some numeral) None = ⊥
+GivesNumber (Some numeral) (Some number) = IsNumeral 10 (without_leading_plus numeral)
+    × (number ≡ digits_value 10 (without_leading_plus numeral))
+
+-- what clap reads from the words of `far`: its file, the flag as it is told, and both numbers
+pub record IsFar (rows : List Row) (asked : FarWords) : Type 0 where
+  pub file : first_of (codes "text") rows ≡ Some asked.file.now
+  pub judged : one_of (codes "judge") rows ≡ Some (codes "true") → asked.judge ≡ true
+  pub unjudged : one_of (codes "judge") rows ≡ Some (codes "false") → asked.judge ≡ false
+  pub absent : one_of (codes "judge") rows ≡ None → asked.judge ≡ false
+  pub limit : GivesNumber (one_of (codes "limit") rows) asked.limit
+  pub rounds : GivesNumber (one_of (codes "rounds") rows) asked.rounds
+
+-- clap reads `far` from the words, with these
+pub record ReadsFar (words : List Text) (asked : FarWords) : Type 0 where
+  pub rows : List Row
+  pub subcommand : subcommand_of program_app words ≡ Some (codes "far", rows)
+  pub far : IsFar rows asked
+
 -- what clap reads from the words of `live`: a numeral, and the flag as it is told
 pub record IsLive (rows : List Row) (asked : LiveWords) : Type 0 where
   pub numeral : List ℕ
@@ -198,5 +251,5 @@ ReadsWords words (Explain asked) = ReadsExplain words asked
 ReadsWords words (Page text) = HasSubcommand words (codes "page") text.now
 ReadsWords words (Pcap text) = HasSubcommand words (codes "pcap") text.now
 ReadsWords words (Device asked) = ReadsDevice words asked
-ReadsWords words (Far text) = HasSubcommand words (codes "far") text.now
+ReadsWords words (Far asked) = ReadsFar words asked
 ReadsWords words (Live asked) = ReadsLive words asked

@@ -11,4 +11,6 @@ mod selection;
 mod words;
 
 pub use selection::{Selection, selection_of};
-pub use words::{DeviceWords, ExplainWords, LiveWords, NamedFile, WordFault, Words, read_words};
+pub use words::{
+    DeviceWords, ExplainWords, FarWords, LiveWords, NamedFile, WordFault, Words, read_words,
+};

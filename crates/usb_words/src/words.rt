@@ -2,8 +2,8 @@
 ghost use Rattle.std.specs.Prelude.{◌≡◌, IfOk, IfSome, List, map, true, false};
 ghost use Rattle.clap.specs.Simple.{app_of, subcommand_of, subcommand_rows_of, with_subcommand};
 ghost use Rattle.clap.specs.Matches.{found_of};
-ghost use Rattle.clap.specs.Walk.{Text, rows_of, rule_of};
-ghost use Rattle.usb_words.specs.CommandLine.{AreNamedFiles, GivesPorts, IsDevice, IsExplain, IsLive, ReadsWords, device_app, devices_rule, draw_app, explain_app, first_app, limit_rule, live_app, only_rule, plain_app, ports_rule, program_app, run_app, text_app, text_rule, wide_rule, with_text};
+ghost use Rattle.clap.specs.Walk.{Text, one_of, rows_of, rule_of};
+ghost use Rattle.usb_words.specs.CommandLine.{AreNamedFiles, GivesPorts, IsDevice, IsExplain, IsFar, IsLive, GivesNumber, ReadsWords, device_app, devices_rule, draw_app, explain_app, far_app, judge_rule, attempts_rule, rounds_rule, first_app, limit_rule, live_app, only_rule, plain_app, ports_rule, program_app, run_app, text_app, text_rule, wide_rule, with_text};
 
 use crate::selection::{Selection, selection_of};
 use clap::builder::ValueParser;
@@ -37,8 +37,8 @@ pub enum Words<'a> {
     Pcap(&'a str),
     /// The entries of a plan that devices make.
     Device(DeviceWords<'a>),
-    /// The far end of a bus, played from a plan, by the plan's file.
-    Far(&'a str),
+    /// The far end of a bus, played from a plan.
+    Far(FarWords<'a>),
     /// A host before a far end.
     Live(LiveWords),
 }
@@ -70,6 +70,19 @@ pub struct NamedFile<'a> {
     pub file: &'a str,
 }
 
+/// How a plan is played to a host.
+#[derive(Clone, Copy, Debug)]
+pub struct FarWords<'a> {
+    /// The plan's file.
+    pub file: &'a str,
+    /// Whether the host is judged.
+    pub judge: bool,
+    /// The most attempts that it may make; None: those that the plan allows.
+    pub limit: Option<u64>,
+    /// The most attempts that it may make without a `wait`; None: any number.
+    pub rounds: Option<u64>,
+}
+
 /// What host is before a far end.
 #[derive(Clone, Copy, Debug)]
 pub struct LiveWords {
@@ -92,7 +105,7 @@ pub enum WordFault {
 
 /// Reads the words after the program's name: `packet HEX`, `check FILE`, `tree FILE`, `draw [--ascii] FILE`,
 /// `run FILE`, `explain [--only WHAT] FILE`, `page FILE`, `pcap FILE`, `device NAME FILE [NAME FILE].. [--ports N]`,
-/// `far FILE`, `live [--limit N] [--wide-hubs]` or none.
+/// `far [--judge] [--limit N] [--rounds N] FILE`, `live [--limit N] [--wide-hubs]` or none.
 ///
 /// # Errors
 ///
@@ -144,7 +157,7 @@ fn plain_words<'a>(matches: &ArgMatches<'a>) -> Option<Words<'a>>
         Some(("explain", found)) => Some(Words::Explain(explain_words(found)?)),
         Some(("page", found)) => Some(Words::Page(found.get_str("text")?)),
         Some(("pcap", found)) => Some(Words::Pcap(found.get_str("text")?)),
-        Some(("far", found)) => Some(Words::Far(found.get_str("text")?)),
+        Some(("far", found)) => Some(Words::Far(far_words(found)?)),
         Some(("live", found)) => Some(Words::Live(live_words(found)?)),
         Some(_) => None,
     }
@@ -199,6 +212,35 @@ fn named_files<'a>(
         return Ok(None);
     }
     Ok(Some(files))
+}
+
+/// What `far` asks for.
+fn far_words<'a>(found: &ArgMatches<'a>) -> Option<FarWords<'a>>
+    ensures { IfSome result (λ asked. IsFar (rows_of (found_of found.now)) asked) }
+{
+    let file = found.get_str("text")?;
+    let limit = number_of(found, "limit")?;
+    let rounds = number_of(found, "rounds")?;
+    let judge = found.get_flag("judge");
+    Some(FarWords {
+        file,
+        judge,
+        limit,
+        rounds,
+    })
+}
+
+/// A number that may be left out. None if there is a text in its place that is none.
+fn number_of(found: &ArgMatches<'_>, id: &str) -> Option<Option<u64>>
+    ensures { IfSome result (λ read. GivesNumber (one_of id.now (rows_of (found_of found.now))) read) }
+{
+    if let Some(number) = found.get_one::<u64>(id) {
+        return Some(Some(number));
+    }
+    match found.get_str(id) {
+        Some(_) => None,
+        None => Some(None),
+    }
 }
 
 /// What `live` asks for.
@@ -285,13 +327,8 @@ fn program<'a>(alloc: Global) -> Result<Command<'a>, AllocError>
     )?;
     let device = device_command(alloc)?;
     let with_device = with_command(with_pcap, device)?;
-    let with_far = with_text_command(
-        alloc,
-        with_device,
-        "far",
-        "Answers a host, line by line, as the devices of a plan would",
-        text(alloc, "FILE", "The plan's file"),
-    )?;
+    let far = far_command(alloc)?;
+    let with_far = with_command(with_device, far)?;
     let live = live_command(alloc)?;
     with_command(with_far, live)
 }
@@ -492,6 +529,58 @@ fn ports<'a>(alloc: Global) -> Arg<'a>
         .value_parser(ValueParser::unsigned(1, 7))
         .default_value("7")
         .help("How many ports each has that is a hub: 1 to 7")
+}
+
+/// The command that plays a plan to a host.
+fn far_command<'a>(alloc: Global) -> Result<Command<'a>, AllocError>
+    ensures { IfOk result (λ c. app_of c ≡ far_app) }
+{
+    let plain = command(
+        alloc,
+        "far",
+        "Answers a host, line by line, as the devices of a plan would",
+        text(alloc, "FILE", "The plan's file"),
+    )?;
+    let judged = plain.arg(judge(alloc))?;
+    let limited = judged.arg(attempts(alloc))?;
+    limited.arg(rounds(alloc))
+}
+
+/// Whether `far` judges the host.
+fn judge<'a>(alloc: Global) -> Arg<'a>
+    ensures local { result.global ≡ false }
+    ensures rule { rule_of result ≡ judge_rule }
+{
+    Arg::new(alloc, "judge")
+        .long("judge")
+        .action(ArgAction::SetTrue)
+        .help("Judges each listing of the host, and what it does on the bus")
+}
+
+/// The most attempts of a host that `far` answers.
+fn attempts<'a>(alloc: Global) -> Arg<'a>
+    ensures local { result.global ≡ false }
+    ensures rule { rule_of result ≡ attempts_rule }
+{
+    Arg::new(alloc, "limit")
+        .long("limit")
+        .action(ArgAction::Set)
+        .value_name("N")
+        .value_parser(ValueParser::unsigned(0, 100000000000000))
+        .help("How many attempts the host may make at most, in place of the plan's limit")
+}
+
+/// The most attempts of a host without a `wait`.
+fn rounds<'a>(alloc: Global) -> Arg<'a>
+    ensures local { result.global ≡ false }
+    ensures rule { rule_of result ≡ rounds_rule }
+{
+    Arg::new(alloc, "rounds")
+        .long("rounds")
+        .action(ArgAction::Set)
+        .value_name("N")
+        .value_parser(ValueParser::unsigned(1, 100000000000000))
+        .help("How many attempts the host may make without a wait")
 }
 
 /// The command that is a host before a far end.

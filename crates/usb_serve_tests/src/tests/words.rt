@@ -160,13 +160,16 @@ Options:
 const FAR_HELP: &str = "\
 Answers a host, line by line, as the devices of a plan would
 
-Usage: usbplan far <FILE>
+Usage: usbplan far [OPTIONS] <FILE>
 
 Arguments:
   <FILE>  The plan's file
 
 Options:
-  -h, --help  Print help
+      --judge       Judges each listing of the host, and what it does on the bus
+      --limit <N>   How many attempts the host may make at most, in place of the plan's limit
+      --rounds <N>  How many attempts the host may make without a wait
+  -h, --help        Print help
 ";
 
 const LIVE_HELP: &str = "\
@@ -197,6 +200,12 @@ For more information, try '--help'.
 
 const NO_NUMBER: &str = "\
 error: invalid value 'x' for '--ports <N>': invalid digit found in string
+
+For more information, try '--help'.
+";
+
+const NO_ROUNDS: &str = "\
+error: invalid value '0' for '--rounds <N>': 0 is not in 1..=100000000000000
 
 For more information, try '--help'.
 ";
@@ -245,7 +254,7 @@ For more information, try '--help'.
 ";
 
 /// Words, and what they ask for, or the text that is shown in its place.
-const WORDS: [(&[&str], &str); 38] = [
+const WORDS: [(&[&str], &str); 40] = [
     (&["packet", "2D0010"], "Packet(\"2D0010\")"),
     (&[], "Stdin"),
     (&["tree", "plan.toml"], "Tree(\"plan.toml\")"),
@@ -258,7 +267,22 @@ const WORDS: [(&[&str], &str); 38] = [
     (&["explain", "-", "--only", "8"], NO_SELECTION),
     (&["pcap", "-"], "Pcap(\"-\")"),
     (&["check", "plan.toml"], "Check(\"plan.toml\")"),
-    (&["far", "plan.toml"], "Far(\"plan.toml\")"),
+    (
+        &["far", "plan.toml"],
+        "Far(FarWords { file: \"plan.toml\", judge: false, limit: None, rounds: None })",
+    ),
+    (
+        &[
+            "far",
+            "--limit",
+            "7",
+            "-",
+            "--judge",
+            "--rounds=100000000000000",
+        ],
+        "Far(FarWords { file: \"-\", judge: true, limit: Some(7), rounds: Some(100000000000000) })",
+    ),
+    (&["far", "-", "--rounds", "0"], NO_ROUNDS),
     (&["draw", "plan.toml"], "Draw(false, \"plan.toml\")"),
     (&["draw", "--ascii", "-"], "Draw(true, \"-\")"),
     (&["draw", "-", "--ascii"], "Draw(true, \"-\")"),

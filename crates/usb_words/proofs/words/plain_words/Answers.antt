@@ -85,8 +85,13 @@ returns-in_ok-get_str-in-Some-pcap-default c =
     command_of c.args.matches.now arm.found.now (codes "pcap") _ (sym (ap Some arm.is-pcap)
     ∙ arm.ensures.name) arm.ensures.rows c.in_ok-get_str-in-Some-pcap-default.ensures
 
-pub returns-in_ok-get_str-in-Some-far-default : goal.returns-in_ok-get_str-in-Some-far-default
-returns-in_ok-get_str-in-Some-far-default c =
+pub returns-in_ok-far_words-in-Some-far-default : goal.returns-in_ok-far_words-in-Some-far-default
+returns-in_ok-far_words-in-Some-far-default c = λ words read.
     let arm = c.in-Some-far-default in
-    command_of c.args.matches.now arm.found.now (codes "far") _ (sym (ap Some arm.is-far)
-    ∙ arm.ensures.name) arm.ensures.rows c.in_ok-get_str-in-Some-far-default.ensures
+    record {
+      rows = rows_of (found_of arm.found.now);
+      subcommand = sym read ∙ pair_of c.args.matches.now (codes "far")
+          (rows_of (found_of arm.found.now)) (sym (ap Some arm.is-far) ∙ arm.ensures.name)
+          arm.ensures.rows;
+      far = c.in_ok-far_words-in-Some-far-default.ensures;
+    }

@@ -11,6 +11,7 @@ returns c =
     let sixth = c.in_ok-with_pcap.ensures ∙ ap (λ p. with_text p (codes "pcap")) fifth in
     let seventh = c.in_ok-with_device.ensures
     ∙ ap₂ (λ p q. with_subcommand p q.top) sixth c.in_ok-device.ensures in
-    let eighth = c.in_ok-with_far.ensures ∙ ap (λ p. with_text p (codes "far")) seventh in
-    subst (λ p. IfOk c.with_command-3.result (λ whole. app_of whole ≡ p))
-    (ap₂ (λ p q. with_subcommand p q.top) eighth c.in_ok-live.ensures) c.with_command-3.ensures
+    let eighth = c.in_ok-with_far.ensures
+    ∙ ap₂ (λ p q. with_subcommand p q.top) seventh c.in_ok-far.ensures in
+    subst (λ p. IfOk c.with_command-4.result (λ whole. app_of whole ≡ p))
+    (ap₂ (λ p q. with_subcommand p q.top) eighth c.in_ok-live.ensures) c.with_command-4.ensures

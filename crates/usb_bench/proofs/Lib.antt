@@ -1,0 +1,6 @@
+pub mod Attempts
+pub mod Listings
+pub mod Receiving
+pub mod Rows
+pub mod Saying
+pub mod Serves

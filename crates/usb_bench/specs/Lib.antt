@@ -1,0 +1,27 @@
+pub mod Said
+pub mod Reports
+pub mod Received
+pub mod Attempts
+pub mod Serving
+pub mod Summaries
+-- the words of this crate, wherever one stands
+pub use Said.{IsUnsaid, Says, lines_text}
+pub use Reports.{IsFaultOf, LineTaken, ListingJudged, Taken, opened, claim_lines}
+pub use Reports.{is_end, judgement_said, refusal}
+pub use Received.{AfterData, AfterDigits, AfterReport, gives_source}
+pub use Received.{KeepsWindow, Kept, Report, ReportLine, ReportTaken, ReadsReport, anywhere, begun_anew}
+pub use Received.{behind_word, done_at, is_at, outcome_at, path_in, report_of, reported_at}
+pub use Received.{begun_by, cleared_at, received_at, report_view, source_at, widened, window_at}
+pub use Received.{with_fault, with_window}
+unfoldable pub use Received.{report_in}
+pub use Attempts.{AfterJudged, BeforeJudged, CallNoted, EmptyNoted, Foreseen, IsSeen}
+pub use Attempts.{IsUnforeseen, Judged, ResetNoted}
+pub use Attempts.{attempt_asked, empty_lines, faults_with, holder_in, holder_of, next_number}
+pub use Attempts.{out_asked, outcome_of, remark_after, remark_lines, taken_on}
+pub use Serving.{AllJudged, AloneTaken, AskedOne, EndedOne, ServedNext, ToldOne}
+pub use Serving.{IsLastLine, JudgesHost, LineJudged, NoReply, OneAnswered, OneJudged}
+pub use Serving.{OpenTaken, RowJudged, RowStops, ServedAll, ServedUpTo, Serves, StopsFor, TakenIn}
+pub use Serving.{last_at, last_attempt, IsUnjudged}
+pub use Summaries.{is_right}
+unfoldable pub use Summaries.{summary_text}
+pub use declared.fault.BenchFault.{BenchFault}
