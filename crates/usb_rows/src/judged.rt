@@ -36,15 +36,25 @@ pub(crate) fn judgements_of(
 ) -> Result<String, AllocError> {
     let lines = with_listing(alloc, asked, listing)?;
     let trace = RefCell::new(Vec::new(alloc));
-    let mut far = FarEnd::new(alloc, plan, Watched::new(Tracing(&trace)))?;
-    let mut reader = Watched::new(lines.as_slice());
-    let mut writer = Watched::new(Vec::new(alloc));
-    let mut judge = Judge::new(alloc);
-    let judged = judge_host(alloc, &mut judge, &mut far, None, &mut reader, &mut writer);
-    if judged.is_err() {
+    if !is_played(alloc, plan, lines.as_slice(), Tracing(&trace))? {
         return String::from_str(alloc, "not judged to the end");
     }
     wrong_in(alloc, trace.into_inner().as_slice())
+}
+
+/// Plays a plan to these lines of a host, judged. Returns whether all were answered.
+fn is_played(
+    alloc: Global,
+    plan: &Plan,
+    lines: &[u8],
+    trace: Tracing<'_>,
+) -> Result<bool, AllocError> {
+    let mut far = FarEnd::new(alloc, plan, Watched::new(trace))?;
+    let mut reader = Watched::new(lines);
+    let mut writer = Watched::new(Vec::new(alloc));
+    let mut judge = Judge::new(alloc);
+    let judged = judge_host(alloc, &mut judge, &mut far, None, &mut reader, &mut writer);
+    Ok(judged.is_ok())
 }
 
 /// The lines of a host, with another last listing.
