@@ -164,6 +164,9 @@ check_command() {
       *:-h | *:--help) tell_help "$command" ;;
       draw:--ascii) check_option draw --ascii ;;
       live:--wide-hubs | live:--wide-hubs=*) check_flag "$1" ;;
+      # what is wrong with these the program says, once it is built
+      far:--judge | far:--judge=* | far:--limit=* | far:--rounds=*) ;;
+      far:--limit | far:--rounds) [ $# -lt 2 ] || shift ;;
       device:--ports | live:--limit | explain:--only)
         check_option "$command" "$1 <$(value_name "$1")>"
         [[ $# -gt 1 && ! "$2" =~ ^(-h|--help|--wide-hubs|$1)$ ]] ||
