@@ -2,3 +2,4 @@ pub mod Plans
 pub mod Arrivals
 pub mod Endings
 pub mod OneLines
+pub mod Followed

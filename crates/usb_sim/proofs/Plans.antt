@@ -4,10 +4,10 @@ use Rattle.std.proofs.Common.{sym, subst}
 use Rattle.std.proofs.lemmas.Bool.{and_parts, and_from}
 use Rattle.std.specs.List.{list_all}
 use Rattle.usb_device.specs.{Spec}
-use Rattle.usb_world.specs.{Event, Action, Plug, Unplug, PluggedMap, plugged_after, has_port}
+use Rattle.usb_world.specs.{Event, Action, Plug, PluggedMap, plugged_after, has_port}
 use Rattle.usb_world.specs.{after_most, PlanData, IsPlan, is_taken, action_fits, event_fits}
 use Rattle.usb_world.specs.{events_fit, can_be_done, can_come}
-use Rattle.usb_world.specs.declared.event.Action.TheVariants.{Change, Ask}
+use Rattle.usb_world.specs.declared.event.Action.TheVariants.{Change}
 
 action_done : (roots : ℕ) (devices : List Spec) (tree : PluggedMap) (a : Action)
     → action_fits roots devices tree a ≡ true → can_be_done (length devices) a ≡ true

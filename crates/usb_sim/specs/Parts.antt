@@ -1,10 +1,14 @@
 -- The parts of an attempt of a simulated bus: each event that is due, all of them, and the attempt
 -- behind them.
 use Rattle.std.specs.Prelude.{◌≡◌, ◌≢◌, ℕ, ◌+◌, List, Option, None, Some, Result, Ok, Err, OnOk}
-use Rattle.std.specs.Prelude.{OnErr, IfOk, IfErr, IsSome, true}
+use Rattle.std.specs.Prelude.{OnErr, IfOk, IfErr, IsSome, length, true}
+use Rattle.usb_packet.specs.declared.Packet.TheVariants as packet
 use Rattle.usb_world.specs.{Attempt, BusFault, Limit, Memory, Failed, Outcome, World}
 use Rattle.usb_world.specs.{AttemptsWithin, to_come, Coming, Left, after, attempt}
-use Rattle.usb_world.specs.{fault_of, outcome_in, at_attempt, after_first_event, with_attempt}
+use Rattle.usb_world.specs.{fault_of, made_in, outcome_in, at_attempt, after_first_event}
+use Rattle.usb_world.specs.{with_attempt}
+use Rattle.usb_world.specs.declared.exchange.ExchangeAnswer.{ExchangeAnswer}
+use Rattle.usb_world.specs.declared.exchange.ExchangeAnswer.TheVariants.{One}
 use Rattle.usb_world.specs.declared.event.Ask.{Ask}
 use Rattle.usb_sim.specs.declared.sim.SimBus.{SimBus}
 use Rattle.usb_sim.specs.declared.tracer.Trace.{Ghosts}
@@ -53,10 +57,25 @@ pub record AttemptMade {A : Type 0} (a : Attempt) (old : World) (before : Option
     pub other : IfErr result (λ f. f ≢ Limit)
     pub text : WritesText result before now (step_lines a old new)
 
--- what an attempt that told a fault leaves: at the limit the trace as it was, behind a fault all as
--- it was, and where it is the first to tell Failed a trace that has failed
-pub record RefusesAttempt {T : Type 0} {g : Ghosts T} (a : Attempt) (old : SimBus T g)
+-- how many bytes of data a device answered, where one device did
+abbrev pub data_length : ExchangeAnswer → ℕ
+data_length (One (packet.Payload toggle bytes)) = length bytes.items
+data_length _ = 0
+
+-- how many bytes of data a device answers to an attempt that is made next
+abbrev pub answered_in : Attempt → World → ℕ
+answered_in a w = data_length (made_in a (at_attempt w)).answer
+
+-- how many bytes of data a device answered to the last attempt
+abbrev pub answered_by : {T : Type 0} {g : Ghosts T} → SimBus T g → ℕ
+answered_by s = data_length s.exchange.answer
+
+-- what an attempt leaves beside the world: what was answered; where it told a fault, at the limit the
+-- trace as it was, behind a fault all as it was, and where it is the first to tell Failed a trace
+-- that has failed
+pub record LeavesAttempt {T : Type 0} {g : Ghosts T} (a : Attempt) (old : SimBus T g)
     (result : Result Outcome BusFault) (new : SimBus T g) : Type 0 where
+  pub answered : OnOk result (answered_by new ≡ answered_in a (world_of old))
   pub limit : result ≡ Err Limit → (world_of new ≡ after (attempt a) (world_of old))
       × (tracer_of new ≡ tracer_of old)
   pub again : IsSome (world_of old).fault → new ≡ old

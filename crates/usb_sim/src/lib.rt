@@ -20,7 +20,7 @@ mod tracer;
 
 pub use laws::{plug_is_one_line, trace_fault, untraced_fault};
 pub use shown::ends_line;
-pub use sim::SimBus;
+pub use sim::{FollowFault, SimBus};
 pub use trace::{Line, push_attempt};
 pub use tracer::{Trace, Tracer, Untraced};
 pub use usb_device::EndpointNumber;

@@ -19,9 +19,11 @@ ghost use Rattle.usb_world.specs.declared.types.BusFault.TheVariants.{Limit};
 mod bus;
 mod descriptions;
 mod events;
+mod follow;
 mod lines;
 
 use self::descriptions::Descriptions;
+pub use self::follow::FollowFault;
 use crate::shown::{ShownName, shown_names};
 use crate::{Damage, Event, Plan, Trace, Tracer, Untraced};
 use std::alloc::{AllocError, Global};
@@ -29,8 +31,9 @@ use std::collections::VecDeque;
 use std::io::Write;
 use usb_bus::Watched;
 use usb_device::{EndpointNumber, Holders, Ports};
+use usb_packet::Packet;
 use usb_port::PortPath;
-use usb_world::{BusFault, Exchange, Losses, event_copies};
+use usb_world::{BusFault, Exchange, ExchangeAnswer, Losses, event_copies};
 
 /// A bus that a plan describes. Each attempt, plug and unplug is a line of the trace, which goes to a writer at once
 /// where the bus is `Tracer`.
@@ -142,6 +145,7 @@ impl SimBus<Untraced> {
 }
 
 impl<T: Trace> SimBus<T> {
+    ghost use Rattle.usb_sim.specs.Parts.{answered_by};
     ghost use Rattle.usb_sim.specs.Sim.{world_of, tracer_of, device_at, registers_of};
 
     /// The bus of a plan, before anything came: all ports are off. The lines of its trace go to this, which has not
@@ -215,6 +219,17 @@ impl<T: Trace> SimBus<T> {
         ensures { result.now ≡ (world_of self.now).damages }
     {
         self.damages.as_slice()
+    }
+
+    /// How many bytes of data a device answered to the last attempt; 0 if none did, or several at once. It may be more
+    /// than the host asked for, which reads nothing then.
+    pub fn answered(&self) -> usize
+        ensures { result ≡ answered_by self.now }
+    {
+        match &self.exchange.answer {
+            ExchangeAnswer::One(Packet::Payload { bytes, .. }) => bytes.len(),
+            _ => 0,
+        }
     }
 
     /// Whether at some attempt two reachable devices held one address.

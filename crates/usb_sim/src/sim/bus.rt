@@ -1,5 +1,5 @@
 //! The simulated bus as the host sees it.
-ghost use Rattle.std.specs.Prelude.{◌≡◌, ◌+◌, ◌-◌, ◌<◌, ◌≤◌, ◌∷◌, [], length, slice_index_or, true, false, None, Some, IfOk, IfErr, refl};
+ghost use Rattle.std.specs.Prelude.{◌≡◌, ◌+◌, ◌-◌, ◌<◌, ◌≤◌, ◌∷◌, [], length, slice_index_or, true, false, None, Some, IfOk, IfErr, OnOk, refl};
 ghost use Rattle.usb_port.specs.PortStates.{off, status_of};
 ghost use Rattle.usb_device.specs.HolderIndex.{IsIndexOf};
 ghost use Rattle.usb_device.specs.Tree.{row_of, changed, called};
@@ -19,7 +19,7 @@ use usb_port::PortCall;
 use usb_world::{Attempt, BusFault, Outcome, damage_of, make_exchange_by, outcome_of};
 
 impl<T: Trace> Bus for SimBus<T> {
-    ghost use Rattle.usb_sim.specs.Parts.{RefusesAttempt};
+    ghost use Rattle.usb_sim.specs.Parts.{LeavesAttempt};
     ghost use Rattle.usb_sim.specs.Sim.{world_of, tracer_of, trace_of};
 
     ghost modelled = { true };
@@ -42,7 +42,7 @@ impl<T: Trace> Bus for SimBus<T> {
             self.old self.new }
         ensures fits { IfOk result (FitsMaximum (attempt_data attempt.now).max) }
         ensures told { IfErr result (λ fault. (world_of self.new).fault ≡ Some fault) }
-        ensures refuses { RefusesAttempt (attempt_data attempt.now) self.old result self.new }
+        ensures leaves { LeavesAttempt (attempt_data attempt.now) self.old result self.new }
     {
         if let Some(fault) = self.fault {
             return Err(fault);
@@ -94,7 +94,7 @@ impl<T: Trace> Bus for SimBus<T> {
 }
 
 impl<T: Trace> SimBus<T> {
-    ghost use Rattle.usb_sim.specs.Parts.{AttemptMade};
+    ghost use Rattle.usb_sim.specs.Parts.{AttemptMade, answered_by, answered_in};
     ghost use Rattle.usb_sim.specs.Sim.{world_of, tracer_of, trace_of};
 
     /// A call at a root port.
@@ -119,6 +119,8 @@ impl<T: Trace> SimBus<T> {
             AttemptMade (attempt_data attempt.now) (world_of self.old) (trace_of self.old) result
             (outcome_of x.answer x.answer_mark (attempt_data attempt.now).max)
             (world_of self.new) (trace_of self.new) }
+        ensures answered { OnOk result (answered_by self.new
+            ≡ answered_in (attempt_data attempt.now) (world_of self.old)) }
         ensures trace { result ≡ Err Failed → T.failed (tracer_of self.new) ≡ true }
     {
         self.take_due_events()?;

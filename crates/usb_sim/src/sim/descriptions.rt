@@ -38,6 +38,13 @@ impl Descriptions {
         Ok(Descriptions { specs: all })
     }
 
+    /// How many there are.
+    pub fn count(&self) -> usize
+        ensures { result ≡ length self.now }
+    {
+        self.specs.len()
+    }
+
     /// The description at an index.
     pub fn at(&self, index: usize) -> &Rc<DeviceSpec>
         requires { index < length self.now }

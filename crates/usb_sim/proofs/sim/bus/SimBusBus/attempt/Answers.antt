@@ -11,8 +11,9 @@ returns-in-Some-clause-attempts g c = again_attempts
     (attempt_data c.args.attempt.now) (world_of c.args.self.now) _
     c.in-Some.fault (sym c.in-Some.is) c.args.self.now.at_limit
 
-pub returns-in-Some-clause-refuses : goal.returns-in-Some-clause-refuses
-returns-in-Some-clause-refuses g c = record {
+pub returns-in-Some-clause-leaves : goal.returns-in-Some-clause-leaves
+returns-in-Some-clause-leaves g c = record {
+  answered = tt;
   limit = λ _. (
     after_fault (attempt_data c.args.attempt.now) (world_of c.args.self.now) c.in-Some.fault
         c.in-Some.is,
@@ -27,8 +28,9 @@ returns-then-self-clause-attempts g c = limit_attempts
     (attempt_data c.args.attempt.now) (world_of c.args.self.now)
     _ c.in_default.is c.if-self.true
 
-pub returns-then-self-clause-refuses : goal.returns-then-self-clause-refuses
-returns-then-self-clause-refuses g c = record {
+pub returns-then-self-clause-leaves : goal.returns-then-self-clause-leaves
+returns-then-self-clause-leaves g c = record {
+  answered = tt;
   limit = λ _. (
     after-limit (attempt_data c.args.attempt.now) (world_of c.args.self.now) c.in_default.is
         c.if-self.true,
@@ -45,10 +47,11 @@ returns-in_err-make_attempt-clause-attempts g c =
     (world_of c.args.self.now) (world_of c.make_attempt.new.self) _ _ c.in_default.is
     c.if-self.false c.in_err-make_attempt.ensures.made)
 
-pub returns-in_err-make_attempt-clause-refuses : goal.returns-in_err-make_attempt-clause-refuses
-returns-in_err-make_attempt-clause-refuses g c =
+pub returns-in_err-make_attempt-clause-leaves : goal.returns-in_err-make_attempt-clause-leaves
+returns-in_err-make_attempt-clause-leaves g c =
     let told = err_from_is_err_and c.from_residual.result c.from_residual.ensures.1 in
     rw (told.1, told.2) (record {
+      answered = tt;
       limit = never_limit _ c.in_err-make_attempt.ensures.made.other;
       again = search rules;
       failed = λ e none. c.in_err-make_attempt.ensures.trace (cc e);
@@ -63,8 +66,9 @@ returns-clause-attempts g c =
     (subst (λ n. FitsMaximum n c.outcome_of.result) max c.outcome_of.ensures.fits)
     (rw (c.outcome_of.ensures.value, max) c.in_ok-make_attempt.ensures.made)
 
-pub returns-clause-refuses : goal.returns-clause-refuses
-returns-clause-refuses g c = record {
+pub returns-clause-leaves : goal.returns-clause-leaves
+returns-clause-leaves g c = record {
+  answered = c.in_ok-make_attempt.ensures.answered;
   limit = λ e. absurd (cc e);
   again = search rules;
   failed = λ e. absurd (cc e);
