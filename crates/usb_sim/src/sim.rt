@@ -1,5 +1,5 @@
 //! A simulated bus: the devices that a plan's events plug at its root ports, and the trace of its attempts.
-ghost use Rattle.std.specs.Prelude.{◌≡◌, ◌+◌, ◌≤◌, length, IfOk, IfErr, None, Some, option_map, false, true, All};
+ghost use Rattle.std.specs.Prelude.{◌≡◌, ◌+◌, ◌-◌, ◌≤◌, length, IfOk, IfErr, None, Some, option_map, false, true, All};
 ghost use Rattle.std.specs.List.{list_all};
 ghost use Rattle.usb_world.specs.Plans.{can_come};
 ghost use Rattle.usb_world.specs.PlanLimits.{attempt_most, damage_most, event_most};
@@ -209,9 +209,17 @@ impl<T: Trace> SimBus<T> {
 
     /// How many attempts were made.
     pub fn attempts(&self) -> u64
-        ensures { result ≡ (world_of self.now).attempts }
+        ensures value { result ≡ (world_of self.now).attempts }
+        ensures most { result ≤ attempt_most }
     {
         self.attempts
+    }
+
+    /// How many attempts were made since the last event came, or since the start.
+    pub fn attempts_since(&self) -> u64
+        ensures { let w = world_of self.now in result ≡ w.attempts - w.attempts_then }
+    {
+        self.attempts - self.attempts_then
     }
 
     /// The damages of the plan, in the order of their attempts.
