@@ -9,7 +9,7 @@ use usb_port::PortPath;
 /// Room for a line, in bytes.
 const ROOM: usize = 64;
 
-/// `wrong N address A WORDS`, or `note N address A nobody`: a remark on attempt N, which is for
+/// `wrong N address A WORDS`, or `note N address A WORDS`: a remark on attempt N, which is for
 /// address A.
 ///
 /// # Errors

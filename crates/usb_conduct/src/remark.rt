@@ -17,6 +17,8 @@ pub enum Remark {
     SkippedRetry,
     /// No device that packets reach holds the address. It may just have left.
     Nobody,
+    /// The device's packet is longer than the host asked for, which reads nothing of it (8.7.4).
+    Babble,
 }
 
 impl Remark {
@@ -25,7 +27,7 @@ impl Remark {
         ensures { result ≡ is_fault self }
     {
         match self {
-            Remark::Nobody => false,
+            Remark::Nobody | Remark::Babble => false,
             Remark::TwoDevices
             | Remark::OtherSpeed
             | Remark::TooLong
@@ -46,6 +48,7 @@ impl Remark {
             Remark::OtherToggle => "toggle",
             Remark::SkippedRetry => "no retry",
             Remark::Nobody => "nobody",
+            Remark::Babble => "babble",
         }
     }
 }

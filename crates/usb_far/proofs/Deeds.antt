@@ -5,7 +5,8 @@ use Rattle.std.proofs.Common.{slice_index_or}
 use Rattle.std.proofs.KnownBytes.{Appends-nil}
 use Rattle.std.proofs.lemmas.Bool.{false≢true}
 use Rattle.std.proofs.lemmas.List.{map-append, take_more}
-use Rattle.std.specs.Prelude.{IsSome, OnErr, OnOk, Result}
+use Rattle.std.specs.Prelude.{IfSome, IsSome, OnErr, OnOk, Result}
+use Rattle.usb_sim.specs.{answered_in}
 use Rattle.std.specs.Io.KnownBytes.{Appends}
 use Rattle.usb_port.specs.{PortState, off, status_of, PortCall}
 use Rattle.usb_world.specs.declared.event.Ask.{Ask}
@@ -29,9 +30,9 @@ pub played_attempt : (a : Attempt) (old new : Played) (o : Outcome) (answer : An
     → answer ≡ outcome_answer o → poll ≡ is_poll a o → before ≡ old.far.world.taken
     → unseen ≡ unseen_in poll old.far.unseen before new.far.world
     → new.far ≡ record old.far { world = new.far.world; unseen = unseen }
-    → IsDone (attempt_done a old.far) old answer new
+    → new.answered ≡ answered_in a old.far.world → IsDone (attempt_done a old.far) old answer new
 unfolding attempt_done
-played_attempt a old new o answer poll unseen before made told polled then is far =
+played_attempt a old new o answer poll unseen before made told polled then is far heard_all =
     let f = old.far in
     let world : new.far.world ≡ after (attempt a) f.world = made.exact in
     let heard : o ≡ outcome_in a f.world = made.outcome in
@@ -48,6 +49,7 @@ played_attempt a old new o answer poll unseen before made told polled then is fa
       far = far ∙ ap₂ (λ v b. record f { world = v; unseen = b }) world same;
       traced = subst (λ v. Appends old.trace.bytes new.trace.bytes (step_lines a f.world v)) world
           made.text;
+      heard = heard_all;
     }
 
 -- ---- waits
@@ -61,6 +63,7 @@ nothing_wanted old new unseen far same = rw unseen (record {
   made = λ (by : false ≡ true). absurd (false≢true by);
   far = far;
   traced = subst (λ t. Appends old.trace.bytes t.bytes []) (sym same) (Appends-nil old.trace.bytes);
+  heard = tt;
 })
 
 wanted_due : (f : Far) (sending : Option ToSend) → f.unseen ≡ false → f.sending ≡ sending
@@ -80,6 +83,7 @@ part_went old new s w unseen is part far same =
           (ap (λ v. v.sending) part);
       traced = subst (λ t. Appends old.trace.bytes t.bytes []) (sym same)
           (Appends-nil old.trace.bytes);
+      heard = tt;
     })
 
 event_ends-no_fault : (w v : World) (due : Option (Option Ask)) → EventEnds w (Ok due) v
@@ -109,6 +113,7 @@ event_wanted old new due w unseen none takes told far =
           }) (sym (ap sending_in is));
       traced = subst (λ v. Appends old.trace.bytes new.trace.bytes (lines_between old.far.world v))
           takes.exact takes.text;
+      heard = tt;
     })
 
 pub too_much_wanted : (old new : Played) (due : Option (Option Ask)) → old.far.unseen ≡ false
@@ -143,6 +148,7 @@ port_called number call old new world far same = record {
   made = λ (by : false ≡ true). absurd (false≢true by);
   far = far ∙ ap (λ w. record old.far { world = w; unseen = false }) world;
   traced = subst (λ t. Appends old.trace.bytes t []) (sym same) (Appends-nil old.trace.bytes);
+  heard = tt;
 }
 
 pub endpoint_restarted : (old new : Played) → new.far ≡ record old.far { unseen = false }
@@ -153,6 +159,7 @@ endpoint_restarted old new far same = record {
   made = λ (by : false ≡ true). absurd (false≢true by);
   far = far;
   traced = subst (λ t. Appends old.trace.bytes t.bytes []) (sym same) (Appends-nil old.trace.bytes);
+  heard = tt;
 }
 
 pub hello_answered : (f : Played) (q : Question) (roots : ℕ) → q ≡ Hello
@@ -164,6 +171,7 @@ hello_answered f q roots is count =
       made = λ (by : false ≡ true). absurd (false≢true by);
       far = refl;
       traced = Appends-nil f.trace.bytes;
+      heard = tt;
     })
 
 -- what is done and told is a reply
@@ -171,8 +179,9 @@ pub made_reply : (q : Question) (a : Asked) (old mid new : Played) (answer : Ans
     (said : List ℕ) (r : Replied) → may_ask old.far.phase q ≡ true
     → a ≡ kind_asked q → IsDone (done q old.far) old answer mid → ChangesTold a mid.far new.far said
     → r.lines.items ≡ said ++ line_of (Answered answer) → r.rest ≡ rest_behind q answer
-    → r.came ≡ came_of answer → new.trace ≡ mid.trace → Replies q old r new
-made_reply q a old mid new answer said r may kind d told is left came same =
+    → r.came ≡ came_of answer → new.trace ≡ mid.trace → new.answered ≡ mid.answered
+    → Replies q old r new
+made_reply q a old mid new answer said r may kind d told is left came same kept =
     let far : mid.far ≡ far_done q old.far = d.far in
     record {
       replied = record {
@@ -190,6 +199,7 @@ made_reply q a old mid new answer said r may kind d told is left came same =
       kind = came;
       traced = subst (λ t. Appends old.trace.bytes t.bytes (done q old.far).traced) (sym same)
           d.traced;
+      heard = subst (λ n. IfSome (done q old.far).heard (λ count. n ≡ count)) (sym kept) d.heard;
     }
 
 -- a line of report, from what the bus did

@@ -1,18 +1,21 @@
 -- The far end as plain data, what it does at each question, and the lines that go out behind it.
 use Rattle.std.specs.Prelude.{◌≡◌, ◌⊎◌, ◌&&◌, ◌||◌, ℕ, ◌+◌, ◌==◌, nat_lt, Bool, true, false, not}
 use Rattle.std.specs.Prelude.{if◌then◌else◌, List, [], ◌∷◌, ◌++◌, length, map, Option, Some, None}
-use Rattle.std.specs.Prelude.{◌-◌, drop, take, is_some, IsSome, Result, Ok, Err, OnOk, OnErr}
+use Rattle.std.specs.Prelude.{◌-◌, drop, take, is_some, IfSome, IsSome, Result, Ok, Err, OnOk}
+use Rattle.std.specs.Prelude.{OnErr}
 use Rattle.std.specs.Io.KnownBytes.{Appends}
 use Rattle.std.specs.Str.{bytes_eq}
 use Rattle.usb_packet.specs.{TokenKind, OutTok, InTok, SetupTok, Speed, Zero, speed_has_pre}
 use Rattle.usb_packet.specs.{speed_is_low, Toggle, is_same, other}
 use Rattle.usb_port.specs.{PortCall, status_of}
 use Rattle.usb_request.specs.{bytes_of, Setup as SetupData}
-use Rattle.usb_world.specs.{Attempt, BusFault, Destination, Failed, Outcome, PutLine, World}
+use Rattle.usb_world.specs.{Attempt, BusFault, Destination, Failed, Outcome, PlanData, PutLine}
+use Rattle.usb_world.specs.{World}
 use Rattle.usb_world.specs.{IsRootPort, root_row, roots_of, after, attempt, damage_of, event}
 use Rattle.usb_world.specs.{outcome_in, root_call}
 use Rattle.usb_world.specs.declared.types.Outcome.TheVariants as outcome
-use Rattle.usb_sim.specs.{Ghosts, trace_of, tracer_of, world_of}
+use Rattle.usb_sim.specs.{Ghosts, answered_by, answered_in, followed, trace_of, tracer_of}
+use Rattle.usb_sim.specs.{world_of}
 use Rattle.usb_bus.specs.{lines_between, next_due, step_lines, AppendsFront, Attempts, TakesEvent}
 use Rattle.usb_lines.specs.{Pipe, LineFault}
 use Rattle.usb_lines.specs.declared.line.LineFault.TheVariants as line
@@ -51,15 +54,17 @@ far_of f = record {
   phase = f.phase;
 }
 
--- the same, with its trace
+-- the same, with its trace, and how many bytes of data a device answered to the last attempt
 pub record Played : Type 0 where
   pub far : Far
   pub trace : Pipe
+  pub answered : ℕ
 
 abbrev pub played_of : {T : Type 0} {g : Ghosts T} → FarEnd T g → Played
 played_of {T} {g} f = record {
   far = far_of f;
   trace = record { bytes = trace_of f.bus; failed = g.failed (tracer_of f.bus) };
+  answered = answered_by f.bus;
 }
 
 -- wPortStatus and wPortChange of each root port (11.24.2.7)
@@ -147,7 +152,7 @@ is_poll a o = is_in_token a.kind && not (a.ep == 0) && brings_nothing o
 
 -- the answer, where a line has room for it; behind it the world, whether the host may not have seen
 -- an event, and what is left of a send; the lines of the trace, and whether the bus makes an attempt or
--- lets an event come
+-- lets an event come; of an attempt, how many bytes of data a device answers
 pub record Deed : Type 0 where
   pub answer : Option Answer
   pub world : World
@@ -155,6 +160,7 @@ pub record Deed : Type 0 where
   pub sending : Option ToSend
   pub traced : List ℕ
   pub by_bus : Bool
+  pub heard : Option ℕ
 
 -- the bus told no fault where it had a part in it
 abbrev pub IsFaultless : Deed → Type 0
@@ -181,6 +187,7 @@ attempt_done a f = record {
   sending = f.sending;
   traced = step_lines a f.world (after (attempt a) f.world);
   by_bus = true;
+  heard = Some (answered_in a f.world);
 }
 
 unfoldable pub call_done : ℕ → PortCall → Far → Deed
@@ -191,6 +198,7 @@ call_done number call f = record {
   sending = f.sending;
   traced = [];
   by_bus = false;
+  heard = None;
 }
 
 -- each attempt has its toggle from the host: nothing is done
@@ -202,6 +210,7 @@ restart_done f = record {
   sending = f.sending;
   traced = [];
   by_bus = false;
+  heard = None;
 }
 
 -- the next part of a send goes, or else the next event comes
@@ -213,6 +222,7 @@ wanted_done (Some s) w = record {
   sending = (part_wanted s).sending;
   traced = [];
   by_bus = false;
+  heard = None;
 }
 wanted_done None w = record {
   answer = answer_in (due_wanted (next_due w));
@@ -221,6 +231,7 @@ wanted_done None w = record {
   sending = sending_in (due_wanted (next_due w));
   traced = lines_between w (after event w);
   by_bus = true;
+  heard = None;
 }
 
 -- where the host may not have seen an event, it is to look once more
@@ -233,6 +244,7 @@ wait_done f =
       sending = f.sending;
       traced = [];
       by_bus = false;
+      heard = None;
     }
     else wanted_done f.sending f.world
 
@@ -244,6 +256,7 @@ hello_done f = record {
   sending = f.sending;
   traced = [];
   by_bus = false;
+  heard = None;
 }
 
 -- of a row its first attempt
@@ -265,6 +278,7 @@ pub record IsDone (d : Deed) (old : Played) (answer : Answer) (new : Played) : T
   pub made : IsFaultless d
   pub far : new.far ≡ record old.far { world = d.world; unseen = d.unseen; sending = d.sending }
   pub traced : Appends old.trace.bytes new.trace.bytes d.traced
+  pub heard : IfSome d.heard (λ count. new.answered ≡ count)
 
 -- ---- why a question is not answered
 
@@ -431,18 +445,26 @@ came_of Ack = came.Taken
 came_of Nothing = came.Nothing
 came_of _ = came.Other
 
--- the reply was made, and the deed traced; of a row this is left
+-- the reply was made, and the deed traced; of a row this is left; and so much data were answered
 pub record Replies (q : Question) (old : Played) (r : Replied) (new : Played) : Type 0 where
   pub replied : IsReplied q old.far new.far r.lines.items
   pub left : r.rest ≡ rest_behind q replied.answer
   pub kind : r.came ≡ came_of replied.answer
   pub traced : Appends old.trace.bytes new.trace.bytes (done q old.far).traced
+  pub heard : IfSome (done q old.far).heard (λ count. new.answered ≡ count)
 
 -- the question may not stand there, or is not answered
 abbrev pub HasNoReply : Question → Played → FarFault → Played → Type 0
 HasNoReply q old f new =
     ((f ≡ fault.NoQuestion) × (may_ask old.far.phase q ≡ false) × (new ≡ old))
     ⊎ ((may_ask old.far.phase q ≡ true) × IsUnanswered q old f new)
+
+-- ---- another plan
+
+-- from now on it plays what is to come of another plan
+pub record Follows (p : PlanData) (old new : Played) : Type 0 where
+  pub far : new.far ≡ record old.far { world = followed p old.far.world }
+  pub trace : new.trace ≡ old.trace
 
 -- ---- lines of report
 

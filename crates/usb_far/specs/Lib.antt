@@ -9,7 +9,8 @@ unfoldable pub use Sends.{fits_line}
 pub use Requested.{alone, answer_in, asked_wanted, due_wanted, part_size, part_wanted, send_answer}
 pub use Requested.{send_wanted, sending_in}
 unfoldable pub use Requested.{write_wanted}
-pub use FarEnd.{ChangesTold, Deed, Far, HasNoPort, HasNoReply, IsDone, IsEventGivenUp, IsFaultless}
+pub use FarEnd.{ChangesTold, Deed, Far, Follows, HasNoPort, HasNoReply, IsDone, IsEventGivenUp}
+pub use FarEnd.{IsFaultless}
 pub use FarEnd.{IsGivenUp, IsReplied, IsUnanswered, Played, PutsLine, Replies, SendsTooMuch}
 pub use FarEnd.{attempt_of_in, attempt_of_out, attempt_of_setup, behind_first, bus_told, came_of}
 pub use FarEnd.{destination_at, done, far_after, far_begun, far_done, far_of, is_first}

@@ -1,5 +1,7 @@
 //! What the controller side does at each question.
-ghost use Rattle.std.specs.Prelude.{◌≡◌, ◌≤◌, ◌⊎◌, ◌∷◌, [], false, true, IfErr, IfOk};
+ghost use Rattle.std.specs.Prelude.{◌≡◌, ◌≤◌, ◌⊎◌, ◌∷◌, [], false, true, Err, IfErr, IfOk, OnErr, OnOk};
+ghost use Rattle.usb_sim.specs.{answered_by, is_alike};
+ghost use Rattle.usb_sim.specs.declared.sim.follow.FollowFault.TheVariants.{Unlike};
 ghost use Rattle.usb_world.specs.Steps.{after, opening, root_call};
 ghost use Rattle.usb_world.specs.PlainAttempts.{attempt_data};
 ghost use Rattle.usb_world.specs.Worlds.{IsAttempt, IsRootPort};
@@ -21,12 +23,12 @@ use usb_port::PortCall;
 use usb_request::feature::{
     C_PORT_CONNECTION, C_PORT_ENABLE, C_PORT_RESET, PORT_ENABLE, PORT_POWER, PORT_RESET,
 };
-use usb_sim::{Plan, SimBus, Trace, Tracer, Untraced};
+use usb_sim::{FollowFault, Plan, SimBus, Trace, Tracer, Untraced};
 use usb_wire::{Answer, Endpoint, Question};
 use usb_world::damage_of;
 
 /// The statuses of root ports, port 1 first.
-pub(crate) type Statuses = ArrayVec<[u8; 4], 7>;
+pub type Statuses = ArrayVec<[u8; 4], 7>;
 
 /// What the host does.
 #[derive(Clone, Copy, Debug, PartialEq, Eq)]
@@ -90,7 +92,7 @@ impl FarEnd<Untraced> {
 }
 
 impl<T: Trace> FarEnd<T> {
-    ghost use Rattle.usb_far.specs.FarEnd.{PutsLine, far_begun, far_of, played_of};
+    ghost use Rattle.usb_far.specs.FarEnd.{Follows, PutsLine, far_begun, far_of, played_of};
 
     /// The controller side of a bus, before the first question.
     fn begun(bus: SimBus<T>) -> Self
@@ -112,8 +114,38 @@ impl<T: Trace> FarEnd<T> {
         ensures world { world_of result.now ≡ (far_of self.now).world }
         ensures trace { (played_of self.now).trace
             ≡ record { bytes = trace_of result.now; failed = T.failed (tracer_of result.now) } }
+        ensures answered { (played_of self.now).answered ≡ answered_by result.now }
     {
         &self.bus
+    }
+
+    /// Plays another plan from now on: its events behind as many as came are to come, and its damages. All else stays.
+    ///
+    /// # Errors
+    ///
+    /// Nothing changes then.
+    ///
+    /// - `Unlike`: the plan has another number of devices, or of damages to the attempts so far.
+    /// - `Memory`: memory was refused.
+    pub fn follow(&mut self, alloc: Global, plan: &Plan) -> Result<(), FollowFault>
+        ensures follows { OnOk result (Follows plan.now (played_of self.old) (played_of self.new)) }
+        ensures alike { OnOk result (is_alike plan.now (far_of self.old).world ≡ true) }
+        ensures unlike { result ≡ Err Unlike → is_alike plan.now (far_of self.old).world ≡ false }
+        ensures kept { OnErr result (self.new ≡ self.old) }
+    {
+        match self.bus.follow(alloc, plan) {
+            Ok(()) => Ok(()),
+            Err(fault) => Err(fault),
+        }
+    }
+
+    /// The status of each root port as it was last reported, port 1 first.
+    pub fn told(&self) -> Statuses
+        ensures { result.items ≡ (far_of self.now).told }
+    {
+        let mut copy = Statuses::new();
+        copy.try_extend_from_slice(self.told.as_slice()).unwrap();
+        copy
     }
 
     /// What the host does now.

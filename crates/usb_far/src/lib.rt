@@ -26,7 +26,7 @@ mod serving;
 mod told;
 mod wanted;
 
-pub use far_end::{FarEnd, Phase};
+pub use far_end::{FarEnd, Phase, Statuses};
 pub use fault::FarFault;
 pub use reply::{Came, Replied, Reply};
 pub use serving::serve;

@@ -8,4 +8,4 @@ pub returns-clause-done : goal.returns-clause-done
 returns-clause-done g c =
     played_attempt (attempt_data c.args.attempt.now) (played_of c.args.self.now) _ _ _ _ _ _
     c.in-Ok.ensures.attempts c.answer_of.ensures c.is_poll-poll.ensures
-    c.events_taken-taken.ensures c.unseen_in-self.ensures refl
+    c.events_taken-taken.ensures c.unseen_in-self.ensures refl c.in-Ok.ensures.leaves.answered

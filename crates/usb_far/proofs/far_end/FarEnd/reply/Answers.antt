@@ -10,3 +10,4 @@ returns-clause-replied g c =
     (sym c.may_ask.ensures ∙ c.if-not-may_ask.false) c.asked-asked.ensures c.in-Ok.ensures.done
     c.changes-lines.ensures.told c.push_said.ensures.line c.rest_behind-rest.ensures.value
     c.came_of-came.ensures (rw c.changes-lines.ensures.bus refl)
+    (rw c.changes-lines.ensures.bus refl)
