@@ -7,7 +7,7 @@ use Rattle.usb_world.specs.{Attempt, BusFault, Limit, Memory, Failed, Outcome, W
 use Rattle.usb_world.specs.{AttemptsWithin, to_come, Coming, Left, after, attempt}
 use Rattle.usb_world.specs.{fault_of, made_in, outcome_in, at_attempt, after_first_event}
 use Rattle.usb_world.specs.{with_attempt}
-use Rattle.usb_world.specs.declared.exchange.ExchangeAnswer.{ExchangeAnswer}
+use Rattle.usb_world.specs.{ExchangeAnswer}
 use Rattle.usb_world.specs.declared.exchange.ExchangeAnswer.TheVariants.{One}
 use Rattle.usb_world.specs.declared.event.Ask.{Ask}
 use Rattle.usb_sim.specs.declared.sim.SimBus.{SimBus}
