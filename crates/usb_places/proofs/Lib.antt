@@ -1,0 +1,5 @@
+mod Insertions
+mod Histories
+mod Fits
+mod Copies
+mod Documents
