@@ -1,6 +1,6 @@
 -- Devices, damages and values that are copied one by one.
-use Rattle.std.proofs.Common.{◌≡◌, ◌<◌, ℕ, zero, suc, List, [], ◌∷◌, take, drop, length, get_or, refl, ap, sym, ◌∙◌}
-use Rattle.std.proofs.Common.{Bool, true, false, ◌||◌, not, arith, map, cond, String, Global, string_bytes}
+use Rattle.std.proofs.Common.{◌≡◌, ◌<◌, ℕ, zero, suc, List, [], ◌∷◌, take, drop, length, get_or, refl, ap, sym}
+use Rattle.std.proofs.Common.{Bool, true, false, not, arith, map, cond, String, Global, string_bytes}
 use Rattle.std.proofs.Common.{nat_cmp, if◌then◌else◌}
 use Rattle.std.proofs.lemmas.Bool.{and_parts, or_parts}
 use Rattle.std.proofs.lemmas.List.{take-map}
@@ -9,7 +9,7 @@ use Rattle.std.specs.Str.{bytes_eq}
 use Rattle.std.specs.BTreeMap.{is_at}
 use Rattle.std.specs.Cmp.Lexicographic.{slice_cmp}
 use Rattle.std.specs.Map.{remove_entry}
-use Rattle.toml.specs.Data.{Data, Members, no_members, member, same_key}
+use Rattle.toml.specs.Data.{Members, member, same_key}
 use Rattle.toml.specs.View.{members_view, view}
 use Rattle.toml.specs.declared.value.Value.{Value}
 use Rattle.usb_places.specs.{without}

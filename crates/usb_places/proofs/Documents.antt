@@ -9,7 +9,7 @@ use Rattle.usb_plan.specs.{EqualUnless, entries_of, plan_of_entries}
 use Rattle.usb_world.specs.{PlanData}
 use Rattle.usb_places.specs.declared.fault.PlacesFault.{PlacesFault}
 use Rattle.usb_places.specs.declared.sought.Sought.{Sought}
-use Rattle.usb_places.specs.{PlacesData, damages_from, events_from, fixed_damages, no_memory, places_of}
+use Rattle.usb_places.specs.{damages_from, events_from, fixed_damages, no_memory, places_of}
 use Rattle.usb_places.specs.{plain}
 use Rattle.usb_places.proofs.Copies.{view_take, view_drop}
 

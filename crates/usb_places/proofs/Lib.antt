@@ -3,3 +3,5 @@ mod Histories
 mod Fits
 mod Copies
 mod Documents
+mod Beginnings
+mod PlainPlans

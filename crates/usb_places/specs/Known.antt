@@ -1,5 +1,5 @@
 -- The plan as far as the places of its events and damages are known.
-use Rattle.std.specs.Prelude.{ℕ, List, [], ◌∷◌, ◌+◌, ◌==◌, Bool, true, false, nat_lt, take}
+use Rattle.std.specs.Prelude.{ℕ, List, [], ◌∷◌, ◌+◌, ◌==◌, Bool, false, nat_lt, take}
 use Rattle.std.specs.Prelude.{Option, None, Some, if◌then◌else◌}
 use Rattle.usb_world.specs.{Event, Damage, PlanData, damage_most}
 use Rattle.usb_places.specs.declared.sought.Sought.{Sought}

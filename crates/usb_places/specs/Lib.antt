@@ -15,14 +15,14 @@ unfoldable pub use Whens.{sign_by, sign_of, status_sign, text_or, wait_sign, whe
 pub use Deeds.{answer_if, begun, goes_to, has_data, is_again, is_answered, is_begun, is_data, is_in}
 pub use Deeds.{is_out, is_setup_again, is_status, onward, reads, token_of, try_of}
 unfoldable pub use Deeds.{begins, follows, moment_in, transfer_after, transfer_past}
-pub use Places.{IsGood, IsGoodFor, IsKnown, IsSoughtAfter, PlacesData, asks_status, found_in, is_at, is_attempt}
-pub use Places.{is_moment, is_wait, places_data, resets, same_moment, suits, suits_some}
+pub use Places.{IsGood, IsGoodFor, IsKnown, IsSoughtAfter, PlacesData, asks_status, found_in, is_at}
+pub use Places.{is_attempt, is_moment, is_wait, places_data, resets, same_moment, suits, suits_some}
 unfoldable pub use Places.{after_seen, goes_on, is_met, left_after, left_from, number_at}
 unfoldable pub use Places.{place_from, place_of, request_met, seen_by, stands, starts}
 unfoldable pub use Places.{transfer_from}
-pub use Known.{damage_found, first_after, first_after, inserted_some, is_event, is_to, to_attempt}
+pub use Known.{damage_found, first_after, inserted_some, is_event, is_to, to_attempt}
 unfoldable pub use Known.{after_of, damages_known, events_known, inserted, plan_known, spot}
 pub use Reading.{has_when, in_plan, members_sought, members_when, new_sought, no_memory, plain}
-pub use Reading.{read_places, table_has_when, when_at, when_sought, with_event}
+pub use Reading.{read_places, table_has_when, uses_when, when_at, when_sought, with_event}
 unfoldable pub use Reading.{damage_sought, damages_from, event_when, events_from, fixed_damages}
 unfoldable pub use Reading.{places_of, plain_when, spelled_places, table_sought, without}

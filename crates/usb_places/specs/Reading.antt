@@ -1,6 +1,7 @@
 -- The places that a text spells, or its first fault.
 use Rattle.std.specs.Prelude.{ℕ, codes, List, [], ◌∷◌, ◌++◌, ◌+◌, Bool, false, Option, None, Some}
-use Rattle.std.specs.Prelude.{is_some, Result, Ok, Err, drop, take, map, if◌then◌else◌}
+use Rattle.std.specs.Prelude.{is_some, Result, Ok, Err, drop, take, map, ◌||◌, if◌then◌else◌}
+use Rattle.std.specs.List.{list_any}
 use Rattle.toml.specs.Data.{Data, Members, table, no_members, member, get_member, as_table, same_key}
 use Rattle.toml.specs.Parse.{parse_document}
 use Rattle.usb_plan.specs.{PlanFault, entries_of, placed_damage, plan_of_entries, ◌>>=◌}
@@ -78,6 +79,12 @@ table_has_when (Some ms) = is_some (get_member (codes "when") ms)
 
 abbrev pub has_when : Data → Bool
 has_when d = table_has_when (as_table d)
+
+-- some event or damage has `when`
+abbrev pub uses_when : Members → Bool
+uses_when ms =
+    list_any has_when (entries_of (codes "event") ms)
+    || list_any has_when (entries_of (codes "damage") ms)
 
 -- how many damages stand before the first one with `when`
 unfoldable pub fixed_damages : List Data → ℕ

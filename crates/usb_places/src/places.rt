@@ -1,13 +1,14 @@
 //! The places of a plan, read from its text and found in the run of another host.
 
-ghost use Rattle.std.specs.Prelude.{◌≡◌, ◌≢◌, ◌≤◌, ◌<◌, ◌+◌, ◌^◌, ◌∷◌, ◌++◌, [], codes, Err, IfErr, IfOk, length, List, map, nat_lt, Ok, OnOk, option_map};
+ghost use Rattle.std.specs.Prelude.{◌≡◌, ◌≢◌, ◌≤◌, ◌<◌, ◌+◌, ◌^◌, ◌∷◌, ◌++◌, [], codes, Err, false, IfErr, IfOk, length, List, map, nat_lt, Ok, OnOk, option_map};
+ghost use Rattle.std.specs.Result.{result_map_both};
 ghost use Rattle.toml.specs.View.{view, table_view};
-ghost use Rattle.usb_plan.specs.{EqualUnless};
+ghost use Rattle.usb_plan.specs.{EqualUnless, plan_of};
 ghost use Rattle.usb_world.specs.{attempt_most};
 ghost use Rattle.usb_places.specs.declared.seen.Seen.{Seen as Done};
 ghost use Rattle.usb_places.specs.Places.{IsGood, IsKnown, after_seen, found_in};
 ghost use Rattle.usb_places.specs.Known.{plan_known};
-ghost use Rattle.usb_places.specs.Reading.{damage_sought, damages_from, event_when, events_from, fixed_damages, has_when, new_sought, no_memory, places_of, plain, plain_when, spelled_places, when_at, when_sought, with_event, without};
+ghost use Rattle.usb_places.specs.Reading.{damage_sought, damages_from, event_when, events_from, fixed_damages, has_when, in_plan, new_sought, no_memory, places_of, plain, plain_when, spelled_places, uses_when, when_at, when_sought, with_event, without};
 
 use crate::fault::{PlacesFault, WhenFault};
 use crate::known::plan_known;
@@ -228,7 +229,23 @@ fn places_of(alloc: Global, table: &Table) -> Result<Places, PlacesFault>
 }
 
 impl Places {
-    /// Reads the plan that a TOML text spells, where events and damages may have `when`.
+    /// Reads the plan that a document describes, where events and damages may have `when`. Nothing of the host is seen yet.
+    /// Without any `when` it is the plan that `plan_of_table` of usb_plan reads.
+    ///
+    /// # Errors
+    ///
+    /// Those of `read`, but for `Plan` of `Syntax`.
+    pub fn of_table(alloc: Global, table: &Table) -> Result<Places, PlacesFault>
+        ensures places { EqualUnless no_memory result (places_of (table_view table.now)) }
+        ensures known { IfOk result (λ p. IsKnown [] p) }
+        ensures plain { uses_when (table_view table.now) ≡ false → EqualUnless no_memory
+            (result_map_both (λ p. plan_known p.plan p.sought) (λ e. e) result)
+            (in_plan (plan_of (table_view table.now))) }
+    {
+        places_of(alloc, table)
+    }
+
+    /// Reads the plan that a TOML text spells, where events and damages may have `when`. Nothing of the host is seen yet.
     ///
     /// # Errors
     ///
@@ -245,9 +262,10 @@ impl Places {
     pub fn read(alloc: Global, text: &str) -> Result<Places, PlacesFault>
         ensures places { IfOk result (λ p. spelled_places text.now ≡ Ok p) }
         ensures fault { IfErr result (λ e. e ≢ no_memory → spelled_places text.now ≡ Err e) }
+        ensures known { IfOk result (λ p. IsKnown [] p) }
     {
         match toml::table_from_str(alloc, text) {
-            Ok(table) => places_of(alloc, &table),
+            Ok(table) => Places::of_table(alloc, &table),
             Err(error) => Err(PlacesFault::Plan(if error.span().is_none() {
                 PlanFault::Memory
             } else {
