@@ -23,6 +23,7 @@ unfoldable pub use Places.{transfer_from}
 pub use Known.{damage_found, first_after, inserted_some, is_event, is_to, to_attempt}
 unfoldable pub use Known.{after_of, damages_known, events_known, inserted, plan_known, spot}
 pub use Reading.{has_when, in_plan, members_sought, members_when, new_sought, no_memory, plain}
-pub use Reading.{read_places, table_has_when, uses_when, when_at, when_sought, with_event}
+pub use Reading.{read_places, table_has_when, text_uses_when, uses_when, when_at, when_sought}
+pub use Reading.{with_event}
 unfoldable pub use Reading.{damage_sought, damages_from, event_when, events_from, fixed_damages}
 unfoldable pub use Reading.{places_of, plain_when, spelled_places, table_sought, without}

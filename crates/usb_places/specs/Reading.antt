@@ -86,6 +86,10 @@ uses_when ms =
     list_any has_when (entries_of (codes "event") ms)
     || list_any has_when (entries_of (codes "damage") ms)
 
+-- so in the document of a text, if that is one
+abbrev pub text_uses_when : List ℕ → Bool
+text_uses_when text = elim (parse_document text) [ None ↦ false | Some ms ↦ uses_when ms ]
+
 -- how many damages stand before the first one with `when`
 unfoldable pub fixed_damages : List Data → ℕ
 fixed_damages [] = 0

@@ -3,12 +3,12 @@
 ghost use Rattle.std.specs.Prelude.{◌≡◌, ◌≢◌, ◌≤◌, ◌<◌, ◌+◌, ◌^◌, ◌∷◌, ◌++◌, [], codes, Err, false, IfErr, IfOk, length, List, map, nat_lt, Ok, OnOk, option_map};
 ghost use Rattle.std.specs.Result.{result_map_both};
 ghost use Rattle.toml.specs.View.{view, table_view};
-ghost use Rattle.usb_plan.specs.{EqualUnless, plan_of};
+ghost use Rattle.usb_plan.specs.{EqualUnless, plan_of, spelled_plan};
 ghost use Rattle.usb_world.specs.{attempt_most};
 ghost use Rattle.usb_places.specs.declared.seen.Seen.{Seen as Done};
 ghost use Rattle.usb_places.specs.Places.{IsGood, IsKnown, after_seen, found_in};
 ghost use Rattle.usb_places.specs.Known.{plan_known};
-ghost use Rattle.usb_places.specs.Reading.{damage_sought, damages_from, event_when, events_from, fixed_damages, has_when, in_plan, new_sought, no_memory, places_of, plain, plain_when, spelled_places, uses_when, when_at, when_sought, with_event, without};
+ghost use Rattle.usb_places.specs.Reading.{damage_sought, damages_from, event_when, events_from, fixed_damages, has_when, in_plan, new_sought, no_memory, places_of, plain, plain_when, spelled_places, text_uses_when, uses_when, when_at, when_sought, with_event, without};
 
 use crate::fault::{PlacesFault, WhenFault};
 use crate::known::plan_known;
@@ -246,6 +246,7 @@ impl Places {
     }
 
     /// Reads the plan that a TOML text spells, where events and damages may have `when`. Nothing of the host is seen yet.
+    /// Without any `when` it is the plan that `read_plan` of usb_plan reads.
     ///
     /// # Errors
     ///
@@ -258,11 +259,14 @@ impl Places {
     /// - Of the first damage with a fault, from the first one with `when` on. `Order`: it has no `when`. `When`: its
     ///   `when` is none, for this reason. `Plan`: the fault of its other keys.
     /// - `Plan` of `Memory`: memory was refused. It says nothing of the text.
-    #[tactic(auto, unfolding(crate::specs::Reading::spelled_places))]
+    #[tactic(auto, unfolding(crate::specs::Reading::spelled_places, usb_plan::specs::Plan::read, usb_plan::specs::Plan::spelled_plan))]
     pub fn read(alloc: Global, text: &str) -> Result<Places, PlacesFault>
         ensures places { IfOk result (λ p. spelled_places text.now ≡ Ok p) }
         ensures fault { IfErr result (λ e. e ≢ no_memory → spelled_places text.now ≡ Err e) }
         ensures known { IfOk result (λ p. IsKnown [] p) }
+        ensures plain { text_uses_when text.now ≡ false → EqualUnless no_memory
+            (result_map_both (λ p. plan_known p.plan p.sought) (λ e. e) result)
+            (in_plan (spelled_plan text.now)) }
     {
         match toml::table_from_str(alloc, text) {
             Ok(table) => Places::of_table(alloc, &table),
