@@ -1,0 +1,7 @@
+mod Insertions
+mod Histories
+mod Fits
+mod Copies
+mod Documents
+mod Beginnings
+mod PlainPlans
