@@ -4,13 +4,13 @@ use Rattle.std.proofs.Common.{Option, None, Some, refl, ap, sym, ◌∙◌, subs
 use Rattle.std.proofs.Common.{slice_get, is_some, arith, length, length-append, append_assoc}
 use Rattle.std.proofs.lemmas.List.{append-nil}
 use Rattle.std.proofs.Common.{option_map, cond}
-use Rattle.std.specs.Prelude.{All, nat_le, IfSome, IsSome, ◌↔◌, find, ◌&&◌, ◌||◌, if◌then◌else◌}
-use Rattle.std.specs.List.{list_all, list_any}
+use Rattle.std.specs.Prelude.{All, nat_le, find, ◌&&◌, ◌||◌, if◌then◌else◌}
+use Rattle.std.specs.List.{list_all}
 use Rattle.std.specs.Str.{bytes_eq}
 use Rattle.std.proofs.lemmas.Bool.{and_from, and_parts, both_ways, cases_lt, false≢true, leb-true, le-leb}
-use Rattle.std.proofs.lemmas.Bool.{or_left, or_right, or_cases}
-use Rattle.std.proofs.lemmas.List.Elements.{All-append, All-cons, All-head}
-use Rattle.std.proofs.lemmas.List.Elements.{All-nil, All-tail}
+use Rattle.std.proofs.lemmas.Bool.{or_left, or_cases}
+use Rattle.std.proofs.lemmas.List.Elements.{All-append, All-head}
+use Rattle.std.proofs.lemmas.List.Elements.{All-nil, All-tail, All-weaker}
 use Rattle.std.proofs.lemmas.List.Folds.{list_all-append, list_any-append}
 use Rattle.std.proofs.lemmas.Option.{same_Some, slice_get_within}
 use Rattle.std.proofs.lemmas.Slice.Eq.{bytes_eq-Decides}
@@ -20,8 +20,9 @@ use Rattle.usb_judge.specs.declared.plugged.PluggedDevice.{PluggedDevice}
 use Rattle.usb_judge.specs.{Seen, device_seen, given_below, is_port_number, names_port, scene_in}
 use Rattle.usb_judge.specs.{powers_itself, scene_on, state_seen}
 use Rattle.usb_resources.specs.{supply_of}
-use Rattle.usb_plugged.specs.{Adds, AddsPorts, IsSeen, has_path, numbers_on}
+use Rattle.usb_plugged.specs.{Adds, AddsPorts, IsOnPort, IsSeen, has_path, numbers_on}
 use Rattle.usb_plugged.proofs.Ways.{state_there-above, state_there-own}
+use Rattle.usb_plugged.proofs.Places.{get_kept, once_joined, once_none, ports_apart}
 
 -- Numbers that name a port
 
@@ -209,54 +210,6 @@ has_kept_in : (path : List ℕ) (old more new : List PluggedDevice) → new ≡ 
 has_kept_in path old more new e h =
     subst (λ (xs : List PluggedDevice). has_path xs path ≡ true) (sym e) (has-kept path old more h)
 
-get_kept : {X : Type 0} (xs ys : List X) (i : ℕ) → i < length xs
-    → slice_get (xs ++ ys) i ≡ slice_get xs i
-get_kept [] ys i h = absurd (omega (arith, h))
-get_kept (x ∷ xs) ys zero h = refl
-get_kept (x ∷ xs) ys (suc i) h = get_kept xs ys i (omega (arith, h))
-
--- One device is added
-
-pub adds_one : (roots : Ports) (path : List ℕ) (d : PluggedDevice) (old : List PluggedDevice)
-    → d.path ≡ path → Some (device_seen d) ≡ scene_on roots path
-    → Adds roots path old (old ++ d ∷ [])
-adds_one roots path d old e h = record {
-  more = d ∷ [];
-  joined = refl;
-  seen = All-cons (IsSeen roots) d [] (subst (λ (p : List ℕ).
-      scene_on roots p ≡ Some (device_seen d)) (sym e) (sym h)) (All-nil (IsSeen roots));
-  there = λ (_ : IsPlugged roots path).
-      list_any-append (λ (x : PluggedDevice). bytes_eq x.path path) old (d ∷ [])
-      ∙ or_right _ _ (or_left _ _ ((bytes_eq-Decides d.path path).1 e));
-}
-
-pub adds_none : (roots : Ports) (path : List ℕ) (old : List PluggedDevice)
-    → None ≡ scene_on roots path → Adds roots path old old
-adds_none roots path old h = record {
-  more = [];
-  joined = sym (append-nil old);
-  seen = All-nil (IsSeen roots);
-  there = λ (is : IsPlugged roots path). absurd (false≢true (ap is_some h ∙ is));
-}
-
-pub adds_unnamed : (roots : Ports) (path : List ℕ) (old : List PluggedDevice)
-    → names_port path ≡ false → Adds roots path old old
-adds_unnamed roots path old h = record {
-  more = [];
-  joined = sym (append-nil old);
-  seen = All-nil (IsSeen roots);
-  there = λ (is : IsPlugged roots path). absurd (both_ways _ h (plugged_named roots path is));
-}
-
-pub chosen_path : (b : Bool) (p path : List ℕ) → Some p ≡ (if b then Some path else None)
-    → p ≡ path
-chosen_path true p path h = same_Some p path h
-chosen_path false p path h = absurd (cc)
-
-pub chosen_none : (b : Bool) (path : List ℕ) → None ≡ (if b then Some path else None) → b ≡ false
-chosen_none true path h = absurd (cc)
-chosen_none false path h = refl
-
 -- The ports of a hub, one by one
 
 pub ports_none : (roots : Ports) (above : List ℕ) (old : List PluggedDevice)
@@ -265,6 +218,8 @@ ports_none roots above old = record {
   more = [];
   joined = sym (append-nil old);
   seen = All-nil (IsSeen roots);
+  here = All-nil (IsOnPort above 1);
+  once = once_none;
   there = λ (n : ℕ) (low : n < 1) (is : IsPlugged roots (above ++ n ∷ [])).
       absurd (omega (
         arith,
@@ -286,6 +241,17 @@ further roots above m mid new more e before last n low (inr least) is =
     subst (λ (j : ℕ). IsPlugged roots (above ++ j ∷ []) → has_path new (above ++ j ∷ []) ≡ true)
     same last is
 
+more_ports : (above : List ℕ) (m : ℕ) (xs : List PluggedDevice) → All (IsOnPort above m) xs
+    → All (IsOnPort above (m + 1)) xs
+more_ports above m xs all = All-weaker (IsOnPort above m) (IsOnPort above (m + 1))
+    (λ (d : PluggedDevice) (on : IsOnPort above m d). (on.0, omega (arith, on.1), on.2)) xs all
+
+next_port : (above : List ℕ) (m : ℕ) (xs : List PluggedDevice)
+    → All (λ d. d.path ≡ above ++ m ∷ []) xs → All (IsOnPort above (m + 1)) xs
+next_port above m xs all =
+    All-weaker (λ (d : PluggedDevice). d.path ≡ above ++ m ∷ []) (IsOnPort above (m + 1))
+    (λ (d : PluggedDevice) (is : d.path ≡ above ++ m ∷ []). (m, omega arith, is)) xs all
+
 pub ports_next : (roots : Ports) (above : List ℕ) (m : ℕ) (old mid new : List PluggedDevice)
     → AddsPorts roots above m old mid → Adds roots (above ++ m ∷ []) mid new
     → AddsPorts roots above (m + 1) old new
@@ -294,20 +260,11 @@ ports_next roots above m old mid new a b = record {
   joined = b.joined ∙ ap (λ (xs : List PluggedDevice). xs ++ b.more) a.joined
       ∙ append_assoc old a.more b.more;
   seen = All-append (IsSeen roots) a.more b.more a.seen b.seen;
+  here = All-append (IsOnPort above (m + 1)) a.more b.more (more_ports above m a.more a.here)
+      (next_port above m b.more b.here);
+  once = once_joined a.more b.more a.once b.once (ports_apart above m a.more b.more a.here b.here);
   there = λ (n : ℕ) (low : n < m + 1).
       further roots above m mid new b.more b.joined a.there b.there n low (cases_lt n m);
-}
-
-pub ports_skip : (roots : Ports) (above : List ℕ) (m : ℕ) (old mid : List PluggedDevice)
-    → AddsPorts roots above m old mid → names_port (above ++ m ∷ []) ≡ false
-    → AddsPorts roots above (m + 1) old mid
-ports_skip roots above m old mid a h = record {
-  more = a.more;
-  joined = a.joined;
-  seen = a.seen;
-  there = λ (n : ℕ) (low : n < m + 1). further roots above m mid mid [] (sym (append-nil mid))
-      a.there (λ (is : IsPlugged roots (above ++ m ∷ [])).
-      absurd (both_ways _ h (plugged_named roots (above ++ m ∷ []) is))) n low (cases_lt n m);
 }
 
 -- no port has a greater number
@@ -382,20 +339,6 @@ slice_get_found : (found : List PluggedDevice) (i : ℕ) → i < length found
 slice_get_found [] i h = absurd (omega (arith, h))
 slice_get_found (d ∷ found) zero h = refl
 slice_get_found (d ∷ found) (suc i) h = slice_get_found found i (omega (arith, h))
-
-walk_by : (roots : Ports) (i : ℕ) (o : Option PluggedDevice) (above : List ℕ)
-    (found new : List PluggedDevice) → Walked roots i found → slice_get found i ≡ o
-    → Some above ≡ option_map (λ d. d.path) o → AddsPorts roots above 16 found new
-    → Walked roots (i + 1) new
-walk_by roots i None above found new w at is a = absurd (cc)
-walk_by roots i (Some d) above found new w at is a = walk_next roots i d found new w at
-    (subst (λ (p : List ℕ). AddsPorts roots p 16 found new) (same_Some above d.path is) a)
-
-pub walk_on : (roots : Ports) (i : ℕ) (above : List ℕ) (found new : List PluggedDevice)
-    → Walked roots i found → Some above ≡ option_map (λ d. d.path) (slice_get found i)
-    → AddsPorts roots above 16 found new → Walked roots (i + 1) new
-walk_on roots i above found new w is a =
-    walk_by roots i (slice_get found i) above found new w refl is a
 
 none_left : (found : List PluggedDevice) (i : ℕ) (o : Option PluggedDevice)
     → slice_get found i ≡ o → None ≡ option_map (λ d. d.path) o

@@ -1,2 +1,4 @@
 pub mod Ways
+pub mod Places
 pub mod Found
+pub mod Once

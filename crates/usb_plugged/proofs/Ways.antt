@@ -6,7 +6,7 @@ use Rattle.std.specs.Prelude.{◌&&◌, ◌==◌, if◌then◌else◌, nat_le, s
 use Rattle.std.proofs.lemmas.Bool.{false≢true, ne_eqb}
 use Rattle.std.proofs.lemmas.Option.{same_Some}
 use Rattle.usb_port.specs.{PortState, bit, status_of}
-use Rattle.usb_device.specs.{Plugged, Ports, State, ended, vacant, taken, device_there, numbered}
+use Rattle.usb_device.specs.{Ports, ended, vacant, taken, device_there, numbered}
 use Rattle.usb_device.specs.{plugged_at, reach, reach_at, row_of, state_at, state_there}
 use Rattle.usb_plugged.specs.{is_enabled, reach_through}
 

@@ -4,6 +4,7 @@ ghost use Rattle.usb_sim.specs.Sim.{world_of};
 ghost use Rattle.usb_judge.specs.Scenes.{scene_in};
 ghost use Rattle.usb_judge.specs.Worlds.{ArePlugged, names_port, scene_on};
 ghost use Rattle.usb_plugged.specs.Growth.{Adds, AddsPorts, numbers_on};
+ghost use Rattle.usb_plugged.specs.Once.{ListsOnce};
 
 use crate::seen::device_on;
 use std::alloc::{AllocError, Global};
@@ -12,8 +13,8 @@ use usb_judge::PluggedDevice;
 use usb_port::PortPath;
 use usb_sim::{SimBus, Trace};
 
-/// The devices that are plugged in a simulated bus, as they are now. A hub is before what is below
-/// it.
+/// The devices that are plugged in a simulated bus, as they are now, each of them once. A hub is
+/// before what is below it.
 ///
 /// # Errors
 ///
@@ -22,14 +23,16 @@ pub fn plugged<T: Trace>(
     alloc: Global,
     bus: &SimBus<T>,
 ) -> Result<Vec<PluggedDevice<'_>>, AllocError>
-    ensures { IfOk result (λ all. ArePlugged all.items (world_of bus.now)) }
+    ensures are { IfOk result (λ all. ArePlugged all.items (world_of bus.now)) }
+    ensures once { IfOk result (λ all. ListsOnce all.items) }
 {
     all_on(alloc, bus.roots())
 }
 
 fn all_on(alloc: Global, roots: &Ports) -> Result<Vec<PluggedDevice<'_>>, AllocError>
-    ensures { IfOk result (λ all.
+    ensures are { IfOk result (λ all.
         (path : List ℕ) → scene_in all.items path ≡ scene_on roots.now path) }
+    ensures once { IfOk result (λ all. ListsOnce all.items) }
 {
     let mut found = Vec::new(alloc);
     add_ports(&mut found, roots, &None)?;

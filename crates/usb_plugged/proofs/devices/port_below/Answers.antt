@@ -1,4 +1,4 @@
-use Rattle.std.proofs.Common.{rules, arith}
+use Rattle.std.proofs.Common.{rules}
 use Rattle.usb_plugged.proofs.Found.{push_is}
 use Rattle.usb_plugged.proofs.devices.port_below.Goals as goal
 

@@ -1,5 +1,4 @@
-use Rattle.std.proofs.Common.{ap, sym, ◌∙◌, subst, Some}
-use Rattle.usb_port.specs.{IsPath}
+use Rattle.std.proofs.Common.{ap, sym, ◌∙◌, Some}
 use Rattle.usb_device.specs.{device_there}
 use Rattle.usb_plugged.proofs.Found.{device_is, device_none}
 use Rattle.usb_plugged.proofs.seen.device_on.Goals as goal
