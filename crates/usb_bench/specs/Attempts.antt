@@ -1,5 +1,5 @@
 -- What a host does on the bus, and what the judge says of it.
-use Rattle.std.specs.Prelude.{◌≡◌, ◌<◌, ◌≤◌, ℕ, ◌+◌, ◌-◌, ◌^◌, List, [], ◌∷◌, ◌++◌, length, take, min}
+use Rattle.std.specs.Prelude.{◌≡◌, ◌<◌, ◌≤◌, ℕ, ◌+◌, ◌-◌, ◌^◌, List, [], ◌∷◌, ◌++◌, length, take, min, nat_lt}
 use Rattle.std.specs.Prelude.{if◌then◌else◌, IsSome, Option, None, Some, option_map}
 use Rattle.std.specs.List.{find}
 use Rattle.std.specs.Option.{option_map_or}
@@ -18,10 +18,12 @@ use Rattle.usb_far.specs.{Played, destination_at}
 use Rattle.usb_far.specs.{Came}
 use Rattle.usb_far.specs.declared.reply.Came.TheVariants as came
 use Rattle.usb_judge.specs.{ArePlugged}
+use Rattle.usb_plugged.specs.{ListsOnce}
 use Rattle.usb_judge.specs.declared.plugged.PluggedDevice.{PluggedDevice}
 use Rattle.usb_conduct.specs.{after_attempt, empty_text, holds, is_empty, is_fault, judged}
 use Rattle.usb_conduct.specs.{remark_text, told_after, told_before}
 use Rattle.usb_conduct.specs.declared.remark.Remark.{Remark}
+use Rattle.usb_conduct.specs.declared.remark.Remark.TheVariants as remark
 use Rattle.usb_bench.specs.declared.coming.Coming.{Coming}
 use Rattle.usb_bench.specs.declared.judge.Judge.{Judge}
 use Rattle.usb_bench.specs.Received.{begun_anew, with_fault}
@@ -86,6 +88,7 @@ taken_on w (Some path) a = option_map_or
 pub record IsSeen (a : Attempt) (w : World) (c : Coming) : Type 0 where
   pub plugged : List PluggedDevice
   pub are : ArePlugged plugged w
+  pub once : ListsOnce plugged
   pub attempt : c.attempt ≡ a
   pub holder : c.holder ≡ holder_of plugged a
   pub taken : c.taken ≡ taken_on w (holder_of plugged a) a
@@ -109,12 +112,19 @@ pub record BeforeJudged (j : Judge) (old : Played) (c : Coming) (new_judge : Jud
 abbrev pub remark_after : Judge → Coming → Outcome → World → Option Remark
 remark_after j c o w = told_after j.outs c.attempt o c.taken (taken_on w c.holder c.attempt)
 
+-- an IN was answered by more data than the host asked for
+abbrev pub babbled : Attempt → ℕ → Option Remark
+babbled (attempt.In to) answered = if nat_lt to.max answered then Some remark.Babble else None
+babbled other answered = None
+
 pub record AfterJudged (c : Coming) (o : Outcome) (j : Judge) (old : Played)
     (new_judge : Judge) (new : Played) : Type 0 where
   pub said : Says old (remark_lines old.far.world.attempts c.attempt
-      (remark_after j c o old.far.world)) new
+      (remark_after j c o old.far.world)
+      ++ remark_lines old.far.world.attempts c.attempt (babbled c.attempt old.answered)) new
   pub judge : new_judge ≡ record j {
-    faults = faults_with (remark_after j c o old.far.world) j.faults;
+    faults = faults_with (babbled c.attempt old.answered)
+        (faults_with (remark_after j c o old.far.world) j.faults);
     outs = after_attempt j.outs c.attempt o;
     receipts = new_judge.receipts;
   }

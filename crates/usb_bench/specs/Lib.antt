@@ -2,6 +2,7 @@ pub mod Said
 pub mod Reports
 pub mod Received
 pub mod Attempts
+pub mod Placing
 pub mod Serving
 pub mod Summaries
 -- the words of this crate, wherever one stands
@@ -16,10 +17,15 @@ pub use Received.{with_fault, with_window}
 unfoldable pub use Received.{report_in}
 pub use Attempts.{AfterJudged, BeforeJudged, CallNoted, EmptyNoted, Foreseen, IsSeen}
 pub use Attempts.{IsUnforeseen, Judged, ResetNoted}
-pub use Attempts.{attempt_asked, empty_lines, faults_with, holder_in, holder_of, next_number}
+pub use Attempts.{attempt_asked, babbled, empty_lines, faults_with, holder_in, holder_of, next_number}
 pub use Attempts.{out_asked, outcome_of, remark_after, remark_lines, taken_on}
+pub use Placing.{AnyPlaced, DeedPlaced, IsDeedIn, IsOtherPlan, IsUnfollowed, IsUnmoved, IsUnplaced}
+pub use Placing.{JudgePlaced, Placed, PlacedIn, QuestionPlaced, UnplacedIn}
+pub use Placing.{deed_of, finds, plan_in, seen_at, told_at, told_beside, told_to, try_in}
+unfoldable pub use Placing.{told_from}
 pub use Serving.{AllJudged, AloneTaken, AskedOne, EndedOne, ServedNext, ToldOne}
 pub use Serving.{IsLastLine, JudgesHost, LineJudged, NoReply, OneAnswered, OneJudged}
+pub use Serving.{PlacedAnswered, PlacedJudged, PlacedUnreplied}
 pub use Serving.{OpenTaken, RowJudged, RowStops, ServedAll, ServedUpTo, Serves, StopsFor, TakenIn}
 pub use Serving.{last_at, last_attempt, IsUnjudged}
 pub use Summaries.{is_right}

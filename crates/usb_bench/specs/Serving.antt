@@ -19,11 +19,14 @@ use Rattle.usb_bench.specs.declared.judge.Block.TheVariants as block
 use Rattle.usb_bench.specs.Attempts.{Foreseen, Judged, attempt_asked}
 use Rattle.usb_bench.specs.Received.{ReportLine}
 use Rattle.usb_bench.specs.Reports.{Taken, opened}
+use Rattle.usb_bench.specs.Placing.{IsUnplaced, Placed, told_to}
 use Rattle.usb_bench.specs.Said.{IsUnsaid}
+use Rattle.usb_places.specs.{PlacesData}
 use Rattle.usb_verdict.specs.declared.tally.Tally.{Tally}
 
 -- before the host's first line
-pub record IsUnjudged (j : Judge) : Type 0 where
+pub record IsUnjudged (sought : Option PlacesData) (j : Judge) : Type 0 where
+  pub places : j.places ≡ sought
   pub tally : j.tally ≡ no_listings
   pub faults : j.faults ≡ 0
   pub block : j.block ≡ block.Outside
@@ -53,17 +56,35 @@ LineJudged line j old new_judge new = TakenIn j.block line j old new_judge new
 
 -- A question
 
--- one question, of a row its first attempt: judged before and behind, replied to and flushed
-pub record OneJudged (last : ℕ) (q : Question) (j : Judge) (old : Played) (before : OutPipe)
+-- one question, of a row its first attempt: judged before and behind, replied to and flushed; the
+-- statuses that were told with the reply are seen as places are
+pub record PlacedJudged (last : ℕ) (q : Question) (j : Judge) (old : Played) (before : OutPipe)
     (reply : Replied) (new_judge : Judge) (new : Played) (now : OutPipe) : Type 0 where
   pub coming : Option Coming
   pub seen_judge : Judge
+  pub told_judge : Judge
   pub seen : Played
   pub replied : Played
   pub foreseen : Foreseen last q j old coming seen_judge seen
   pub replies : Replies q seen reply replied
-  pub judged : Judged coming reply.came seen_judge replied new_judge new
+  pub judged : Judged coming reply.came seen_judge replied told_judge new
+  pub told : new_judge ≡ told_to seen new told_judge
   pub gone : Flushes before reply.lines.items now
+
+-- the same, where this is left of the row
+pub record PlacedAnswered (last : ℕ) (q : Question) (j : Judge) (old : Played) (before : OutPipe)
+    (rest : Option Question) (new_judge : Judge) (new : Played) (now : OutPipe) : Type 0 where
+  pub reply : Replied
+  pub one : PlacedJudged last q j old before reply new_judge new now
+  pub left : rest ≡ reply.rest
+
+-- one question, behind what changes at its place
+pub record OneJudged (last : ℕ) (q : Question) (j : Judge) (old : Played) (before : OutPipe)
+    (reply : Replied) (new_judge : Judge) (new : Played) (now : OutPipe) : Type 0 where
+  pub placed_judge : Judge
+  pub placed : Played
+  pub place : Placed q j old placed_judge placed
+  pub behind : PlacedJudged last q placed_judge placed before reply new_judge new now
 
 -- the same, where this is left of the row
 pub record OneAnswered (last : ℕ) (q : Question) (j : Judge) (old : Played) (before : OutPipe)
@@ -95,19 +116,29 @@ pub record AllJudged (last : ℕ) (asked : Question) (j : Judge) (old : Played) 
 
 -- why one has no reply: the judge says no more, or the host makes too many attempts without a wait,
 -- or usb_far has none, or its lines were not written
-pub data NoReply (last : ℕ) (q : Question) (j : Judge) (old : Played) (before : OutPipe)
+pub data PlacedUnreplied (last : ℕ) (q : Question) (j : Judge) (old : Played) (before : OutPipe)
     (new : Played) (now : OutPipe) : BenchFault → Type 0 where
   restless : IsSome (attempt_asked q) → last ≤ old.far.world.attempts → new ≡ old → now ≡ before
-      → NoReply last q j old before new now fault.NoRest
-  unsaid : (f : BenchFault) → IsUnsaid new f → now ≡ before → NoReply last q j old before new now f
+      → PlacedUnreplied last q j old before new now fault.NoRest
+  unsaid : (f : BenchFault) → IsUnsaid new f → now ≡ before
+      → PlacedUnreplied last q j old before new now f
   unreplied : (coming : Option Coming) (seen_judge : Judge) (seen : Played) (f : FarFault)
       → Foreseen last q j old coming seen_judge seen → HasNoReply q seen f new → now ≡ before
-      → NoReply last q j old before new now (fault.Far f)
+      → PlacedUnreplied last q j old before new now (fault.Far f)
   unwritten : (coming : Option Coming) (seen_judge new_judge : Judge) (seen replied : Played)
       (reply : Replied) → Foreseen last q j old coming seen_judge seen
       → Replies q seen reply replied → Judged coming reply.came seen_judge replied new_judge new
       → FailsToFlush before reply.lines.items now
-      → NoReply last q j old before new now (fault.Far far.Write)
+      → PlacedUnreplied last q j old before new now (fault.Far far.Write)
+
+-- the same behind what changes at its place; or that does not change
+pub data NoReply (last : ℕ) (q : Question) (j : Judge) (old : Played) (before : OutPipe)
+    (new : Played) (now : OutPipe) (f : BenchFault) : Type 0 where
+  unplaced : IsUnplaced q j old f → new ≡ old → now ≡ before
+      → NoReply last q j old before new now f
+  behind : (placed_judge : Judge) (placed : Played) → Placed q j old placed_judge placed
+      → PlacedUnreplied last q placed_judge placed before new now f
+      → NoReply last q j old before new now f
 
 pub record RowStops (last : ℕ) (asked : Question) (j : Judge) (old : Played) (before : OutPipe)
     (f : BenchFault) (new : Played) (now : OutPipe) : Type 0 where

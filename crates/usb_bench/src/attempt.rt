@@ -1,10 +1,10 @@
 //! What a host does on the bus.
-ghost use Rattle.std.specs.Prelude.{◌≡◌, ◌<◌, IfErr, IfOk, OnOk, Some};
+ghost use Rattle.std.specs.Prelude.{◌≡◌, ◌<◌, ◌++◌, IfErr, IfOk, OnOk, Some};
 ghost use Rattle.usb_world.specs.PlainAttempts.{destination_of};
 ghost use Rattle.usb_sim.specs.Sim.{world_of};
 ghost use Rattle.usb_wire.specs.Questions.{IsQuestion};
 ghost use Rattle.usb_far.specs.FarEnd.{played_of};
-ghost use Rattle.usb_bench.specs.Attempts.{EmptyNoted, Foreseen, IsSeen, IsUnforeseen, Judged, faults_with, holder_in, remark_lines, taken_on};
+ghost use Rattle.usb_bench.specs.Attempts.{EmptyNoted, Foreseen, IsSeen, IsUnforeseen, Judged, babbled, faults_with, holder_in, remark_lines, taken_on};
 ghost use Rattle.usb_bench.specs.Said.{IsUnsaid, Says};
 
 use crate::asked::{attempt_of, outcome_of};
@@ -68,13 +68,36 @@ impl Judge {
         ensures fault { IfErr result (IsUnsaid (played_of far.new)) }
     {
         let taken = taken_at(far.bus(), &coming.holder, &coming.attempt);
+        let babble = babbled(&coming.attempt, far.bus().answered());
         let outcome = outcome_of(came);
         let remark = self
             .outs
             .after(&coming.attempt, &outcome, coming.taken, taken)?;
         begin_anew(self.receipts.as_mut_slice(), &coming.attempt);
         let number = far.bus().attempts();
-        self.put(alloc, far, number, &coming.attempt, remark)
+        self.put_both(alloc, far, number, &coming.attempt, remark, babble)
+    }
+
+    /// Writes two remarks on the attempt of a number, as far as there are some, and counts those that are faults.
+    fn put_both<T: Trace>(
+        &mut self,
+        alloc: Global,
+        far: &mut FarEnd<T>,
+        number: u64,
+        attempt: &Attempt,
+        first: Option<Remark>,
+        second: Option<Remark>,
+    ) -> Result<(), BenchFault>
+        ensures said { OnOk result (Says (played_of far.old) (remark_lines number attempt.now first
+            ++ remark_lines number attempt.now second) (played_of far.new)) }
+        ensures counted { OnOk result (self.new ≡ record self.old {
+          faults = faults_with second (faults_with first self.old.faults);
+        }) }
+        ensures fault { IfErr result (IsUnsaid (played_of far.new)) }
+    {
+        self.put(alloc, far, number, attempt, first)?;
+        self.put(alloc, far, number, attempt, second)?;
+        Ok(())
     }
 
     /// Writes a remark on the attempt of a number, if there is one, and counts it if it is a fault.
@@ -121,8 +144,18 @@ fn look_at<T: Trace>(alloc: Global, bus: &SimBus<T>, attempt: Attempt) -> Result
     })
 }
 
+/// `Babble` of an IN that was answered by more data than the host asked for.
+fn babbled(attempt: &Attempt, answered: usize) -> Option<Remark>
+    ensures { result ≡ babbled attempt.now answered }
+{
+    match attempt {
+        Attempt::In { to } if answered > usize::from(to.max) => Some(Remark::Babble),
+        _ => None,
+    }
+}
+
 /// The port of the first device that packets reach and that holds an address.
-fn holder_in(devices: &[PluggedDevice<'_>], address: u8) -> Option<PortPath>
+pub(crate) fn holder_in(devices: &[PluggedDevice<'_>], address: u8) -> Option<PortPath>
     ensures { result ≡ holder_in devices.now address }
 {
     match devices

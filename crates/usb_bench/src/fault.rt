@@ -12,6 +12,9 @@ pub enum BenchFault {
     /// The host has made as many attempts as it may without a `wait`.
     #[error("host never rests")]
     NoRest,
+    /// The places are of a plan with another number of devices or of damages than the one that is played.
+    #[error("places of another plan")]
+    OtherPlan,
     /// Memory was refused.
     #[error("out of memory")]
     Memory,

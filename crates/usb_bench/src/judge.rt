@@ -6,6 +6,7 @@ ghost use Rattle.usb_bench.specs.Summaries.{is_right, summary_text};
 use crate::received::Receipt;
 use std::alloc::{AllocError, Global};
 use usb_conduct::Outs;
+use usb_places::Places;
 use usb_verdict::{ReportedListing, Tally};
 
 /// What the lines are that the host reports.
@@ -32,12 +33,14 @@ pub struct Judge {
     pub(crate) outs: Outs,
     /// Where the data of each device go on.
     pub(crate) receipts: Vec<Receipt>,
+    /// The places that are sought in what the host does, if the plan has some.
+    pub(crate) places: Option<Places>,
 }
 
 impl Judge {
-    /// Before the host's first line.
-    pub fn new(alloc: Global) -> Self
-        ensures { IsUnjudged result }
+    /// Before the host's first line, of a plan that has these places.
+    pub fn new(alloc: Global, places: Option<Places>) -> Self
+        ensures { IsUnjudged places result }
     {
         Judge {
             tally: Tally::new(),
@@ -45,6 +48,7 @@ impl Judge {
             block: Block::Outside,
             outs: Outs::new(alloc),
             receipts: Vec::new(alloc),
+            places,
         }
     }
 

@@ -3,8 +3,9 @@
 //!
 //! # What is proved
 //!
-//! - Each question is answered as usb_far does, in turn; the judge changes nothing of that (*Judged*,
-//!   `specs/Serving.antt`).
+//! - Each question is answered as usb_far does, in turn (*JudgesHost*, `specs/Serving.antt`). At a
+//!   place that is found, the plan with that place is played from then on (*Placed*,
+//!   `specs/Placing.antt`).
 //! - Each listing is judged in the world as it is then (*ListingJudged*, `specs/Reports.antt`).
 //! - A remark on an attempt, or on received data, is written exactly if it holds (*BeforeJudged*,
 //!   *AfterJudged*, `specs/Attempts.antt`).
@@ -16,6 +17,7 @@ mod coming;
 mod fault;
 mod judge;
 mod listing;
+mod placing;
 mod received;
 mod said;
 mod serving;

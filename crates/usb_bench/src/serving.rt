@@ -6,7 +6,7 @@ ghost use Rattle.usb_wire.specs.Questions.{IsQuestion};
 ghost use Rattle.usb_far.specs.FarEnd.{played_of};
 ghost use Rattle.usb_far.specs.Serving.{scene};
 ghost use Rattle.usb_bench.specs.Said.{IsUnsaid};
-ghost use Rattle.usb_bench.specs.Serving.{AllJudged, JudgesHost, LineJudged, NoReply, OneAnswered, RowStops, ServedNext, StopsFor, last_at, last_attempt};
+ghost use Rattle.usb_bench.specs.Serving.{AllJudged, JudgesHost, LineJudged, NoReply, OneAnswered, PlacedAnswered, PlacedUnreplied, RowStops, ServedNext, StopsFor, last_at, last_attempt};
 
 use crate::coming::Coming;
 use crate::fault::BenchFault;
@@ -30,6 +30,7 @@ use usb_wire::Question;
 ///
 /// - `Far`: that of usb_far's `serve`. So is a trace that fails.
 /// - `NoRest`: the host has made that number of attempts since its last `wait`, and asks for one more.
+/// - `OtherPlan`: the judge's places are of a plan with another number of devices or of damages.
 /// - `Memory`: memory was refused.
 pub fn judge_host<T: Trace, R: Read, W: Write>(
     alloc: Global,
@@ -166,7 +167,8 @@ impl Judge {
         }
     }
 
-    /// Answers a question, of a row its first attempt; returns what is left of the row.
+    /// Answers a question, of a row its first attempt, behind what changes at its place; returns what is
+    /// left of the row.
     fn answer_one<T: Trace, W: Write>(
         &mut self,
         alloc: Global,
@@ -184,16 +186,44 @@ impl Judge {
             (out_pipe_of W.contents writer.old) (played_of far.new)
             (out_pipe_of W.contents writer.new)) }
     {
+        match self.place(alloc, far, question) {
+            Ok(()) => match self.answer_placed(alloc, far, last, question, writer) {
+                Ok(rest) => Ok(rest),
+                Err(fault) => Err(fault),
+            },
+            Err(fault) => Err(fault),
+        }
+    }
+
+    /// The same, where nothing changes at its place.
+    fn answer_placed<T: Trace, W: Write>(
+        &mut self,
+        alloc: Global,
+        far: &mut FarEnd<T>,
+        last: u64,
+        question: &Question,
+        writer: &mut Watched<W>,
+    ) -> Result<Option<Question>, BenchFault>
+        requires { IsQuestion question.now }
+        ensures judged { IfOk result (λ rest. PlacedAnswered last question.now self.old
+            (played_of far.old) (out_pipe_of W.contents writer.old) rest self.new
+            (played_of far.new) (out_pipe_of W.contents writer.new)) }
+        ensures rest { IfOk result (λ rest. IfSome rest IsQuestion) }
+        ensures fault { IfErr result (PlacedUnreplied last question.now self.old
+            (played_of far.old) (out_pipe_of W.contents writer.old) (played_of far.new)
+            (out_pipe_of W.contents writer.new)) }
+    {
         let coming = match self.before(alloc, far, last, question) {
             Ok(coming) => coming,
             Err(fault) => return Err(fault),
         };
+        let told = far.told();
         let replied = match far.reply(question) {
             Ok(replied) => replied,
             Err(fault) => return Err(BenchFault::Far(fault)),
         };
         match self.settle(alloc, far, &coming, replied.came) {
-            Ok(()) => {}
+            Ok(()) => self.see_told(far, &told),
             Err(fault) => return Err(fault),
         }
         match put_lines(writer, replied.lines.as_slice()) {

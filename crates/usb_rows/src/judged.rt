@@ -52,7 +52,7 @@ fn is_played(
     let mut far = FarEnd::new(alloc, plan, Watched::new(trace))?;
     let mut reader = Watched::new(lines);
     let mut writer = Watched::new(Vec::new(alloc));
-    let mut judge = Judge::new(alloc);
+    let mut judge = Judge::new(alloc, None);
     let judged = judge_host(alloc, &mut judge, &mut far, None, &mut reader, &mut writer);
     Ok(judged.is_ok())
 }

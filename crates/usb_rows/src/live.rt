@@ -7,6 +7,7 @@ use usb_bench::{Judge, judge_host};
 use usb_bus::Watched;
 use usb_far::FarEnd;
 use usb_live::{LiveEnd, live};
+use usb_places::Places;
 use usb_sim::{Plan, Tracer};
 
 /// The most questions.
@@ -95,8 +96,12 @@ pub(crate) struct Course {
     pub(crate) is_right: bool,
 }
 
-/// The course of a host against a controller side that plays a plan.
-pub(crate) fn course_of(alloc: Global, plan: &Plan) -> Result<Course, AllocError> {
+/// The course of a host against a controller side that plays a plan, which may have places that are not found yet.
+pub(crate) fn course_of(
+    alloc: Global,
+    plan: &Plan,
+    places: Option<Places>,
+) -> Result<Course, AllocError> {
     let link = RefCell::new(Link {
         alloc,
         far: FarEnd::new(alloc, plan, Watched::new(Vec::new(alloc)))?,
@@ -104,7 +109,7 @@ pub(crate) fn course_of(alloc: Global, plan: &Plan) -> Result<Course, AllocError
         read: 0,
         told: Vec::new(alloc),
         asked: Vec::new(alloc),
-        judge: Judge::new(alloc),
+        judge: Judge::new(alloc, places),
     });
     let ends = Ends(&link);
     let (ended, _reader, _writer) = live(

@@ -1,5 +1,5 @@
 //! Runs the rows of `data/`: plans, each in both modes, explained, by a host over two pipes, and by
-//! a driver of records, packets in digits, and listings that are judged. Prints a line for each that is not as expected, and
+//! a driver of records, packets in digits, listings that are judged, and plans with places. Prints a line for each that is not as expected, and
 //! both numbers.
 #![tactic(auto)]
 
@@ -17,6 +17,7 @@ use std::rt::Files;
 use std::{fs, io, str};
 use usb_bus::Watched;
 use usb_explain::{Only, explain};
+use usb_places::Places;
 use usb_run::Mode;
 use usb_serve::{ServeFault, plan_of, serve};
 use usb_sim::Plan;
@@ -28,6 +29,9 @@ const NAMES: &str = "names.txt";
 
 /// A line for each packet: digits, and after a tab each its lines or the fault that is reported.
 const PACKETS: &str = "packets.tsv";
+
+/// A line for each plan that has places instead of numbers: the NAME of the row whose course it is to have. It is NAME.when.toml.
+const PLACED: &str = "placed.txt";
 
 /// A line for each listing that is not of what is plugged: the NAME of its row, its lines, and what is judged of it, after a
 /// tab each.
@@ -57,6 +61,7 @@ fn main(rt: HostRuntime) -> io::Result<()> {
     serve_plans(&rt, &mut tally)?;
     read_packets(&rt, &mut tally)?;
     judge_listings(&rt, &mut tally)?;
+    play_places(&rt, &mut tally)?;
     println!(rt; "{} rows, {} differ", tally.rows, tally.differ)
 }
 
@@ -82,6 +87,33 @@ fn judge_listings<R: Files + Print + AllocGlobal>(rt: &R, tally: &mut Tally) -> 
     Ok(())
 }
 
+fn play_places<R: Files + Print + AllocGlobal>(rt: &R, tally: &mut Tally) -> io::Result<()> {
+    let names = fs::read_to_string(rt, PLACED)?;
+    'names: for name in names.lines() {
+        let as_wanted = is_placed(rt, name)?;
+        tally.count(as_wanted);
+    }
+    Ok(())
+}
+
+/// Whether a plan with places has the course of its row. Prints a line where it has not.
+fn is_placed<R: Files + Print + AllocGlobal>(rt: &R, name: &str) -> io::Result<bool> {
+    let alloc = rt.alloc();
+    let text = fs::read_to_string(rt, format!(in alloc; "{name}.when.toml")?)?;
+    let (Some(plan), Ok(places)) = (plan_in(rt, name)?, Places::read(alloc, text.as_str())) else {
+        println!(rt; "{name} placed: no plan")?;
+        return Ok(false);
+    };
+    let wanted = course_of(alloc, &plan, None)?;
+    let known = places.plan(alloc)?;
+    let course = course_of(alloc, &known, Some(places))?;
+    let as_wanted = course.is_right && wanted.asked.as_slice() == course.asked.as_slice();
+    if !as_wanted {
+        println!(rt; "{name} placed: another course")?;
+    }
+    Ok(as_wanted)
+}
+
 /// Whether a listing is judged as expected. Prints a line where it is not.
 fn is_judged<R: Files + Print + AllocGlobal>(rt: &R, line: &str) -> io::Result<bool> {
     let alloc = rt.alloc();
@@ -91,7 +123,7 @@ fn is_judged<R: Files + Print + AllocGlobal>(rt: &R, line: &str) -> io::Result<b
         println!(rt; "{name} judged: no such row")?;
         return Ok(false);
     };
-    let course = course_of(alloc, &plan)?;
+    let course = course_of(alloc, &plan, None)?;
     let judged = judgements_of(alloc, &plan, course.asked.as_slice(), listing)?;
     let as_wanted = judged.as_str() == wanted;
     if !as_wanted {
@@ -140,7 +172,7 @@ fn is_told_live<R: Files + Print + AllocGlobal>(rt: &R, name: &str) -> io::Resul
         return Ok(true);
     };
     let wanted = fs::read_to_string(rt, format!(in alloc; "{name}.tree.txt")?)?;
-    let course = course_of(alloc, &plan)?;
+    let course = course_of(alloc, &plan, None)?;
     if let Err(end) = course.ended {
         println!(rt; "{name} live: {end}")?;
         return Ok(false);

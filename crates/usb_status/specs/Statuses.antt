@@ -16,6 +16,8 @@ use Rattle.usb_pcap.specs.{PcapFault}
 use Rattle.usb_pcap.specs.declared.capturing.PcapFault.TheVariants as pcap
 use Rattle.usb_entry.specs.{EntryFault}
 use Rattle.usb_entry.specs.declared.fault.EntryFault.TheVariants as entry
+use Rattle.usb_places.specs.declared.fault.PlacesFault.{PlacesFault}
+use Rattle.usb_places.specs.declared.fault.PlacesFault.TheVariants as places
 use Rattle.usb_far.specs.{FarFault}
 use Rattle.usb_far.specs.declared.fault.FarFault.TheVariants as far
 use Rattle.usb_bench.specs.{BenchFault}
@@ -79,6 +81,12 @@ device_status (entry.LeftOver at) = 1
 device_status entry.Write = 4
 device_status entry.Memory = 4
 
+-- of a plan with places
+abbrev pub places_status : PlacesFault → ℕ
+places_status (places.When place why) = 1
+places_status (places.Order place) = 1
+places_status (places.Plan why) = serve_status (serve.Plan why)
+
 -- of a host's lines
 abbrev pub far_status : FarFault → ℕ
 far_status far.Read = 4
@@ -97,6 +105,7 @@ far_status far.Write = 4
 abbrev pub bench_status : BenchFault → ℕ
 bench_status (bench.Far why) = far_status why
 bench_status bench.NoRest = 3
+bench_status bench.OtherPlan = 1
 bench_status bench.Memory = 4
 
 -- of a far end's lines
@@ -119,6 +128,7 @@ fault_status (fault.Explain why) = explain_status why
 fault_status (fault.Pcap why) = pcap_status why
 fault_status (fault.Device why) = device_status why
 fault_status fault.LongDevice = 1
+fault_status (fault.Places why) = places_status why
 fault_status (fault.Far number why) = far_status why
 fault_status (fault.Bench number why) = bench_status why
 fault_status fault.Judged = 1

@@ -14,6 +14,7 @@ use usb_explain::ExplainFault;
 use usb_far::FarFault;
 use usb_live::LiveEnd;
 use usb_pcap::PcapFault;
+use usb_places::PlacesFault;
 use usb_serve::{InputFault, ServeFault};
 use usb_text::LineFault;
 
@@ -44,6 +45,9 @@ pub enum Fault {
     /// A device's file is longer than a plan may be.
     #[error("device: file too long")]
     LongDevice,
+    /// A plan with places was not read.
+    #[error("{0}")]
+    Places(PlacesFault),
     /// A host was not answered to the end of its input, but up to the line of this number.
     #[error("line {0}: {1}")]
     Far(u64, FarFault),
@@ -125,6 +129,14 @@ impl From<EntryFault> for Fault {
 
     fn from(why: EntryFault) -> Fault {
         Fault::Device(why)
+    }
+}
+
+impl From<PlacesFault> for Fault {
+    ghost from_gives = { λ why e. e ≡ fault.Places why };
+
+    fn from(why: PlacesFault) -> Fault {
+        Fault::Places(why)
     }
 }
 

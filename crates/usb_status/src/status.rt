@@ -1,6 +1,6 @@
 //! The program's exit status.
 ghost use Rattle.std.specs.Prelude.{◌≡◌};
-ghost use Rattle.usb_status.specs.Statuses.{bench_status, device_status, exit_status, explain_status, far_status, fault_status, line_status, live_status, pcap_status, serve_status};
+ghost use Rattle.usb_status.specs.Statuses.{bench_status, device_status, exit_status, explain_status, far_status, fault_status, line_status, live_status, pcap_status, places_status, serve_status};
 
 use crate::fault::Fault;
 use usb_bench::BenchFault;
@@ -10,6 +10,7 @@ use usb_explain::ExplainFault;
 use usb_far::FarFault;
 use usb_live::{LiveEnd, LiveFault};
 use usb_pcap::PcapFault;
+use usb_places::PlacesFault;
 use usb_plan::PlanFault;
 use usb_run::RunFault;
 use usb_serve::ServeFault;
@@ -53,6 +54,7 @@ fn fault_status(fault: Fault) -> u8
         Fault::Explain(why) => explain_status(why),
         Fault::Pcap(why) => pcap_status(why),
         Fault::Device(why) => device_status(why),
+        Fault::Places(why) => places_status(why),
         Fault::Far(_, why) => far_status(why),
         Fault::Bench(_, why) => bench_status(why),
         Fault::Live(end) => live_status(end),
@@ -112,6 +114,15 @@ fn device_status(fault: EntryFault) -> u8
     }
 }
 
+fn places_status(fault: PlacesFault) -> u8
+    ensures { result ≡ places_status fault }
+{
+    match fault {
+        PlacesFault::When(_, _) | PlacesFault::Order(_) => REFUSED,
+        PlacesFault::Plan(why) => serve_status(ServeFault::Plan(why)),
+    }
+}
+
 fn far_status(fault: FarFault) -> u8
     ensures { result ≡ far_status fault }
 {
@@ -132,6 +143,7 @@ fn bench_status(fault: BenchFault) -> u8
     match fault {
         BenchFault::Far(why) => far_status(why),
         BenchFault::NoRest => LIMIT,
+        BenchFault::OtherPlan => REFUSED,
         BenchFault::Memory => FAILED,
     }
 }

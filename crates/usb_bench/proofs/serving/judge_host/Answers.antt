@@ -9,7 +9,7 @@ lines-init g c = serves_none c.args.rounds c.args.judge.now
     (scene g.R.Read.remaining g.W.Write.contents c.args.far.now c.args.reader.now c.args.writer.now)
     c.last_attempt-last.result
     (c.last_attempt-last.ensures ∙ ap (λ n. last_attempt n c.args.rounds)
-    (c.attempts.ensures ∙ ap (λ w. w.attempts) c.bus.ensures.world))
+    (c.attempts.ensures.value ∙ ap (λ w. w.attempts) c.bus.ensures.world))
 
 pub lines-preserved : goal.lines-preserved
 lines-preserved g c = serves_more _ _ _ _ _ _ _ _ _ _ _ _ (omega arith) c.in-Ok-Some.field-0-is

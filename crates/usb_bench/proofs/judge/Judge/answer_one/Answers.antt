@@ -1,38 +1,25 @@
-use Rattle.std.proofs.Common.{refl}
+use Rattle.std.proofs.Common.{ap, refl}
+use Rattle.usb_far.specs.{played_of}
 use Rattle.usb_bench.specs.{NoReply}
-use Rattle.usb_bench.proofs.Rows.{unforeseen_stops}
 use Rattle.usb_bench.proofs.judge.Judge.answer_one.Goals as goal
 
-pub returns-in-Err-clause-fault : goal.returns-in-Err-clause-fault
-returns-in-Err-clause-fault g c = unforeseen_stops _ _ _ _ _ _ _ c.in-Err.ensures.fault
-
-pub returns-in-Err-reply-clause-fault : goal.returns-in-Err-reply-clause-fault
-returns-in-Err-reply-clause-fault g c =
-    NoReply.unreplied c.in-Ok.coming c.before-2.new.self _ c.in-Err-reply.fault
-    c.in-Ok.ensures.foreseen c.in-Err-reply.ensures.fault refl
-
-pub returns-in-Err-settle-clause-fault : goal.returns-in-Err-settle-clause-fault
-returns-in-Err-settle-clause-fault g c =
-    NoReply.unsaid c.in-Err-settle.fault c.in-Err-settle.ensures.fault refl
-
-pub returns-in-Ok-put_lines-clause-judged : goal.returns-in-Ok-put_lines-clause-judged
-returns-in-Ok-put_lines-clause-judged g c = record {
-  reply = c.in-Ok-reply.replied;
+pub returns-in-Ok-answer_placed-clause-judged : goal.returns-in-Ok-answer_placed-clause-judged
+returns-in-Ok-answer_placed-clause-judged g c = record {
+  reply = c.in-Ok-answer_placed.ensures.judged.reply;
   one = record {
-    coming = c.in-Ok.coming;
-    seen_judge = c.before-2.new.self;
-    seen = _;
-    replied = _;
-    foreseen = c.in-Ok.ensures.foreseen;
-    replies = c.in-Ok-reply.ensures.replied;
-    judged = c.in-Ok-settle.ensures.judged;
-    gone = rw c.as_slice.ensures.value at c.in-Ok-put_lines.ensures;
+    placed_judge = c.place.new.self;
+    placed = played_of c.place.new.far;
+    place = c.in-Ok.ensures.placed;
+    behind = c.in-Ok-answer_placed.ensures.judged.one;
   };
-  left = refl;
+  left = c.in-Ok-answer_placed.ensures.judged.left;
 }
 
-pub returns-in-Err-put_lines-clause-fault : goal.returns-in-Err-put_lines-clause-fault
-returns-in-Err-put_lines-clause-fault g c =
-    NoReply.unwritten c.in-Ok.coming c.before-2.new.self c.settle.new.self _ _ c.in-Ok-reply.replied
-    c.in-Ok.ensures.foreseen c.in-Ok-reply.ensures.replied c.in-Ok-settle.ensures.judged
-    (rw c.as_slice.ensures.value at c.in-Err-put_lines.ensures)
+pub returns-in-Err-answer_placed-clause-fault : goal.returns-in-Err-answer_placed-clause-fault
+returns-in-Err-answer_placed-clause-fault g c =
+    NoReply.behind c.place.new.self (played_of c.place.new.far) c.in-Ok.ensures.placed
+    c.in-Err-answer_placed.ensures.fault
+
+pub returns-in-Err-clause-fault : goal.returns-in-Err-clause-fault
+returns-in-Err-clause-fault g c =
+    NoReply.unplaced c.in-Err.ensures.fault (ap played_of c.in-Err.ensures.kept) refl

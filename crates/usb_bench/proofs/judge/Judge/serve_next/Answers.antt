@@ -22,7 +22,7 @@ returns-in-Err-answer-clause-fault g c =
     let reads = read_asked (reading g.R.Read.remaining c.args.far.now c.args.reader.now)
     (reading g.R.Read.remaining c.next_line.new.self c.next_line.new.reader) c.in-Ok-Asked.field-0
     c.in-Ok-Asked.question c.in-Ok-Asked.field-0-is c.in-Ok-Asked.ensures in
-    let attempts = c.attempts.ensures ∙ ap (λ w. w.attempts) c.bus.ensures.world
+    let attempts = c.attempts.ensures.value ∙ ap (λ w. w.attempts) c.bus.ensures.world
     ∙ ap (λ p. p.far.world.attempts) reads.1 in
     asked_stops c.args.rounds c.args.last c.last_at-next.result c.args.self.now old
     (scene g.R.Read.remaining g.W.Write.contents c.answer.new.far c.next_line.new.reader
