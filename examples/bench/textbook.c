@@ -340,24 +340,27 @@ static void receive(struct place *place, unsigned root, unsigned count)
     usb_report("receive %u done %s", root, length == 0 ? "-" : bytes);
 }
 
-/* Clears the halt of that endpoint, `named` or not: both toggles begin again. */
-static void clear(struct place *place, unsigned root, const char *named)
+/* Clears the halt of that endpoint, named in the request or 0: both toggles begin again. */
+static void clear(struct place *place, unsigned root, unsigned endpoint)
 {
+    char named[12] = "";
     bool done = place->in_endpoint != 0
         && request(place->control, 0x02, 1, 0, 0x80u | place->in_endpoint, 0, NULL) == 0;
     if (done || toggle_reset)
         place->in_toggle = 0;
     place->in_broken = !done && !toggle_reset;
+    if (endpoint != 0)
+        snprintf(named, sizeof named, " %02X", endpoint);
     usb_report("clear %u%s %s", root, named, done ? "done" : "failed no answer");
 }
 
 static void serve_asked(void)
 {
-    unsigned root, number;
+    unsigned root, number = 0;
     if (sscanf(usb_asked(), "receive %u %u", &root, &number) == 2 && root <= roots && number <= 1000)
         receive(&places[root][0], root, number);
     else if (sscanf(usb_asked(), "clear %u %x", &root, &number) >= 1 && root <= roots)
-        clear(&places[root][0], root, usb_asked() + strcspn(usb_asked() + 6, " ") + 6);
+        clear(&places[root][0], root, number);
 }
 
 int main(int argc, char **argv)

@@ -61,6 +61,8 @@ void usb_port_clear(unsigned port, const char *feature);
 
 /* Nothing is left to do: about 32 ms pass, or something happens. */
 enum usb_wanted usb_wait(void);
+
+/* The words that it answered. They last until the next question. */
 const char *usb_asked(void);
 
 /* Writes a line of a report, as printf does, with no newline in `form`. */
