@@ -43,7 +43,7 @@ enum usb_devices_status {
     USB_DEVICES_OPEN = 2,           /* the handle is open */
     USB_DEVICES_CLOSED = 3,         /* the handle is closed */
     USB_DEVICES_NO_TEXT = 4,        /* the plan's text is no UTF-8 */
-    USB_DEVICES_NO_PLAN = 5,        /* the text is no plan: `usbplan check` says why */
+    USB_DEVICES_NO_PLAN = 5,        /* the text is no plan, or has `when`: `usbplan check` says why */
     USB_DEVICES_LIMIT = 6,          /* the attempts made equal the plan's limit */
     USB_DEVICES_LONG_LINE = 7,      /* a line that reports nothing has more than 1,024 bytes */
     USB_DEVICES_BAD_CHARACTER = 8,  /* a byte of such a line is no printable ASCII */

@@ -7,9 +7,10 @@
  * has three strings of 126 UTF-16 units. The maximum packet of its endpoint 0 is PACKET (64). Eight of them are hubs of
  * 15 ports. They are plugged in one by one, and the tree is listed twice after each.
  *
- * Then other hosts have the eight hubs, and a hostile device comes. One says that each of its 255 configurations has
- * 65,535 bytes, and must be refused as too large. One answers NAK 255 times before each packet, and one gives each
- * packet 255 times. The device that comes after a hostile one must be listed. Status 0: all was so.
+ * Then, if BYTES are enough for 255 configurations, other hosts have the eight hubs, and a hostile device comes. One
+ * says that each of its 255 configurations has 65,535 bytes, and must be refused as too large. One answers NAK 255
+ * times before each packet, and one gives each packet 255 times. The device that comes after a hostile one must be
+ * listed. Status 0: all was so.
  */
 #include <stdio.h>
 #include <stdlib.h>
@@ -417,8 +418,10 @@ int main(int words, char **word)
     MUST(count >= HUBS && count <= MOST && configurations >= 1);
     MUST(bytes / (configurations == ANY ? 255 : configurations) >= 27); /* so that items fill each of them */
     check_tree(count, configurations);
-    check_hostile(LYING, USB_CAUSE_TOO_LARGE);
-    check_hostile(LATE, USB_CAUSE_SILENT);
-    check_hostile(REPEATING, USB_CAUSE_SILENT);
+    if (bytes / 255 >= 27) {
+        check_hostile(LYING, USB_CAUSE_TOO_LARGE);
+        check_hostile(LATE, USB_CAUSE_SILENT);
+        check_hostile(REPEATING, USB_CAUSE_SILENT);
+    }
     return 0;
 }
