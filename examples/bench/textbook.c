@@ -1,7 +1,7 @@
 /* textbook: a simple USB host, for `usbplan far` to judge. It enumerates in the order of the textbooks, serves hubs at
  * root ports and nothing below them but functions, and receives from a bulk endpoint when it is asked to.
  *
- * usage: textbook [late-clear | left-enabled | toggle-reset]
+ * usage: textbook [late-clear] [left-enabled] [toggle-reset]
  *
  * Without a word it has no fault that is known. Each word is a fault that real stacks had:
  *   late-clear    a port's change is cleared after all that its older status asked for is done
@@ -365,9 +365,11 @@ static void serve_asked(void)
 
 int main(int argc, char **argv)
 {
-    late_clear = argc > 1 && strcmp(argv[1], "late-clear") == 0;
-    left_enabled = argc > 1 && strcmp(argv[1], "left-enabled") == 0;
-    toggle_reset = argc > 1 && strcmp(argv[1], "toggle-reset") == 0;
+    for (int i = 1; i < argc; i++) {
+        late_clear |= strcmp(argv[i], "late-clear") == 0;
+        left_enabled |= strcmp(argv[i], "left-enabled") == 0;
+        toggle_reset |= strcmp(argv[i], "toggle-reset") == 0;
+    }
     roots = usb_begin();
     for (unsigned root = 1; root <= roots; root++) {
         usb_port_clear(root, "PORT_POWER");
