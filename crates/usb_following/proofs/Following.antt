@@ -184,10 +184,10 @@ module _ (p q : PlanData) (w : World) (agree : AgreeIn p q w) (ends : w.taken �
     same_step event v is on asked = by_fault v.fault on asked
       where
         by_fault : (f : Option BusFault) → Later (event_taken f v) w
-            → (drop w.taken q.events ≢ [] → (event_taken f v).taken ≡ v.taken + 1)
+            → (drop w.taken q.events ≢ [] → f ≡ None → (event_taken f v).taken ≡ v.taken + 1)
             → event_taken f (followed q v) ≡ followed q (event_taken f v)
         by_fault (Some f) on asked = refl
-        by_fault None on asked = came v.left v is refl on asked
+        by_fault None on asked = came v.left v is refl on (λ some. asked some refl)
     same_step (report line) v is on asked = refl
 
 -- Steps
@@ -221,7 +221,7 @@ comes_too : (q : PlanData) (s : Step) (v : World)
     → after s (followed q v) ≡ followed q (after s v) → Comes s v → Comes s (followed q v)
 comes_too q (attempt a) v same h = tt
 comes_too q (root_call c n) v same h = tt
-comes_too q event v same h = ap (λ u. u.taken) same ∙ h
+comes_too q event v same h = λ sound. ap (λ u. u.taken) same ∙ h sound
 comes_too q (report line) v same h = tt
 
 all_along : (p q : PlanData) (steps : List Step) (v : World) → IsOf p v
@@ -238,7 +238,7 @@ all_along p q (s ∷ steps) v is agree asked =
           (all_along p q steps (after s v) (of_step p s v is) agree asked.1),
     )
 
-all_too : (p q : PlanData) (steps : List Step) → AgreeIn p q (run p steps)
+pub all_too : (p q : PlanData) (steps : List Step) → AgreeIn p q (run p steps)
     → AllCome steps (opening p) → AllCome steps (opening q)
 all_too p q steps agree asked =
     subst (AllCome steps) (sym (same_opening p q agree.limit agree.roots agree.devices))
@@ -246,13 +246,13 @@ all_too p q steps agree asked =
 
 -- Plans that are followed one after the other
 
-one_more : (steps : List Step) (s : Step) (w : World)
+pub one_more : (steps : List Step) (s : Step) (w : World)
     → world_after (steps ++ s ∷ []) w ≡ after s (world_after steps w)
 unfolding world_after
 one_more [] s w = refl
 one_more (t ∷ steps) s w = one_more steps s (after t w)
 
-one_more_comes : (steps : List Step) (s : Step) (w : World) → AllCome steps w
+pub one_more_comes : (steps : List Step) (s : Step) (w : World) → AllCome steps w
     → Comes s (world_after steps w) → AllCome (steps ++ s ∷ []) w
 unfolding world_after
 one_more_comes [] s w all h = (h, tt)

@@ -1,3 +1,4 @@
+pub mod Interface
 mod Lists
 mod Later
 mod Following

@@ -1,5 +1,6 @@
 -- Runs of plans, and which plans a run does not tell apart as far as it has come.
-use Rattle.std.specs.Prelude.{◌≡◌, ◌≤◌, ◌+◌, ◌-◌, ℕ, false, List, [], ◌∷◌, ◌++◌, drop, take, ⊤}
+use Rattle.std.specs.Prelude.{◌≡◌, ◌≤◌, ◌+◌, ◌-◌, ℕ, false, List, [], ◌∷◌, ◌++◌, None, drop, take}
+use Rattle.std.specs.Prelude.{⊤}
 use Rattle.usb_world.specs.{Event, PlanData, Step, World, after, attempt, damage_of, event, opening}
 use Rattle.usb_world.specs.{report, root_call, waits}
 use Rattle.usb_sim.specs.{followed}
@@ -13,14 +14,14 @@ world_after (s ∷ steps) w = world_after steps (after s w)
 abbrev pub run : PlanData → List Step → World
 run p steps = world_after steps (opening p)
 
--- if the step asks for an event, one comes
+-- if the step asks for an event, one comes, unless the bus has a fault
 abbrev pub Comes : Step → World → Type 0
 Comes (attempt a) w = ⊤
 Comes (root_call c n) w = ⊤
-Comes event w = (after event w).taken ≡ w.taken + 1
+Comes event w = w.fault ≡ None → (after event w).taken ≡ w.taken + 1
 Comes (report line) w = ⊤
 
--- each event that is asked for comes
+-- each event that is asked for comes, unless the bus has a fault
 abbrev pub AllCome : List Step → World → Type 0
 AllCome [] w = ⊤
 AllCome (s ∷ steps) w = Comes s w × AllCome steps (after s w)

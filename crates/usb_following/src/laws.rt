@@ -11,8 +11,8 @@ ghost use Rattle.usb_following.specs.Runs.{AgreeIn, AllCome, Plays, run};
 /// A world after steps that follows another plan is the world after these steps from that plan's
 /// start, if the plans agree so far.
 ///
-/// If the other plan has more events, each event that was asked for came. Where one was asked for in
-/// vain, one of the other plan would have come.
+/// If the other plan has more events, each event that was asked for came, unless the bus had a
+/// fault. Where one was asked for in vain, one of the other plan would have come.
 pub fn follows_from_start()
     ensures { (p q : PlanData) (steps : List Step) → AgreeIn p q (run p steps)
         → (drop (run p steps).taken q.events ≢ [] → AllCome steps (opening p))

@@ -1,0 +1,6 @@
+mod Seen
+mod Events
+mod Damages
+mod Waits
+mod Steps
+mod Placed
