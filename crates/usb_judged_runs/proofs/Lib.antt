@@ -1,0 +1,3 @@
+mod Keeping
+mod Questions
+mod Judging
