@@ -88,11 +88,15 @@ pub told_places : (j : Judge) (old : Scene) (new_judge : Judge) (new : Scene)
 told_places j old new_judge new told =
     (of_block j.block told.front j told.read.played new_judge new.played told.judged).places
 
+pub told_far : (j : Judge) (old : Scene) (new_judge : Judge) (new : Scene)
+    → (told : ToldOne j old new_judge new) → new.played.far ≡ told.read.played.far
+told_far j old new_judge new told =
+    (of_block j.block told.front j told.read.played new_judge new.played told.judged).far
+
 pub told_world : (j : Judge) (old : Scene) (new_judge : Judge) (new : Scene)
     → ToldOne j old new_judge new → new.played.far.world ≡ old.played.far.world
 told_world j old new_judge new told =
-    ap (λ (f : Far). f.world)
-    (of_block j.block told.front j told.read.played new_judge new.played told.judged).far
+    ap (λ (f : Far). f.world) (told_far j old new_judge new told)
     ∙ ap (λ (p : Played). p.far.world) told.reads.moved
 
 -- What is said before a question is answered, and behind it

@@ -1,3 +1,4 @@
 mod Keeping
 mod Questions
 mod Judging
+mod Replying

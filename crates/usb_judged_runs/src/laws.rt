@@ -1,7 +1,7 @@
-//! What is so of a host that is judged by a plan with places.
+//! What is so of a host that is judged, by a plan with places or by one without.
 //!
 //! Each call does nothing; what it ensures is for a reader, and for proofs to cite.
-ghost use Rattle.std.specs.Prelude.{◌≡◌, ℕ, Option, Some, Result, Ok};
+ghost use Rattle.std.specs.Prelude.{◌≡◌, ℕ, Option, None, Some, Result, Ok};
 ghost use Rattle.usb_world.specs.Steps.{opening};
 ghost use Rattle.usb_far.specs.Serving.{Scene};
 ghost use Rattle.usb_places.specs.Places.{PlacesData};
@@ -9,6 +9,7 @@ ghost use Rattle.usb_placed_runs.specs.PlacedRuns.{plan_in};
 ghost use Rattle.usb_bench.specs.declared.judge.Judge.{Judge};
 ghost use Rattle.usb_bench.specs.Serving.{JudgesHost, Serves};
 ghost use Rattle.usb_judged_runs.specs.JudgedRuns.{IsPlacedRun};
+ghost use Rattle.usb_judged_runs.specs.Alike.{RepliesAsFar};
 
 use usb_placed_runs::{others_find_nothing, places_play};
 
@@ -38,3 +39,13 @@ pub fn judged_hosts_are_placed()
 {
     judged_runs_are_placed();
 }
+
+/// After any of its lines, a host that is judged has the replies that usb_far's `serve` makes.
+///
+/// Its plan has no places. Then just the replies to the lines that were read have gone out, and the
+/// far end is as it is behind them (*RepliesAsFar*). Of the trace nothing is said.
+pub fn judged_host_replies_as_far()
+    ensures { (rounds : Option ℕ) (first : Judge) (old : Scene) (count last : ℕ)
+        (judge : Judge) (new : Scene) → first.places ≡ None
+        → Serves rounds first old count last judge new → RepliesAsFar old count new }
+{}

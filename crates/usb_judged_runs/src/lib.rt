@@ -1,4 +1,5 @@
-//! A host that is judged plays the plan that is known in the end.
+//! A host that is judged plays the plan that is known in the end; without places it has usb_far's
+//! replies.
 //!
 //! # What is proved
 //!
@@ -7,8 +8,10 @@
 //!   steps give from the start of the plan that is known in the end (*IsPlacedRun*,
 //!   `specs/JudgedRuns.antt`).
 //! - `judged_hosts_are_placed`: the same of all lines, where none stops it.
+//! - `judged_host_replies_as_far`: where its plan has no places, each of its lines has the reply
+//!   that usb_far's `serve` has to it (*RepliesAsFar*, `specs/Alike.antt`).
 #![tactic(auto)]
 
 mod laws;
 
-pub use laws::{judged_hosts_are_placed, judged_runs_are_placed};
+pub use laws::{judged_host_replies_as_far, judged_hosts_are_placed, judged_runs_are_placed};
