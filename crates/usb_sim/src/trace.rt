@@ -16,14 +16,14 @@ pub fn push_attempt(line: &mut Line, number: u64, pre: bool, exchange: &Exchange
     ensures { line.new.bytes ≡ attempt_line number pre exchange.now ++ 10 ∷ [] }
 {
     push_decimal(line, number);
-    line.push(' ');
+    line.push_str(" ");
     push_host(line, pre, &exchange.token);
     push_next(line, pre, &exchange.payload);
     line.push_str(" / ");
     push_answer(line, &exchange.answer);
     push_mark(line, exchange.answer_mark);
     push_next(line, pre, &exchange.reply);
-    line.push('\n');
+    line.push_str("\n");
 }
 
 /// PRE, if it is before a packet of the host.
@@ -86,7 +86,7 @@ fn push_mark(line: &mut Line, mark: Mark)
         Mark::Flipped(bit) => {
             line.push_str(" [bit ");
             push_decimal(line, u64::from(bit));
-            line.push(']');
+            line.push_str("]");
         }
     }
 }
