@@ -15,8 +15,9 @@ use super::SimBus;
 use crate::Trace;
 use usb_bus::Bus;
 use usb_device::{Holders, Ports, keeps_enable};
+use usb_packet::Packet;
 use usb_port::PortCall;
-use usb_world::{Attempt, BusFault, Outcome, damage_of, make_exchange_by, outcome_of};
+use usb_world::{Attempt, BusFault, ExchangeAnswer, Mark, Outcome, damage_of, make_exchange_by, outcome_of};
 
 impl<T: Trace> Bus for SimBus<T> {
     ghost use Rattle.usb_sim.specs.Parts.{LeavesAttempt};
@@ -52,9 +53,11 @@ impl<T: Trace> Bus for SimBus<T> {
             return Err(BusFault::Limit);
         }
         self.make_attempt(attempt)?;
-        let answer = &self.exchange.answer;
         let max = attempt.destination().max;
-        Ok(outcome_of(answer, self.exchange.answer_mark, max))
+        if let ExchangeAnswer::One(Packet::Payload { .. }) = &self.exchange.answer {
+            return Ok(outcome_of(&self.exchange.answer, self.exchange.answer_mark, max));
+        }
+        Ok(handshake_of(&self.exchange.answer, self.exchange.answer_mark, max))
     }
 
     fn root_ports(&self) -> u8 {
@@ -145,6 +148,24 @@ impl<T: Trace> SimBus<T> {
         self.tracer.put_attempt(self.attempts, pre, &self.exchange)?;
         self.fault = None;
         Ok(())
+    }
+}
+
+/// What the host gets of an answer that is no data. It is apart from data, so that no room for them is copied.
+#[tactic(auto, unfolding(usb_world::specs::Exchanges::outcome_of))]
+fn handshake_of(answer: &ExchangeAnswer, mark: Mark, max: u8) -> Outcome
+    requires { IsNoData answer.now }
+    ensures value { result ≡ outcome_of answer.now mark max }
+    ensures fits { FitsMaximum max result }
+{
+    if !mark.is_read() {
+        return Outcome::Nothing;
+    }
+    match answer {
+        ExchangeAnswer::One(Packet::Ack) => Outcome::Ack,
+        ExchangeAnswer::One(Packet::Nak) => Outcome::Nak,
+        ExchangeAnswer::One(Packet::Stall) => Outcome::Stall,
+        _ => Outcome::Nothing,
     }
 }
 

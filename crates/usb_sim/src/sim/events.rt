@@ -55,6 +55,20 @@ impl<T: Trace> SimBus<T> {
             (world_of self.new) (trace_of self.new) }
         ensures trace { result ≡ Err Failed → T.failed (tracer_of self.new) ≡ true }
     {
+        if self.is_due() {
+            return self.take_all_due();
+        }
+        Ok(())
+    }
+
+    /// The same, where some may be due. It stays apart, so that an attempt at which none is makes no room for one.
+    #[inline(never)]
+    fn take_all_due(&mut self) -> Result<(), BusFault>
+        requires sound { (world_of self.old).fault ≡ None }
+        ensures came { EventsCame (world_of self.old) (trace_of self.old) result
+            (world_of self.new) (trace_of self.new) }
+        ensures trace { result ≡ Err Failed → T.failed (tracer_of self.new) ≡ true }
+    {
         'due: while self.is_due() {
             let _ = self.take_event()?;
         }
