@@ -228,6 +228,7 @@ fn is_one(toggle: Toggle) -> bool
     }
 }
 
+/// The bit of a flag that is set, else 0, to add to other flags.
 fn flag(is_set: bool, bit: u8) -> u8
     ensures { result ≡ flag is_set bit }
 {

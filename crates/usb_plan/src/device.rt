@@ -100,6 +100,7 @@ fn device_room(earlier: &Devices) -> Result<(), EntryFault>
     }
 }
 
+/// The device with power of its own, NAKs, silence and refusals as the quirks say.
 #[tactic(auto, unfolding(crate::specs::Device::with_quirks))]
 fn with_quirks(device: DeviceSpec, quirks: Quirks) -> DeviceSpec
     requires { FewNaks quirks }
