@@ -58,6 +58,7 @@ pub(crate) fn attempt_of(question: &Question) -> Option<Attempt>
     }
 }
 
+/// The OUT of a packet of at most 64 bytes, to an endpoint whose maximum packet is taken as 64.
 fn out(speed: Speed, endpoint: Endpoint, toggle: Toggle, packet: &[u8]) -> Attempt
     requires { length packet.now ≤ 64 }
     ensures { result ≡ out_asked speed endpoint toggle packet.now }
@@ -71,6 +72,7 @@ fn out(speed: Speed, endpoint: Endpoint, toggle: Toggle, packet: &[u8]) -> Attem
     }
 }
 
+/// This endpoint, reached at this speed by packets of at most this number of bytes.
 fn destination(speed: Speed, endpoint: Endpoint, max: u8) -> Destination
     ensures { result ≡ destination_at speed endpoint max }
 {

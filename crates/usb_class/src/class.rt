@@ -82,6 +82,7 @@ fn push_number(alloc: Global, out: &mut Vec<u8>, class: u8) -> Result<(), AllocE
     out.extend_from_slice(hex::encode(alloc, bytes)?.as_bytes())
 }
 
+/// The word of a class; None for a class that has no word, which is shown by its number.
 #[tactic(auto, unfolding(crate::specs::Classes::class_word))]
 fn class_word(codes: ClassCodes) -> Option<&'static str>
     ensures { MatchOption result (class_word codes ≡ None) (λ w. class_word codes ≡ Some w.now) }

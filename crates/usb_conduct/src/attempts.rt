@@ -65,6 +65,7 @@ pub fn resets_empty(plugged: &[PluggedDevice<'_>], number: u8) -> bool
     !has_root(plugged, number)
 }
 
+/// Whether a device is plugged at the root port of this number.
 fn has_root(plugged: &[PluggedDevice<'_>], number: u8) -> bool
     ensures { result ≡ list_any (is_at_root number) plugged.now }
 {

@@ -33,6 +33,7 @@ fn is_out_for(number: u8, bytes: usize, item: &Item<'_>) -> bool
     }
 }
 
+/// Whether some OUT endpoint with this number, in any setting, takes that many bytes in a packet.
 fn has_out(number: u8, bytes: usize, config: &ConfigView<'_>) -> bool
     ensures { result ≡ list_any (is_out_for number bytes) (items_of config.now) }
 {

@@ -8,6 +8,7 @@ use std::alloc::AllocError;
 use usb_packet::Toggle;
 use usb_world::{Attempt, Destination, Outcome};
 
+/// Whether it is of the endpoint with this number, of the device at this address.
 fn is_of(unanswered: &Unanswered, address: u8, number: u8) -> bool
     ensures { result ≡ is_of address number unanswered.now }
 {
@@ -22,6 +23,7 @@ fn is_unanswered(left: &[Unanswered], address: u8, number: u8) -> bool
         .any(|unanswered| is_of(unanswered, address, number))
 }
 
+/// Whether the toggle is not the one that was sent; false if that one is not known.
 fn is_other(toggle: Toggle, sent: Option<Toggle>) -> bool
     ensures { result ≡ is_other toggle sent }
 {
@@ -31,6 +33,8 @@ fn is_other(toggle: Toggle, sent: Option<Toggle>) -> bool
     }
 }
 
+/// Whether a packet to the destination is no retry of this one: same endpoint, other toggle
+/// (8.6.4).
 fn is_skipped(to: Destination, toggle: Toggle, unanswered: &Unanswered) -> bool
     ensures { result ≡ is_skipped to toggle unanswered.now }
 {
@@ -113,6 +117,7 @@ fn note_token(left: &mut Vec<Unanswered>, attempt: &Attempt)
     }
 }
 
+/// Forgets the toggles of all packets without an answer that went to the address.
 fn forget_toggles(left: &mut [Unanswered], address: u8)
     ensures { left.new ≡ map (toggle_forgotten address) left.old }
 {
@@ -122,6 +127,7 @@ fn forget_toggles(left: &mut [Unanswered], address: u8)
     }
 }
 
+/// Forgets the toggle of one of them, if it went to the address.
 fn forget_toggle(unanswered: &mut Unanswered, address: u8)
     ensures { unanswered.new ≡ toggle_forgotten address unanswered.old }
 {
@@ -170,6 +176,7 @@ fn left_by(attempt: &Attempt) -> Option<Unanswered>
     }
 }
 
+/// What is kept of a packet to the destination that had no answer; the toggle is that of an OUT.
 fn unanswered(to: Destination, toggle: Option<Toggle>) -> Unanswered
     ensures { result ≡ unanswered to toggle }
 {

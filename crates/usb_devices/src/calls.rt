@@ -43,6 +43,7 @@ pub(crate) fn ask_number(asked: Result<(), FarFault>) -> u8
     }
 }
 
+/// The number of a fault of lines: 1 if memory was refused, else 6 to 13.
 fn far_number(fault: FarFault) -> u8
     ensures { result ≡ far_number fault }
 {

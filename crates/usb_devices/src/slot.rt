@@ -57,6 +57,7 @@ impl Slot {
         let Slot { at: _, alloc: _ } = self;
     }
 
+    /// Holds the devices at this pointer, and owns them from now on.
     fn from_raw(devices: RawBox<Devices, Global>) -> Slot
         ensures { result.held ≡ Some devices.value }
     {
@@ -67,6 +68,7 @@ impl Slot {
         }
     }
 
+    /// Hands over the pointer to the devices that it holds, and no longer owns them.
     fn into_raw(self) -> RawBox<Devices, Global>
         requires { IsSome self.held }
         ensures { self.held ≡ Some result.value }

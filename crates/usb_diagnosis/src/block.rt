@@ -35,6 +35,7 @@ fn spot_of(layout: &Layout<'_>, span: Option<Span>) -> Spot
     }
 }
 
+/// How many characters a piece of a line has; 0 if there is none.
 fn width_of(span: Option<Span>) -> usize {
     match span {
         None => 0,

@@ -352,6 +352,7 @@ fn push_example(out: &mut String, trouble: Trouble<'_>) -> Result<(), AllocError
     }
 }
 
+/// The names of keys, in the same order.
 fn key_names(alloc: Global, keys: &[PlanKey]) -> Result<Vec<&'static str>, AllocError> {
     let mut names = Vec::new(alloc);
     for key in keys {
@@ -389,6 +390,7 @@ fn misspelled<'a>(
     }
 }
 
+/// The names of devices, in the same order; one without a name is left out.
 fn device_names<'a>(alloc: Global, devices: &'a [Value]) -> Result<Vec<&'a str>, AllocError> {
     let mut names = Vec::new(alloc);
     for device in devices {

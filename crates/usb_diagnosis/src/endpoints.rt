@@ -78,6 +78,7 @@ fn address_of(table: &Table) -> i64 {
     }
 }
 
+/// Whether a value is a table with this number at `address`; without a number there it counts as 0.
 fn has_address(value: &Value, address: i64) -> bool {
     match value.as_table() {
         None => false,
@@ -85,6 +86,7 @@ fn has_address(value: &Value, address: i64) -> bool {
     }
 }
 
+/// Whether an earlier table has the address.
 fn is_taken(address: i64, earlier: &[Value]) -> bool {
     earlier.iter().any(|value| has_address(value, address))
 }

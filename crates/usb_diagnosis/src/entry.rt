@@ -133,10 +133,12 @@ impl<'a> Entry<'a> {
         self.table
     }
 
+    /// The entries of its array before it.
     pub(crate) fn earlier(&self) -> &'a [Value] {
         self.earlier
     }
 
+    /// The `device` entries of the document, also for an entry of another array.
     pub(crate) fn devices(&self) -> &'a [Value] {
         self.devices
     }

@@ -14,6 +14,7 @@ pub(crate) enum Flaw {
     Digits,
 }
 
+/// Whether it is a number of this range, both ends included.
 fn is_number_in(value: &Value, low: u64, high: u64) -> bool {
     match value.as_integer() {
         Some(number) if number >= 0 => (low..=high).contains(&(number as u64)),
@@ -33,6 +34,7 @@ pub(crate) fn is_word(value: &Value, words: &[&str]) -> bool {
     }
 }
 
+/// Whether it is an array, and each value in it is one of the words.
 fn are_words(value: &Value, words: &[&str]) -> bool {
     match value.as_array() {
         None => false,
@@ -40,6 +42,7 @@ fn are_words(value: &Value, words: &[&str]) -> bool {
     }
 }
 
+/// Whether it is an array of tables alone.
 pub(crate) fn are_tables(value: &Value) -> bool {
     match value.as_array() {
         None => false,
@@ -47,6 +50,7 @@ pub(crate) fn are_tables(value: &Value) -> bool {
     }
 }
 
+/// Whether a text is pairs of hexadecimal digits, of either case; so is an empty one.
 pub(crate) fn are_hex_digits(text: &str) -> bool {
     text.len() % 2 == 0 && text.bytes().all(|byte| byte.is_ascii_hexdigit())
 }
@@ -107,12 +111,14 @@ fn hexes_flaw(value: &Value, count: usize, most: usize) -> Option<Flaw> {
     )
 }
 
+/// Whether one of the values, as digits of at most this number of bytes, has the flaw.
 fn has_flaw(values: &[Value], most: usize, flaw: Flaw) -> bool {
     values
         .iter()
         .any(|value| hex_flaw(value, most) == Some(flaw))
 }
 
+/// The flaw, if a check has failed.
 pub(crate) fn flaw_if(failed: bool, flaw: Flaw) -> Option<Flaw> {
     if failed { Some(flaw) } else { None }
 }

@@ -232,6 +232,7 @@ fn push_part(alloc: Global, path: &mut Vec<String>, part: &str) -> Result<(), Al
     Ok(())
 }
 
+/// Adds parts to a path, until it has three.
 fn push_parts(alloc: Global, path: &mut Vec<String>, parts: &[String]) -> Result<(), AllocError> {
     for part in parts {
         push_part(alloc, path, part.as_str())?;

@@ -73,6 +73,7 @@ fn place_in(array: Array, number: usize) -> Place {
     }
 }
 
+/// The key of the array in the document.
 fn array_name(array: Array) -> &'static str {
     match array {
         Array::Devices => "device",
@@ -125,6 +126,7 @@ fn is_unknown_device(entry: &Entry<'_>, value: &Value) -> bool {
     }
 }
 
+/// Whether the value is a text that is a bad path, whatever is plugged.
 fn is_bad_path(entry: &Entry<'_>, value: &Value) -> bool {
     match value.as_str() {
         None => false,
@@ -132,6 +134,7 @@ fn is_bad_path(entry: &Entry<'_>, value: &Value) -> bool {
     }
 }
 
+/// Whether the value is an empty text, or the name of an earlier device.
 fn is_bad_name(entry: &Entry<'_>, value: &Value) -> bool {
     match value.as_str() {
         None => false,

@@ -188,6 +188,7 @@ fn meant_path(alloc: Global, wide: bool, text: &str) -> Result<Option<PortPath>,
     Ok(path_in(wide, dotted.as_str()))
 }
 
+/// Adds a path, its port numbers joined by dots.
 fn push_path(out: &mut String, path: &PortPath) -> Result<(), AllocError> {
     out.push_str(path.text().as_str())
 }

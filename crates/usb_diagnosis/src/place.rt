@@ -74,6 +74,7 @@ pub(crate) fn push_spot(alloc: Global, out: &mut String, spot: Spot) -> Result<(
     }
 }
 
+/// Adds a colon and a number in decimal digits.
 fn push_behind_colon(alloc: Global, out: &mut String, number: usize) -> Result<(), AllocError>
     ensures { OnOk result (string_bytes out.new ≡ string_bytes out.old ++ colon_number number) }
 {

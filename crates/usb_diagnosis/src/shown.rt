@@ -33,6 +33,7 @@ pub(crate) fn push_char(alloc: Global, out: &mut String, letter: char) -> Result
     out.push_str(low.as_str())
 }
 
+/// Adds characters, one that may end a line as `\u` and four digits.
 fn push_letters(alloc: Global, out: &mut String, letters: &[char]) -> Result<(), AllocError>
     ensures { OnOk result (string_bytes out.new
         ≡ string_bytes out.old ++ flat_map char_shown letters.now) }
@@ -65,6 +66,7 @@ fn dots(letters: &[char]) -> &'static str
     }
 }
 
+/// Adds the first 60 characters, and three dots if there are more.
 fn push_front(alloc: Global, out: &mut String, letters: &[char]) -> Result<(), AllocError>
     ensures { OnOk result (string_bytes out.new ≡ string_bytes out.old ++ text_shown letters.now) }
 {
@@ -72,6 +74,7 @@ fn push_front(alloc: Global, out: &mut String, letters: &[char]) -> Result<(), A
     out.push_str(dots(letters))
 }
 
+/// The characters of a text; Err if memory is refused.
 pub(crate) fn letters_of(alloc: Global, text: &str) -> Result<Vec<char>, AllocError>
     ensures { IfOk result (λ letters. letters.items ≡ chars text.now) }
 {

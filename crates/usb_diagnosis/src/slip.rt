@@ -16,6 +16,7 @@ pub(crate) enum DigitSlip {
     Odd(usize),
 }
 
+/// The index of the first character that is no hexadecimal digit.
 fn first_other(letters: &[char]) -> Option<usize>
     ensures { result ≡ position (λ c. not (is_ascii_hexdigit c)) letters.now }
 {

@@ -106,6 +106,7 @@ fn missing_key(entry: &Entry<'_>) -> Option<PlanKey>
     None
 }
 
+/// Whether it is a table whose `name` is this text.
 pub(crate) fn is_named(value: &Value, name: &str) -> bool {
     match value.as_table() {
         None => false,
@@ -158,6 +159,7 @@ pub(crate) fn last_attempt(entry: &Entry<'_>) -> i64 {
     }
 }
 
+/// The number at a key; 0 if the table, the key or a number there is missing.
 pub(crate) fn number_at(table: Option<&Table>, key: &str) -> i64 {
     match table {
         None => 0,

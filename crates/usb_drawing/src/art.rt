@@ -60,6 +60,8 @@ fn push_trunks(
     Ok(())
 }
 
+/// The art of a level above the entry: a line if a later entry is beside the path there, else
+/// blanks.
 fn trunk(style: Style, goes_on: bool) -> &'static str
     ensures { result.now ≡ trunk style goes_on }
 {
@@ -70,6 +72,7 @@ fn trunk(style: Style, goes_on: bool) -> &'static str
     }
 }
 
+/// The art right before the entry: a fork if a later entry is beside it, else a corner.
 fn branch(style: Style, goes_on: bool) -> &'static str
     ensures { result.now ≡ branch style goes_on }
 {

@@ -65,6 +65,7 @@ fn push_strings(out: &mut Vec<u8>, style: Style, strings: &Strings) -> Result<()
     push_labelled(out, style, " serial ", &strings.serial_number)
 }
 
+/// Adds `address` and its number, with blanks up to the next column.
 fn push_address(alloc: Global, out: &mut Vec<u8>, address: u8) -> Result<(), AllocError>
     ensures { OnOk result (out.new.items ≡ out.old.items ++ address_column address) }
 {
@@ -87,6 +88,7 @@ fn blanks_behind(address: u8) -> &'static str
     }
 }
 
+/// The speed, with blanks up to the next column.
 fn speed_column(low: bool) -> &'static str
     ensures { result.now ≡ speed_column low }
 {

@@ -56,6 +56,7 @@ fn heading(
     Ok(line)
 }
 
+/// What the heading says of a listing without entries; nothing for any other.
 fn heading_end(entries: &[(PortPath, Finding)]) -> &'static str
     ensures { result.now ≡ heading_end entries.now }
 {
@@ -165,6 +166,7 @@ fn supply_below(hub: &PortPath, entries: &[(PortPath, Finding)]) -> Option<u16>
     }
 }
 
+/// What each port of a hub gives, in mA; None if the entry is no hub, or is refused.
 fn finding_supply(finding: &Finding) -> Option<u16>
     ensures { result ≡ finding_supply finding.now }
 {
@@ -174,6 +176,7 @@ fn finding_supply(finding: &Finding) -> Option<u16>
     }
 }
 
+/// What each port of a hub gives, in mA; None if the device is no hub.
 fn hub_supply(hub: &Option<HubFacts>) -> Option<u16>
     ensures { result ≡ hub_supply hub.now }
 {

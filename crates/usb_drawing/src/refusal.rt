@@ -39,6 +39,7 @@ fn cause_words(cause: Cause) -> &'static str
     }
 }
 
+/// Which request the device stalls, in words.
 fn stall_words(request: Request) -> &'static str
     ensures { result.now ≡ stall_words request }
 {
@@ -66,6 +67,7 @@ fn push_number(
     }
 }
 
+/// Adds what the port gives, in mA, if that is known.
 fn push_supply(alloc: Global, out: &mut Vec<u8>, granted: Option<u16>) -> Result<(), AllocError>
     ensures { OnOk result (out.new.items ≡ out.old.items ++ supply_text granted) }
 {

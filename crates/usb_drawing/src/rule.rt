@@ -84,6 +84,7 @@ fn is_cause_of(remark: Remark, cause: Cause) -> bool
     }
 }
 
+/// Whether the cause is a bad configuration with this index.
 fn is_bad_configuration(index: usize, cause: Cause) -> bool
     ensures { result ≡ is_bad_configuration index cause }
 {
@@ -102,6 +103,7 @@ fn device_at<'a>(plan: &'a Plan, taken: u64, path: &PortPath) -> Option<&'a Devi
     device_indexed(plan.devices(), index_at(&events[..came], path))
 }
 
+/// The device at this index; None without an index, or without a device there.
 fn device_indexed(devices: &[DeviceSpec], index: Option<usize>) -> Option<&DeviceSpec>
     ensures { option_copied result ≡ device_indexed devices.now index }
 {

@@ -29,6 +29,7 @@ pub(crate) fn push_labelled(
     }
 }
 
+/// Adds a string: as its characters with line art, else as printable ASCII and `\uXXXX`.
 fn push_string(out: &mut Vec<u8>, style: Style, units: &[u16]) -> Result<(), AllocError>
     ensures { OnOk result (out.new.items ≡ out.old.items ++ string_text style units.now) }
 {
@@ -115,6 +116,7 @@ fn lone_char(unit: u16) -> Option<char>
     char::from_u32(u32::from(unit))
 }
 
+/// Adds a character in UTF-8.
 fn push_char(out: &mut Vec<u8>, c: char) -> Result<(), AllocError>
     ensures { OnOk result (out.new.items ≡ out.old.items ++ encode_utf8 c) }
 {

@@ -156,6 +156,7 @@ fn head_of(attempt: &Attempt) -> [u8; 8]
     ]
 }
 
+/// Byte 0 of an attempt's record: 1 SETUP, 2 OUT, 3 IN.
 fn token_number(attempt: &Attempt) -> u8
     ensures { result ≡ token_number attempt.now }
 {
@@ -201,12 +202,14 @@ fn flags_of(attempt: &Attempt) -> u8
     flags_by(attempt.destination().speed, sends_one(attempt))
 }
 
+/// Byte 3 of a record: 1 for low speed, 2 for PRE before each packet, 4 for DATA1; their sum.
 fn flags_by(speed: Speed, is_one: bool) -> u8
     ensures { result ≡ flags_by speed is_one }
 {
     flag(speed.is_low(), 1) + flag(speed.has_pre(), 2) + flag(is_one, 4)
 }
 
+/// Whether an OUT sends DATA1; false of SETUP and IN.
 fn sends_one(attempt: &Attempt) -> bool
     ensures { result ≡ sends_one attempt.now }
 {
@@ -225,6 +228,7 @@ fn is_one(toggle: Toggle) -> bool
     }
 }
 
+/// The bit of a flag that is set, else 0, to add to other flags.
 fn flag(is_set: bool, bit: u8) -> u8
     ensures { result ≡ flag is_set bit }
 {

@@ -46,6 +46,7 @@ pub(crate) fn status_of(done: &Done) -> Option<u8>
     }
 }
 
+/// 0 if the call was done, else the status of its fault.
 fn status_by<T>(ended: &Result<T, HostFault>) -> Option<u8>
     ensures { result ≡ status_by 0 ended.now }
 {
@@ -55,6 +56,7 @@ fn status_by<T>(ended: &Result<T, HostFault>) -> Option<u8>
     }
 }
 
+/// 0 if a round worked on something, 1 if it was quiet; None after a fault.
 fn round_status(ended: &Result<Round, HostFault>) -> Option<u8>
     ensures { result ≡ round_status ended.now }
 {
@@ -65,6 +67,7 @@ fn round_status(ended: &Result<Round, HostFault>) -> Option<u8>
     }
 }
 
+/// 0 if a packet came, 1 if the endpoint had none, else the status of the fault.
 fn poll_status(ended: &Result<Option<ArrayVec<u8, 64>>, HostFault>) -> Option<u8>
     ensures { result ≡ poll_status ended.now }
 {
@@ -75,6 +78,8 @@ fn poll_status(ended: &Result<Option<ArrayVec<u8, 64>>, HostFault>) -> Option<u8
     }
 }
 
+/// The status of a transfer's fault, 2 to 10; None if the host stopped, the bus failed or memory
+/// was refused.
 fn fault_status(fault: HostFault) -> Option<u8>
     ensures { result ≡ fault_status fault }
 {
@@ -84,6 +89,7 @@ fn fault_status(fault: HostFault) -> Option<u8>
     }
 }
 
+/// The status of a transfer's fault, 2 to 10.
 fn transfer_number(fault: TransferFault) -> u8
     ensures { result ≡ transfer_number fault }
 {
@@ -248,12 +254,14 @@ fn device_body(
     Ok(body)
 }
 
+/// 1 for a low-speed device, 0 for one of full speed.
 fn speed_number(low: bool) -> u8
     ensures { result ≡ speed_number low }
 {
     if low { 1 } else { 0 }
 }
 
+/// The number of ports of a hub, 0 for any other device.
 fn ports_number(hub: &Option<HubFacts>) -> u8
     ensures { result ≡ ports_number hub.now }
 {
@@ -319,6 +327,7 @@ fn refused_body(
     Ok(body)
 }
 
+/// The number of the cause of a refusal, 1 to 11.
 fn cause_number(cause: Cause) -> u8
     ensures { result ≡ cause_number cause }
 {
@@ -348,6 +357,7 @@ fn cause_names(cause: Cause) -> u8
     }
 }
 
+/// The number of the request that a device stalled, 0 to 3.
 fn request_number(request: Request) -> u8
     ensures { result ≡ request_number request }
 {
@@ -386,6 +396,8 @@ fn news_body<B: Bus>(host: &Host<B>, news: &News) -> ArrayVec<u8, 17>
     }
 }
 
+/// The record of news: 0 left or 1 arrived, the place, and the device's number in eight bytes, low
+/// byte first.
 fn news_bytes(what: u8, path: &PortPath, number: u64) -> ArrayVec<u8, 17>
     ensures { result.items ≡ news_bytes what path.now number }
 {

@@ -347,6 +347,7 @@ fn head_of(want: &Want) -> [u8; 24]
     )
 }
 
+/// Byte 0 of the record of a want.
 fn kind_of(want: &Want) -> u8
     ensures { result ≡ want_kind want.now }
 {

@@ -30,6 +30,7 @@ pub(crate) fn live<R: Input + Print + Eprint + AllocGlobal>(rt: &R, jobs: &[Job]
     }
 }
 
+/// Does the jobs in order, until all are done or the end is requested.
 fn work<S: Eprint + AllocGlobal, R: Read, W: Write>(
     rt: &S,
     host: &mut Host<StreamBus<R, W>>,
@@ -86,6 +87,7 @@ impl Desk {
         }
     }
 
+    /// Notes how many keys a job awaits, if it is one that shows keys.
     fn begin(&mut self, job: Job) {
         if let Job::Keys(count) = job {
             self.awaited = count;
@@ -178,6 +180,7 @@ impl Desk {
         Ok(None)
     }
 
+    /// Shows the keys that are pressed since the last report. Each is one less to await.
     fn show_keys(&mut self, rt: &impl Eprint, report: &Report) -> Result<()> {
         'keys: for key in report.pressed_since(&self.last).as_slice() {
             eprintln!(rt; "key {key} with {}", report.modifiers)?;
@@ -246,6 +249,7 @@ fn recover<B: Bus>(
     Ok(())
 }
 
+/// Shows blocks in hexadecimal digits, each after its number; the first has this one.
 fn show_blocks<S: Eprint + AllocGlobal>(
     rt: &S,
     first: u32,

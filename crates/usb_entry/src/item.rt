@@ -21,6 +21,8 @@ fn push_setting(alloc: Global, out: &mut Vec<u8>, setting: u8) -> Result<(), All
     push_decimal(alloc, out, u16::from(setting))
 }
 
+/// Adds the comment line of an interface: its number, its alternate setting unless 0, and its
+/// class.
 #[tactic(auto, unfolding(crate::specs::Text::interface_line))]
 fn push_interface(
     alloc: Global,
@@ -79,6 +81,7 @@ fn is_misfit(endpoint: &EndpointView<'_>) -> bool
     }
 }
 
+/// The remark on a packet size that full speed does not have; nothing for any other size.
 fn misfit_text(misfit: bool) -> &'static str
     ensures { result.now ≡ misfit_text misfit }
 {
@@ -89,6 +92,7 @@ fn misfit_text(misfit: bool) -> &'static str
     }
 }
 
+/// Adds the comment line of an endpoint: its number, direction, transfer type and packet size.
 #[tactic(auto, unfolding(crate::specs::Text::endpoint_line))]
 fn push_endpoint(
     alloc: Global,
@@ -108,6 +112,7 @@ fn push_endpoint(
     push_text(out, "\n")
 }
 
+/// Adds the comment line of an interface or an endpoint; any other item has none.
 fn push_item(alloc: Global, out: &mut Vec<u8>, item: &Item<'_>) -> Result<(), AllocError>
     ensures { OnOk result (out.new.items ≡ out.old.items ++ item_line item.now) }
 {

@@ -7,6 +7,7 @@ ghost use Rattle.usb_entry.specs.Text.{basic_string, char_text, name_line};
 use crate::piece::{push_digits, push_key, push_text};
 use std::alloc::{AllocError, Global};
 
+/// Adds a character of a TOML string. Quotes, backslashes and control characters are escaped.
 fn push_char(alloc: Global, out: &mut Vec<u8>, letter: char) -> Result<(), AllocError>
     ensures { OnOk result (out.new.items ≡ out.old.items ++ char_text letter) }
 {
@@ -21,6 +22,7 @@ fn push_char(alloc: Global, out: &mut Vec<u8>, letter: char) -> Result<(), Alloc
     out.extend_from_slice(letter.encode_utf8(&mut buffer).as_bytes())
 }
 
+/// Adds the characters of a TOML string, without the quotes around them.
 fn push_letters(alloc: Global, out: &mut Vec<u8>, letters: &[char]) -> Result<(), AllocError>
     ensures { OnOk result (out.new.items ≡ out.old.items ++ flat_map char_text letters.now) }
 {
@@ -30,6 +32,7 @@ fn push_letters(alloc: Global, out: &mut Vec<u8>, letters: &[char]) -> Result<()
     Ok(())
 }
 
+/// The characters of a text; Err if memory is refused.
 fn letters_of(alloc: Global, text: &str) -> Result<Vec<char>, AllocError>
     ensures { IfOk result (λ letters. letters.items ≡ chars text.now) }
 {

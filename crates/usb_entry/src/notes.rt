@@ -38,6 +38,7 @@ impl<'a> Notes<'a> {
     }
 }
 
+/// The speed in the text of the file `speed`, 480 Mbit/s as full speed; None for any other text.
 fn linux_speed(text: &str) -> Option<LinuxSpeed>
     ensures { IsSpeedRead text.now result }
 {
@@ -48,6 +49,8 @@ fn linux_speed(text: &str) -> Option<LinuxSpeed>
     }
 }
 
+/// The product that the text of the file `product` names; None if that is empty, or has no newline
+/// at its end.
 fn linux_product(text: &str) -> Option<&str>
     ensures { IsProductRead text.now result }
 {

@@ -22,6 +22,7 @@ fn fits_low_speed(endpoint: &EndpointView<'_>) -> bool
     }
 }
 
+/// Whether low speed may have the item: if it is an endpoint, that must fit.
 fn item_fits(item: &Item<'_>) -> bool
     ensures { result ≡ item_fits item.now }
 {
@@ -31,6 +32,7 @@ fn item_fits(item: &Item<'_>) -> bool
     }
 }
 
+/// Whether each endpoint of a configuration fits low speed.
 fn items_fit(config: &ConfigView<'_>) -> bool
     ensures { result ≡ items_fit (items_of config.now) }
 {
@@ -42,6 +44,7 @@ fn items_fit(config: &ConfigView<'_>) -> bool
     true
 }
 
+/// Whether each endpoint of all configurations fits low speed.
 fn configs_fit(configs: &[Configuration<'_>]) -> bool
     ensures { result ≡ configs_fit configs.now }
 {

@@ -13,6 +13,7 @@ use std::alloc::{AllocError, Global};
 use usb_class::{ClassCodes, first_codes, push_class};
 use usb_request::class_code::HUB_CLASS;
 
+/// The codes of the first interface of the first configuration; 0 each if there is none.
 fn first_config_codes(configs: &[Configuration<'_>]) -> ClassCodes
     ensures { result ≡ first_config_codes configs.now }
 {
@@ -83,6 +84,8 @@ fn push_head(
     push_text(out, "\n")
 }
 
+/// The line of a speed that is taken from the descriptors; a comment marks low speed, which may be
+/// wrong.
 #[tactic(auto, unfolding(crate::specs::Text::speed_line))]
 fn speed_line(low: bool) -> &'static str
     ensures { result.now ≡ speed_line low }
@@ -94,6 +97,7 @@ fn speed_line(low: bool) -> &'static str
     }
 }
 
+/// The line of the speed that Linux has, or else of the one that the device is taken to have.
 #[tactic(auto, unfolding(crate::specs::Text::known_speed_line))]
 fn known_speed_line(speed: Option<LinuxSpeed>, entry: &Entry<'_>) -> &'static str
     ensures { result.now ≡ known_speed_line speed entry.now }
@@ -116,6 +120,7 @@ fn push_speed(
     push_text(out, known_speed_line(speed, entry))
 }
 
+/// Adds the line of the device descriptor, in hexadecimal digits.
 #[tactic(auto, unfolding(crate::specs::Text::descriptor_line))]
 fn push_descriptor(alloc: Global, out: &mut Vec<u8>, entry: &Entry<'_>) -> Result<(), AllocError>
     ensures { OnOk result (out.new.items ≡ out.old.items ++ descriptor_line entry.now.device) }
@@ -147,6 +152,7 @@ fn push_config(
     push_text(out, "\",\n")
 }
 
+/// Adds the lines of each configuration.
 fn push_configs(
     alloc: Global,
     out: &mut Vec<u8>,
@@ -189,6 +195,7 @@ fn is_self_powered(configs: &[Configuration<'_>]) -> bool
     }
 }
 
+/// The line of a device with power of its own; nothing for any other.
 fn power_line(self_powered: bool) -> &'static str
     ensures { result.now ≡ power_line self_powered }
 {

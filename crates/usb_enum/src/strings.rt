@@ -48,6 +48,7 @@ impl Strings {
     }
 }
 
+/// A second string of the same units, or None again. Err if memory is refused.
 fn cloned(alloc: Global, string: &Option<StringUnits>) -> Result<Option<StringUnits>, AllocError>
     ensures { IfOk result (λ copy. copy ≡ string.now) }
 {
@@ -197,6 +198,7 @@ pub(crate) fn read_strings<B: Bus>(
     })
 }
 
+/// The strings of a device that names none, or that gives no language.
 fn no_strings() -> Strings
     ensures { result ≡ no_strings }
 {

@@ -191,6 +191,7 @@ impl Model for StringUnits {
 }
 
 impl StringUnits {
+    /// The units of a string, at most 126: bLength is a byte (9.6.7).
     pub(crate) fn new(units: Vec<u16>) -> Self
         requires { length units.items ≤ 126 }
         ensures { result ≡ units.items }

@@ -156,6 +156,7 @@ fn way_word(address: u16) -> &'static str
     if address < 128 { " out" } else { " in" }
 }
 
+/// Writes a text as it is.
 fn put_word<W: Write>(writer: &mut Watched<W>, word: &str) -> Result<(), WriteFailed>
     ensures { PutsText (known_text W.contents) has_failed writer.old result writer.new word.now }
 {
@@ -169,6 +170,7 @@ pub(crate) fn put_bytes<W: Write>(writer: &mut Watched<W>, bytes: &[u8]) -> Resu
     put_pieces(writer, &[bytes])
 }
 
+/// Writes a number in decimal digits.
 fn put_number<W: Write>(writer: &mut Watched<W>, number: u16) -> Result<(), WriteFailed>
     ensures { PutsText (known_text W.contents) has_failed writer.old result writer.new
         (decimal number) }
@@ -178,6 +180,7 @@ fn put_number<W: Write>(writer: &mut Watched<W>, number: u16) -> Result<(), Writ
     put_word(writer, digits.as_str())
 }
 
+/// Writes a byte in two upper-case hexadecimal digits.
 fn put_byte<W: Write>(writer: &mut Watched<W>, byte: u8) -> Result<(), WriteFailed>
     ensures { PutsText (known_text W.contents) has_failed writer.old result writer.new
         (encode_upper (byte ∷ [])) }
@@ -185,6 +188,7 @@ fn put_byte<W: Write>(writer: &mut Watched<W>, byte: u8) -> Result<(), WriteFail
     put_pieces(writer, &[&hex_digits(byte)])
 }
 
+/// Writes a field in four upper-case hexadecimal digits, its high byte first.
 fn put_digits<W: Write>(writer: &mut Watched<W>, number: u16) -> Result<(), WriteFailed>
     ensures { PutsText (known_text W.contents) has_failed writer.old result writer.new
         (encode_upper (number / 256 ∷ []) ++ encode_upper (number % 256 ∷ [])) }

@@ -67,6 +67,7 @@ pub(crate) fn in_attempt(speed: Speed, endpoint: Endpoint, most: u8) -> Attempt
     }
 }
 
+/// This endpoint, reached at this speed by packets of at most this number of bytes.
 fn destination(speed: Speed, endpoint: Endpoint, max: u8) -> Destination
     ensures { result ≡ destination_at speed endpoint max }
 {

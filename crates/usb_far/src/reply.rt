@@ -146,6 +146,7 @@ fn is_first(all: &[[u8; 4]], status: &[u8; 4]) -> bool
     }
 }
 
+/// All but the first; none if there are none.
 fn behind_first(all: &[[u8; 4]]) -> &[[u8; 4]]
     ensures { result.now ≡ behind_first all.now }
 {

@@ -41,6 +41,8 @@ pub(crate) fn rest_behind(question: &Question, answer: &Answer) -> Option<Questi
     }
 }
 
+/// The INs left of a row, from the other toggle on. None if the answer brings no full packet of the
+/// toggle that is due, or was the last of the row.
 fn ins_behind(
     speed: Speed,
     endpoint: Endpoint,
@@ -65,6 +67,8 @@ fn ins_behind(
     })
 }
 
+/// The OUTs left of a row, from the other toggle on. None if the packet was not taken, or was the
+/// last of the row.
 fn outs_behind(
     speed: Speed,
     endpoint: Endpoint,

@@ -124,6 +124,7 @@ fn question_in(phase: Phase, line: &[u8]) -> Result<Question, FarFault>
     }
 }
 
+/// Whether each byte is printable ASCII, from space to tilde.
 fn all_printable(line: &[u8]) -> bool
     ensures { result ≡ all_printable line.now }
 {

@@ -162,6 +162,7 @@ pub(crate) fn due_wanted(due: Option<Option<Ask>>) -> Option<Wanted>
     }
 }
 
+/// What this requests, as it is reported; None for a write of more than 480 bytes.
 fn asked_wanted(ask: Ask) -> Option<Wanted>
     ensures { result ≡ asked_wanted ask }
 {

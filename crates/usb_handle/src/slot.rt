@@ -57,6 +57,7 @@ impl Slot {
         let Slot { at: _, alloc: _ } = self;
     }
 
+    /// Holds the driver at this pointer, and owns it from now on.
     fn from_raw(driver: RawBox<Driver, Global>) -> Slot
         ensures { result.held ≡ Some driver.value }
     {
@@ -67,6 +68,7 @@ impl Slot {
         }
     }
 
+    /// Hands over the pointer to the driver that it holds, and no longer owns that driver.
     fn into_raw(self) -> RawBox<Driver, Global>
         requires { IsSome self.held }
         ensures { self.held ≡ Some result.value }

@@ -23,6 +23,7 @@ impl Tree {
     ghost use Rattle.std.specs.Prelude.{◌≡◌};
     ghost use Rattle.usb_table.specs.TableEntries.{Rises};
 
+    /// The tree of these entries, by rising path.
     pub(crate) fn new(entries: Vec<(PortPath, Finding)>) -> Self
         requires { Rises entries.items }
         ensures { result ≡ entries.items }

@@ -38,12 +38,14 @@ pub(crate) fn is_missing(listing: &[ListedPort], path: &PortPath) -> bool
     is_open(listing, path) && !is_listed(listing, path)
 }
 
+/// Whether some entry of the listing, accepted or refused, has the path.
 fn is_listed(listing: &[ListedPort], path: &PortPath) -> bool
     ensures { result ≡ list_any (is_listed_at path.now) listing.now }
 {
     listing.iter().any(|port| port.path == *path)
 }
 
+/// How many entries of the listing, accepted or refused, have the path.
 fn times_listed(listing: &[ListedPort], path: &PortPath) -> usize
     ensures { result ≡ count_by (is_listed_at path.now) listing.now }
 {
@@ -69,6 +71,7 @@ fn is_used(listing: &[ListedPort], path: &PortPath) -> bool
         .any(|port| port.path == *path && is_accepted(&port.claim))
 }
 
+/// Whether the listing has a device there, and not a refusal.
 fn is_accepted(claim: &Claim) -> bool
     ensures { result ≡ is_accepted claim.now }
 {
@@ -98,6 +101,7 @@ fn times_given(listing: &[ListedPort], address: u8) -> usize
         .count()
 }
 
+/// Whether a device is listed at the address; a refused one has none.
 fn claims_address(port: &ListedPort, address: u8) -> bool
     ensures { result ≡ claims_address address port.now }
 {
@@ -117,6 +121,7 @@ fn breaks_port(device: &PluggedDevice<'_>, claim: &Claim, cause: Cause) -> bool
     }
 }
 
+/// Whether what is said of an accepted device is wrong for a cause.
 fn breaks_device(device: &PluggedDevice<'_>, listed: &ListedDevice, cause: Cause) -> bool
     ensures { result ≡ breaks_device (device_seen device.now) listed.now cause }
 {
@@ -132,6 +137,8 @@ fn breaks_device(device: &PluggedDevice<'_>, listed: &ListedDevice, cause: Cause
     }
 }
 
+/// Whether a refused device is wrong for a cause: it draws too much power, or is still reached at
+/// address 0.
 fn breaks_refusal(device: &PluggedDevice<'_>, cause: Cause) -> bool
     ensures { result ≡ breaks_refusal (device_seen device.now) cause }
 {
@@ -160,6 +167,7 @@ fn is_front(said: &[u8], own: &[u8]) -> bool
     said.len() >= CONFIGURATION_LENGTH && own.starts_with(said)
 }
 
+/// Whether the listing gives a number of ports that is not the device's; false if it gives none.
 fn has_other_ports(device: &PluggedDevice<'_>, listed: &ListedDevice) -> bool
     ensures { result ≡ has_other_ports (device_seen device.now) listed.now }
 {

@@ -215,6 +215,7 @@ fn text_of(alloc: Global, number: u64, item: &Item) -> Result<Vec<u8>, AllocErro
     joined(alloc, lines.as_slice())
 }
 
+/// The lines end to end, each with a newline.
 fn joined(alloc: Global, lines: &[Vec<u8>]) -> Result<Vec<u8>, AllocError>
     ensures { IfOk result (λ text. text.items ≡ written_lines lines.now) }
 {

@@ -32,6 +32,7 @@ pub fn read_attempt(line: &[u8]) -> Option<TracedAttempt>
     attempt_of(line)
 }
 
+/// The attempt that a line spells; None if anything follows it.
 #[tactic(auto, unfolding(crate::specs::Attempt::read_attempt))]
 fn attempt_of(line: &[u8]) -> Option<TracedAttempt>
     ensures { result ≡ read_attempt line.now }
@@ -41,6 +42,8 @@ fn attempt_of(line: &[u8]) -> Option<TracedAttempt>
     if text.is_empty() { Some(attempt) } else { None }
 }
 
+/// Reads an attempt at the front of a text. None if there is none, or its number has no time in a
+/// pcap file.
 #[tactic(auto, unfolding(crate::specs::Attempt::attempt_in))]
 fn attempt_in(text: &mut Text<'_>) -> Option<TracedAttempt>
     ensures { attempt_in text.old ≡ option_map (λ a. (a, text.new)) result }

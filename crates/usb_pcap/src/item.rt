@@ -39,6 +39,7 @@ pub(crate) fn behind_item(kind: Item, text: &[u8]) -> Option<&[u8]>
     }
 }
 
+/// What follows two upper-case hexadecimal digits; None without them.
 fn behind_byte(text: &[u8]) -> Option<&[u8]>
     ensures { option_map (λ r. r.now) result ≡ behind_byte text.now }
 {
@@ -48,6 +49,7 @@ fn behind_byte(text: &[u8]) -> Option<&[u8]>
     }
 }
 
+/// What follows a character that stands for itself, or `\uXXXX`; None without either.
 fn behind_letter(text: &[u8]) -> Option<&[u8]>
     ensures { option_map (λ r. r.now) result ≡ behind_letter text.now }
 {

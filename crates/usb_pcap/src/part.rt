@@ -75,12 +75,14 @@ fn behind_any<'a>(words: &[&str], text: &'a [u8]) -> Option<&'a [u8]>
     }
 }
 
+/// What follows a word that the text begins with; None if it begins with another.
 fn behind_word<'a>(word: &str, text: &'a [u8]) -> Option<&'a [u8]>
     ensures { option_map (λ r. r.now) result ≡ strip word.now text.now }
 {
     text.strip_prefix(word.as_bytes())
 }
 
+/// What follows the path of a port, from a root port on; None without one.
 fn behind_path(text: &[u8]) -> Option<&[u8]>
     ensures { option_map (λ r. r.now) result ≡ behind_path text.now }
 {
@@ -107,6 +109,7 @@ fn path_stop(text: &[u8]) -> Option<usize>
     text.iter().position(|byte| ends_path(*byte))
 }
 
+/// Whether a path ends before the byte: it is neither a digit nor a dot.
 fn ends_path(byte: u8) -> bool
     ensures { result ≡ ends_path byte }
 {
@@ -123,6 +126,7 @@ fn is_from_root(text: &[u8]) -> bool
     }
 }
 
+/// Whether there is a path, and its first port is a root port, 1 to 7.
 fn begins_at_root(path: Option<PortPath>) -> bool
     ensures { result ≡ is_from_root path }
 {
@@ -132,6 +136,7 @@ fn begins_at_root(path: Option<PortPath>) -> bool
     }
 }
 
+/// What follows the two digits of an endpoint's address; None without them.
 fn behind_endpoint(text: &[u8]) -> Option<&[u8]>
     ensures { option_map (λ r. r.now) result ≡ behind_endpoint text.now }
 {
@@ -148,12 +153,14 @@ fn is_endpoint(high: u8, low: u8) -> bool
     is_digit(high) && is_digit(low) && is_address(value_of(high) * 16 + value_of(low))
 }
 
+/// Whether a byte is an endpoint's address: its number is not 0, and no reserved bit is set.
 fn is_address(byte: u8) -> bool
     ensures { result ≡ is_endpoint_address byte }
 {
     EndpointAddress::new(byte).is_some()
 }
 
+/// What follows a number below 2 ^ 64, in digits with no zero before them; None without one.
 fn behind_number(text: &[u8]) -> Option<&[u8]>
     ensures { option_map (λ r. r.now) result ≡ option_map (λ n. n.1) (decimal_in text.now) }
 {
@@ -162,6 +169,7 @@ fn behind_number(text: &[u8]) -> Option<&[u8]>
     Some(text.rest())
 }
 
+/// What follows pairs of digits, or the dash for no bytes; None without either.
 fn behind_bytes(text: &[u8]) -> Option<&[u8]>
     ensures { option_map (λ r. r.now) result ≡ behind_bytes text.now }
 {
@@ -172,6 +180,7 @@ fn behind_bytes(text: &[u8]) -> Option<&[u8]>
     Some(behind_items(Item::Byte, rest.len(), rest))
 }
 
+/// The empty text after a name, which takes the whole line; None if nothing is there.
 fn behind_name(text: &[u8]) -> Option<&[u8]>
     ensures { option_map (λ r. r.now) result ≡ behind_name text.now }
 {

@@ -153,6 +153,7 @@ fn push_word(records: &mut Records, word: u32)
     push_bytes(records, &word.to_le_bytes());
 }
 
+/// Adds bytes, for which there is room.
 fn push_bytes(records: &mut Records, bytes: &[u8])
     requires { length records.old.items + length bytes.now ≤ 581 }
     ensures { records.new.items ≡ records.old.items ++ bytes.now }

@@ -164,6 +164,7 @@ pub(crate) fn is_report(line: &[u8]) -> bool
     has_form(&REPORTS, line)
 }
 
+/// Whether a line has one of these forms.
 fn has_form(forms: &[&[Part]], line: &[u8]) -> bool
     ensures { result ≡ has_form (map (λ f. map piece_of f.now) forms.now) line.now }
 {

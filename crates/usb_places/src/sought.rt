@@ -81,6 +81,7 @@ fn same_moment(one: Moment, other: Moment) -> bool
     }
 }
 
+/// Whether a part of a transfer begins, and it is this one.
 fn is_moment(moment: Moment, begun: Option<Moment>) -> bool
     ensures { result ≡ is_moment moment begun }
 {
@@ -111,6 +112,8 @@ fn goes_on(
     }
 }
 
+/// Whether this part of a counted request of the device begins; the token begins the request
+/// itself.
 #[tactic(auto, unfolding(crate::specs::Places::request_met))]
 fn request_met(
     moment: Moment,
@@ -287,6 +290,7 @@ impl AllSought {
         }
     }
 
+    /// The places in the order in which they were added.
     pub(crate) fn as_slice(&self) -> &[Sought]
         ensures value { result.now ≡ self.now }
         ensures good { All IsGood self.now }

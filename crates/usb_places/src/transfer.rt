@@ -39,6 +39,7 @@ fn reads(setup: Setup) -> bool
     setup.request_type >= DIRECTION_IN
 }
 
+/// Whether there is a data stage: wLength is not 0 (9.3.5).
 fn has_data(setup: Setup) -> bool
     ensures { result ≡ has_data setup }
 {
@@ -57,18 +58,21 @@ fn is_out(token: Token) -> bool
     matches!(token, Token::Out)
 }
 
+/// Whether only the setup data were sent.
 fn is_begun(stage: Stage) -> bool
     ensures { result ≡ is_begun stage }
 {
     matches!(stage, Stage::Setup)
 }
 
+/// Whether an attempt of the status stage was made.
 fn is_answered(stage: Stage) -> bool
     ensures { result ≡ is_answered stage }
 {
     matches!(stage, Stage::Status)
 }
 
+/// The part that begins with the status stage, if that begins.
 fn answer_if(found: bool) -> Option<Moment>
     ensures { result ≡ answer_if found }
 {

@@ -113,6 +113,7 @@ fn port_read(value: &Value) -> Result<u8, WhenFault>
     }
 }
 
+/// The moment of this word; the fault `Moment` if it is none.
 #[tactic(auto, unfolding(crate::specs::Whens::moment_named))]
 fn moment_named(text: &str) -> Result<Moment, WhenFault>
     ensures { result ≡ moment_named text.now }
@@ -288,6 +289,8 @@ fn sign_by(
     }
 }
 
+/// The sign of a table: it has exactly one of the keys `request`, `setup`, `reset`, `port` and
+/// `wait`.
 #[tactic(auto, unfolding(crate::specs::Whens::sign_of))]
 fn sign_of(table: &Table) -> Result<Sign, WhenFault>
     ensures { result ≡ sign_of (table_view table.now) }

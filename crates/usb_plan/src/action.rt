@@ -191,6 +191,7 @@ fn request_at(alloc: Global, members: &EventMembers<'_>) -> Result<Request, Entr
     request_with(alloc, setup, members.bytes)
 }
 
+/// What a request of endpoint 0 asks of the device at a path.
 #[tactic(auto, unfolding(crate::specs::Action::asked))]
 fn asked(path: PortPath, request: Request) -> Ask
     ensures { result ≡ asked path request }
@@ -227,6 +228,7 @@ fn plug(
     }
 }
 
+/// The action to send bytes to the first bulk OUT, or the least fault of the parts.
 #[tactic(auto, unfolding(crate::specs::Action::send))]
 fn send(
     path: Result<PortPath, EntryFault>,
@@ -238,6 +240,7 @@ fn send(
     Ok(Action::Ask(Ask::Send(path?, bytes?)))
 }
 
+/// The action to receive packets from the first bulk IN, or the least fault of the parts.
 #[tactic(auto, unfolding(crate::specs::Action::receive))]
 fn receive(
     path: Result<PortPath, EntryFault>,
@@ -249,6 +252,7 @@ fn receive(
     Ok(Action::Ask(Ask::Receive(path?, packets?)))
 }
 
+/// The action to send bytes to this OUT endpoint, or the least fault of the parts.
 #[tactic(auto, unfolding(crate::specs::Action::send_to))]
 fn send_to(
     path: Result<PortPath, EntryFault>,
@@ -265,6 +269,7 @@ fn send_to(
     Ok(Action::Ask(Ask::SendTo(path?, endpoint?, bytes?)))
 }
 
+/// The action to receive packets from this IN endpoint, or the least fault of the parts.
 #[tactic(auto, unfolding(crate::specs::Action::receive_from))]
 fn receive_from(
     path: Result<PortPath, EntryFault>,
@@ -281,6 +286,7 @@ fn receive_from(
     Ok(Action::Ask(Ask::ReceiveFrom(path?, endpoint?, packets?)))
 }
 
+/// The action to ask this IN endpoint once for a packet, or the least fault of the parts.
 #[tactic(auto, unfolding(crate::specs::Action::poll))]
 fn poll(
     path: Result<PortPath, EntryFault>,
@@ -292,6 +298,7 @@ fn poll(
     Ok(Action::Ask(Ask::Poll(path?, endpoint?)))
 }
 
+/// The action to clear the halt of this endpoint, or the least fault of the parts.
 #[tactic(auto, unfolding(crate::specs::Action::clear_end))]
 fn clear_end(
     path: Result<PortPath, EntryFault>,
@@ -303,6 +310,7 @@ fn clear_end(
     Ok(Action::Ask(Ask::ClearOf(path?, endpoint?)))
 }
 
+/// The action to choose this alternate setting of an interface, or the least fault of the parts.
 #[tactic(auto, unfolding(crate::specs::Action::set_interface))]
 fn set_interface(
     path: Result<PortPath, EntryFault>,
@@ -363,6 +371,8 @@ fn clear_with(
     }
 }
 
+/// The action to make this request of endpoint 0, or the least fault of the parts. `bytes` is the
+/// check of that key by itself.
 #[tactic(auto, unfolding(crate::specs::Action::control))]
 fn control(
     path: Result<PortPath, EntryFault>,

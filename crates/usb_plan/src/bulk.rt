@@ -23,6 +23,7 @@ fn source_at(alloc: Global, value: Option<&Value>) -> Result<Bytes<65535>, Entry
     }
 }
 
+/// After how many packets an endpoint halts: 1 to 65,535.
 #[tactic(auto, unfolding(crate::specs::Bulk::halt_in))]
 fn halt_in(number: Option<i64>) -> Result<Option<u16>, EntryFault>
     ensures { result ≡ halt_in number }
@@ -51,6 +52,7 @@ pub(crate) struct Bulk {
     pub(crate) halt_after: Option<u16>,
 }
 
+/// What bulk endpoints do by these keys, or the least fault of the keys.
 #[tactic(auto, unfolding(crate::specs::Bulk::bulk_with))]
 fn bulk_with(
     source: Result<Bytes<65535>, EntryFault>,

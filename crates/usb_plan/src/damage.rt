@@ -47,6 +47,7 @@ enum Way {
     Flip,
 }
 
+/// The way of the word `lose`, `pre` or `flip`; `BadValue` for any other word.
 #[tactic(auto, unfolding(crate::specs::Damage::way_named))]
 fn way_named(text: &str) -> Result<Way, EntryFault>
     ensures { result ≡ way_named text.now }
@@ -87,6 +88,7 @@ fn flip_at(bit: Option<&Value>) -> Result<Harm, EntryFault>
     Ok(Harm::Flip(bit as u16))
 }
 
+/// The harm of this way. Only a flip has a bit, 0 to 535, and must have it.
 #[tactic(auto, unfolding(crate::specs::Damage::harm_of))]
 fn harm_of(way: Way, bit: Option<&Value>) -> Result<Harm, EntryFault>
     ensures { result ≡ harm_of way (option_map (λ v. view v.now) bit.entry) }
@@ -118,6 +120,7 @@ fn damage_room(count: usize) -> Result<(), EntryFault>
     }
 }
 
+/// The damage of these parts, or their least fault.
 #[tactic(auto, unfolding(crate::specs::Damage::damage_with))]
 fn damage_with(
     attempt: Result<u64, EntryFault>,

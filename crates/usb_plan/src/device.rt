@@ -100,6 +100,7 @@ fn device_room(earlier: &Devices) -> Result<(), EntryFault>
     }
 }
 
+/// The device with power of its own, NAKs, silence and refusals as the quirks say.
 #[tactic(auto, unfolding(crate::specs::Device::with_quirks))]
 fn with_quirks(device: DeviceSpec, quirks: Quirks) -> DeviceSpec
     requires { FewNaks quirks }
@@ -113,6 +114,7 @@ fn with_quirks(device: DeviceSpec, quirks: Quirks) -> DeviceSpec
         .with_stalls(quirks.stalls)
 }
 
+/// The device whose bulk OUT halts after this number of packets; unchanged without one.
 #[tactic(auto, unfolding(crate::specs::Device::with_halt))]
 fn with_halt(device: DeviceSpec, halt_after: Option<u16>) -> DeviceSpec
     requires { IfSome halt_after (λ n. 1 ≤ n) }
@@ -124,6 +126,7 @@ fn with_halt(device: DeviceSpec, halt_after: Option<u16>) -> DeviceSpec
     }
 }
 
+/// The device as this hub; unchanged without one.
 #[tactic(auto, unfolding(crate::specs::Device::with_hub))]
 fn with_hub(device: DeviceSpec, hub: Option<HubSpec>) -> DeviceSpec
     requires { hub_fits device.low device.descriptor hub ≡ true }
@@ -146,6 +149,7 @@ struct Identity {
     hub: Option<HubSpec>,
 }
 
+/// What a device is, or the least fault of its keys.
 #[tactic(auto, unfolding(crate::specs::Device::identity_with))]
 fn identity_with(
     name: Result<Name, EntryFault>,
@@ -197,6 +201,7 @@ struct DeviceTexts {
     strings: StringTexts,
 }
 
+/// The texts that a device gives, or the least fault of their keys.
 #[tactic(auto, unfolding(crate::specs::Device::device_texts_with))]
 fn device_texts_with(
     configs: Result<ConfigTexts, EntryFault>,
@@ -228,6 +233,7 @@ struct DeviceTables {
     requests: OwnRequests,
 }
 
+/// The endpoints and the requests of a device, or the least fault of their keys.
 #[tactic(auto, unfolding(crate::specs::Device::device_tables_with))]
 fn device_tables_with(
     endpoints: Result<EndpointSpecs, EntryFault>,
@@ -252,6 +258,7 @@ fn device_tables_of(alloc: Global, table: &Table) -> Result<DeviceTables, EntryF
     device_tables_with(endpoints, requests)
 }
 
+/// The device of these parts, none of which has a fault.
 #[tactic(auto, unfolding(crate::specs::Device::device_of_parts))]
 fn device_of_parts(
     identity: Identity,
@@ -278,6 +285,7 @@ fn device_of_parts(
     with_halt(with_quirks(device, quirks), bulk.halt_after)
 }
 
+/// The device of these parts, or their least fault.
 #[tactic(auto, unfolding(crate::specs::Device::device_with))]
 fn device_with(
     identity: Result<Identity, EntryFault>,
@@ -344,6 +352,7 @@ fn read_device(
     device_with(identity, texts, quirks, bulk, tables, keys, room)
 }
 
+/// The device that a table describes; `BadValue` if the value is no table.
 #[tactic(auto, unfolding(crate::specs::Device::device_in))]
 fn device_in(
     alloc: Global,

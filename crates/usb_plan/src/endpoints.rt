@@ -97,6 +97,7 @@ fn endpoint_naks(value: Option<&Value>) -> Result<u16, EntryFault>
     Ok(naks as u16)
 }
 
+/// The endpoint of these keys, or the least fault of the keys.
 #[tactic(auto, unfolding(crate::specs::Endpoints::endpoint_with))]
 fn endpoint_with(
     address: Result<EndpointAddress, EntryFault>,
@@ -137,6 +138,7 @@ fn endpoint_of(alloc: Global, table: &Table) -> Result<EndpointSpec, EntryFault>
     endpoint_with(address, given, halt_after, naks, keys)
 }
 
+/// The endpoint that a value describes; `BadValue` if the value is no table.
 #[tactic(auto, unfolding(crate::specs::Endpoints::endpoint_in))]
 fn endpoint_in(alloc: Global, value: &Value) -> Result<EndpointSpec, EntryFault>
     ensures { EqualUnless Memory result (endpoint_in (view value.now)) }
@@ -182,6 +184,7 @@ fn address_in(value: &Value) -> Result<EndpointAddress, EntryFault>
     address_at(value_at(table, "address"))
 }
 
+/// Whether both are addresses without a fault, and equal.
 #[tactic(auto, unfolding(crate::specs::Endpoints::are_same))]
 fn are_same(a: Result<EndpointAddress, EntryFault>, b: Result<EndpointAddress, EntryFault>) -> bool
     ensures { result ≡ are_same a b }
@@ -200,6 +203,7 @@ fn share_address(a: &Value, b: &Value) -> bool
     are_same(address_in(a), address_in(b))
 }
 
+/// Whether some other table has the same address.
 fn shares_some(value: &Value, others: &[Value]) -> bool
     ensures { result ≡ list_any (λ v. share_address (view value.now) (view v)) others.now }
 {
@@ -229,6 +233,7 @@ fn distinct_at(values: &[Value]) -> Result<(), EntryFault>
     }
 }
 
+/// The endpoints, if no two have the same address; else the least fault.
 #[tactic(auto, unfolding(crate::specs::Endpoints::endpoints_with))]
 fn endpoints_with(
     endpoints: Result<EndpointSpecs, EntryFault>,
@@ -240,6 +245,7 @@ fn endpoints_with(
     endpoints
 }
 
+/// The endpoints of an array of at most 30 tables.
 #[tactic(auto, using(crate::proofs::MemoryRefusals::endpoints_unless), unfolding(crate::specs::Endpoints::endpoints_in))]
 fn endpoints_in(alloc: Global, value: &Value) -> Result<EndpointSpecs, EntryFault>
     ensures { EqualUnless Memory result (endpoints_in (view value.now)) }

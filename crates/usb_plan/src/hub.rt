@@ -85,6 +85,8 @@ fn hub_with(
     }
 }
 
+/// The hub of the key `ports`, with the hub descriptor of its own key, or without that the usual
+/// one.
 #[tactic(auto, using(crate::proofs::MemoryRefusals::hub_with_unless), unfolding(crate::specs::Hub::hub_of))]
 fn hub_of(
     alloc: Global,
@@ -103,6 +105,7 @@ fn hub_of(
     }
 }
 
+/// The hub of both keys, if `ports` is 1 to 7, or 1 to 15 with wide hubs.
 #[tactic(auto, unfolding(crate::specs::Hub::hub_in))]
 fn hub_in(
     alloc: Global,
@@ -135,6 +138,7 @@ pub(crate) fn hub_at(
     }
 }
 
+/// Whether the key `speed` has no fault, and says low speed.
 #[tactic(auto, unfolding(crate::specs::Hub::is_low_speed))]
 fn is_low_speed(low: &Result<bool, EntryFault>) -> bool
     ensures { result ≡ is_low_speed low.now }

@@ -16,6 +16,7 @@ fn is_one_of(key: &str, names: &[&str]) -> bool
     names.iter().any(|name| key == *name)
 }
 
+/// Whether the table has no key but these.
 fn all_named(table: &Table, names: &[&str]) -> bool
     ensures { result ≡ list_all (λ k. list_any (λ n. bytes_eq (string_bytes k) n.now) names.now)
         (keys table.now) }

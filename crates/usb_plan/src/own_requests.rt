@@ -20,6 +20,7 @@ use usb_request::endpoint_address::DIRECTION_IN;
 /// The most requests of a device's own.
 const MOST_ROWS: usize = 64;
 
+/// A field of a request, of two bytes: 0 to 65,535.
 #[tactic(auto, unfolding(crate::specs::OwnRequests::word_in))]
 fn word_in(number: Option<i64>) -> Result<Option<u16>, EntryFault>
     ensures { result ≡ word_in number }
@@ -69,6 +70,7 @@ struct Codes {
     request: u8,
 }
 
+/// The codes of a request, or the least fault of the keys.
 #[tactic(auto, unfolding(crate::specs::OwnRequests::codes_with))]
 fn codes_with(
     request_type: Result<u8, EntryFault>,
@@ -107,6 +109,7 @@ struct Fields {
     length: Option<u16>,
 }
 
+/// The fields of a request, or the least fault of the keys.
 #[tactic(auto, unfolding(crate::specs::OwnRequests::fields_with))]
 fn fields_with(
     value: Result<Option<u16>, EntryFault>,
@@ -147,6 +150,7 @@ enum Refusal {
     Status,
 }
 
+/// The refusal of the word `data` or `status`; `BadValue` for any other word.
 #[tactic(auto, unfolding(crate::specs::OwnRequests::refusal_named))]
 fn refusal_named(text: &str) -> Result<Option<Refusal>, EntryFault>
     ensures { result ≡ refusal_named text.now }
@@ -252,6 +256,7 @@ fn answer_of(alloc: Global, table: &Table) -> Result<OwnAnswer, EntryFault>
     answer_with(alloc, request_type, has_length, answer, kept, refusal)
 }
 
+/// The request of these parts, or their least fault.
 #[tactic(auto, unfolding(crate::specs::OwnRequests::row_with))]
 fn row_with(
     codes: Result<Codes, EntryFault>,
@@ -297,6 +302,7 @@ fn row_of(alloc: Global, table: &Table) -> Result<OwnRequest, EntryFault>
     )
 }
 
+/// The row that a value describes; `BadValue` if the value is no table.
 #[tactic(auto, unfolding(crate::specs::OwnRequests::row_in))]
 fn row_in(alloc: Global, value: &Value) -> Result<OwnRequest, EntryFault>
     ensures { EqualUnless Memory result (row_in (view value.now)) }
@@ -331,6 +337,7 @@ fn rows_of(alloc: Global, values: &[Value]) -> Result<OwnRequests, EntryFault>
     rows
 }
 
+/// The rows of an array of at most 64 tables.
 #[tactic(auto, unfolding(crate::specs::OwnRequests::requests_in))]
 fn requests_in(alloc: Global, value: &Value) -> Result<OwnRequests, EntryFault>
     ensures { EqualUnless Memory result (requests_in (view value.now)) }

@@ -40,6 +40,7 @@ fn roots_at(value: Option<&Value>) -> Result<u8, EntryFault>
     Ok(roots as u8)
 }
 
+/// Refuses a value that is no array of tables.
 #[tactic(auto, using(crate::proofs::Steps::are_tables_view), unfolding(crate::specs::Plan::entries_in))]
 fn entries_in(value: &Value) -> Result<(), EntryFault>
     ensures { result ≡ entries_in (view value.now) }
@@ -87,6 +88,7 @@ struct Top {
     wide: bool,
 }
 
+/// What the top says, or the least fault of its keys.
 #[tactic(auto, unfolding(crate::specs::Plan::top_with))]
 fn top_with(
     limit: Result<u64, EntryFault>,

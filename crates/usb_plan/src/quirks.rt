@@ -30,6 +30,7 @@ fn naks_at(value: Option<&Value>) -> Result<u8, EntryFault>
     Ok(naks as u8)
 }
 
+/// Whether there is a text, and it is this word.
 #[tactic(auto, unfolding(crate::specs::Quirks::is_word))]
 fn is_word(text: Option<&str>, word: &str) -> bool
     ensures { result ≡ is_word word.now (option_map (λ t. t.now) text.entry) }
@@ -40,6 +41,7 @@ fn is_word(text: Option<&str>, word: &str) -> bool
     }
 }
 
+/// Whether the value is a text, and that is this word.
 #[tactic(auto, unfolding(crate::specs::Quirks::names))]
 fn names(value: &Value, word: &str) -> bool
     ensures { result ≡ names word.now (view value.now) }
@@ -62,6 +64,7 @@ fn is_stall(value: &Value) -> bool
         || names(value, "interface")
 }
 
+/// Whether each value names a request that can be refused.
 fn are_stalls(values: &[Value]) -> bool
     ensures { result ≡ list_all (λ v. is_stall (view v)) values.now }
 {
@@ -92,6 +95,7 @@ fn stalls_named(values: &[Value]) -> Stalls
     }
 }
 
+/// The requests that an array names; `BadValue` if a value of it names none.
 #[tactic(auto, using(crate::proofs::Steps::are_stalls_view), unfolding(crate::specs::Quirks::stalls_in))]
 fn stalls_in(value: &Value) -> Result<Stalls, EntryFault>
     ensures { result ≡ stalls_in (view value.now) }
@@ -130,6 +134,7 @@ pub(crate) struct Quirks {
     pub(crate) stalls: Stalls,
 }
 
+/// What a device does otherwise than others, or the least fault of the keys.
 #[tactic(auto, unfolding(crate::specs::Quirks::quirks_with))]
 fn quirks_with(
     self_powered: Result<bool, EntryFault>,

@@ -142,6 +142,7 @@ impl<'a> Scene<'a> {
     }
 }
 
+/// The device at this index; None without an index, or without a device there.
 fn device_indexed(devices: &[DeviceSpec], index: Option<usize>) -> Option<&DeviceSpec>
     ensures { option_map (λ d. d.now) result ≡ device_indexed devices.now index }
 {

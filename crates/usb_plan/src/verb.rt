@@ -35,6 +35,7 @@ pub(crate) enum Verb {
     Interface,
 }
 
+/// The verb of this word; `BadValue` if it is none.
 #[tactic(auto, unfolding(crate::specs::Verb::verb_named))]
 fn verb_named(text: &str) -> Result<Verb, EntryFault>
     ensures { result ≡ verb_named text.now }

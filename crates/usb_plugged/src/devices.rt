@@ -29,6 +29,8 @@ pub fn plugged<T: Trace>(
     all_on(alloc, bus.roots())
 }
 
+/// All devices below the root ports, each once, a hub before those on its ports. Err if memory is
+/// refused.
 fn all_on(alloc: Global, roots: &Ports) -> Result<Vec<PluggedDevice<'_>>, AllocError>
     ensures are { IfOk result (λ all.
         (path : List ℕ) → scene_in all.items path ≡ scene_on roots.now path) }

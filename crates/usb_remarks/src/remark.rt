@@ -34,6 +34,7 @@ pub enum Remark {
     Status,
 }
 
+/// Whether one of the texts, as a host reads it, has this bConfigurationValue.
 fn some_has_value(texts: &[Bytes<65535>], value: u8) -> bool
     ensures { result
         ≡ list_any (λ text. configuration_value (text_read text) == value) texts.now }
@@ -107,6 +108,7 @@ fn has_status(wide: bool, ports: u8, text: &[u8]) -> bool
     }
 }
 
+/// Whether none of the texts has a status endpoint with room for the changes of these ports.
 fn all_lack_status(wide: bool, ports: u8, configs: &[Bytes<65535>]) -> bool
     ensures { result
         ≡ list_all (λ text. not (has_status wide ports (text_read text))) configs.now }

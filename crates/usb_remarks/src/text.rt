@@ -81,6 +81,7 @@ fn head_of(text: &[u8]) -> &[u8]
     &text[..text.len().min(CONFIGURATION_LENGTH)]
 }
 
+/// The first fault of the text: of its head, of its length, then of its items.
 #[tactic(auto, unfolding(crate::specs::Remarks::text_remark))]
 fn first_remark(text: &[u8]) -> Option<TextRemark>
     ensures { result ≡ text_remark text.now }

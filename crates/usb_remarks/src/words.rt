@@ -36,6 +36,7 @@ const NO_ENDPOINT: &str = ", of a hub one has a status endpoint";
 
 const OTHER_KIND: &str = ", of an interrupt endpoint it is 3";
 
+/// Adds a number in decimal digits.
 fn push_number(alloc: Global, out: &mut String, number: usize) -> Result<(), AllocError>
     ensures { OnOk result (string_bytes out.new ≡ string_bytes out.old ++ decimal number) }
 {

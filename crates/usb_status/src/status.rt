@@ -42,6 +42,7 @@ pub fn exit_status(outcome: Result<(), Fault>) -> u8
     }
 }
 
+/// The exit status of a fault, 1 to 4.
 fn fault_status(fault: Fault) -> u8
     ensures { result ≡ fault_status fault }
 {
@@ -61,6 +62,7 @@ fn fault_status(fault: Fault) -> u8
     }
 }
 
+/// 1 if the packet is refused, 4 if memory failed.
 fn line_status(fault: LineFault) -> u8
     ensures { result ≡ line_status fault }
 {
@@ -70,6 +72,7 @@ fn line_status(fault: LineFault) -> u8
     }
 }
 
+/// 1 if the plan is refused, 3 at its limit, 4 if memory, input or output failed.
 fn serve_status(fault: ServeFault) -> u8
     ensures { result ≡ serve_status fault }
 {
@@ -81,6 +84,7 @@ fn serve_status(fault: ServeFault) -> u8
     }
 }
 
+/// 1 if the run's text is refused, 4 if input or output failed.
 fn explain_status(fault: ExplainFault) -> u8
     ensures { result ≡ explain_status fault }
 {
@@ -90,6 +94,7 @@ fn explain_status(fault: ExplainFault) -> u8
     }
 }
 
+/// 1 if the run's text is refused, or has no attempt; 4 if input or output failed.
 fn pcap_status(fault: PcapFault) -> u8
     ensures { result ≡ pcap_status fault }
 {
@@ -99,6 +104,7 @@ fn pcap_status(fault: PcapFault) -> u8
     }
 }
 
+/// 1 if the descriptors are refused, 4 if memory or output failed.
 fn device_status(fault: EntryFault) -> u8
     ensures { result ≡ device_status fault }
 {
@@ -114,6 +120,7 @@ fn device_status(fault: EntryFault) -> u8
     }
 }
 
+/// 1 if a place is refused, else the status of the plan's fault.
 fn places_status(fault: PlacesFault) -> u8
     ensures { result ≡ places_status fault }
 {
@@ -123,6 +130,7 @@ fn places_status(fault: PlacesFault) -> u8
     }
 }
 
+/// 1 if a line of the host is refused, 3 at the limit, 4 if the host is gone or anything failed.
 fn far_status(fault: FarFault) -> u8
     ensures { result ≡ far_status fault }
 {
@@ -137,6 +145,8 @@ fn far_status(fault: FarFault) -> u8
     }
 }
 
+/// 1 if the places are of another plan, 3 if the host never rests, 4 if memory failed; else the
+/// status of a line's fault.
 fn bench_status(fault: BenchFault) -> u8
     ensures { result ≡ bench_status fault }
 {
@@ -148,6 +158,8 @@ fn bench_status(fault: BenchFault) -> u8
     }
 }
 
+/// 1 if a line of the controller side is refused, 3 at a limit, 4 if memory, input or output
+/// failed.
 fn live_status(end: LiveEnd) -> u8
     ensures { result ≡ live_status end }
 {

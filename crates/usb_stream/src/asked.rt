@@ -182,6 +182,7 @@ pub(crate) fn attempts_in(asked: Asked) -> u128
     }
 }
 
+/// The address and the endpoint number of a destination, without its speed and maximum packet.
 fn endpoint_of(to: Destination) -> Endpoint
     ensures { result ≡ endpoint_of to }
 {
@@ -191,6 +192,7 @@ fn endpoint_of(to: Destination) -> Endpoint
     }
 }
 
+/// The bytes of a packet, at most 64, in memory of its own.
 fn copied(bytes: &[u8]) -> ArrayVec<u8, 64>
     requires { length bytes.now ≤ 64 }
     ensures items { result.items ≡ bytes.now }

@@ -314,6 +314,8 @@ impl<R: Read, W: Write> StreamBus<R, W> {
         StreamBus::begin(reader, writer, limit, true)
     }
 
+    /// Says the hello. The bus is made whatever is answered, with one root port until the answer
+    /// says more.
     fn begin(reader: Watched<R>, writer: Watched<W>, limit: u64, wide: bool) -> Self
         ensures { SaysHello wide limit (streams (pipe_of R.remaining reader)
             (unread_of R.remaining result) (out_pipe_of W.contents writer)

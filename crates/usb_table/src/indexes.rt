@@ -48,6 +48,8 @@ impl Indexes {
         Ok(())
     }
 
+    /// Adds the key of a device under its address, if it has one. If memory is refused, the index
+    /// stays as it was.
     fn insert_address(&mut self, address: Option<u8>, key: usize) -> Result<(), AllocError>
         ensures paths { self.new.by_path ≡ self.old.by_path }
         ensures ok { OnOk result (self.new.by_address.entries

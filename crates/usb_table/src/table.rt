@@ -249,6 +249,8 @@ impl DeviceTable {
         self.next_of(Kind::Waiting, last)
     }
 
+    /// The least path, after the last one or of all, whose entry is of this kind; None if there is
+    /// none.
     fn next_of(&self, kind: Kind, last: Option<&PortPath>) -> Option<PortPath>
         ensures some { IfSome result
             (IsNext (fits kind) (option_copied last.entry) self.now.entries) }

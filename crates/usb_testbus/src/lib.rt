@@ -77,6 +77,7 @@ pub fn untraced_of(alloc: Global, text: &str) -> Result<SimBus<Untraced>, TestBu
     SimBus::untraced(alloc, &plan).map_err(|_| TestBusFault::Memory)
 }
 
+/// The plan that a text spells; a fault, refused memory too, is `Plan`.
 fn plan_of(alloc: Global, text: &str) -> Result<Plan, TestBusFault>
     ensures { IfOk result (λ plan. spelled_plan text.now ≡ Ok plan) }
 {

@@ -160,6 +160,7 @@ pub fn said_line(said: &Said) -> ArrayString<1026>
     line
 }
 
+/// Adds the words of an answer to an empty line.
 fn push_answer(line: &mut ArrayString<1026>, answer: &Answer)
     requires { line.old.bytes ≡ [] }
     ensures { line.new.bytes ≡ said_line (Said.Answered answer.now) }
@@ -405,6 +406,7 @@ fn push_byte(line: &mut ArrayString<1026>, byte: u8)
     push_ascii(line, low);
 }
 
+/// Adds one ASCII character to a line with room for it.
 fn push_ascii(line: &mut ArrayString<1026>, byte: u8)
     requires room { length line.old.bytes < 1026 }
     requires ascii { byte < 128 }

@@ -23,6 +23,7 @@ pub fn read_question(line: &[u8]) -> Option<Question>
     question_of(line)
 }
 
+/// The question of a line of at most 1,024 bytes of printable ASCII; None for any other line.
 #[tactic(auto, unfolding(crate::specs::QuestionReading::question_of))]
 fn question_of(line: &[u8]) -> Option<Question>
     ensures { result ≡ question_of line.now }
@@ -67,6 +68,7 @@ fn cut_dot(text: &str) -> Option<(&str, &str)>
     text.split_once('.')
 }
 
+/// An attempt at this speed, by its token and the words after that.
 #[tactic(auto, unfolding(crate::specs::QuestionReading::token_behind))]
 fn token_behind(speed: Speed, text: &str) -> Option<Question>
     ensures { result ≡ token_behind speed text.now }
@@ -88,6 +90,7 @@ fn token_of_words(speed: Speed, word: &str, text: &str) -> Option<Question>
     }
 }
 
+/// The words after SETUP: an address and endpoint, then DATA0 with eight bytes (8.5.3).
 #[tactic(auto, unfolding(crate::specs::QuestionReading::setup_question))]
 fn setup_question(speed: Speed, text: &str) -> Option<Question>
     ensures { result ≡ setup_question speed text.now }
@@ -103,6 +106,7 @@ fn setup_question(speed: Speed, text: &str) -> Option<Question>
     })
 }
 
+/// The words after OUT: an address and endpoint, then the toggle and the bytes of one packet.
 #[tactic(auto, unfolding(crate::specs::QuestionReading::out_question))]
 fn out_question(speed: Speed, text: &str) -> Option<Question>
     ensures { result ≡ out_question speed text.now }
@@ -118,6 +122,7 @@ fn out_question(speed: Speed, text: &str) -> Option<Question>
     })
 }
 
+/// The words after IN: an address and endpoint, then the endpoint's maximum packet, 1 to 64.
 #[tactic(auto, unfolding(crate::specs::QuestionReading::in_question))]
 fn in_question(speed: Speed, text: &str) -> Option<Question>
     ensures { result ≡ in_question speed text.now }
@@ -235,6 +240,7 @@ fn after_pre(speed: Speed, text: &str) -> Option<&str>
     }
 }
 
+/// What follows the word PRE and its space; None if the text begins with another word.
 #[tactic(auto, unfolding(crate::specs::QuestionReading::behind_pre_word))]
 fn behind_pre_word(text: &str) -> Option<&str>
     ensures { behind_pre_word text.now ≡ option_map (λ rest. rest.now) result }
@@ -243,6 +249,7 @@ fn behind_pre_word(text: &str) -> Option<&str>
     if word == "PRE" { Some(behind) } else { None }
 }
 
+/// The toggle of the word DATA0 or DATA1; None for any other word.
 #[tactic(auto, unfolding(crate::specs::QuestionReading::toggle_named))]
 fn toggle_named(word: &str) -> Option<Toggle>
     ensures { result ≡ toggle_named word.now }
@@ -266,6 +273,7 @@ fn setup_in(toggle: Toggle, digits: &str) -> Option<Setup>
     }
 }
 
+/// The words after `port`: the number of a root port, 1 to 7, and the call that is made at it.
 #[tactic(auto, unfolding(crate::specs::QuestionReading::port_question))]
 fn port_question(text: &str) -> Option<Question>
     ensures { result ≡ port_question text.now }

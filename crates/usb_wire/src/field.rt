@@ -132,6 +132,7 @@ fn both(
     }
 }
 
+/// The write of these setup data and bytes; `BadLength` if wLength is not the number of bytes.
 fn counted_write(setup: Setup, bytes: ArrayVec<u8, WRITE_LIMIT>) -> Result<ControlWrite, WireFault>
     ensures { result ≡ counted_write (setup, bytes.items) }
 {
@@ -159,6 +160,7 @@ fn is_hex(word: &[u8]) -> bool
     !word.is_empty() && word.len() % 2 == 0 && all_hex_digits(word)
 }
 
+/// Whether each byte is a hexadecimal digit of either case; so it is of an empty word.
 fn all_hex_digits(word: &[u8]) -> bool
     ensures { result ≡ list_all is_hex_digit word.now }
 {
@@ -190,12 +192,14 @@ pub(crate) fn number_of_word(least: u64, most: u64, word: &str) -> Result<u64, W
     }
 }
 
+/// Whether a word is decimal digits, at least one, with no zero before other digits.
 fn is_decimal(word: &[u8]) -> bool
     ensures { result ≡ is_decimal word.now }
 {
     !word.is_empty() && all_digits(word) && (word.len() == 1 || word[0] != b'0')
 }
 
+/// Whether each byte is a decimal digit; so it is of an empty word.
 fn all_digits(word: &[u8]) -> bool
     ensures { result ≡ list_all is_ascii_digit word.now }
 {
@@ -210,6 +214,7 @@ pub(crate) fn endpoint_named(word: &str) -> Result<EndpointAddress, WireFault>
     address_named(word).ok_or(WireFault::BadNumber)
 }
 
+/// The endpoint's address that two upper-case digits spell; None for any other word (9.6.6).
 fn address_named(word: &str) -> Option<EndpointAddress>
     ensures { result ≡ address_named word.now }
 {
@@ -232,6 +237,7 @@ fn address_spelled(word: &[u8], bytes: &[u8]) -> Option<EndpointAddress>
     EndpointAddress::new(*byte)
 }
 
+/// The path of ports that a word spells; `BadPath` if it spells none.
 #[tactic(auto, unfolding(crate::specs::Reading::path_in))]
 pub(crate) fn path_in(word: &str) -> Result<PortPath, WireFault>
     ensures { result ≡ path_in word.now }

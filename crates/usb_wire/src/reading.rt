@@ -97,6 +97,7 @@ fn said_path(said: &Said) -> &[u8]
     }
 }
 
+/// The port numbers of the path that an answer names, none if it names no path.
 fn answer_path(answer: &Answer) -> &[u8]
     ensures { result.now ≡ answer_path answer.now }
 {
@@ -126,6 +127,7 @@ fn names_ports(wide: bool, path: &[u8]) -> bool
     is_narrow(*root) && (wide || are_narrow(more))
 }
 
+/// Whether all of these are port numbers of hubs with at most 7 ports.
 fn are_narrow(numbers: &[u8]) -> bool
     ensures { result ≡ list_all is_narrow numbers.now }
 {
@@ -139,6 +141,7 @@ fn is_narrow(number: u8) -> bool
     number <= 7
 }
 
+/// What a line says by its words, once its length and its characters are found good.
 #[tactic(auto, unfolding(crate::specs::Reading::line_says))]
 fn line_says(asked: Asked, roots: u8, line: &[u8]) -> Result<Said, WireFault>
     ensures { result ≡ line_says asked roots line.now }
@@ -164,6 +167,7 @@ pub(crate) fn text_of_line(line: &[u8]) -> Result<&str, WireFault>
     }
 }
 
+/// Whether each byte is printable ASCII, from space to tilde.
 fn all_printable(line: &[u8]) -> bool
     ensures { result ≡ all_printable line.now }
 {
@@ -176,6 +180,7 @@ fn is_printable(byte: u8) -> bool
     (b' '..=b'~').contains(&byte)
 }
 
+/// What these words say; `NoAnswer` if there are five or more of them.
 #[tactic(auto, unfolding(crate::specs::Reading::shape_says))]
 fn words_say(asked: Asked, roots: u8, words: Words<'_>) -> Result<Said, WireFault>
     ensures { result ≡ shape_says asked roots words.entry }
@@ -243,6 +248,7 @@ fn with_one(asked: Asked, word: &str, argument: &str) -> Result<Answer, WireFaul
     }
 }
 
+/// The number of root ports, 1 to 7, in answer to the hello.
 #[tactic(auto, unfolding(crate::specs::Reading::roots_answer))]
 fn roots_answer(word: &str) -> Result<Answer, WireFault>
     ensures { result ≡ roots_answer word.now }
@@ -251,6 +257,7 @@ fn roots_answer(word: &str) -> Result<Answer, WireFault>
     Ok(Answer::Roots(roots as u8))
 }
 
+/// The data that came with this toggle, in answer to an attempt.
 #[tactic(auto, unfolding(crate::specs::Reading::data_answer))]
 fn data_answer(toggle: Toggle, word: &str) -> Result<Answer, WireFault>
     ensures { result ≡ data_answer toggle word.now }
@@ -259,6 +266,7 @@ fn data_answer(toggle: Toggle, word: &str) -> Result<Answer, WireFault>
     Ok(Answer::Data(DataPacket { toggle, bytes }))
 }
 
+/// The request to clear the halts of the bulk endpoints of the device at a path.
 #[tactic(auto, unfolding(crate::specs::Reading::clear_answer))]
 fn clear_answer(word: &str) -> Result<Answer, WireFault>
     ensures { result ≡ clear_answer word.now }
@@ -267,6 +275,7 @@ fn clear_answer(word: &str) -> Result<Answer, WireFault>
     Ok(Answer::Clear(path))
 }
 
+/// The request to enumerate again what is at a path.
 #[tactic(auto, unfolding(crate::specs::Reading::look_answer))]
 fn look_answer(word: &str) -> Result<Answer, WireFault>
     ensures { result ≡ look_answer word.now }
@@ -293,6 +302,7 @@ fn three_say(
     Ok(Said::Answered(answer))
 }
 
+/// Whether the status of a root port may come before the answer: not before that to the hello.
 fn may_push(asked: Asked) -> bool
     ensures { result ≡ may_push asked }
 {
@@ -344,6 +354,8 @@ fn second_answer(first: &str, second: &str) -> Result<Answer, WireFault>
     Ok(Answer::RootsAndRows(roots as u8))
 }
 
+/// The request to send bytes to the first bulk endpoint. If path and bytes are bad, the fault is
+/// that of the bytes.
 #[tactic(auto, unfolding(crate::specs::Reading::send_answer))]
 fn send_answer(first: &str, second: &str) -> Result<Answer, WireFault>
     ensures { result ≡ send_answer first.now second.now }
@@ -353,6 +365,7 @@ fn send_answer(first: &str, second: &str) -> Result<Answer, WireFault>
     Ok(Answer::Send { path, bytes })
 }
 
+/// The request to receive 0 to 1,000 packets from the first bulk endpoint.
 #[tactic(auto, unfolding(crate::specs::Reading::receive_answer))]
 fn receive_answer(first: &str, second: &str) -> Result<Answer, WireFault>
     ensures { result ≡ receive_answer first.now second.now }
@@ -365,6 +378,7 @@ fn receive_answer(first: &str, second: &str) -> Result<Answer, WireFault>
     })
 }
 
+/// The request to ask the named endpoint once for a packet (5.7).
 #[tactic(auto, unfolding(crate::specs::Reading::poll_answer))]
 fn poll_answer(first: &str, second: &str) -> Result<Answer, WireFault>
     ensures { result ≡ poll_answer first.now second.now }
@@ -374,6 +388,7 @@ fn poll_answer(first: &str, second: &str) -> Result<Answer, WireFault>
     Ok(Answer::Poll { path, endpoint })
 }
 
+/// The request to clear the halt of the named endpoint (9.4.1).
 #[tactic(auto, unfolding(crate::specs::Reading::clear_of_answer))]
 fn clear_of_answer(first: &str, second: &str) -> Result<Answer, WireFault>
     ensures { result ≡ clear_of_answer first.now second.now }
@@ -383,6 +398,7 @@ fn clear_of_answer(first: &str, second: &str) -> Result<Answer, WireFault>
     Ok(Answer::ClearOf { path, endpoint })
 }
 
+/// The request that reads from endpoint 0, or has no data stage (9.3).
 #[tactic(auto, unfolding(crate::specs::Reading::control_answer))]
 fn control_answer(first: &str, second: &str) -> Result<Answer, WireFault>
     ensures { result ≡ control_answer first.now second.now }
@@ -429,6 +445,8 @@ fn with_three(
     }
 }
 
+/// The request to send bytes to the named endpoint. The words are checked from the last to the
+/// first.
 #[tactic(auto, unfolding(crate::specs::Reading::send_to_answer))]
 fn send_to_answer(first: &str, second: &str, third: &str) -> Result<Answer, WireFault>
     ensures { result ≡ send_to_answer first.now second.now third.now }
@@ -443,6 +461,7 @@ fn send_to_answer(first: &str, second: &str, third: &str) -> Result<Answer, Wire
     })
 }
 
+/// The request to receive 0 to 1,000 packets from the named endpoint.
 #[tactic(auto, unfolding(crate::specs::Reading::receive_from_answer))]
 fn receive_from_answer(first: &str, second: &str, third: &str) -> Result<Answer, WireFault>
     ensures { result ≡ receive_from_answer first.now second.now third.now }
@@ -457,6 +476,7 @@ fn receive_from_answer(first: &str, second: &str, third: &str) -> Result<Answer,
     })
 }
 
+/// The request to choose an alternate setting of an interface, each a number of 0 to 255 (9.4.10).
 #[tactic(auto, unfolding(crate::specs::Reading::interface_answer))]
 fn interface_answer(first: &str, second: &str, third: &str) -> Result<Answer, WireFault>
     ensures { result ≡ interface_answer first.now second.now third.now }
@@ -471,6 +491,7 @@ fn interface_answer(first: &str, second: &str, third: &str) -> Result<Answer, Wi
     })
 }
 
+/// The request that writes to endpoint 0: setup data, and the wLength bytes that go with them.
 #[tactic(auto, unfolding(crate::specs::Reading::write_answer))]
 fn write_answer(first: &str, second: &str, third: &str) -> Result<Answer, WireFault>
     ensures { result ≡ write_answer first.now second.now third.now }

@@ -13,6 +13,7 @@ pub(crate) enum Words<'a> {
     More,
 }
 
+/// Cuts a line at each space. Two spaces in a row have an empty word between them.
 pub(crate) fn words_of(line: &str) -> Words<'_>
     ensures { AreWords (words line.now) result }
 {

@@ -298,6 +298,7 @@ fn no_file(alloc: Global, words: &[&str]) -> Result<Error, AllocError> {
     device.error(ErrorKind::WrongNumberOfValues, message.as_str())
 }
 
+/// What the words say by the commands of the program. Err says what is wrong with them.
 fn matches_of<'a>(alloc: Global, words: &'a [&'a str]) -> Result<ArgMatches<'a>, Error>
     ensures { IfOk result (λ m. subcommand_rows_of m
         ≡ subcommand_of program_app (map (λ s. s.now) words.entry.now)) }
@@ -305,6 +306,7 @@ fn matches_of<'a>(alloc: Global, words: &'a [&'a str]) -> Result<ArgMatches<'a>,
     program(alloc)?.try_get_matches_from(words)
 }
 
+/// All commands of the program, with their words and their help.
 fn program<'a>(alloc: Global) -> Result<Command<'a>, AllocError>
     ensures { IfOk result (λ c. app_of c ≡ program_app) }
 {
