@@ -65,7 +65,6 @@ impl<'a> Model for Items<'a> {
 impl<'a> Items<'a> {
     ghost use Rattle.usb_descriptor.specs.Item.{items_in};
 
-    /// The items in these bytes, which each descriptor's bLength divides without a rest.
     pub(crate) fn new(bytes: &'a [u8]) -> Items<'a>
         requires { AreItems bytes.now }
         ensures { result ≡ items_in bytes.now }
