@@ -21,7 +21,7 @@ pub use Attempts.{attempt_asked, babbled, empty_lines, faults_with, holder_in, h
 pub use Attempts.{out_asked, outcome_of, remark_after, remark_lines, taken_on}
 pub use Placing.{AnyPlaced, DeedPlaced, IsDeedIn, IsOtherPlan, IsUnfollowed, IsUnmoved, IsUnplaced}
 pub use Placing.{JudgePlaced, Placed, PlacedIn, QuestionPlaced, UnplacedIn}
-pub use Placing.{deed_of, finds, plan_in, seen_at, told_at, told_beside, told_to, try_in}
+pub use Placing.{deed_of, told_at, told_beside, told_to, try_in}
 unfoldable pub use Placing.{told_from}
 pub use Serving.{AllJudged, AloneTaken, AskedOne, EndedOne, ServedNext, ToldOne}
 pub use Serving.{IsLastLine, JudgesHost, LineJudged, NoReply, OneAnswered, OneJudged}

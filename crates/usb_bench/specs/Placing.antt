@@ -1,5 +1,5 @@
 -- The places of a plan, found in what the host does.
-use Rattle.std.specs.Prelude.{◌≡◌, ℕ, ◌+◌, ◌-◌, nat_lt, Bool, true, false, List, [], ◌∷◌, Option}
+use Rattle.std.specs.Prelude.{◌≡◌, ℕ, ◌+◌, true, false, List, [], ◌∷◌, Option}
 use Rattle.std.specs.Prelude.{None, Some, option_map, if◌then◌else◌, ⊤}
 use Rattle.usb_world.specs.declared.types.Attempt.{Attempt}
 use Rattle.std.specs.Str.{bytes_eq}
@@ -11,10 +11,9 @@ use Rattle.usb_far.specs.{Far, Follows, Played}
 use Rattle.usb_judge.specs.{ArePlugged}
 use Rattle.usb_plugged.specs.{ListsOnce}
 use Rattle.usb_judge.specs.declared.plugged.PluggedDevice.{PluggedDevice}
-use Rattle.usb_places.specs.{PlacesData, after_seen, found_in, plan_known, try_of}
+use Rattle.usb_places.specs.{PlacesData, after_seen, finds, plan_in, seen_at, try_of}
 use Rattle.usb_places.specs.declared.seen.Deed.{Deed}
 use Rattle.usb_places.specs.declared.seen.Deed.TheVariants as deed
-use Rattle.usb_places.specs.declared.seen.Seen.{Seen}
 use Rattle.usb_bench.specs.declared.fault.BenchFault.{BenchFault}
 use Rattle.usb_bench.specs.declared.fault.BenchFault.TheVariants as fault
 use Rattle.usb_bench.specs.declared.judge.Judge.{Judge}
@@ -36,23 +35,6 @@ pub record IsDeedIn (asked : Question) (w : World) (d : Option Deed) : Type 0 wh
   pub are : ArePlugged plugged w
   pub once : ListsOnce plugged
   pub is : d ≡ deed_of plugged asked
-
--- how far the run is before that
-abbrev pub seen_at : World → Deed → Seen
-seen_at w d = record {
-  attempts = w.attempts;
-  since = w.attempts - w.attempts_then;
-  taken = w.taken;
-  deed = d;
-}
-
--- a place more is found then
-abbrev pub finds : Seen → PlacesData → Bool
-finds x p = nat_lt (found_in p.sought) (found_in (after_seen x p).sought)
-
--- the plan as far as its places are known
-abbrev pub plan_in : PlacesData → PlanData
-plan_in p = plan_known p.plan p.sought
 
 -- the deed is seen; where a place is found, the plan as far as it is known is played from now on
 pub record DeedPlaced (d : Deed) (p : PlacesData) (old : Played) (q : PlacesData) (new : Played) :

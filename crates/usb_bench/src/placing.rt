@@ -4,9 +4,9 @@ ghost use Rattle.usb_world.specs.{attempt_most};
 ghost use Rattle.usb_sim.specs.Sim.{world_of};
 ghost use Rattle.usb_wire.specs.Questions.{IsQuestion};
 ghost use Rattle.usb_far.specs.FarEnd.{Follows, far_of, played_of};
-ghost use Rattle.usb_places.specs.{after_seen};
+ghost use Rattle.usb_places.specs.{after_seen, plan_in, seen_at};
 ghost use Rattle.usb_bench.specs.Attempts.{attempt_asked};
-ghost use Rattle.usb_bench.specs.Placing.{DeedPlaced, IsDeedIn, IsUnfollowed, IsUnmoved, IsUnplaced, Placed, QuestionPlaced, deed_of, plan_in, seen_at, told_at, told_beside, told_from, try_in};
+ghost use Rattle.usb_bench.specs.Placing.{DeedPlaced, IsDeedIn, IsUnfollowed, IsUnmoved, IsUnplaced, Placed, QuestionPlaced, deed_of, told_at, told_beside, told_from, try_in};
 
 use crate::asked::attempt_of;
 use crate::attempt::holder_in;

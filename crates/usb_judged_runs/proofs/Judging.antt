@@ -6,8 +6,8 @@ use Rattle.usb_world.specs.{Step, World, damages_fit, opening}
 use Rattle.usb_following.specs.{run}
 use Rattle.usb_wire.specs.{Question}
 use Rattle.usb_far.specs.{Far, Played, Replied, Scene, done}
-use Rattle.usb_places.specs.{PlacesData}
-use Rattle.usb_placed_runs.specs.{PlacedRun, begins, plan_in}
+use Rattle.usb_places.specs.{PlacesData, plan_in}
+use Rattle.usb_placed_runs.specs.{PlacedRun, begins}
 use Rattle.usb_bench.specs.declared.judge.Judge.{Judge}
 use Rattle.usb_bench.specs.{AllJudged, EndedOne, JudgePlaced, OneJudged, PlacedIn, PlacedJudged}
 use Rattle.usb_bench.specs.{RowJudged, ServedAll, Serves, told_from}

@@ -11,10 +11,10 @@ use Rattle.usb_wire.specs.declared.question.Question.TheVariants.{Ins, Outs, Res
 use Rattle.usb_far.specs.{Far, Played, ToSend, attempt_done, call_done, done, hello_done}
 use Rattle.usb_far.specs.{restart_done, wait_done, wanted_done}
 use Rattle.usb_judge.specs.declared.plugged.PluggedDevice.{PluggedDevice}
-use Rattle.usb_places.specs.{PlacesData, after_seen, is_attempt, is_wait}
+use Rattle.usb_places.specs.{PlacesData, after_seen, finds, is_attempt, is_wait, plan_in, seen_at}
 use Rattle.usb_places.specs.declared.seen.Deed.{Deed}
 use Rattle.usb_places.specs.declared.seen.Deed.TheVariants as deed
-use Rattle.usb_placed_runs.specs.{PlacedRun, asks, does, finds, placed, plan_in, seen_at, sees}
+use Rattle.usb_placed_runs.specs.{PlacedRun, asks, does, placed, sees}
 use Rattle.usb_bench.specs.{AnyPlaced, DeedPlaced, deed_of, told_at, told_from}
 
 -- the world is that of a placed run

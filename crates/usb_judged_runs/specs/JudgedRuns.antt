@@ -2,8 +2,8 @@
 use Rattle.std.specs.Prelude.{◌≡◌, List, true, Some}
 use Rattle.usb_world.specs.{Step, World, damages_fit}
 use Rattle.usb_following.specs.{run}
-use Rattle.usb_places.specs.{PlacesData}
-use Rattle.usb_placed_runs.specs.{PlacedRun, plan_in}
+use Rattle.usb_places.specs.{PlacesData, plan_in}
+use Rattle.usb_placed_runs.specs.{PlacedRun}
 use Rattle.usb_bench.specs.declared.judge.Judge.{Judge}
 
 -- The judge has these places, and its world is that of a placed run from the plan that is known at

@@ -5,7 +5,7 @@ ghost use Rattle.std.specs.Prelude.{◌≡◌, ℕ, Option, None, Some, Result, 
 ghost use Rattle.usb_world.specs.Steps.{opening};
 ghost use Rattle.usb_far.specs.Serving.{Scene};
 ghost use Rattle.usb_places.specs.Places.{PlacesData};
-ghost use Rattle.usb_placed_runs.specs.PlacedRuns.{plan_in};
+ghost use Rattle.usb_places.specs.Runs.{plan_in};
 ghost use Rattle.usb_bench.specs.declared.judge.Judge.{Judge};
 ghost use Rattle.usb_bench.specs.Serving.{JudgesHost, Serves};
 ghost use Rattle.usb_judged_runs.specs.JudgedRuns.{IsPlacedRun};

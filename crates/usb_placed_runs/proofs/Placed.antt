@@ -12,10 +12,9 @@ use Rattle.usb_following.proofs.Interface.{IsOf, all_too, from_start, of_opening
 use Rattle.usb_following.proofs.Interface.{one_more_comes}
 use Rattle.usb_places.specs.declared.seen.Deed.{Deed}
 use Rattle.usb_places.specs.declared.seen.Deed.TheVariants.{Wait}
-use Rattle.usb_places.specs.{PlacesData, after_seen, found_in}
-use Rattle.usb_places.specs.{plan_known, seen_by}
-use Rattle.usb_placed_runs.specs.{PlacedRun, asks, begins, does, finds, placed, plan_in, seen_at}
-use Rattle.usb_placed_runs.specs.{sees}
+use Rattle.usb_places.specs.{PlacesData, after_seen, finds, found_in, plan_in, plan_known}
+use Rattle.usb_places.specs.{seen_at, seen_by}
+use Rattle.usb_placed_runs.specs.{PlacedRun, asks, begins, does, placed, sees}
 use Rattle.usb_placed_runs.proofs.Seen.{alike_damages, alike_events, none_more}
 use Rattle.usb_placed_runs.proofs.Seen.{seen_all}
 use Rattle.usb_placed_runs.proofs.Events.{events_stay, next_to_come}

@@ -12,9 +12,7 @@ use Rattle.usb_places.specs.declared.sought.Whose.{Whose}
 use Rattle.usb_places.specs.declared.sought.Whose.TheVariants as whose
 use Rattle.usb_places.specs.declared.transfer.Transfer.{Transfer}
 use Rattle.usb_places.specs.{PlacesData, after_of, after_seen, events_known, found_in, is_attempt}
-use Rattle.usb_places.specs.{is_event, is_wait}
-use Rattle.usb_places.specs.{seen_by, stands}
-use Rattle.usb_placed_runs.specs.{finds, seen_at}
+use Rattle.usb_places.specs.{finds, is_event, is_wait, seen_at, seen_by, stands}
 use Rattle.usb_world.specs.{Event, World, after_most}
 use Rattle.usb_placed_runs.proofs.Seen.{count_as_before, found_as_before, same_events, then_known}
 

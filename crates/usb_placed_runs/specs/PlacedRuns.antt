@@ -1,31 +1,11 @@
 -- Runs whose plan's places are found on their way.
-use Rattle.std.specs.Prelude.{◌-◌, nat_lt, Bool, List, [], ◌∷◌, ◌++◌, if◌then◌else◌}
-use Rattle.usb_world.specs.{PlanData, Step, World, after, event, opening}
+use Rattle.std.specs.Prelude.{List, [], ◌∷◌, ◌++◌, if◌then◌else◌}
+use Rattle.usb_world.specs.{Step, World, after, event, opening}
 use Rattle.usb_sim.specs.{followed}
 use Rattle.usb_following.specs.{Comes}
-use Rattle.usb_places.specs.{PlacesData, after_seen, found_in, plan_known}
+use Rattle.usb_places.specs.{PlacesData, after_seen, finds, plan_in, seen_at}
 use Rattle.usb_places.specs.declared.seen.Deed.{Deed}
 use Rattle.usb_places.specs.declared.seen.Deed.TheVariants.{Wait}
-use Rattle.usb_places.specs.declared.seen.Seen.{Seen}
-
--- The next three are usb_bench's too, word for word.
-
--- how far the run is before that
-abbrev pub seen_at : World → Deed → Seen
-seen_at w d = record {
-  attempts = w.attempts;
-  since = w.attempts - w.attempts_then;
-  taken = w.taken;
-  deed = d;
-}
-
--- a place more is found then
-abbrev pub finds : Seen → PlacesData → Bool
-finds x p = nat_lt (found_in p.sought) (found_in (after_seen x p).sought)
-
--- the plan as far as its places are known
-abbrev pub plan_in : PlacesData → PlanData
-plan_in p = plan_known p.plan p.sought
 
 -- the world once a deed is seen: where a place is found, it follows the plan that is then known
 abbrev pub placed : Deed → PlacesData → World → World

@@ -8,7 +8,8 @@ ghost use Rattle.usb_world.specs.Worlds.{World};
 ghost use Rattle.usb_following.specs.Runs.{run};
 ghost use Rattle.usb_places.specs.declared.seen.Deed.{Deed};
 ghost use Rattle.usb_places.specs.Places.{PlacesData, is_attempt, is_wait};
-ghost use Rattle.usb_placed_runs.specs.PlacedRuns.{PlacedRun, finds, plan_in, seen_at};
+ghost use Rattle.usb_places.specs.Runs.{finds, plan_in, seen_at};
+ghost use Rattle.usb_placed_runs.specs.PlacedRuns.{PlacedRun};
 
 /// The world of a placed run is the one after all its steps from the start of the plan that is
 /// known in the end.

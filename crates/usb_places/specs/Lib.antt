@@ -4,6 +4,7 @@ pub mod Deeds
 pub mod Places
 pub mod Known
 pub mod Reading
+pub mod Runs
 -- the words of this crate, wherever one stands
 pub use Requests.{feature_request, is_asked, is_of_port, port_request, reads_by, same_setup}
 pub use Requests.{writes_by}
@@ -22,6 +23,7 @@ unfoldable pub use Places.{place_from, place_of, request_met, seen_by, stands, s
 unfoldable pub use Places.{transfer_from}
 pub use Known.{damage_found, first_after, inserted_some, is_event, is_to, to_attempt}
 unfoldable pub use Known.{after_of, damages_known, events_known, inserted, plan_known, spot}
+pub use Runs.{finds, plan_in, seen_at}
 pub use Reading.{has_when, in_plan, members_sought, members_when, new_sought, no_memory, plain}
 pub use Reading.{read_places, table_has_when, text_uses_when, uses_when, when_at, when_sought}
 pub use Reading.{with_event}
