@@ -1,7 +1,7 @@
 -- The parts of an attempt of a simulated bus: each event that is due, all of them, and the attempt
 -- behind them.
 use Rattle.std.specs.Prelude.{◌≡◌, ◌≢◌, ℕ, ◌+◌, List, Option, None, Some, Result, Ok, Err, OnOk}
-use Rattle.std.specs.Prelude.{OnErr, IfOk, IfErr, IsSome, length, true}
+use Rattle.std.specs.Prelude.{OnErr, IfOk, IfErr, IsSome, length, Bool, true, false}
 use Rattle.usb_packet.specs.declared.Packet.TheVariants as packet
 use Rattle.usb_world.specs.{Attempt, BusFault, Limit, Memory, Failed, Outcome, World}
 use Rattle.usb_world.specs.{AttemptsWithin, to_come, Coming, Left, after, attempt}
@@ -56,6 +56,10 @@ pub record AttemptMade {A : Type 0} (a : Attempt) (old : World) (before : Option
     pub told : new.fault ≡ fault_of result
     pub other : IfErr result (λ f. f ≢ Limit)
     pub text : WritesText result before now (step_lines a old new)
+
+abbrev pub is_data : ExchangeAnswer → Bool
+is_data (One (packet.Payload toggle bytes)) = true
+is_data _ = false
 
 -- how many bytes of data a device answered, where one device did
 abbrev pub data_length : ExchangeAnswer → ℕ

@@ -10,6 +10,7 @@ ghost use Rattle.usb_world.specs.Worlds.{Attempted, FitsMaximum, IsAttempt, root
 ghost use Rattle.usb_world.specs.Steps.{AttemptFails, SetsRoot, ClearsRoot, after, root_call};
 ghost use Rattle.usb_bus.specs.Traces.{Attempts, Spends};
 ghost use Rattle.usb_world.specs.declared.types.BusFault.TheVariants.{Failed};
+ghost use Rattle.usb_sim.specs.Parts.{is_data};
 
 use super::SimBus;
 use crate::Trace;
@@ -54,10 +55,12 @@ impl<T: Trace> Bus for SimBus<T> {
         }
         self.make_attempt(attempt)?;
         let max = attempt.destination().max;
-        if let ExchangeAnswer::One(Packet::Payload { .. }) = &self.exchange.answer {
-            return Ok(outcome_of(&self.exchange.answer, self.exchange.answer_mark, max));
+        let answer = &self.exchange.answer;
+        let mark = self.exchange.answer_mark;
+        if is_data(answer) {
+            return Ok(outcome_of(answer, mark, max));
         }
-        Ok(handshake_of(&self.exchange.answer, self.exchange.answer_mark, max))
+        Ok(handshake_of(answer, mark, max))
     }
 
     fn root_ports(&self) -> u8 {
@@ -151,10 +154,17 @@ impl<T: Trace> SimBus<T> {
     }
 }
 
+/// Whether the answer is data.
+fn is_data(answer: &ExchangeAnswer) -> bool
+    ensures { result ≡ is_data answer.now }
+{
+    matches!(answer, ExchangeAnswer::One(Packet::Payload { .. }))
+}
+
 /// What the host gets of an answer that is no data. It is apart from data, so that no room for them is copied.
 #[tactic(auto, unfolding(usb_world::specs::Exchanges::outcome_of))]
 fn handshake_of(answer: &ExchangeAnswer, mark: Mark, max: u8) -> Outcome
-    requires { IsNoData answer.now }
+    requires { is_data answer.now ≡ false }
     ensures value { result ≡ outcome_of answer.now mark max }
     ensures fits { FitsMaximum max result }
 {

@@ -2,7 +2,7 @@ use Rattle.std.proofs.Common.{◌≡◌, None}
 use Rattle.usb_world.specs.{to_come}
 use Rattle.usb_sim.specs.{world_of, trace_of}
 use Rattle.usb_sim.proofs.Arrivals.{DueSoFar}
-use Rattle.usb_sim.proofs.sim.SimBus.take_due_events.Given as goal
+use Rattle.usb_sim.proofs.sim.SimBus.take_all_due.Given as goal
 
 abbrev pub invariant-due : goal.invariant-due
 invariant-due g l = record {
