@@ -1,4 +1,4 @@
--- The world of a plan before anything came: no device stands, so none is reached.
+-- The world of a plan before anything came: no device stands, so its tree is settled.
 use Rattle.std.proofs.Common.{ℕ, zero, suc, refl, ap}
 use Rattle.std.specs.Prelude.{⊤}
 use Rattle.usb_device.specs.{all_forgotten, Ports, ended, vacant, taken, new_ports}

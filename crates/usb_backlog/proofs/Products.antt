@@ -1,4 +1,4 @@
--- Weights.
+-- The bound on what a run attempts.
 use Rattle.std.proofs.Common.{◌≤◌, ℕ, ◌+◌, ◌*◌, arith}
 use Rattle.std.proofs.Math.Nat.{mul-le-mul_right}
 
