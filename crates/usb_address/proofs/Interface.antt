@@ -6,10 +6,10 @@ pub use Rattle.usb_address.proofs.Endpoints.{clears_keep, polls_keep, receives_k
 pub use Rattle.usb_address.proofs.Events.{event_keeps}
 pub use Rattle.usb_address.proofs.HubPorts.{place_ports, held_of, less_one, port_named-cases}
 pub use Rattle.usb_address.proofs.TransferSequences.{either_alone, keeps_none, keeps_then}
-pub use Rattle.usb_address.proofs.TransferSequences.{put_keeps, read_keeps, trail_sound, write_keeps}
-pub use Rattle.usb_address.proofs.TransferSequences.{write_nothing, write_till}
+pub use Rattle.usb_address.proofs.TransferSequences.{put_keeps, read_keeps, trail_sound}
+pub use Rattle.usb_address.proofs.TransferSequences.{write_keeps, write_nothing, write_till}
 pub use Rattle.usb_address.proofs.UnheldAddresses.{nobody_asks_nothing}
-pub use Rattle.usb_address.proofs.Openings.{opening_reach, opening_settled}
+pub use Rattle.usb_address.proofs.Openings.{opening_settled}
 pub use Rattle.usb_address.proofs.Ports.{is_path-empty, no_root, not_way, reset_till}
 pub use Rattle.usb_address.proofs.PortResets.{Fits, Resets, owned_as, resets_leave}
 pub use Rattle.usb_address.proofs.PortResets.{is_way-same_path}

@@ -1,7 +1,7 @@
--- The world of a plan before anything came: no device stands, so none is reached.
-use Rattle.std.proofs.Common.{◌≡◌, ℕ, zero, suc, false, List, ◌∷◌, refl, ap}
+-- The world of a plan before anything came: no device stands, so its tree is settled.
+use Rattle.std.proofs.Common.{ℕ, zero, suc, refl, ap}
 use Rattle.std.specs.Prelude.{⊤}
-use Rattle.usb_device.specs.{all_forgotten, Ports, ended, vacant, taken, new_ports, reach, reach_at}
+use Rattle.usb_device.specs.{all_forgotten, Ports, ended, vacant, taken, new_ports}
 use Rattle.usb_tree.specs.{IsSettled}
 use Rattle.usb_world.specs.{PlanData, opening}
 
@@ -17,16 +17,6 @@ vacant_settled ended h = refl
 vacant_settled (vacant b k) h = ap (vacant b) (vacant_settled k h)
 vacant_settled (taken b s a k) h = elim h [ ]
 
-vacant_reach_at : (k : Ports) → IsVacant k → (i : ℕ) (p : List ℕ) → reach_at k i p ≡ false
-unfolding reach_at
-vacant_reach_at (vacant b k) h (suc i) p = vacant_reach_at k h i p
-vacant_reach_at (taken b s a k) h i p = elim h [ ]
-vacant_reach_at k h i p = refl
-
-pub vacant_reach : (k : Ports) → IsVacant k → (p : List ℕ) → reach k p ≡ false
-vacant_reach k h (suc i ∷ p) = vacant_reach_at k h i p
-vacant_reach k h p = refl
-
 pub new_vacant : (n : ℕ) → IsVacant (new_ports n)
 unfolding new_ports
 new_vacant zero = tt
@@ -39,6 +29,3 @@ opening_vacant plan = new_vacant plan.roots
 
 pub opening_settled : (plan : PlanData) → IsSettled (opening plan).roots
 opening_settled plan = vacant_settled (new_ports plan.roots) (opening_vacant plan)
-
-pub opening_reach : (plan : PlanData) (p : List ℕ) → reach (opening plan).roots p ≡ false
-opening_reach plan = vacant_reach (new_ports plan.roots) (opening_vacant plan)

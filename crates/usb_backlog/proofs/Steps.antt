@@ -8,7 +8,7 @@ use Rattle.usb_world.specs.{Damage, Attempt, payload_out, ports_in, reply_out, t
 use Rattle.usb_world.specs.{AtPorts, Course, Step, after, attempt, damage_in, here}
 use Rattle.usb_world.specs.{at_attempt, root_call, step, with_attempt, World}
 use Rattle.usb_tree.specs.{NobodyHolds, after_sent}
-use Rattle.usb_world.proofs.Interface.{OverSteps, ack_out, goes, made_is, nobody_in, over_course}
+use Rattle.usb_world.proofs.Interface.{OverSteps, ack_out, goes, made_is, nobody_in}
 use Rattle.usb_world.proofs.Interface.{over_step, token_out as token_calm, with_call}
 use Rattle.usb_world.proofs.Interface.{with_limit_told}
 use Rattle.usb_tree.proofs.Interface.{both}
@@ -90,10 +90,6 @@ module _ (m v r : PortMark) (few : Few v r) where
   pub keeps-root : (c : PortCall) (n : ℕ) (w : World) → AtPorts w.left → root_allowed m r c n ≡ true
       → KeepsBy m v r w (after (root_call c n) w)
   keeps-root c n = keeps-step (root_call c n)
-
-  pub keeps-course : {w x : World} → AtPorts w.left → Course (StepAllows m r) w x
-      → KeepsBy m v r w x
-  keeps-course h c = over_course keeps-steps c h
 
   -- an attempt that nobody hears
   pub keeps-unheard : (a : Attempt) (w : World) → AtPorts w.left → IsMade a w

@@ -1,14 +1,14 @@
 -- Rows of attempts, made one by one.
-use Rattle.std.proofs.Common.{◌≡◌, ◌∙◌, refl, sym, ap, ℕ, suc, ◌+◌, ◌-◌, ◌*◌, ◌<◌, ◌≤◌, min}
-use Rattle.std.proofs.Common.{List, [], ◌++◌, length, take, drop, Option, Ok, arith, Bool, true}
+use Rattle.std.proofs.Common.{◌≡◌, ◌∙◌, refl, sym, ap, ℕ, ◌+◌, ◌-◌, ◌*◌, ◌<◌, ◌≤◌, min}
+use Rattle.std.proofs.Common.{List, [], ◌++◌, length, take, drop, Option, Ok, arith, Bool}
 use Rattle.std.proofs.Common.{false, nat_eq, ◌≢◌}
 use Rattle.std.proofs.Common.{append_assoc, length-append, length-take}
-use Rattle.std.proofs.Common.{add-one, lt_of_mul-lt-mul_right, mul-le-mul_right, take-append-drop}
+use Rattle.std.proofs.Common.{add-one, lt_of_mul-lt-mul_right, take-append-drop}
 use Rattle.std.specs.Int.{div_ceil}
 use Rattle.std.proofs.lemmas.Grind.{div_ceil_times}
 use Rattle.std.proofs.lemmas.Bool.{eqb-false}
 use Rattle.std.proofs.lemmas.List.{take_min}
-use Rattle.usb_packet.specs.{Toggle, is_same, other, flips}
+use Rattle.usb_packet.specs.{Toggle, other, flips}
 use Rattle.usb_world.specs.{Attempt, Destination, World}
 use Rattle.usb_world.specs.declared.types.Outcome.TheVariants.{Ack}
 use Rattle.usb_bus.specs.{AllTaken, Attempts}
@@ -17,17 +17,6 @@ use Rattle.usb_bus.specs.{none_taken, one_taken, out_packet}
 -- Attempts at an endpoint
 
 -- INs
-
-pub same_toggle : (a b : Toggle) → is_same a b ≡ true → b ≡ a
-same_toggle a b e = grind arith
-
--- one more packet leaves room for the next
-pub row_room : (moved most max room : ℕ) → moved < most → most ≤ 64 → max ≤ 64 → room ≡ moved * max
-    → room + max ≤ 4096
-row_room moved most max room less few fits is =
-    let one : suc moved * max ≤ 64 * max = mul-le-mul_right max (omega (arith, less, few)) in
-    let more : suc moved * max ≡ moved * max + max = omega arith in
-    omega (arith, one, more, fits, is)
 
 pub next_size : (moved max : ℕ) (got bytes : List ℕ) → length got ≡ moved * max
     → length bytes ≡ max → length (got ++ bytes) ≡ (moved + 1) * max
@@ -75,11 +64,6 @@ pub few_left : (max total moved rest : ℕ) → 1 ≤ max → 0 < rest → Left 
     → moved < div_ceil total max
 few_left max total moved rest least some l = let c = div_ceil_times total max least in
     lt_of_mul-lt-mul_right max (omega (arith, c, l.some some, some))
-
-pub row_short : (max total moved rest : ℕ) → 1 ≤ max → total ≤ 64 * max → 0 < rest
-    → Left max total moved rest → moved < 64
-row_short max total moved rest least long some l =
-    lt_of_mul-lt-mul_right max (omega (arith, long, l.some some, some))
 
 ceil_is : (a b n : ℕ) → 0 < b → a ≤ n * b → n * b < a + b → n ≡ div_ceil a b
 ceil_is a b n some least most = grind (arith, div_ceil_times)

@@ -1,14 +1,12 @@
 -- How a call goes over what was heard.
-use Rattle.std.proofs.Common.{◌≡◌, ℕ, ◌+◌, ◌≤◌, inl, inr, List, length, Option, Some}
+use Rattle.std.proofs.Common.{◌≡◌, ℕ, ◌≤◌, inl, inr, List, length, Option, Some}
 use Rattle.std.proofs.Common.{None}
-use Rattle.std.proofs.Common.{slice_get, option_map, Ok, Err, refl, sym, subst, ap, arith}
+use Rattle.std.proofs.Common.{slice_get, refl, sym, subst, ap, arith}
 use Rattle.std.proofs.Common.{◌∙◌}
 use Rattle.std.proofs.lemmas.Option.{slice_get_cases, slice_get_within}
-use Rattle.usb_world.specs.{Outcome}
-use Rattle.usb_world.specs.declared.types.BusFault.TheVariants as bus
-use Rattle.usb_driver.specs.{Hears, IsQuestion, answer_for, asked_on, attempts_in, begun_at}
-use Rattle.usb_driver.specs.{failed_by, next_answer, outcome_by, pending, spent_in, waits}
-use Rattle.usb_driver.specs.{with_answer, within, Answer, Question}
+use Rattle.usb_driver.specs.{Hears, IsQuestion, asked_on, attempts_in, begun_at}
+use Rattle.usb_driver.specs.{next_answer}
+use Rattle.usb_driver.specs.{with_answer, Answer, Question}
 use Rattle.usb_driver.specs.declared.progress.Progress.{Progress}
 use Rattle.usb_driver.specs.declared.question.Question.TheVariants.{Attempt, Set, Clear, Restart}
 use Rattle.usb_driver.specs.declared.question.Question.TheVariants.{Ins}
@@ -110,53 +108,6 @@ pub heard_on : (roots : ℕ) (begun : List (List ℕ)) (answers heard : List Ans
 heard_on roots begun answers heard old new q same e is h =
     let all : new ≡ asked_on answers old q = e ∙ ap (λ (x : List Answer). asked_on x old q) same in
     subst (Hears roots begun answers) (sym all) (Hears.asks q h is)
-
-spent_by : (answers : List Answer) (used : ℕ) (statuses : List (List ℕ)) (attempts : ℕ)
-    (asked : Option Question) (q : Question)
-    → spent_in (asked_on answers (progress used statuses attempts asked) q)
-    ≤ attempts + pending asked + attempts_in q
-spent_by answers used statuses attempts (Some r) q = omega arith
-spent_by answers used statuses attempts None q =
-    elim (slice_get answers used) as (λ o. spent_in (with_answer o q
-    (progress used statuses attempts None)) ≤ attempts + 0 + attempts_in q) [
-      | Some a ↦ omega arith
-      | None ↦ omega arith
-    ]
-
--- it is at most the attempts that it is
-pub spent_on : (answers : List Answer) (p : Progress) (q : Question)
-    → spent_in (asked_on answers p q) ≤ spent_in p + attempts_in q
-spent_on answers p q = spent_by answers p.used p.statuses p.attempts p.asked q
-
-pub outcome_by-some : (most : ℕ) (o : Option Answer) (x : Outcome)
-    → Some x ≡ option_map (λ (a : Answer). a.outcome) o → Ok (within most x) ≡ outcome_by most o
-outcome_by-some most (Some a) x e =
-    ap (λ (y : Outcome). Ok (within most y)) (same_Some x a.outcome e)
-outcome_by-some most None x e = cc
-
-pub outcome_by-none : (most : ℕ) (o : Option Answer)
-    → None ≡ option_map (λ (a : Answer). a.outcome) o → Err bus.Failed ≡ outcome_by most o
-outcome_by-none most (Some a) e = cc
-outcome_by-none most None e = refl
-
-failed_after : (o : Option Answer) (q : Question) (p : Progress) → p.asked ≡ None
-    → None ≡ option_map (λ (a : Answer). a.outcome) o
-    → failed_by (with_answer o q p).asked ≡ Some bus.Failed
-failed_after (Some a) q p none e = cc
-failed_after None q p none e = ap (λ (x : Option Question). failed_by (waits x q)) none
-
-failed_with : (answers : List Answer) (used : ℕ) (statuses : List (List ℕ)) (attempts : ℕ)
-    (asked : Option Question) (q : Question)
-    → None ≡ option_map (λ (a : Answer). a.outcome) (next_answer asked answers used)
-    → failed_by (asked_on answers (progress used statuses attempts asked) q).asked ≡ Some bus.Failed
-failed_with answers used statuses attempts (Some r) q e = refl
-failed_with answers used statuses attempts None q e =
-    failed_after (slice_get answers used) q (progress used statuses attempts None) refl e
-
-pub failed_on : (answers : List Answer) (p : Progress) (q : Question)
-    → None ≡ option_map (λ (a : Answer). a.outcome) (answer_for answers p)
-    → failed_by (asked_on answers p q).asked ≡ Some bus.Failed
-failed_on answers p q e = failed_with answers p.used p.statuses p.attempts p.asked q e
 
 -- a call begins
 pub begun_on : (roots : ℕ) (begun : List (List ℕ)) (answers : List Answer)

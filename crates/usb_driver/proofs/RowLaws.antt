@@ -2,33 +2,22 @@
 use Rattle.std.proofs.Common.{◌≡◌, ◌≢◌, ◌∙◌, ℕ, zero, suc, nat_eq, Bool, ◌+◌, ◌-◌, ◌*◌, ◌/◌}
 use Rattle.std.proofs.Common.{◌%◌, ◌<◌, ◌≤◌, List, []}
 use Rattle.std.proofs.Common.{◌∷◌, ◌++◌, length, Result, Ok, Err, Some, refl, sym, ap, subst, arith}
-use Rattle.std.proofs.Common.{append_assoc, length-append, add-one, mul-le-mul_right, false, true}
+use Rattle.std.proofs.Common.{append_assoc, length-append, add-one, false, true}
 use Rattle.std.proofs.Math.Nat.{div-add-mod}
 use Rattle.std.proofs.lemmas.Bool.{eqb-false, eqb-true}
-use Rattle.usb_bus.specs.{RowDone, Answered, Faulted, Whole, is_full}
-use Rattle.usb_packet.specs.{Toggle, flips, is_same, other}
+use Rattle.usb_bus.specs.{Answered, Faulted, is_full}
+use Rattle.usb_packet.specs.{Toggle, flips, other}
 use Rattle.usb_world.specs.{BusFault, Destination, Outcome}
 use Rattle.usb_world.specs.declared.types.Attempt.TheVariants.{In}
 use Rattle.usb_world.specs.declared.types.Outcome.TheVariants.{Payload}
-use Rattle.usb_driver.specs.{EndsHeard, FullHeard, HearsIns, row_asked, IsQuestion, asked_on}
+use Rattle.usb_driver.specs.{FullHeard, HearsIns, row_asked, IsQuestion, asked_on}
 use Rattle.usb_driver.specs.{attempt_gives, ArePackets, CameFirst, packet_answer, row_max, Answer}
 use Rattle.usb_driver.specs.{Question}
-use Rattle.usb_driver.specs.HeardRows.{none_heard, one_heard}
+use Rattle.usb_driver.specs.HeardRows.{one_heard}
 use Rattle.usb_driver.specs.RowAnswers.{no_packet, nothing_first, one_packet, packets_first}
 use Rattle.usb_driver.specs.declared.progress.Progress.{Progress}
 use Rattle.usb_driver.specs.declared.question.Question.TheVariants.{Attempt, Set, Clear, Restart}
 use Rattle.usb_driver.specs.declared.question.Question.TheVariants.{Ins}
-
-pub same_toggle : (a b : Toggle) → is_same a b ≡ true → b ≡ a
-same_toggle a b e = grind arith
-
--- one more packet leaves room for the next
-pub row_room : (moved most max room : ℕ) → moved < most → most ≤ 64 → max ≤ 64 → room ≡ moved * max
-    → room + max ≤ 4096
-row_room moved most max room less few fits is =
-    let one : suc moved * max ≤ 64 * max = mul-le-mul_right max (omega (arith, less, few)) in
-    let more : suc moved * max ≡ moved * max + max = omega arith in
-    omega (arith, one, more, fits, is)
 
 pub next_size : (moved max : ℕ) (got bytes : List ℕ) → length got ≡ moved * max
     → length bytes ≡ max → length (got ++ bytes) ≡ (moved + 1) * max
@@ -121,12 +110,6 @@ cut_none first max statuses bytes full = record {
   size = let parts = div-add-mod (length bytes) max in omega (arith, parts, full);
   turned = flips_none first;
 }
-
--- what is left has room for a packet
-pub cut_fits : (left max size : ℕ) → size ≡ left * max → 0 < size → max ≤ size
-cut_fits zero max size e some = absurd (omega (arith, e, some))
-cut_fits (suc n) max size e some =
-    let more : suc n * max ≡ max + n * max = omega arith in omega (arith, e, more)
 
 cut_left : (left max size after : ℕ) → size ≡ left * max → 0 < size → after ≡ size - max
     → after ≡ (left - 1) * max

@@ -1,9 +1,8 @@
 -- The lemmas that crates above cite. All others are for this crate alone.
 pub use Rattle.usb_enum.proofs.readings.ChosenConfigurations.{AcceptsChosen, HasChosen, accepts}
-pub use Rattle.usb_enum.proofs.readings.ChosenConfigurations.{chosen_bulk, chosen_some, has_chosen}
-pub use Rattle.usb_enum.proofs.courses.Courses.{AtWork, OnlyLater, opening_in_order, orderly_on}
-pub use Rattle.usb_enum.proofs.courses.Courses.{regular_order, sound_before, traced_faulted}
-pub use Rattle.usb_enum.proofs.courses.Courses.{traced_in_order, traced_only_later, went_course}
+pub use Rattle.usb_enum.proofs.readings.ChosenConfigurations.{chosen_some, has_chosen}
+pub use Rattle.usb_enum.proofs.courses.Courses.{orderly_on, regular_order, sound_before}
+pub use Rattle.usb_enum.proofs.courses.Courses.{traced_faulted, traced_in_order, went_course}
 pub use Rattle.usb_enum.proofs.courses.Courses.{went_in_order, went_sound}
 pub use Rattle.usb_enum.proofs.courses.Damages.{went_three}
 pub use Rattle.usb_enum.proofs.devices.Frames.{ends_without_fault}

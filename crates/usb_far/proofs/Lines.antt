@@ -21,8 +21,8 @@ use Rattle.usb_wire.specs.declared.question.Question.TheVariants.{Ins, Outs}
 use Rattle.usb_far.specs.{Phase, FarFault, Far, HasNoReply, IsReplied, Played, Replied, Replies}
 use Rattle.usb_far.specs.{done, may_ask, reading_fault, AllReplied, HasNoQuestion, HasQuestion}
 use Rattle.usb_far.specs.{MayGoOn, Misread, OnlyReads, OnlyReadsLine, Passed, Passes, Reading}
-use Rattle.usb_far.specs.{LineReplied, ReadsEnd, ReadsOn, ReadsQuestion, ReadsTold, reading_in}
-use Rattle.usb_far.specs.{Scene, InTurn, ServedNone, ServedOne, ServedSome, ServesNext, CauseOf}
+use Rattle.usb_far.specs.{LineReplied, ReadsOn, ReadsQuestion, ReadsTold, reading_in}
+use Rattle.usb_far.specs.{Scene, InTurn, ServedOne, ServedSome, ServesNext, CauseOf}
 use Rattle.usb_far.specs.{is_told, AllReplies, GoesOn, IsUnwritten, RowEnds, RowFront, RowReplied}
 use Rattle.usb_far.specs.{RowStops, and_then, HostLine, TakesLine}
 use Rattle.usb_far.specs.declared.told.HostLine.TheVariants as host
@@ -72,14 +72,6 @@ only_read old new bytes reads trace writer = record {
 }
 
 -- ---- the end, and what is told
-
-pub end_read : (old new : Scene) → ReadsEnd (reading_in old) (reading_in new)
-    → new.writer ≡ old.writer → ServedNone old new
-end_read old new end writer = record {
-  passes = only_read old new [] end.nothing (ap (λ p. p.trace) end.same) writer;
-  ended = end.ended;
-  same = ap (λ p. p.far) end.same;
-}
 
 -- a line that tells something
 pub told_whole : (old new : Reading) (line : List ℕ) (p : Phase) → IsUnbroken line

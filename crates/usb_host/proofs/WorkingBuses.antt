@@ -1,7 +1,7 @@
 -- After which transfers and polls the bus still works.
-use Rattle.std.proofs.Common.{◌≡◌, ◌||◌, ℕ, Bool, true, false, List, Option, None, Some}
+use Rattle.std.proofs.Common.{◌≡◌, ℕ, Bool, true, false, List, Option, None, Some}
 use Rattle.std.proofs.Common.{length}
-use Rattle.std.proofs.Common.{Result, Ok, Err, MatchResult, IsErrAnd, ap, is_some, refl, subst, ◌∙◌}
+use Rattle.std.proofs.Common.{Result, Ok, Err, MatchResult, IsErrAnd, ap, refl, subst, ◌∙◌}
 use Rattle.std.specs.Global.{Vec}
 use Rattle.std.specs.Int.{div_ceil}
 use Rattle.arrayvec.specs.ArrayVec.{ArrayVec}

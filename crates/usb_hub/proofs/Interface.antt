@@ -13,10 +13,10 @@ pub use Rattle.usb_hub.proofs.Ports.{asked_port, is_asked_stays, is_port-spends,
 pub use Rattle.usb_hub.proofs.PoweredPorts.{spec_of-none, powered_stands, row_reached-back}
 pub use Rattle.usb_hub.proofs.PoweredPorts.{sane_there, state_of_place}
 pub use Rattle.usb_hub.proofs.RestingRequests.{put_rests, reads_rests, write_rests}
-pub use Rattle.usb_hub.proofs.Settings.{each_leaves, setting_moves-none, write_so}
-pub use Rattle.usb_hub.proofs.CalledPorts.{Called, StandsSo, StandsTold, done_stands, due_course}
+pub use Rattle.usb_hub.proofs.Settings.{each_leaves, write_so}
+pub use Rattle.usb_hub.proofs.CalledPorts.{StandsSo, StandsTold, done_stands, due_course}
 pub use Rattle.usb_hub.proofs.CalledPorts.{enabled_reach, port_of_place, told_stands}
 pub use Rattle.usb_hub.proofs.Statuses.{row_port}
 pub use Rattle.usb_hub.proofs.WorkingBuses.{clear_works, ended_works, failed_works}
 pub use Rattle.usb_hub.proofs.WorkingBuses.{hub_change_works, port_change_works, read_works}
-pub use Rattle.usb_hub.proofs.WorkingBuses.{set_works, works_then}
+pub use Rattle.usb_hub.proofs.WorkingBuses.{set_works}

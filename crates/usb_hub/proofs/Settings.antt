@@ -13,9 +13,8 @@ use Rattle.usb_device.specs.{ending, first_stage, StatusGiven, seen, unseen, add
 use Rattle.usb_device.specs.{OnlyControl, PortsOff, EndpointState, rested, asked_by_setup}
 use Rattle.usb_device.specs.{effect_of_request, full, acted, Location, place_on, OutEnd, InEnd}
 use Rattle.usb_device.specs.{in_end, out_end, no_in, no_out, rested_in, rested_out, NothingMoved}
-use Rattle.usb_device.specs.{OnlyStage, takes_setting, outs_set, ins_set, begun_if}
-use Rattle.usb_device.specs.{is_of_setting}
-use Rattle.usb_device.proofs.Interface.{at_mapped, in_end-setting, out_end-setting}
+use Rattle.usb_device.specs.{OnlyStage, takes_setting, outs_set, ins_set}
+use Rattle.usb_device.proofs.Interface.{at_mapped}
 use Rattle.usb_world.specs.{World, is_harmless, Relation, EachWas}
 use Rattle.usb_world.proofs.Interface.{each_both, each_wider}
 use Rattle.usb_tree.proofs.Interface.{decided}
@@ -601,41 +600,6 @@ with_stage s v g outs ins = record s {
   outs = outs;
   ins = ins;
 }
-
--- what beginning again keeps of an endpoint
-begun_if-keeps : {A B : Type 0} (again : A → A) (part : A → B)
-    → ((x : A) → part (again x) ≡ part x) → (begins : Bool) (x : A)
-    → part (begun_if begins again x) ≡ part x
-begun_if-keeps again part same true x = same x
-begun_if-keeps again part same false x = refl
-
--- what each endpoint took and gave stays
-pub setting_moves-none : (interface setting : ℕ) (s v : State)
-    → TookSetting interface setting s v → NothingMoved s v
-setting_moves-none interface setting s v x = record {
-  taken = λ e. (
-    ap (λ end. end.sink) (taken_out e) ∙ begun_if-keeps rested_out (λ end. end.sink) (λ end. refl)
-        (is_of_setting s.spec s.registers interface setting false e) (out_end s e),
-    ap (λ end. end.pace.until_halt) (taken_out e)
-        ∙ begun_if-keeps rested_out (λ end. end.pace.until_halt) (λ end. refl)
-        (is_of_setting s.spec s.registers interface setting false e) (out_end s e),
-  );
-  given = λ e. (
-    ap (λ end. end.place) (given_in e) ∙ begun_if-keeps rested_in (λ end. end.place) (λ end. refl)
-        (is_of_setting s.spec s.registers interface setting true e) (in_end s e),
-    ap (λ end. end.pace.until_halt) (given_in e)
-        ∙ begun_if-keeps rested_in (λ end. end.pace.until_halt) (λ end. refl)
-        (is_of_setting s.spec s.registers interface setting true e) (in_end s e),
-  );
-}
-  where
-    taken_out : (e : ℕ) → out_end v e ≡ begun_if
-        (is_of_setting s.spec s.registers interface setting false e) rested_out (out_end s e)
-    taken_out e = ap (λ (y : State). out_end y e) x.is ∙ out_end-setting s interface setting e
-
-    given_in : (e : ℕ) → in_end v e ≡ begun_if
-        (is_of_setting s.spec s.registers interface setting true e) rested_in (in_end s e)
-    given_in e = ap (λ (y : State). in_end y e) x.is ∙ in_end-setting s interface setting e
 
 -- what a device is once it has accepted the request
 abbrev given_from : State → List PortState → Bool → ℕ → ℕ → State

@@ -8,14 +8,10 @@ use Rattle.usb_transaction.specs.{Target}
 use Rattle.usb_pipe.specs.{PipeFault, FaultAfter, IsNoBusFault}
 use Rattle.usb_pipe.specs.declared.fault.PipeFault.TheVariants.{Stalled, Busy, NoAnswer, Broken}
 use Rattle.usb_pipe.specs.declared.fault.PipeFault.TheVariants.{Bus, Memory}
-use Rattle.usb_hub.specs.{HubPort, Root, External, EndsAfter, StillWorks, WorksAfter, PortRead}
+use Rattle.usb_hub.specs.{HubPort, Root, External, EndsAfter, WorksAfter, PortRead}
 use Rattle.usb_hub.specs.{PortSet, PortCleared, ClearsHubChange, ClearsOfPort, ClearsIfReported}
 use Rattle.usb_hub.specs.{ClearsEach, ClearsOfHub, first_failed, both, not_told, told}
 use Rattle.usb_hub.specs.{done_or_unknown}
-
-pub works_then : (old mid new : World) → StillWorks old mid → StillWorks mid new
-    → StillWorks old new
-works_then old mid new first next none = next (first none)
 
 fault_works : (A : Type 0) (n : ℕ) (why : PipeFault) (old new : World) → FaultAfter n old why new
     → IsNoBusFault {A = A} (Err why) → new.fault ≡ None

@@ -1,5 +1,5 @@
 -- How a course goes on at each call.
-use Rattle.std.proofs.Common.{◌≡◌, ◌≢◌, ◌∙◌, ℕ, zero, suc, ◌+◌, ◌^◌, ◌≤◌, ◌<◌, ◌⊎◌, inl, inr, List, []}
+use Rattle.std.proofs.Common.{◌≡◌, ◌≢◌, ◌∙◌, ℕ, zero, suc, ◌+◌, ◌^◌, ◌≤◌, ◌<◌, ◌⊎◌, inl, inr, List}
 use Rattle.std.proofs.Common.{Option, Some, None, Result, Ok, Err, refl, sym, ap, subst, arith, ◌-◌}
 use Rattle.std.proofs.Common.{Bool, is_ok, true, false, nat_lt, if◌then◌else◌}
 use Rattle.std.proofs.lemmas.Bool.{cases_lt}
@@ -13,7 +13,7 @@ use Rattle.usb_wire.specs.{Answer, Question}
 use Rattle.usb_wire.specs.declared.answer.Answer.TheVariants as answer
 use Rattle.usb_wire.specs.declared.question.Question.TheVariants.{Hello, Wait, Port}
 use Rattle.usb_lines.specs.{OutPipe, Pipe}
-use Rattle.usb_run.specs.{Item, Listing, Sent, Received, Cleared, number_of}
+use Rattle.usb_run.specs.{Item, Listing, number_of}
 use Rattle.usb_stream.specs.{AsksNoQuestion, AsksOnce, AttemptsByLine, AttemptsBy, Calls, Kept}
 use Rattle.usb_stream.specs.{Restarts, restart_of}
 use Rattle.usb_stream.specs.{SaysHello, WritesLines, bus_fault, greeted, kept_of, question_for}

@@ -56,9 +56,6 @@ then_records number ps qs a b c h k = record {
   appended = k.appended ∙ ap (λ l. l ++ k.bytes) h.appended ∙ append_assoc a h.bytes k.bytes;
 }
 
-pub none_added : (number : ℕ) (a : List ℕ) → AppendsRecords number [] a a
-none_added number a = record { bytes = []; records = refl; appended = sym (append-nil a) }
-
 -- a packet's own mark is one that it may have, as is that of the PRE before it
 pub own_may : (pre : Bool) (m : Mark) (p : Packet) → may_be_marked pre m p ≡ true
     → may_be_marked true (own_mark m) p ≡ true

@@ -28,9 +28,6 @@ early a (x ∷ xs) = if nat_le x.attempt a then x ∷ early a xs else []
 not_le : (m n : ℕ) → n < m → nat_le m n ≡ false
 not_le m n lt = grind (arith, lt)
 
-not_lt : (m n : ℕ) → n ≤ m → nat_lt m n ≡ false
-not_lt m n le = grind (arith, le)
-
 not_same : (m n : ℕ) → n < m → (m == n) ≡ false
 not_same m n lt = grind (arith, lt)
 

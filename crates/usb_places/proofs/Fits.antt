@@ -1,6 +1,6 @@
 -- The plan as far as it is known is a plan.
-use Rattle.std.proofs.Common.{◌≡◌, ◌+◌, ◌<◌, ◌≤◌, ℕ, zero, suc, List, [], ◌∷◌, ◌++◌, take, refl, arith, ◌∙◌}
-use Rattle.std.proofs.Common.{Bool, true, false, ◌&&◌, nat_le, nat_lt, Option, None, Some, IfSome, All, ap, sym}
+use Rattle.std.proofs.Common.{◌≡◌, ◌+◌, ◌≤◌, ℕ, zero, suc, List, [], ◌∷◌, take, refl, arith}
+use Rattle.std.proofs.Common.{Bool, true, false, ◌&&◌, nat_le, nat_lt, Option, None, Some, IfSome, All}
 use Rattle.std.proofs.Common.{if◌then◌else◌}
 use Rattle.std.proofs.lemmas.Bool.{and_parts, leb-true, le-leb, lt-ltb}
 use Rattle.usb_device.specs.{Spec}

@@ -1,8 +1,8 @@
 -- One more of what a host does.
 use Rattle.std.proofs.Common.{◌≡◌, ℕ, List, [], ◌∷◌, ◌++◌, Bool, true, false, ◌&&◌, ◌||◌, ◌==◌, Option, ◌+◌, arith}
-use Rattle.std.proofs.Common.{None, Some, is_none, is_some, All, map, refl, ap, sym, ◌∙◌, IfSome, ◌≤◌}
+use Rattle.std.proofs.Common.{None, Some, is_none, All, map, refl, sym, IfSome, ◌≤◌}
 use Rattle.std.proofs.Common.{if◌then◌else◌, nat_le}
-use Rattle.std.proofs.lemmas.Bool.{and_parts, leb-true}
+use Rattle.std.proofs.lemmas.Bool.{leb-true}
 use Rattle.std.proofs.lemmas.List.Elements.{All-map}
 use Rattle.usb_places.specs.declared.seen.Seen.{Seen}
 use Rattle.usb_places.specs.declared.sought.Sought.{Sought}

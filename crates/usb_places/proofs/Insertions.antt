@@ -1,9 +1,9 @@
 -- Where a damage is inserted, and that the damages stay in their order.
-use Rattle.std.proofs.Common.{◌≡◌, ◌+◌, ◌<◌, ℕ, List, [], ◌∷◌, ◌++◌, take, drop, insert, ap, refl, sym}
-use Rattle.std.proofs.Common.{Bool, true, false, nat_lt, ◌==◌, Option, None, Some, slice_get, arith, ◌∙◌}
+use Rattle.std.proofs.Common.{◌≡◌, ◌+◌, ◌<◌, ℕ, List, [], ◌∷◌, insert, ap, refl}
+use Rattle.std.proofs.Common.{Bool, true, false, nat_lt, ◌==◌, slice_get, arith, ◌∙◌}
 use Rattle.std.proofs.Common.{if◌then◌else◌, suc}
 use Rattle.std.proofs.lemmas.Bool.{ltb-true}
-use Rattle.usb_world.specs.{Damage, damage_fits, damages_fit}
+use Rattle.usb_world.specs.{Damage}
 use Rattle.usb_places.specs.{inserted, is_to, spot}
 
 -- the list with it, or as it is

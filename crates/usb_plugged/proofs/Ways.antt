@@ -61,10 +61,6 @@ enabled_some None bytes h = absurd (cc)
 enabled_some (Some b) bytes h = ap (λ (xs : List ℕ). nat_le 2 (slice_index xs 0))
     (same_Some bytes (status_of b) h) ∙ enable_told _ b.enable
 
-pub enabled_none : (o : Option PortState) → None ≡ option_map status_of o → false ≡ is_enabled o
-enabled_none None h = refl
-enabled_none (Some b) h = absurd (cc)
-
 -- The state of a device is that of the device with its ports
 
 state_at-own : (k : Ports) (i : ℕ) (p : List ℕ)

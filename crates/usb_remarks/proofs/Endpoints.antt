@@ -1,6 +1,6 @@
 -- The first endpoint descriptor that counts.
 use Rattle.std.proofs.Common.{◌≡◌, ℕ, zero, suc, ◌+◌, ◌-◌, ◌<◌, ◌≤◌, List, [], ◌∷◌, length, drop}
-use Rattle.std.proofs.Common.{get_or, Bool, true, false, cond, ◌&&◌, ◌==◌, nat_lt, Option, Some, None}
+use Rattle.std.proofs.Common.{get_or, Bool, true, false, ◌&&◌, ◌==◌, nat_lt, Some, None}
 use Rattle.std.proofs.Common.{refl, ap, sym, ◌∙◌, arith, length-drop, if◌then◌else◌}
 use Rattle.std.proofs.lemmas.Bool.{ltb-false}
 use Rattle.std.proofs.lemmas.List.{drop-drop, drop_all}
@@ -13,13 +13,6 @@ pub record EndpointsLeft (text : List ℕ) (at : ℕ) (counts : Bool) : Type 0 w
   pub enough : length text - at ≤ fuel
   pub same : endpoint_within (length (drop 9 text)) 9 false (drop 9 text)
       ≡ endpoint_within fuel at counts (drop at text)
-
-pub endpoints_first : (text : List ℕ) → EndpointsLeft text 9 false
-endpoints_first text = record {
-  fuel = length (drop 9 text);
-  enough = omega (arith, length-drop 9 text);
-  same = refl;
-}
 
 -- the item that begins here is no endpoint that counts
 pub endpoints_next : (text rest : List ℕ) (at : ℕ) (counts : Bool) → rest ≡ drop at text
@@ -76,27 +69,6 @@ endpoints_found text rest at counts e some long is h = sym (found h.fuel rest e 
         ∙ ap (λ b. if b then None else if counts && get_or (l ∷ bytes) 1 0 == ENDPOINT
         then Some at else later (drop (l - 1) bytes)) long
         ∙ ap (λ b. if b then Some at else later (drop (l - 1) bytes)) is
-
--- it is too small to be an item
-pub endpoints_end : (text rest : List ℕ) (at : ℕ) (counts : Bool) → rest ≡ drop at text
-    → 0 < length rest → nat_lt (get_or rest 0 0) 2 ≡ true → EndpointsLeft text at counts
-    → None ≡ first_endpoint text
-unfolding first_endpoint
-endpoints_end text rest at counts e some short h = sym (ended h.fuel rest e some short h.enough h.same)
-  where
-    ended : (fuel : ℕ) (rest : List ℕ) → rest ≡ drop at text → 0 < length rest
-        → nat_lt (get_or rest 0 0) 2 ≡ true → length text - at ≤ fuel
-        → endpoint_within (length (drop 9 text)) 9 false (drop 9 text)
-        ≡ endpoint_within fuel at counts (drop at text)
-        → endpoint_within (length (drop 9 text)) 9 false (drop 9 text) ≡ None
-    ended fuel [] e some short enough same = absurd (omega arith)
-    ended zero (l ∷ bytes) e some short enough same = absurd
-        (omega (arith, ap length e, length-drop at text))
-    ended (suc fuel) (l ∷ bytes) e some short enough same =
-        let later = endpoint_within fuel (at + l) (counts_behind counts (l ∷ bytes)) in
-        same ∙ ap (endpoint_within (suc fuel) at counts) (sym e)
-        ∙ ap (λ b. if b then None else if counts && get_or (l ∷ bytes) 1 0 == ENDPOINT
-        then Some at else later (drop (l - 1) bytes)) short
 
 -- nothing is left
 pub endpoints_none : (text : List ℕ) (at : ℕ) (counts : Bool) → length text ≤ at

@@ -1,8 +1,7 @@
 -- The lemmas that crates above cite. All others are for this crate alone.
 pub use Rattle.usb_run.proofs.AskedCalls.{AskAnswered, silent, listed, sent, received, cleared}
-pub use Rattle.usb_run.proofs.AskedCalls.{read, written, looked, news, answered}
-pub use Rattle.usb_run.proofs.AskedCalls.{sent_to, received_from, polled, cleared_of}
-pub use Rattle.usb_run.proofs.AskedCalls.{interface_set}
+pub use Rattle.usb_run.proofs.AskedCalls.{read, written, looked, news, answered, sent_to}
+pub use Rattle.usb_run.proofs.AskedCalls.{received_from, polled, cleared_of, interface_set}
 pub use Rattle.usb_run.proofs.AskedCalls.{all_reported}
 pub use Rattle.usb_run.proofs.endings.Causes.{at_fault, run_limit, untold_fault}
 pub use Rattle.usb_run.proofs.endings.Ends.{answered_goes, knows_opened, limit_opened}
@@ -11,7 +10,7 @@ pub use Rattle.usb_run.proofs.courses.KnowledgeKept.{item_knows, knows_then, mak
 pub use Rattle.usb_run.proofs.courses.KnowledgeKept.{puts_knows}
 pub use Rattle.usb_run.proofs.items.Moments.{run_lists_right}
 pub use Rattle.usb_run.proofs.courses.RunCourses.{RunsOnward, called_onward, comes_onward}
-pub use Rattle.usb_run.proofs.courses.RunCourses.{puts_onward, traced_runs_onward}
+pub use Rattle.usb_run.proofs.courses.RunCourses.{puts_onward}
 pub use Rattle.usb_run.proofs.courses.RunParts.{item_called, round_called}
 pub use Rattle.usb_run.proofs.items.ToldTransfers.{count_done, done_told, no_bus_fault}
 pub use Rattle.usb_run.proofs.items.ToldTransfers.{told_cleared, told_received, told_sent}

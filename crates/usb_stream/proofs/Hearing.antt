@@ -98,12 +98,6 @@ hear_same fn l n st same kept =
     ap (λ (k : Kept). record k { statuses = st; lines = n.lines }) (kept
     ∙ ap (λ (k : Kept). record k { lines = counted_on l.lines 1 }) same)
 
--- a root port that there is
-pub number_within : (a : Asked) (hubs : Hubs) (number : ℕ) (status : List ℕ) (unread left : Pipe)
-    → Says a hubs unread left (Changed number status) → (1 ≤ number) × (number ≤ hubs.roots)
-number_within a hubs number status unread left says = let line =
-    said_changed a hubs unread left number status says in (line.may.0.1, line.may.0.2)
-
 -- ---- what is wrong with a line
 
 pub bad_line : (a : Asked) (hubs : Hubs) (before behind : Pipe) (f : WireFault) (line : List ℕ)

@@ -7,7 +7,6 @@ use Rattle.std.proofs.lemmas.Bool.{eq-eqb, eqb-false, eqb-true}
 use Rattle.usb_lines.specs.{OutPipe, Pipe}
 use Rattle.usb_packet.specs.{Toggle, Zero, One, flips, other}
 use Rattle.std.proofs.Common.{add-one, length-append, length-drop, lt_of_mul-lt-mul_right, min}
-use Rattle.std.proofs.Common.{mul-le-mul_right, suc}
 use Rattle.std.proofs.lemmas.Grind.{div_ceil_times}
 use Rattle.std.proofs.lemmas.List.{drop_min, drop-drop}
 use Rattle.std.specs.Int.{div_ceil}
@@ -104,9 +103,6 @@ few_moved total moved max least less =
     let c = div_ceil_times total max least in
     lt_of_mul-lt-mul_right max (omega (arith, c, less))
 
-pub row_short : (total moved max : ℕ) → total ≤ 64 * max → moved * max < total → moved < 64
-row_short total moved max long less = lt_of_mul-lt-mul_right max (omega (arith, long, less))
-
 ceil_is : (a b n : ℕ) → 0 < b → a ≤ n * b → n * b < a + b → n ≡ div_ceil a b
 ceil_is a b n some least most = grind (arith, div_ceil_times)
 
@@ -120,13 +116,6 @@ all_moved total rest moved max least left none less =
 pub next_size : (moved max : ℕ) (got bytes : List ℕ) → length got ≡ moved * max
     → length bytes ≡ max → length (got ++ bytes) ≡ (moved + 1) * max
 next_size moved max got bytes e f = omega (arith, length-append got bytes, e, f)
-
-pub row_room : (moved most max room : ℕ) → moved < most → most ≤ 64 → max ≤ 64 → room ≡ moved * max
-    → room + max ≤ 4096
-row_room moved most max room less few fits is =
-    let one : suc moved * max ≤ 64 * max = mul-le-mul_right max (omega (arith, less, few)) in
-    let more : suc moved * max ≡ moved * max + max = omega arith in
-    omega (arith, one, more, fits, is)
 
 pub flips_none : (toggle : Toggle) → toggle ≡ flips 0 toggle
 unfolding flips

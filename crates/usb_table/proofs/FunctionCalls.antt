@@ -56,11 +56,6 @@ module _ (pick : FunctionPipes → Option PipeState) (picks : Picks pick)
 
   module _ {A W : Type 0} (miss : TransferFault) (old new : W) (answer : Result A PipeFault)
       (result : Result A TableFault) (told : result ≡ table_answer answer) where
-    pub call_asked : MovedOrRefused (pipe_asked miss (pick pipes)) (Function pipes) old result
-        (Function left) new
-    call_asked = subst (λ o. MovedOrRefused (pipe_asked miss o) (Function pipes) old result
-        (Function left) new) (sym picked) (answer, told)
-
     pub call_refused : (is_broken pipe.condition ≡ true → (answer ≡ Err pipe_fault.Broken)
         × (rest ≡ pipe) × (new ≡ old))
         → MovedOrRefused (unless_broken (pipe_asked miss (pick pipes))) (Function pipes) old result

@@ -1,7 +1,6 @@
 -- A call tries nothing, or goes through a pipe to the device that was found.
 use Rattle.std.proofs.Common.{◌≡◌, refl, sym, ap, subst, ℕ, Bool, Option, None}
 use Rattle.std.proofs.Common.{Some, Result, Err}
-use Rattle.std.specs.Option.{option_map}
 use Rattle.arrayvec.specs.ArrayVec.{ArrayVec}
 use Rattle.usb_world.specs.{World}
 use Rattle.usb_pipe.specs.{PipeState, pipe_made}
@@ -12,7 +11,7 @@ use Rattle.usb_table.specs.{FunctionPipes}
 use Rattle.usb_table.specs.{Pipes, Hub, Function, Absent, AreFunctionPipes, ArePipesIf, ArePipesOf}
 use Rattle.usb_table.specs.{ArePipesTo, ArePlaced, ClearedIf, ClearedInOrder, NotTried, PipeDid}
 use Rattle.usb_table.specs.{PipesCleared, PipesThrough, ThroughIf, clear_miss, through, with_pipe}
-use Rattle.usb_table.specs.{function_of, with_rest}
+use Rattle.usb_table.specs.{with_rest}
 use Rattle.usb_table.proofs.levels.StandingPipes.{IsPipeOf, Picks, PickedAt, in_place, pipe_of}
 
 -- the pipes to what was found stand in their places
@@ -102,18 +101,6 @@ module _ {A : Type 0} (pick : FunctionPipes → Option PipeState)
   through_pipes =
       if_found (λ p l. PipesThrough pick miss So p old result l new) R found below_hub
       (λ said left e. none_picked (Absent said) left NoDevice refl) picked_there
-
--- What a call leaves of the pipes to a function: another pipe in the place of one
-
-pub through_left : {A : Type 0} (pick : FunctionPipes → Option PipeState)
-    (miss : FunctionPipes → TransferFault) (So : PipeDid A)
-    (pipes left : Pipes) (old : World) (result : Result A TableFault) (new : World)
-    → PipesThrough pick miss So pipes old result left new
-    → (rest : Option PipeState)
-    × (function_of left ≡ option_map (with_rest rest) (function_of pipes))
-through_left pick miss So (Hub pipe) left old result new x = (None, ap function_of x.1)
-through_left pick miss So (Function pipes) left old result new x = (x.0, ap function_of x.1)
-through_left pick miss So (Absent said) left old result new x = (None, ap function_of x.1)
 
 -- The two cases of a clear of both
 

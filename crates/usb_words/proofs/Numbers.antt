@@ -1,5 +1,5 @@
 -- The text of a number in the words.
-use Rattle.std.proofs.Common.{◌≡◌, ◌∙◌, refl, ap, ℕ, List, Option, Some, None, option_and_then}
+use Rattle.std.proofs.Common.{◌≡◌, refl, ℕ, List, Option, Some, None, option_and_then}
 use Rattle.std.proofs.Common.{option_map, slice_get}
 use Rattle.std.specs.List.{find}
 use Rattle.std.specs.Str.{bytes_eq}

@@ -1,9 +1,9 @@
 -- What went between two states of a bus that is at work, as a course of steps.
 use Rattle.std.proofs.Common.{◌≡◌, ℕ, List, Option, None, Some, Result, Ok, Err, refl, ap, sym}
 use Rattle.std.proofs.Common.{subst, ◌∙◌}
-use Rattle.usb_world.specs.{Attempt, BusFault, Outcome, PlanData, IsPlan, Step, AnyStep, Course}
-use Rattle.usb_world.specs.{here, attempt, root_call, after, opening, World}
-use Rattle.usb_world.proofs.Interface.{between_course, between_opening, course_then}
+use Rattle.usb_world.specs.{Attempt, BusFault, Outcome, Step, AnyStep, Course}
+use Rattle.usb_world.specs.{here, attempt, root_call, after, World}
+use Rattle.usb_world.proofs.Interface.{between_course, course_then}
 use Rattle.usb_bus.specs.{Attempts, Traced, still, attempted, called, StepRun}
 use Rattle.usb_enum.specs.{IsInOrder, IsOrderly, IsRegular}
 
@@ -94,7 +94,3 @@ went_regular n old new went = went_in_order n old new went
 
 pub regular_order : {w : World} → IsInOrder w → IsRegular w
 regular_order order = order
-
--- as it was before anything came
-pub opening_in_order : (plan : PlanData) → IsPlan plan → IsInOrder (opening plan)
-opening_in_order plan is none = between_opening plan is.devices.ruled

@@ -1,6 +1,5 @@
 -- After which parts of an enumeration the bus still works.
-use Rattle.std.proofs.Common.{◌≡◌, ℕ, Some, Result, Ok, Err, IsErrAnd, subst, sym}
-use Rattle.std.proofs.lemmas.Option.{same_Some}
+use Rattle.std.proofs.Common.{◌≡◌, ℕ, Result, Ok, Err}
 use Rattle.usb_world.specs.{World}
 use Rattle.usb_pipe.specs.{PipeFault}
 use Rattle.usb_pipe.specs.declared.fault.PipeFault.TheVariants.{Stalled, Busy, NoAnswer, Broken}
@@ -8,7 +7,7 @@ use Rattle.usb_pipe.specs.declared.fault.PipeFault.TheVariants.{Bus, Memory}
 use Rattle.usb_hub.specs.{EndsAfter, StillWorks, WorksAfter}
 use Rattle.usb_hub.proofs.Interface.{ended_works}
 use Rattle.usb_enum.specs.{Cause, EnumFault, Stop, EnumWorks, StopNotOfBus, StopWorks, at_port}
-use Rattle.usb_enum.specs.{Finding, HandsOn, answered_or, stop_of}
+use Rattle.usb_enum.specs.{Finding, HandsOn, answered_or}
 use Rattle.usb_enum.specs.declared.stop.Stop.TheVariants.{Refused, Fault}
 
 at_port_case : {X : Type 0} (outcome : Result X PipeFault) (old new : World)
@@ -49,25 +48,6 @@ pub answer_ends : {X : Type 0} (stalled : Cause) (least : ℕ) (result : Result 
     → EndsAfter least old outcome new → StopWorks result old new
 answer_ends stalled least result outcome old new is ends =
     answer_works stalled result outcome old new is (ended_works least outcome old new ends)
-
--- why a transfer failed, where a STALL means something else
-pub stop_works : (X : Type 0) (why : PipeFault) (stop : Stop) (old new : World)
-    → stop_of why ≡ Some stop → WorksAfter {A = X} (Err why) old new → StopNotOfBus stop
-    → StillWorks old new
-stop_works X (Bus f) stop old new is works sound =
-    absurd (subst StopNotOfBus (sym (same_Some _ _ is)) sound)
-stop_works X Stalled stop old new is works sound = works tt
-stop_works X Busy stop old new is works sound = works tt
-stop_works X NoAnswer stop old new is works sound = works tt
-stop_works X Broken stop old new is works sound = works tt
-stop_works X Memory stop old new is works sound = works tt
-
--- an error that is handed on
-pub works_handed : {X : Type 0} (result : Result X Stop) (why : Stop) (old new : World)
-    → IsErrAnd result (λ e. e ≡ why) → (StopNotOfBus why → StillWorks old new)
-    → StopWorks result old new
-works_handed (Ok x) why old new same works = absurd same
-works_handed (Err e) why old new same works = λ sound. works (subst StopNotOfBus same sound)
 
 -- a device that is given up
 pub stopped_works : (stop : Stop) (result : Result Finding EnumFault) (old mid new : World)

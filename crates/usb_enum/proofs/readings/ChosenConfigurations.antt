@@ -2,14 +2,14 @@
 -- the one that the device finds by its value.
 use Rattle.std.proofs.Common.{◌≡◌, ◌∙◌, refl, sym, ap, subst, arith, Bool, true, false, ℕ, zero}
 use Rattle.std.proofs.Common.{suc, ◌<◌, ◌≤◌, ◌==◌, ◌&&◌, not, if◌then◌else◌, List, [], ◌∷◌, length}
-use Rattle.std.proofs.Common.{take, map, min, Option, None, Some, Result, Ok, Err, is_ok, ◌||◌}
+use Rattle.std.proofs.Common.{take, map, Option, None, Some, Result, Ok, Err, is_ok}
 use Rattle.std.proofs.Common.{nat_lt, nat_le, slice_get, slice_index, slice_index_or}
 use Rattle.std.proofs.lemmas.List.{length-map}
 use Rattle.std.proofs.lemmas.List.Quantifiers.{position-Some}
 use Rattle.std.proofs.lemmas.Option.{same_Some}
 use Rattle.usb_descriptor.specs.{configuration_value, device_head_of, configuration_count}
-use Rattle.usb_device.specs.{bulk_at, bulk_in as bulk_of_text, text_with, total_of}
-use Rattle.usb_device.specs.{has_value as carries, Registers, Spec}
+use Rattle.usb_device.specs.{text_with}
+use Rattle.usb_device.specs.{has_value as carries, Spec}
 use Rattle.usb_tree.proofs.Interface.{and_false, neither, same_equal}
 use Rattle.usb_enum.specs.{Cause, Silent, Busy, Stalled, BadDevice, TooDeep, BadHub, verdict}
 use Rattle.usb_enum.specs.{read_verdict, set_verdict, first_fault, texts_below, texts_of, text_read}
@@ -18,7 +18,6 @@ use Rattle.usb_enum.specs.{any_has_value, HostOptions, left_of, said_below}
 use Rattle.usb_enum.specs.declared.cause.Request.TheVariants as request
 use Rattle.usb_enum.proofs.readings.SettingValues.{each_good, IsFresh, fresh_text, mapped_at}
 use Rattle.usb_enum.proofs.readings.SettingValues.{IsConfigurationRead, good_read, less_than}
-use Rattle.usb_pipe.proofs.Interface.{is_some_byte}
 
 -- What is so of a description that is accepted
 
@@ -164,19 +163,3 @@ pub chosen_some : (spec : Spec) (chosen : ℕ) → HasChosen spec chosen
     → 1 ≤ configuration_value (slice_index_or (texts_of spec) chosen [])
 chosen_some spec chosen h = subst (λ n. 1 ≤ n) (sym (ap configuration_value h.is ∙ h.read.value))
     h.read.some
-
-abbrev cut_bulk : Bool → List ℕ → Option (ℕ × ℕ)
-cut_bulk is_in text = bulk_of_text is_in (take (min (total_of text) (length text)) text)
-
--- a bulk endpoint of the device at full speed, set to it, is that of its text
-pub chosen_bulk : (spec : Spec) (chosen : ℕ) (g : Registers) (is_in : Bool)
-    (h : HasChosen spec chosen) → spec.low ≡ false → g.configuration ≡ slice_index h.text 5
-    → bulk_at spec g is_in ≡ bulk_of_text is_in (slice_index_or (texts_of spec) chosen [])
-chosen_bulk spec chosen g is_in h fast set =
-    ap (λ b. if b || g.configuration == 0 then None else cut_bulk is_in
-    (text_with g.configuration spec.configs)) fast
-    ∙ ap (λ b. if b then None else cut_bulk is_in (text_with g.configuration spec.configs))
-    (ap (λ n. n == 0) set ∙ is_some_byte (slice_index h.text 5) h.read.some)
-    ∙ ap (λ v. cut_bulk is_in (text_with v spec.configs)) set
-    ∙ ap (cut_bulk is_in) h.found
-    ∙ ap (bulk_of_text is_in) (h.read.read ∙ sym h.is)

@@ -1,7 +1,6 @@
 -- How what is learned of a device joins where it is configured.
 use Rattle.usb_device.specs.{Location, Spec, OnlyStage, State, in_end, out_end}
 use Rattle.std.proofs.Common.{◌≡◌, ℕ, ◌==◌, List, Option, Result, Ok, false, refl, ap, subst, ◌∙◌}
-use Rattle.std.proofs.Common.{Bool}
 use Rattle.usb_descriptor.specs.{configuration_value, configuration_count}
 use Rattle.usb_world.specs.{EachWas, World}
 use Rattle.usb_world.proofs.Interface.{each_joined, each_wider}

@@ -8,7 +8,6 @@ use Rattle.usb_enum.specs.{HasEmptyPorts, IsOccupied, IsPlaced, AtPath, Finds, I
 use Rattle.usb_enum.specs.{ReachesDevice, FewFrom, EndsFor, Enumerates}
 -- How an enumeration ends: who holds which address then.
 use Rattle.std.proofs.Common.{◌≡◌, ◌⊎◌, ◌≤◌, ◌+◌, inl, inr, ℕ, true, List, Option, None, Some}
-use Rattle.std.proofs.Common.{Bool}
 use Rattle.std.proofs.Common.{Result, Ok, Err, refl, ap, sym, subst, ◌∙◌, arith}
 use Rattle.usb_world.specs.{after_taking, World}
 use Rattle.usb_device.specs.{State, Spec, state_there}

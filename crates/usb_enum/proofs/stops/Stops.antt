@@ -1,6 +1,5 @@
 -- Why the parts of an enumeration behind the device descriptor stop, and the whole.
 use Rattle.std.proofs.Common.{◌≡◌, inl, inr, ℕ, ◌==◌, true, List, [], slice_index_or, Some, Result}
-use Rattle.std.proofs.Common.{Bool}
 use Rattle.std.proofs.Common.{Ok, Err, refl, sym, subst, IfErr}
 use Rattle.usb_resources.specs.{Addresses, IsFree, IsFull}
 use Rattle.usb_world.specs.{World}

@@ -116,12 +116,6 @@ numbered numbers None n is = absurd (cc is)
 numbered numbers (Some (Device device)) n is = (Device device, refl, refl)
 numbered numbers (Some (Refused cause)) n is = absurd (cc is)
 
--- and the other way round
-has_number : (numbers : DeviceNumbers) (o : Option Finding) (finding : Finding)
-    → o ≡ Some finding → is_accepted finding ≡ true → number_of numbers o ≢ None
-has_number numbers o (Device device) is on none = absurd (cc (rw is at none))
-has_number numbers o (Refused cause) is on none = absurd (cc on)
-
 module _ (k : Known) (last : Option (List ℕ))
     (passed : (q : List ℕ) → HasArrived k q → ComesAfter last q) where
   stands : (q : List ℕ) → HasArrived k q → Stands is_accepted last k.entries q
@@ -134,10 +128,6 @@ module _ (k : Known) (last : Option (List ℕ))
   none_arrived none q arrived = none q (stands q arrived)
 
   module _ (p : List ℕ) (next : IsNext is_accepted last k.entries p) where
-    pub is_numbered : number_in p k ≢ None
-    is_numbered = has_number k.numbers (lookup (is_at (path_cmp p)) k.entries) next.stands.finding
-        next.stands.found next.stands.fits
-
     unreported : (o : Option ℕ) → is_some o ≡ false → o ≡ None
     unreported None off = refl
     unreported (Some n) off = absurd (cc off)

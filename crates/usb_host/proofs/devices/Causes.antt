@@ -1,6 +1,6 @@
 -- Why devices are refused, as a port is handled where damage is fair.
 use Rattle.std.proofs.Common.{◌≡◌, ◌⊎◌, inl, inr, ◌≤◌, refl, sym, ap, subst, ◌∙◌, ℕ, true, false}
-use Rattle.std.proofs.Common.{Bool, List, [], ◌∷◌, ◌++◌, length, Option, None, Some, Result, Ok}
+use Rattle.std.proofs.Common.{List, [], ◌∷◌, ◌++◌, length, Option, None, Some, Result, Ok}
 use Rattle.std.proofs.Common.{Err}
 use Rattle.std.proofs.Common.{IsSomeAnd, IfErr}
 use Rattle.std.specs.Prelude.{⊤}

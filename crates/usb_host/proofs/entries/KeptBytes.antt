@@ -1,6 +1,6 @@
 -- A host keeps few bytes of each device, and few of all.
-use Rattle.std.proofs.Common.{◌≡◌, ◌≤◌, ◌<◌, ◌+◌, ◌*◌, ◌||◌, ℕ, Bool, true, false, List, [], ◌∷◌, Option}
-use Rattle.std.proofs.Common.{None, Some, eqb, if◌then◌else◌, length, refl, ap, sym, subst, ◌∙◌}
+use Rattle.std.proofs.Common.{◌≡◌, ◌≤◌, ◌<◌, ◌*◌, ◌||◌, ℕ, Bool, true, false, List, [], ◌∷◌, Option}
+use Rattle.std.proofs.Common.{None, Some, eqb, if◌then◌else◌, length, refl, ap, sym, subst}
 use Rattle.std.proofs.Common.{arith, slice_index_or, IsSome}
 use Rattle.std.proofs.Math.Nat.{mul-le-mul_right, suc-mul}
 use Rattle.std.proofs.lemmas.Bool.{eq-eqb, eqb-true, ltb-false, ne_eqb, or_right}
@@ -11,14 +11,14 @@ use Rattle.std.proofs.lemmas.Map.Steps.{length-le_from_distinct_below}
 use Rattle.std.proofs.lemmas.Map.Views.{lookup-from_Contains}
 use Rattle.std.specs.Cmp.{eq_by_cmp_equiv}
 use Rattle.std.specs.Cmp.Lexicographic.{nat_list_cmp_total}
-use Rattle.std.specs.List.{All, AllByRecursion, IsDistinct, list_any, sum_by}
+use Rattle.std.specs.List.{All, AllByRecursion, IsDistinct, list_any}
 use Rattle.std.specs.Map.{keys_of}
 use Rattle.usb_port.specs.{path_cmp}
 use Rattle.std.specs.FinSet.{contains}
 use Rattle.usb_resources.specs.{Addresses, HasAddresses, IsAddress}
 use Rattle.usb_enum.specs.{Finding, HostOptions, is_over, texts_length}
 use Rattle.usb_enum.specs.declared.finding.Finding.TheVariants.{Device, Refused}
-use Rattle.usb_table.specs.{Entries, Rises, finding_at, has_address, known_port}
+use Rattle.usb_table.specs.{Entries, finding_at, has_address, known_port}
 use Rattle.usb_host.specs.{Agrees, KeepsFew, kept_bytes, kept_in}
 use Rattle.usb_host.specs.Accounts.{Accounts}
 use Rattle.usb_host.proofs.entries.Balances.{one_when}

@@ -1,5 +1,5 @@
 -- What a host knows as what is found at a port is entered.
-use Rattle.std.proofs.Common.{◌≡◌, ◌≤◌, ◌⊎◌, inl, inr, refl, sym, ap, ◌∙◌, ℕ, Bool, true, false}
+use Rattle.std.proofs.Common.{◌≡◌, ◌≤◌, ◌⊎◌, inl, inr, refl, sym, ap, ◌∙◌, ℕ, true, false}
 use Rattle.std.proofs.Common.{List}
 use Rattle.std.proofs.Common.{Option, None, Some, Result, Ok, Err, IsSomeAnd, option_map}
 use Rattle.std.specs.Prelude.{unwrap_or}

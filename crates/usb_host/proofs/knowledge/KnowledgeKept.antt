@@ -1,5 +1,5 @@
 -- What is known of ports and devices stays so where nothing is asked of them.
-use Rattle.std.proofs.Common.{Bool, ◌≡◌, ◌⊎◌, inl, inr, List, [], ◌∷◌, ℕ, zero, suc, true, false}
+use Rattle.std.proofs.Common.{◌≡◌, ◌⊎◌, inl, inr, List, [], ◌∷◌, ℕ, zero, suc, true, false}
 use Rattle.std.proofs.Common.{Option}
 use Rattle.std.proofs.Common.{None, Some, option_map, refl, ap, sym, subst, ◌∙◌, IfSome}
 use Rattle.std.specs.Prelude.{⊤}

@@ -1,7 +1,7 @@
 -- The ports of which a hub told are known, and show their changes.
-use Rattle.std.proofs.Common.{◌≡◌, ◌≢◌, ◌≤◌, ◌<◌, ◌⊎◌, ◌∙◌, ◌==◌, ◌/◌, ◌%◌, ◌^◌, ◌||◌, ◌&&◌, not}
+use Rattle.std.proofs.Common.{◌≡◌, ◌≢◌, ◌≤◌, ◌<◌, ◌⊎◌, ◌∙◌, ◌==◌, ◌||◌, ◌&&◌, not}
 use Rattle.std.proofs.Common.{inl, inr, refl, sym, ap, subst, arith, if◌then◌else◌, ℕ, zero, suc}
-use Rattle.std.proofs.Common.{◌+◌, ◌*◌, Bool, true, false, List, [], ◌∷◌, ◌++◌, length}
+use Rattle.std.proofs.Common.{◌+◌, Bool, true, false, List, [], ◌∷◌, ◌++◌, length}
 use Rattle.std.proofs.Common.{length-append, take, Option, None, Some, is_some, Result, Ok, Err}
 use Rattle.std.proofs.Common.{is_ok, slice_get, IsSome}
 use Rattle.std.proofs.lemmas.Bool.{cases_lt, eq-eqb, le-leb}

@@ -1,5 +1,5 @@
 -- What is known of ports and devices stays so as an event comes.
-use Rattle.std.proofs.Common.{Bool, ◌≡◌, List, [], ℕ, refl, ap, ◌∙◌, sym}
+use Rattle.std.proofs.Common.{◌≡◌, List, [], ℕ, refl, ap, ◌∙◌, sym}
 use Rattle.usb_resources.specs.{Addresses}
 use Rattle.usb_device.specs.{State, path_to}
 use Rattle.usb_world.specs.{resets, step_keeps_pending, EachWas, leaves_step, LeavesPortAlone}

@@ -16,12 +16,6 @@ repowered_upto (suc n) (taken b s a k) = taken (powered_on (powered_off b)) s a 
 abbrev pub powered_world : ℕ → World → World
 powered_world n w = record w { roots = repowered_upto n w.roots }
 
-length_upto : (n : ℕ) (k : Ports) → length (row_of (repowered_upto n k)) ≡ length (row_of k)
-unfolding repowered_upto row_of
-length_upto (suc n) (vacant b k) = ap (λ m. suc m) (length_upto n k)
-length_upto (suc n) (taken b s a k) = ap (λ m. suc m) (length_upto n k)
-length_upto _ _ = refl
-
 set_one : (n : ℕ) (k : Ports) → changed_at (called SetPower) (changed_at (called ClearPower)
     (repowered_upto n k) n []) n [] ≡ repowered_upto (suc n) k
 unfolding repowered_upto changed_at
@@ -37,9 +31,6 @@ unfolding repowered_upto row_of repowered
 all_upto ended = refl
 all_upto (vacant b k) = ap (λ r. vacant (powered_on (powered_off b)) r) (all_upto k)
 all_upto (taken b s a k) = ap (λ r. taken (powered_on (powered_off b)) s a r) (all_upto k)
-
-pub powered_length : (n : ℕ) (w0 w : World) → w ≡ powered_world n w0 → roots_of w ≡ roots_of w0
-powered_length n w0 w e = ap (λ v. roots_of v) e ∙ length_upto n w0.roots
 
 pub powered_none : (w : World) → w ≡ powered_world 0 w
 unfolding repowered_upto

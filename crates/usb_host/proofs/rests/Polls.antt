@@ -1,6 +1,6 @@
 -- A hub that is known, and answers a poll that it has nothing to tell, has no port that tells of a
 -- change of connection.
-use Rattle.std.proofs.Common.{◌≡◌, ◌≤◌, ◌==◌, ◌&&◌, ◌||◌, ◌∙◌, if◌then◌else◌, ℕ, zero, suc}
+use Rattle.std.proofs.Common.{◌≡◌, ◌≤◌, ◌&&◌, ◌||◌, ◌∙◌, if◌then◌else◌, ℕ, zero, suc}
 use Rattle.std.proofs.Common.{Bool, true, false, List, [], ◌∷◌, ◌++◌, Option, None, Some, is_some}
 use Rattle.std.proofs.Common.{Ok, refl, ap, sym, arith, inl, inr, IfSome}
 use Rattle.std.proofs.lemmas.Bool.{eq-eqb}

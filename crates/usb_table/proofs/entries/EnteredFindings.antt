@@ -1,6 +1,6 @@
 -- A table is level after what was just found is entered.
 use Rattle.std.proofs.Common.{◌≡◌, ◌∙◌, refl, sym, ap, subst, true, false, ℕ, cond, List, [], ◌∷◌}
-use Rattle.std.proofs.Common.{Bool, Some}
+use Rattle.std.proofs.Common.{Some}
 use Rattle.std.specs.Map.{lookup}
 use Rattle.std.specs.Prelude.{unwrap_or}
 use Rattle.std.specs.BTreeMap.{is_at, insert_entry}
@@ -86,16 +86,6 @@ said_at-entered path cause said table =
     ap (λ o. said_of o (pipes_at path (entered path (Refused cause) said table)))
     (lookup-inserted path (Refused cause) table.entries)
     ∙ ap (λ pipes. Some (said_in pipes)) (pipes_at-entered path (Refused cause) said table)
-
--- and so is what is kept of another path
-pub said_at-entered_elsewhere : (path : List ℕ) (finding : Finding) (said : ArrayVec ℕ)
-    (table : Table) (x : List ℕ) → is_at (path_cmp x) path ≡ false
-    → said_at x (entered path finding said table) ≡ said_at x table
-said_at-entered_elsewhere path finding said table x apart =
-    ap (λ o. said_of o (pipes_at x (entered path finding said table)))
-    (lookup-inserted_elsewhere path finding x table.entries apart)
-    ∙ ap (said_of (lookup (is_at (path_cmp x)) table.entries))
-    (pipes_at-entered_elsewhere path finding said table x apart)
 
 -- The pipes of the table are level
 

@@ -5,7 +5,7 @@ use Rattle.std.specs.Option.{option_map}
 use Rattle.arrayvec.specs.ArrayVec.{ArrayVec}
 use Rattle.usb_descriptor.specs.{EndpointKind, UsableEndpoint}
 use Rattle.usb_pipe.specs.{PipeState, pipe_made, Interrupt, interrupt_made, Condition}
-use Rattle.usb_pipe.specs.declared.condition.Condition.TheVariants.{Ready, Broken}
+use Rattle.usb_pipe.specs.declared.condition.Condition.TheVariants.{Broken}
 use Rattle.usb_enum.specs.{Accepted, Finding}
 use Rattle.usb_enum.specs.declared.finding.Finding.TheVariants.{Device, Refused}
 use Rattle.usb_table.specs.{FunctionPipes, Pipes, Hub, Function, Absent, AreAbsent}
@@ -18,10 +18,6 @@ use Rattle.usb_table.proofs.levels.StandingPipes.{at_made}
 pub broken_or_not : (c : Condition) → (c ≡ Broken) ⊎ (c ≢ Broken)
 broken_or_not Broken = inl refl
 broken_or_not _ = inr (λ h. cc)
-
-pub ready_or_not : (c : Condition) → (c ≡ Ready) ⊎ (c ≢ Ready)
-ready_or_not Ready = inl refl
-ready_or_not _ = inr (λ h. cc)
 
 pub empty_or_not : (xs : List ℕ) → (xs ≡ []) ⊎ (xs ≢ [])
 empty_or_not [] = inl refl

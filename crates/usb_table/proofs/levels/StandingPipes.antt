@@ -273,10 +273,6 @@ gives_still : (pipe left : PipeState) → pipe_made left ≡ pipe_made pipe
     → gives_bytes left ≡ gives_bytes pipe
 gives_still pipe left same = ap gives_bytes same
 
-pub way_picks : (is_in : Bool) (a : ℕ) → Picks (way_to is_in a)
-way_picks true a = only_picks (λ pipe. pipe.is_in) same_way (pipe_to a) (to_picks a)
-way_picks false a = only_picks takes_bytes takes_still (pipe_to a) (to_picks a)
-
 pub sends_picks : (choice : EndpointChoice) → Picks (sends_through choice)
 sends_picks FirstBulk = first_picks false
 sends_picks (At a) = only_picks takes_bytes takes_still (pipe_to a) (to_picks a)

@@ -1,5 +1,5 @@
 -- What is plugged has one right listing, but for addresses.
-use Rattle.std.proofs.Common.{◌≡◌, inl, inr, ◌≤◌, ◌<◌, ◌+◌, ℕ, zero, suc, Bool, List, length}
+use Rattle.std.proofs.Common.{◌≡◌, inl, inr, ◌≤◌, ◌<◌, ◌+◌, ℕ, zero, suc, List, length}
 use Rattle.std.proofs.Common.{Option, None, Some, refl, ap, sym, subst, ◌∙◌, arith, IsSome, IsSomeAnd}
 use Rattle.usb_port.specs.{parent_of, port_on_hub}
 use Rattle.usb_device.specs.{Spec}

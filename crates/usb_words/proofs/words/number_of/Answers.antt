@@ -1,6 +1,6 @@
-use Rattle.std.proofs.Common.{◌≡◌, ◌∙◌, refl, sym, subst, Some, None}
+use Rattle.std.proofs.Common.{◌∙◌, refl, sym, subst, Some, None}
 use Rattle.clap.specs.Matches.{found_of, one_text}
-use Rattle.clap.specs.Walk.{one_of, rows_of}
+use Rattle.clap.specs.Walk.{rows_of}
 use Rattle.clap.proofs.WalkLemmas.{first_value-rows, one_text-rows}
 use Rattle.usb_words.specs.{GivesNumber}
 use Rattle.usb_words.proofs.Numbers.{first_none, number_text}

@@ -2,7 +2,7 @@ use Rattle.std.proofs.Common.{arith, refl, rules, ap, sym, ◌∙◌}
 use Rattle.std.proofs.lemmas.Bool.{false≢true}
 use Rattle.std.proofs.lemmas.Grind.{common_steps}
 use Rattle.usb_pipe.specs.{write_bound}
-use Rattle.usb_table.specs.{interface_target, pipes_set}
+use Rattle.usb_table.specs.{interface_target}
 use Rattle.usb_host.specs.{counts_of, HostState}
 use Rattle.usb_host.proofs.StepSums.{host_goes_none}
 use Rattle.usb_host.proofs.knowledge.Soundness.{transfer_none, transfer_under}

@@ -1,4 +1,4 @@
-use Rattle.std.proofs.Common.{All, ◌++◌, drop, length, map, option_map}
+use Rattle.std.proofs.Common.{All, ◌++◌, drop, length, option_map}
 use Rattle.std.proofs.lemmas.List.Elements.{All-take, All-append, All-drop}
 use Rattle.usb_places.specs.{IsGood}
 use Rattle.usb_places.proofs.Histories.{good_next}
