@@ -165,6 +165,12 @@ usable_under-small settings low to_host e bytes end h = by_text (config_of bytes
         (first_so settings (interrupt_with low to_host e) (IsSmall e)
         (interrupt_small low to_host e) None (items_of text) end) g
 
+pub usable_of-small : (low to_host : Bool) (e : ℕ) (bytes : List ℕ) (end : UsableEndpoint)
+    → usable_of low to_host e bytes ≡ Some end
+    → (1 ≤ e) × (e ≤ 15) × (1 ≤ end.max) × (end.max ≤ 64)
+usable_of-small low to_host e bytes end h =
+    usable_under-small default_settings low to_host e bytes end h
+
 -- the settings of a device that was just configured
 pub setting_of-default : (interface : ℕ) → setting_of default_settings interface ≡ 0
 unfolding default_settings
@@ -324,3 +330,8 @@ pub usable_under-no_text : (settings : List ℕ) (low to_host : Bool) (e : ℕ) 
     → usable_under settings low to_host e bytes ≡ None
 unfolding usable_under
 usable_under-no_text settings low to_host e bytes fault h = ap (usable_in settings low to_host e) h
+
+pub usable_of-no_text : (low to_host : Bool) (e : ℕ) (bytes : List ℕ) (fault : DescriptorFault)
+    → config_of bytes ≡ Err fault → usable_of low to_host e bytes ≡ None
+usable_of-no_text low to_host e bytes fault h =
+    usable_under-no_text default_settings low to_host e bytes fault h
