@@ -524,11 +524,20 @@ fn put_whole_token(attempt: &Attempt, token: &mut Outgoing)
         (token_of (attempt_data attempt.now)) }
 {
     let to = attempt.destination();
-    token.packet = Packet::Token {
-        kind: attempt.kind(),
-        addr: to.address,
-        ep: to.number,
-    };
+    match &mut token.packet {
+        Packet::Token { kind, addr, ep } => {
+            *kind = attempt.kind();
+            *addr = to.address;
+            *ep = to.number;
+        }
+        packet => {
+            *packet = Packet::Token {
+                kind: attempt.kind(),
+                addr: to.address,
+                ep: to.number,
+            };
+        }
+    }
     token.mark = Mark::Whole;
 }
 
@@ -547,7 +556,16 @@ fn put_whole_payload(attempt: &Attempt, payload: &mut Option<Outgoing>)
             toggle,
             bytes,
         } => *payload = Some(whole_data(*toggle, bytes.as_slice())),
-        Attempt::In { .. } => *payload = None,
+        Attempt::In { .. } => put_none(payload),
+    }
+}
+
+/// No packet goes out. Where there is none, nothing is stored: a store clears the room for data.
+fn put_none(packet: &mut Option<Outgoing>)
+    ensures { packet.new ≡ None }
+{
+    if packet.is_some() {
+        *packet = None;
     }
 }
 
@@ -643,7 +661,7 @@ fn put_reply(
         let speed = attempt.destination().speed;
         *reply = Some(marked(damage, place, speed.has_pre(), Packet::Ack));
     } else {
-        *reply = None;
+        put_none(reply);
     }
 }
 

@@ -17,6 +17,6 @@ returns-then-acknowledged-clause-value c =
 pub returns-else-acknowledged-clause-value : goal.returns-else-acknowledged-clause-value
 unfolding marked_some
 returns-else-acknowledged-clause-value c =
-    ap
+    c.put_none.ensures ∙ ap
     (λ b. marked_some c.args.damage c.args.place (attempt_data c.args.attempt.now).pre (ack_if b))
     (sym c.if-acknowledged.false)
