@@ -18,7 +18,9 @@ use usb_bus::Bus;
 use usb_device::{Holders, Ports, keeps_enable};
 use usb_packet::Packet;
 use usb_port::PortCall;
-use usb_world::{Attempt, BusFault, ExchangeAnswer, Mark, Outcome, damage_of, make_exchange_by, outcome_of};
+use usb_world::{
+    Attempt, BusFault, ExchangeAnswer, Mark, Outcome, damage_of, make_exchange_by, outcome_of,
+};
 
 impl<T: Trace> Bus for SimBus<T> {
     ghost use Rattle.usb_sim.specs.Parts.{LeavesAttempt};
