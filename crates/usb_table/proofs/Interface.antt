@@ -11,7 +11,7 @@ pub use Rattle.usb_table.proofs.levels.Levels.{all_kept, held_address, level_els
 pub use Rattle.usb_table.proofs.entries.Paths.{cases_path, path_itself, path_tied}
 pub use Rattle.usb_table.proofs.listings.PlannedListing.{lists_of_plan}
 pub use Rattle.usb_table.proofs.entries.Ports.{FoundPort, known_port-without, port_found-some}
-pub use Rattle.usb_table.proofs.entries.Removals.{none_apart}
+pub use Rattle.usb_table.proofs.entries.Removals.{none_apart, taken_apart, takes_one}
 pub use Rattle.usb_table.proofs.transfers.Reports.{polled_tells}
 pub use Rattle.usb_table.proofs.transfers.Restarts.{cleared_restarts, cleared_restarts_of}
 pub use Rattle.usb_table.proofs.transfers.SparedBulk.{spares-same, spares-stage, spares-then}
