@@ -10,7 +10,7 @@ returns-clause-came g c =
     record {
       spends = begun.spends;
       told = c.requires.sound;
-      exact = due_ends _ _ _ _ begun (sym c.is_due.ensures.value ∙ c.if-self.false);
+      exact = due_ends _ _ _ _ begun (sym c.is_due.ensures.value ∙ c.if-is_due.false);
       cut = tt;
       other = tt;
       text = begun.written;

@@ -57,14 +57,25 @@ returns-in_err-make_attempt-clause-leaves g c =
       failed = λ e none. c.in_err-make_attempt.ensures.trace (cc e);
     })
 
-pub returns-clause-attempts : goal.returns-clause-attempts
-returns-clause-attempts g c =
+-- data
+pub returns-then-is_data-clause-attempts : goal.returns-then-is_data-clause-attempts
+returns-then-is_data-clause-attempts g c =
     let a = attempt_data c.args.attempt.now in
     let max = ap (λ (d : Destination). d.max) c.destination-max.ensures in
     made_attempts a c.outcome_of.result (world_of c.args.self.now)
     (world_of c.make_attempt.new.self) _ _ c.in_default.is c.if-self.false
     (subst (λ n. FitsMaximum n c.outcome_of.result) max c.outcome_of.ensures.fits)
     (rw (c.outcome_of.ensures.value, max) c.in_ok-make_attempt.ensures.made)
+
+-- a handshake, or nothing
+pub returns-clause-attempts : goal.returns-clause-attempts
+returns-clause-attempts g c =
+    let a = attempt_data c.args.attempt.now in
+    let max = ap (λ (d : Destination). d.max) c.destination-max.ensures in
+    made_attempts a c.handshake_of.result (world_of c.args.self.now)
+    (world_of c.make_attempt.new.self) _ _ c.in_default.is c.if-self.false
+    (subst (λ n. FitsMaximum n c.handshake_of.result) max c.handshake_of.ensures.fits)
+    (rw (c.handshake_of.ensures.value, max) c.in_ok-make_attempt.ensures.made)
 
 pub returns-clause-leaves : goal.returns-clause-leaves
 returns-clause-leaves g c = record {
