@@ -20,7 +20,6 @@ use usb_bus::Bus;
 use usb_descriptor::config_head;
 use usb_hub::get_config;
 use usb_request::descriptor_length::CONFIGURATION_LENGTH;
-use usb_resources::choose;
 use usb_transaction::Target;
 
 /// How many bytes of a configuration are asked for before all of it.
@@ -123,13 +122,17 @@ pub(crate) fn read_configurations<B: Bus>(
 
 /// The index of the first configuration that needs no more than the supply, in mA.
 pub(crate) fn choose_configuration(
-    alloc: Global,
+    _alloc: Global,
     texts: &ConfigTexts,
     supply: u16,
 ) -> Result<Option<usize>, AllocError>
     ensures chosen { IfOk result (λ chosen. chosen ≡ choice_of supply texts.now) }
     ensures inside { IfOk result (λ chosen. IfSome chosen (λ i. i < length texts.now)) }
 {
-    let needs = texts.needs(alloc)?;
-    Ok(choose(needs.as_slice(), supply))
+    Ok(
+        texts
+            .as_slice()
+            .iter()
+            .position(|text| text.need() <= supply),
+    )
 }

@@ -1,8 +1,8 @@
 //! Texts of configurations and strings, as lists.
-ghost use Rattle.std.specs.Prelude.{◌≡◌, ◌<◌, ◌≤◌, ◌++◌, [], ◌∷◌, length, OnOk, OnErr, IfOk, IfSome, vec_len};
+ghost use Rattle.std.specs.Prelude.{◌≡◌, ◌<◌, ◌≤◌, ◌++◌, [], ◌∷◌, length, OnOk, OnErr, IfOk, IfSome};
 ghost use Rattle.usb_descriptor.specs.Choice.{IsUsable, status_endpoint_of, bulk_out_of, bulk_in_of};
 ghost use Rattle.usb_descriptor.specs.Config.{HasConfig, configuration_value};
-ghost use Rattle.usb_enum.specs.Text.{config_text_of, any_has_value, need_of, needs_of};
+ghost use Rattle.usb_enum.specs.Text.{config_text_of, any_has_value, need_of};
 
 use std::alloc::{AllocError, Global};
 use std::marker::Model;
@@ -162,15 +162,6 @@ impl ConfigTexts {
         ensures { result ≡ any_has_value value self.now }
     {
         self.texts.iter().any(|text| text.value() == value)
-    }
-
-    /// What each of them needs, in mA.
-    #[tactic(auto, unfolding(crate::specs::Text::needs_of))]
-    pub(crate) fn needs(&self, alloc: Global) -> Result<Vec<u16>, AllocError>
-        ensures value { IfOk result (λ needs. needs.items ≡ needs_of self.now) }
-        ensures each { IfOk result (λ needs. vec_len needs ≡ length self.now) }
-    {
-        self.texts.iter().map(|text| text.need()).collect(alloc)
     }
 }
 

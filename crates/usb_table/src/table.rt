@@ -182,7 +182,7 @@ impl DeviceTable {
         ensures rising { Rises self.now.entries }
         ensures pipes { (path : List ℕ) → ArePipesAt path self.now }
     {
-        let mut entries = Vec::new(alloc);
+        let mut entries = Vec::with_capacity(alloc, self.indexes.by_path.len())?;
         'entries: for (path, key) in self.indexes.by_path.iter() {
             let finding = self.entries[*key].finding();
             entries.push((path.duplicate(), finding.try_clone(alloc)?))?;

@@ -5,6 +5,7 @@ ghost use Rattle.usb_packet.specs.Text.{hex_text};
 ghost use Rattle.usb_port.specs.Path.{path_text};
 ghost use Rattle.usb_text.specs.ListingLines.{speed_word, unit_text, escaped_text, is_plain_unit};
 
+use itoa::Buffer;
 use std::alloc::{AllocError, Global};
 use usb_packet::{hex_digits, write_digits};
 use usb_port::PortPath;
@@ -17,11 +18,11 @@ const PIECE: usize = 64;
 /// # Errors
 ///
 /// Memory was refused. Part of the text may have been added.
-pub fn push_decimal(alloc: Global, out: &mut Vec<u8>, number: u64) -> Result<(), AllocError>
+pub fn push_decimal(_alloc: Global, out: &mut Vec<u8>, number: u64) -> Result<(), AllocError>
     ensures { OnOk result (out.new.items ≡ out.old.items ++ decimal number) }
 {
-    let digits = number.to_string(alloc)?;
-    out.extend_from_slice(digits.as_bytes())
+    let mut room = Buffer::new();
+    out.extend_from_slice(room.format(number).as_bytes())
 }
 
 /// Adds bytes in upper-case hexadecimal digits, a dash if there are none.
