@@ -34,7 +34,7 @@ pub(crate) fn push_ports(
         Some(facts) if facts.ports == 1 => out.extend_from_slice(b", 1 port"),
         Some(facts) => {
             out.extend_from_slice(b", ")?;
-            push_decimal(alloc, out, u64::from(facts.ports))?;
+            push_decimal(out, u64::from(facts.ports))?;
             out.extend_from_slice(b" ports")
         }
     }

@@ -70,7 +70,7 @@ fn push_address(alloc: Global, out: &mut Vec<u8>, address: u8) -> Result<(), All
     ensures { OnOk result (out.new.items ≡ out.old.items ++ address_column address) }
 {
     out.extend_from_slice(b"address ")?;
-    push_decimal(alloc, out, u64::from(address))?;
+    push_decimal(out, u64::from(address))?;
     out.extend_from_slice(blanks_behind(address).as_bytes())
 }
 
@@ -124,10 +124,10 @@ fn push_power(
     ensures { OnOk result (out.new.items ≡ out.old.items ++ power_text granted drawn) }
 {
     out.extend_from_slice(b"  ")?;
-    push_decimal(alloc, out, u64::from(drawn))?;
+    push_decimal(out, u64::from(drawn))?;
     if let Some(granted) = granted {
         out.extend_from_slice(b" of ")?;
-        push_decimal(alloc, out, u64::from(granted))?;
+        push_decimal(out, u64::from(granted))?;
     }
     out.extend_from_slice(b" mA")
 }

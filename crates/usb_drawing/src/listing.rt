@@ -51,7 +51,7 @@ fn heading(
 {
     let mut line = Vec::new(alloc);
     line.extend_from_slice(b"listing ")?;
-    push_decimal(alloc, &mut line, number)?;
+    push_decimal(&mut line, number)?;
     line.extend_from_slice(heading_end(entries).as_bytes())?;
     Ok(line)
 }

@@ -61,7 +61,7 @@ fn push_number(
     ensures { OnOk result (out.new.items ≡ out.old.items ++ cause_number granted cause) }
 {
     match cause {
-        Cause::BadConfiguration(index) => push_decimal(alloc, out, u64::from(index)),
+        Cause::BadConfiguration(index) => push_decimal(out, u64::from(index)),
         Cause::NoPower => push_supply(alloc, out, granted),
         _ => Ok(()),
     }
@@ -75,7 +75,7 @@ fn push_supply(alloc: Global, out: &mut Vec<u8>, granted: Option<u16>) -> Result
         None => Ok(()),
         Some(granted) => {
             out.extend_from_slice(b", ")?;
-            push_decimal(alloc, out, u64::from(granted))?;
+            push_decimal(out, u64::from(granted))?;
             out.extend_from_slice(b" mA")
         }
     }

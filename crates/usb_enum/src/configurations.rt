@@ -15,7 +15,7 @@ ghost use Rattle.usb_enum.specs.Stops.{IsPlainStop, IsReportedStop, StopWorks};
 use crate::options::{is_over, left_of};
 use crate::stop::{Stop, answered_or};
 use crate::{Cause, ConfigText, ConfigTexts, Request};
-use std::alloc::{AllocError, Global};
+use std::alloc::Global;
 use usb_bus::Bus;
 use usb_descriptor::config_head;
 use usb_hub::get_config;
@@ -121,18 +121,12 @@ pub(crate) fn read_configurations<B: Bus>(
 }
 
 /// The index of the first configuration that needs no more than the supply, in mA.
-pub(crate) fn choose_configuration(
-    _alloc: Global,
-    texts: &ConfigTexts,
-    supply: u16,
-) -> Result<Option<usize>, AllocError>
-    ensures chosen { IfOk result (λ chosen. chosen ≡ choice_of supply texts.now) }
-    ensures inside { IfOk result (λ chosen. IfSome chosen (λ i. i < length texts.now)) }
+pub(crate) fn choose_configuration(texts: &ConfigTexts, supply: u16) -> Option<usize>
+    ensures chosen { result ≡ choice_of supply texts.now }
+    ensures inside { IfSome result (λ i. i < length texts.now) }
 {
-    Ok(
-        texts
-            .as_slice()
-            .iter()
-            .position(|text| text.need() <= supply),
-    )
+    texts
+        .as_slice()
+        .iter()
+        .position(|text| text.need() <= supply)
 }

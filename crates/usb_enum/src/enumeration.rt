@@ -197,7 +197,7 @@ fn configure<B: Bus>(
     fits_tier(&device, place.tier)?;
     let budget = place.options.device_bytes;
     let configs = read_configurations(alloc, bus, target, device.configurations(), budget)?;
-    let Some(chosen) = choose_configuration(alloc, &configs, place.supply)? else {
+    let Some(chosen) = choose_configuration(&configs, place.supply) else {
         return Err(Stop::Refused(Cause::NoPower));
     };
     let value = configs.as_slice()[chosen].value();

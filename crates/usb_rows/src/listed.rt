@@ -36,7 +36,7 @@ pub(crate) fn push_listing(
         said,
     };
     told.extend_from_slice(b"listing ")?;
-    push_decimal(alloc, told, number)?;
+    push_decimal(told, number)?;
     told.extend_from_slice(b"\n")?;
     listing.push_all(records)?;
     told.extend_from_slice(listing.lines.as_slice())?;
@@ -81,7 +81,7 @@ impl Listing {
             return Ok(());
         }
         self.begin(" hub ")?;
-        push_decimal(self.alloc, &mut self.lines, u64::from(self.ports))?;
+        push_decimal(&mut self.lines, u64::from(self.ports))?;
         self.lines.extend_from_slice(b" ports\n")?;
         self.ports = 0;
         Ok(())
@@ -96,7 +96,7 @@ impl Listing {
         self.chosen = u64::from(head[10]);
         self.ports = head[11];
         self.begin(" address ")?;
-        push_decimal(self.alloc, &mut self.lines, u64::from(head[8]))?;
+        push_decimal(&mut self.lines, u64::from(head[8]))?;
         let speed = if head[9] == 1 { " low " } else { " full " };
         self.lines.extend_from_slice(speed.as_bytes())?;
         push_hex(&mut self.lines, descriptor)?;
@@ -114,7 +114,7 @@ impl Listing {
 
     fn push_configuration(&mut self, body: &[u8]) -> Result<(), DriverFault> {
         self.begin(" config ")?;
-        push_decimal(self.alloc, &mut self.lines, self.configurations)?;
+        push_decimal(&mut self.lines, self.configurations)?;
         self.lines.extend_from_slice(b" ")?;
         push_hex(&mut self.lines, body)?;
         if self.configurations == self.chosen {

@@ -320,7 +320,7 @@ fn push_sent(
     match sent {
         Ok(count) => {
             line.extend_from_slice(b" done ")?;
-            push_decimal(alloc, line, *count)
+            push_decimal(line, *count)
         }
         Err(fault) => push_failed(line, *fault),
     }
@@ -384,9 +384,9 @@ fn push_setting(
     ensures { OnOk result (line.new.items ≡ line.old.items ++ setting_text interface setting) }
 {
     line.extend_from_slice(b" ")?;
-    push_decimal(alloc, line, u64::from(interface))?;
+    push_decimal(line, u64::from(interface))?;
     line.extend_from_slice(b" ")?;
-    push_decimal(alloc, line, u64::from(setting))
+    push_decimal(line, u64::from(setting))
 }
 
 fn push_failed(line: &mut Vec<u8>, fault: TransferFault) -> Result<(), AllocError>

@@ -19,7 +19,7 @@ fn listing_line(alloc: Global, number: u64) -> Result<Vec<u8>, AllocError>
 {
     let mut line = Vec::with_capacity(alloc, ROOM)?;
     line.extend_from_slice(b"listing ")?;
-    push_decimal(alloc, &mut line, number)?;
+    push_decimal(&mut line, number)?;
     Ok(line)
 }
 
@@ -34,7 +34,7 @@ pub fn bound_line(alloc: Global, bound: u64) -> Result<Vec<u8>, AllocError>
 {
     let mut line = Vec::with_capacity(alloc, ROOM)?;
     line.extend_from_slice(b"bound ")?;
-    push_decimal(alloc, &mut line, bound)?;
+    push_decimal(&mut line, bound)?;
     Ok(line)
 }
 
@@ -47,7 +47,7 @@ fn address_line(alloc: Global, path: &PortPath, device: &Accepted) -> Result<Vec
     let mut line = Vec::with_capacity(alloc, ROOM)?;
     push_path(&mut line, path)?;
     line.extend_from_slice(b" address ")?;
-    push_decimal(alloc, &mut line, u64::from(device.address.number()))?;
+    push_decimal(&mut line, u64::from(device.address.number()))?;
     line.extend_from_slice(b" ")?;
     line.extend_from_slice(speed_word(device.low).as_bytes())?;
     line.extend_from_slice(b" ")?;
@@ -76,7 +76,7 @@ fn config_line(
     let mut line = Vec::with_capacity(alloc, ROOM)?;
     push_path(&mut line, path)?;
     line.extend_from_slice(b" config ")?;
-    push_decimal(alloc, &mut line, index as u64)?;
+    push_decimal(&mut line, index as u64)?;
     line.extend_from_slice(b" ")?;
     push_hex(&mut line, text)?;
     line.extend_from_slice(star(chosen).as_bytes())?;
@@ -106,9 +106,9 @@ fn hub_line(alloc: Global, path: &PortPath, hub: &HubFacts) -> Result<Vec<u8>, A
     let mut line = Vec::with_capacity(alloc, ROOM)?;
     push_path(&mut line, path)?;
     line.extend_from_slice(b" hub ")?;
-    push_decimal(alloc, &mut line, u64::from(hub.ports))?;
+    push_decimal(&mut line, u64::from(hub.ports))?;
     line.extend_from_slice(b" ports ")?;
-    push_decimal(alloc, &mut line, u64::from(hub.supply))?;
+    push_decimal(&mut line, u64::from(hub.supply))?;
     line.extend_from_slice(b" mA")?;
     Ok(line)
 }
@@ -220,7 +220,7 @@ fn push_index(alloc: Global, line: &mut Vec<u8>, cause: Cause) -> Result<(), All
     ensures { OnOk result (line.new.items ≡ line.old.items ++ cause_index cause) }
 {
     match cause {
-        Cause::BadConfiguration(index) => push_decimal(alloc, line, u64::from(index)),
+        Cause::BadConfiguration(index) => push_decimal(line, u64::from(index)),
         _ => Ok(()),
     }
 }

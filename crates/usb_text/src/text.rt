@@ -18,7 +18,7 @@ const PIECE: usize = 64;
 /// # Errors
 ///
 /// Memory was refused. Part of the text may have been added.
-pub fn push_decimal(_alloc: Global, out: &mut Vec<u8>, number: u64) -> Result<(), AllocError>
+pub fn push_decimal(out: &mut Vec<u8>, number: u64) -> Result<(), AllocError>
     ensures { OnOk result (out.new.items ≡ out.old.items ++ decimal number) }
 {
     let mut room = Buffer::new();

@@ -1,5 +1,5 @@
-//! Addresses taken and given back, the power of ports, and configurations by it.
-use usb_resources::{Address, AddressPool, choose, supply};
+//! Addresses taken and given back, and the power of ports.
+use usb_resources::{Address, AddressPool, supply};
 
 /// The number of the address that is taken, and whether it is free then.
 fn taken(pool: &mut AddressPool) -> Option<(u8, bool)> {
@@ -133,47 +133,5 @@ fn power_of_ports(rt: HostRuntime) {
             "root {}, self powered {}",
             row.is_root, row.self_powered
         );
-    }
-}
-
-struct ChoiceRow {
-    needs: &'static [u16],
-    supply: u16,
-    index: Option<usize>,
-}
-
-const CHOICES: &[ChoiceRow] = &[
-    ChoiceRow {
-        needs: &[500, 100],
-        supply: 100,
-        index: Some(1),
-    },
-    ChoiceRow {
-        needs: &[500, 100],
-        supply: 500,
-        index: Some(0),
-    },
-    ChoiceRow {
-        needs: &[500],
-        supply: 100,
-        index: None,
-    },
-    ChoiceRow {
-        needs: &[],
-        supply: 500,
-        index: None,
-    },
-    ChoiceRow {
-        needs: &[101, 100, 100],
-        supply: 100,
-        index: Some(1),
-    },
-];
-
-#[test]
-fn configurations_by_power(rt: HostRuntime) {
-    for row in CHOICES {
-        let index = choose(row.needs, row.supply);
-        assert_eq!(rt; index, row.index, "{:?} by {}", row.needs, row.supply);
     }
 }

@@ -5,7 +5,7 @@ use Rattle.std.proofs.lemmas.Iterator.{YieldsList-from_slice}
 use Rattle.std.proofs.lemmas.Iterator.Search.{position_from_yields_List}
 use Rattle.std.proofs.lemmas.List.{length-map}
 use Rattle.std.specs.List.{prefix_len}
-use Rattle.usb_enum.specs.Text.{need_of, needs_of, choice_of}
+use Rattle.usb_enum.specs.{need_of, needs_of, choice_of}
 use Rattle.usb_enum.proofs.configurations.choose_configuration.Goals as goal
 
 prefix_of_mapped : (p : ℕ → Bool) (f : List ℕ → ℕ) (xs : List (List ℕ))

@@ -1,11 +1,11 @@
-use Rattle.usb_enum.specs.{IsStarted, Stalled, Memory, configured_fault, CauseAllowedAtStart}
+use Rattle.usb_enum.specs.{IsStarted, Stalled, CauseAllowedAtStart}
 use Rattle.usb_enum.specs.{lacks_power}
 use Rattle.usb_enum.proofs.stops.PlainStops.{answered_plain, deep_stop_fits, hub_stop_fits}
 use Rattle.usb_enum.proofs.stops.PlainStops.{plain_stop_fits}
 use Rattle.std.proofs.Common.{◌∙◌, ap, arith, refl, subst, sym, rules}
 use Rattle.usb_enum.proofs.readings.SettingValues.{text_at}
 use Rattle.usb_descriptor.specs.{configuration_value}
-use Rattle.usb_enum.proofs.refusals.Refusals.{answered_ok, fault_explains, handed_match}
+use Rattle.usb_enum.proofs.refusals.Refusals.{answered_ok, handed_match}
 use Rattle.usb_enum.proofs.refusals.SettingRefusals.{deep_refused, read_refused, power_refused}
 use Rattle.usb_enum.proofs.refusals.SettingRefusals.{set_refused, hub_refused, strings_refused}
 use Rattle.usb_enum.proofs.readings.Settings.{listed_learns, set_learned, set_then}
@@ -49,25 +49,12 @@ returns-in_err-configs-clause-part g c known =
           (g.B.Bus.world c.read_configurations.new.bus) c.configurations.ensures read.ends.so;
     })
 
-pub returns-in_err-chosen-clause-part : goal.returns-in_err-chosen-clause-part
-returns-in_err-chosen-clause-part g c known =
-    let device = c.args.device in
-    let read = c.in_ok-configs.ensures.read known in
-    part_fails _ _ c.from_residual-in_err-chosen.ensures.1
-    (steps_wider (steps_as (sets_asked _) read.steps) (omega arith)) (record {
-      told = record { fits = tt; because = tt };
-      so = fault_explains _ device.target (configured_fault c.args.place.options c.args.place.tier
-          c.args.place.supply device.bytes)
-          Memory (g.B.Bus.world c.args.bus.now) (g.B.Bus.world c.read_configurations.new.bus)
-          read.ends.so;
-    })
-
 pub returns-in_default-clause-part : goal.returns-in_default-clause-part
 returns-in_default-clause-part g c known =
     let device = c.args.device in
     let t = device.target in
     let read = c.in_ok-configs.ensures.read known in
-    let none = sym c.in_ok-chosen.ensures.chosen ∙ c.in_default.is in
+    let none = sym c.choose_configuration.ensures.chosen ∙ c.in_default.is in
     let old = g.B.Bus.world c.args.bus.now in
     let mid = g.B.Bus.world c.read_configurations.new.bus in
     record {
@@ -92,7 +79,7 @@ returns-in_err-answered_or-clause-part g c known =
     let t = device.target in
     let read = c.in_ok-configs.ensures.read known in
     let set = c.set_configuration.ensures in
-    let inside = rw c.in-Some.is at c.in_ok-chosen.ensures.inside in
+    let inside = rw c.in-Some.is at c.choose_configuration.ensures.inside in
     let chosen = text_at _ _ _ _ c.index-as_slice-chosen.is c.as_slice.ensures inside in
     part_fails _ _ c.from_residual-in_err-answered_or.ensures.1 (steps_as (sets_at c.requires)
     (steps_then (setting t.addr) (steps_as (sets_asked _) read.steps)
@@ -103,7 +90,7 @@ returns-in_err-answered_or-clause-part g c known =
           (set.ordered known)));
       so = set_refused t c.args.place.options c.args.place.tier c.args.place.supply device.bytes
           (sym c.in_ok-fits_tier.ensures) _ c.in-Some.chosen
-          (sym c.in_ok-chosen.ensures.chosen ∙ c.in-Some.is) c.value-value.result _ _
+          (sym c.choose_configuration.ensures.chosen ∙ c.in-Some.is) c.value-value.result _ _
           c.set_configuration.result _ _ _ _ (λ z. omega (arith, z, c.requires)) inside
           (c.value-value.ensures ∙ ap configuration_value chosen) (omega arith)
           (rw c.configurations.ensures at read.ends.so) read.steps.went (set.uses.steps known)
@@ -117,12 +104,12 @@ returns-in_err-hub-clause-part g c known =
     let stop = c.in_err-hub.field-0.0 in
     let configs = c.in_ok-configs.configs in
     let fits = sym c.in_ok-fits_tier.ensures in
-    let choice = sym c.in_ok-chosen.ensures.chosen ∙ c.in-Some.is in
+    let choice = sym c.choose_configuration.ensures.chosen ∙ c.in-Some.is in
     let read = c.in_ok-configs.ensures.read known in
     let set = c.set_configuration.ensures in
     let hub = c.in_err-hub.ensures.part known in
     let is_hub = c.in_err-hub.ensures.hub.0 in
-    let inside = rw c.in-Some.is at c.in_ok-chosen.ensures.inside in
+    let inside = rw c.in-Some.is at c.choose_configuration.ensures.inside in
     let chosen = text_at _ _ _ _ c.index-as_slice-chosen.is c.as_slice.ensures inside in
     let same_text = text_at _ _ _ _ c.index-as_slice-chosen-2.is c.as_slice-2.ensures inside in
     let old = g.B.Bus.world c.args.bus.now in
@@ -191,7 +178,7 @@ returns-clause-part g c known =
     let done = answered_ok _ _ tt c.in_ok-answered_or.ensures in
     let hub = c.in_ok-hub.ensures.part known in
     let strings = c.in_ok-strings.ensures.read known in
-    let inside = rw c.in-Some.is at c.in_ok-chosen.ensures.inside in
+    let inside = rw c.in-Some.is at c.choose_configuration.ensures.inside in
     let chosen = text_at _ _ _ _ c.index-as_slice-chosen.is c.as_slice.ensures inside in
     let same_text = text_at _ _ _ _ c.index-as_slice-chosen-2.is c.as_slice-2.ensures inside in
     let steps = steps_joined (setting t.addr) (steps_joined (setting t.addr)
@@ -224,11 +211,6 @@ returns-clause-part g c known =
 
 pub returns-in_err-configs-clause-few : goal.returns-in_err-configs-clause-few
 returns-in_err-configs-clause-few g c known =
-    few_wider _ _ _ _ _
-    (c.read_configurations.ensures.few known) (λ most. omega arith)
-
-pub returns-in_err-chosen-clause-few : goal.returns-in_err-chosen-clause-few
-returns-in_err-chosen-clause-few g c known =
     few_wider _ _ _ _ _
     (c.read_configurations.ensures.few known) (λ most. omega arith)
 
