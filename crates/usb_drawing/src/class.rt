@@ -2,7 +2,7 @@
 ghost use Rattle.std.specs.Prelude.{◌≡◌, ◌++◌, OnOk};
 ghost use Rattle.usb_drawing.specs.Classes.{codes_of, ports_text};
 
-use std::alloc::{AllocError, Global};
+use std::alloc::AllocError;
 use usb_class::{ClassCodes, text_codes};
 use usb_enum::{Accepted, HubFacts};
 use usb_text::push_decimal;
@@ -22,11 +22,7 @@ pub(crate) fn codes_of(device: &Accepted) -> ClassCodes
 }
 
 /// Adds how many ports a hub has.
-pub(crate) fn push_ports(
-    alloc: Global,
-    out: &mut Vec<u8>,
-    hub: &Option<HubFacts>,
-) -> Result<(), AllocError>
+pub(crate) fn push_ports(out: &mut Vec<u8>, hub: &Option<HubFacts>) -> Result<(), AllocError>
     ensures { OnOk result (out.new.items ≡ out.old.items ++ ports_text hub.now) }
 {
     match hub {

@@ -24,7 +24,7 @@ pub(crate) fn push_finding(
 {
     match finding {
         Finding::Device(device) => push_device(alloc, out, style, granted, device),
-        Finding::Refused(cause) => push_refused(alloc, out, granted, *cause),
+        Finding::Refused(cause) => push_refused(out, granted, *cause),
     }
 }
 
@@ -40,7 +40,7 @@ fn push_device(
 {
     push_identity(alloc, out, device)?;
     push_strings(out, style, &device.strings)?;
-    push_power(alloc, out, granted, device.configuration().need())
+    push_power(out, granted, device.configuration().need())
 }
 
 /// Adds address, speed, vendor and product, and class.
@@ -48,11 +48,11 @@ fn push_device(
 fn push_identity(alloc: Global, out: &mut Vec<u8>, device: &Accepted) -> Result<(), AllocError>
     ensures { OnOk result (out.new.items ≡ out.old.items ++ identity_text device.now) }
 {
-    push_address(alloc, out, device.address.number())?;
+    push_address(out, device.address.number())?;
     out.extend_from_slice(speed_column(device.low).as_bytes())?;
     push_ids(alloc, out, &device.bytes)?;
     push_class(alloc, out, codes_of(device))?;
-    push_ports(alloc, out, &device.hub)
+    push_ports(out, &device.hub)
 }
 
 /// Adds the strings that there are, each after its label.
@@ -66,7 +66,7 @@ fn push_strings(out: &mut Vec<u8>, style: Style, strings: &Strings) -> Result<()
 }
 
 /// Adds `address` and its number, with blanks up to the next column.
-fn push_address(alloc: Global, out: &mut Vec<u8>, address: u8) -> Result<(), AllocError>
+fn push_address(out: &mut Vec<u8>, address: u8) -> Result<(), AllocError>
     ensures { OnOk result (out.new.items ≡ out.old.items ++ address_column address) }
 {
     out.extend_from_slice(b"address ")?;
@@ -115,12 +115,7 @@ fn push_word(alloc: Global, out: &mut Vec<u8>, bytes: &[u8], at: usize) -> Resul
 }
 
 /// Adds what a configuration draws, of what its port gives where that is known.
-fn push_power(
-    alloc: Global,
-    out: &mut Vec<u8>,
-    granted: Option<u16>,
-    drawn: u16,
-) -> Result<(), AllocError>
+fn push_power(out: &mut Vec<u8>, granted: Option<u16>, drawn: u16) -> Result<(), AllocError>
     ensures { OnOk result (out.new.items ≡ out.old.items ++ power_text granted drawn) }
 {
     out.extend_from_slice(b"  ")?;

@@ -2,13 +2,12 @@
 ghost use Rattle.std.specs.Prelude.{◌≡◌, ◌++◌, OnOk};
 ghost use Rattle.usb_drawing.specs.Devices.{cause_number, cause_words, refused_text, stall_words, supply_text};
 
-use std::alloc::{AllocError, Global};
+use std::alloc::AllocError;
 use usb_enum::{Cause, Request};
 use usb_text::push_decimal;
 
 /// Adds that a device is refused, and why; its port gives so much.
 pub(crate) fn push_refused(
-    alloc: Global,
     out: &mut Vec<u8>,
     granted: Option<u16>,
     cause: Cause,
@@ -17,7 +16,7 @@ pub(crate) fn push_refused(
 {
     out.extend_from_slice(b"refused: ")?;
     out.extend_from_slice(cause_words(cause).as_bytes())?;
-    push_number(alloc, out, granted, cause)
+    push_number(out, granted, cause)
 }
 
 /// The words of a cause, up to the number that some have.
@@ -52,23 +51,18 @@ fn stall_words(request: Request) -> &'static str
 }
 
 /// Adds the number after the words of a cause: which configuration, or what the port gives.
-fn push_number(
-    alloc: Global,
-    out: &mut Vec<u8>,
-    granted: Option<u16>,
-    cause: Cause,
-) -> Result<(), AllocError>
+fn push_number(out: &mut Vec<u8>, granted: Option<u16>, cause: Cause) -> Result<(), AllocError>
     ensures { OnOk result (out.new.items ≡ out.old.items ++ cause_number granted cause) }
 {
     match cause {
         Cause::BadConfiguration(index) => push_decimal(out, u64::from(index)),
-        Cause::NoPower => push_supply(alloc, out, granted),
+        Cause::NoPower => push_supply(out, granted),
         _ => Ok(()),
     }
 }
 
 /// Adds what the port gives, in mA, if that is known.
-fn push_supply(alloc: Global, out: &mut Vec<u8>, granted: Option<u16>) -> Result<(), AllocError>
+fn push_supply(out: &mut Vec<u8>, granted: Option<u16>) -> Result<(), AllocError>
     ensures { OnOk result (out.new.items ≡ out.old.items ++ supply_text granted) }
 {
     match granted {

@@ -150,7 +150,7 @@ impl Listing {
         };
         self.take_path(head)?;
         self.begin(" refused ")?;
-        push_cause(self.alloc, &mut self.lines, cause)?;
+        push_cause(&mut self.lines, cause)?;
         self.lines.extend_from_slice(b"\n")?;
         if self.said && !said.is_empty() {
             self.begin(" said ")?;

@@ -26,7 +26,7 @@ pub fn sent_line(
     let mut line = Vec::new(alloc);
     line.extend_from_slice(b"send ")?;
     push_path(&mut line, path)?;
-    push_sent(alloc, &mut line, sent)?;
+    push_sent(&mut line, sent)?;
     Ok(line)
 }
 
@@ -88,7 +88,7 @@ pub fn sent_to_line(
     line.extend_from_slice(b"send ")?;
     push_path(&mut line, path)?;
     push_endpoint(&mut line, endpoint)?;
-    push_sent(alloc, &mut line, sent)?;
+    push_sent(&mut line, sent)?;
     Ok(line)
 }
 
@@ -182,7 +182,7 @@ pub fn interface_line(
     let mut line = Vec::new(alloc);
     line.extend_from_slice(b"interface ")?;
     push_path(&mut line, path)?;
-    push_setting(alloc, &mut line, interface, setting)?;
+    push_setting(&mut line, interface, setting)?;
     push_done(&mut line, set)?;
     Ok(line)
 }
@@ -225,7 +225,7 @@ pub fn written_line(
     line.extend_from_slice(b"control ")?;
     push_path(&mut line, path)?;
     line.extend_from_slice(b" out")?;
-    push_sent(alloc, &mut line, written)?;
+    push_sent(&mut line, written)?;
     Ok(line)
 }
 
@@ -245,7 +245,7 @@ pub fn look_line(
     let mut line = Vec::new(alloc);
     line.extend_from_slice(b"look ")?;
     push_path(&mut line, path)?;
-    push_looked(alloc, &mut line, looked)?;
+    push_looked(&mut line, looked)?;
     Ok(line)
 }
 
@@ -292,11 +292,7 @@ fn one_news_line(alloc: Global, news: &News) -> Result<Vec<u8>, AllocError>
     Ok(line)
 }
 
-fn push_looked(
-    alloc: Global,
-    line: &mut Vec<u8>,
-    looked: &Result<Look, TransferFault>,
-) -> Result<(), AllocError>
+fn push_looked(line: &mut Vec<u8>, looked: &Result<Look, TransferFault>) -> Result<(), AllocError>
     ensures { OnOk result (line.new.items ≡ line.old.items ++ look_end looked.now) }
 {
     match looked {
@@ -304,17 +300,13 @@ fn push_looked(
         Ok(Look::Found) => line.extend_from_slice(b" found"),
         Ok(Look::Refused(cause)) => {
             line.extend_from_slice(b" refused ")?;
-            push_cause(alloc, line, *cause)
+            push_cause(line, *cause)
         }
         Err(fault) => push_failed(line, *fault),
     }
 }
 
-fn push_sent(
-    alloc: Global,
-    line: &mut Vec<u8>,
-    sent: &Result<u64, TransferFault>,
-) -> Result<(), AllocError>
+fn push_sent(line: &mut Vec<u8>, sent: &Result<u64, TransferFault>) -> Result<(), AllocError>
     ensures { OnOk result (line.new.items ≡ line.old.items ++ sent_end sent.now) }
 {
     match sent {
@@ -375,12 +367,7 @@ fn push_endpoint(line: &mut Vec<u8>, endpoint: EndpointAddress) -> Result<(), Al
 }
 
 /// Adds an interface's number and that of its alternate setting behind a path.
-fn push_setting(
-    alloc: Global,
-    line: &mut Vec<u8>,
-    interface: u8,
-    setting: u8,
-) -> Result<(), AllocError>
+fn push_setting(line: &mut Vec<u8>, interface: u8, setting: u8) -> Result<(), AllocError>
     ensures { OnOk result (line.new.items ≡ line.old.items ++ setting_text interface setting) }
 {
     line.extend_from_slice(b" ")?;

@@ -216,7 +216,7 @@ fn cause_word(cause: Cause) -> &'static str
     }
 }
 
-fn push_index(alloc: Global, line: &mut Vec<u8>, cause: Cause) -> Result<(), AllocError>
+fn push_index(line: &mut Vec<u8>, cause: Cause) -> Result<(), AllocError>
     ensures { OnOk result (line.new.items ≡ line.old.items ++ cause_index cause) }
 {
     match cause {
@@ -230,11 +230,11 @@ fn push_index(alloc: Global, line: &mut Vec<u8>, cause: Cause) -> Result<(), All
 /// # Errors
 ///
 /// Memory was refused. Part of the text may have been added.
-pub fn push_cause(alloc: Global, line: &mut Vec<u8>, cause: Cause) -> Result<(), AllocError>
+pub fn push_cause(line: &mut Vec<u8>, cause: Cause) -> Result<(), AllocError>
     ensures { OnOk result (line.new.items ≡ line.old.items ++ cause_text cause) }
 {
     line.extend_from_slice(cause_word(cause).as_bytes())?;
-    push_index(alloc, line, cause)
+    push_index(line, cause)
 }
 
 /// `PATH refused CAUSE`.
@@ -245,7 +245,7 @@ fn refused_line(alloc: Global, path: &PortPath, cause: Cause) -> Result<Vec<u8>,
     let mut line = Vec::with_capacity(alloc, ROOM)?;
     push_path(&mut line, path)?;
     line.extend_from_slice(b" refused ")?;
-    push_cause(alloc, &mut line, cause)?;
+    push_cause(&mut line, cause)?;
     Ok(line)
 }
 

@@ -6,7 +6,7 @@ ghost use Rattle.usb_port.specs.Path.{path_text};
 ghost use Rattle.usb_text.specs.ListingLines.{speed_word, unit_text, escaped_text, is_plain_unit};
 
 use itoa::Buffer;
-use std::alloc::{AllocError, Global};
+use std::alloc::AllocError;
 use usb_packet::{hex_digits, write_digits};
 use usb_port::PortPath;
 
