@@ -1,4 +1,5 @@
 -- What is kept of an endpoint after a run.
+use mathlib.Core.Bool.{or-false}
 use Rattle.std.proofs.Common.{◌≡◌, ◌==◌, ◌&&◌, ◌||◌, ℕ, List, [], ◌∷◌, ◌++◌, map, refl, sym, ap, ◌∙◌}
 use Rattle.std.proofs.Common.{Bool, true, false, cond, not, Option, None, Some}
 use Rattle.std.specs.Prelude.{option_map}
@@ -20,14 +21,10 @@ Test = Option Toggle → Bool
 
 -- One more at the end
 
-or_false : (b : Bool) → (b || false) ≡ b
-or_false true = refl
-or_false false = refl
-
 any_end : (p : Unanswered → Bool) (xs : List Unanswered) (u : Unanswered)
     → list_any p (xs ++ u ∷ []) ≡ (list_any p xs || p u)
 any_end p xs u = list_any-append p xs (u ∷ [])
-    ∙ ap (λ (b : Bool). list_any p xs || b) (or_false (p u))
+    ∙ ap (λ (b : Bool). list_any p xs || b) (or-false (p u))
 
 -- Those of an endpoint removed
 
@@ -151,7 +148,7 @@ answer_by left a n said u outcome.Nothing true e h q =
 answer_by left a n said u outcome.Nothing false e h q =
     at_end left a n q u (passes q said)
     (without_other a n u.address u.number q left (λ x. apart_by a n u x e) ∙ h q)
-    ∙ ap (λ (c : Bool). passes q said || (c && q u.toggle)) e ∙ or_false (passes q said)
+    ∙ ap (λ (c : Bool). passes q said || (c && q u.toggle)) e ∙ or-false (passes q said)
 answer_by left a n said u outcome.Ack true e h q = own_of left a n q u e
 answer_by left a n said u outcome.Ack false e h q =
     without_other a n u.address u.number q left (λ x. apart_by a n u x e) ∙ h q

@@ -3,7 +3,7 @@ use Rattle.std.proofs.Common.{◌≡◌, ℕ, ◌≤◌, inl, inr, List, length,
 use Rattle.std.proofs.Common.{None}
 use Rattle.std.proofs.Common.{slice_get, refl, sym, subst, ap, arith}
 use Rattle.std.proofs.Common.{◌∙◌}
-use Rattle.std.proofs.lemmas.Option.{slice_get_cases, slice_get_within}
+use Rattle.std.proofs.lemmas.Option.{same_Some, slice_get_cases, slice_get_within}
 use Rattle.usb_driver.specs.{Hears, IsQuestion, asked_on, attempts_in, begun_at}
 use Rattle.usb_driver.specs.{next_answer}
 use Rattle.usb_driver.specs.{with_answer, Answer, Question}
@@ -63,9 +63,6 @@ within_heard {answers = answers} (Hears.asks {p} q h is) =
     asked_within answers p.used p.statuses p.attempts p.asked q (within_heard h)
 
 -- ---- one question
-
-same_Some : {A : Type 0} (x y : A) → Some x ≡ Some y → x ≡ y
-same_Some x y e = cc
 
 asked_with : (roots used : ℕ) (statuses : List (List ℕ)) (attempts : ℕ) (o : Option Answer)
     (r : Question) → IsQuestion roots r → (q : Question)

@@ -1,13 +1,14 @@
 -- Records of wants, both ways.
-use Rattle.std.proofs.Common.{◌≡◌, ℕ, ◌+◌, ◌-◌, ◌*◌, ◌/◌, ◌%◌, ◌≤◌, Bool, true}
+use Rattle.std.proofs.Common.{◌≡◌, ℕ, ◌+◌, ◌-◌, ◌*◌, ◌/◌, ◌%◌, ◌≤◌, true}
 use Rattle.std.proofs.Common.{false}
 use Rattle.std.proofs.Common.{◌==◌, if◌then◌else◌, List, [], ◌∷◌, ◌++◌, length, take, drop, get_or}
 use Rattle.std.proofs.Common.{replicate, refl, sym, ap, subst, ◌∙◌, arith, Result, Ok, Err, Option}
 use Rattle.std.proofs.Common.{Some, None, IfOk, IfErr, IfSome, IfNone, length-append, append_assoc}
 use Rattle.std.proofs.Common.{inl, inr, nat_le, slice_index}
 use Rattle.std.specs.Option.{option_and_then, option_map}
-use Rattle.std.proofs.lemmas.Bool.{eq-eqb, le-leb, lt-leb}
+use Rattle.std.proofs.lemmas.Bool.{cond-false, cond-true, eq-eqb, le-leb, lt-leb}
 use Rattle.std.proofs.lemmas.List.{take_at, drop_at, take-append-drop, length-replicate}
+use Rattle.std.proofs.lemmas.Option.{same_Some}
 use Rattle.usb_port.specs.{IsPath}
 use Rattle.usb_request.specs.{DIRECTION_IN, IsToHost, Setup, bytes_of, setup_of}
 use Rattle.usb_request.specs.{is_endpoint_address}
@@ -148,31 +149,23 @@ pub path_looked : (h : List ℕ) (path : Option (List ℕ))
 path_looked h (Some p) some none = some.0
 path_looked h None some none = none
 
-if_true : {A : Type 0} (b : Bool) (x y : A) → b ≡ true → (if b then x else y) ≡ x
-if_true true x y h = refl
-if_true false x y h = cc
-
-if_false : {A : Type 0} (b : Bool) (x y : A) → b ≡ false → (if b then x else y) ≡ y
-if_false true x y h = cc
-if_false false x y h = refl
-
 endpoint_in-is : (at e : ℕ) → at ≡ e → is_endpoint_address e ≡ true → endpoint_in at ≡ Some e
 endpoint_in-is at e same is =
-    ap endpoint_in same ∙ if_true (is_endpoint_address e) (Some e) None is
+    ap endpoint_in same ∙ cond-true (is_endpoint_address e) (Some e) None is
 
 read_request-is : (s r : Setup) → s ≡ r → IsToHost r → read_request s ≡ Some r
 read_request-is s r same is = ap read_request same
-    ∙ if_true (nat_le DIRECTION_IN r.request_type) (Some r) None
+    ∙ cond-true (nat_le DIRECTION_IN r.request_type) (Some r) None
     (le-leb DIRECTION_IN r.request_type is)
 
 write_request-is : (s : Setup) (r : Write) → s ≡ r.setup → IsWrite r
     → write_request s r.bytes ≡ Some r
 write_request-is s r same is =
     ap (λ (x : Setup). write_request x r.bytes) same
-    ∙ if_false (nat_le DIRECTION_IN r.setup.request_type) None
+    ∙ cond-false (nat_le DIRECTION_IN r.setup.request_type) None
     (if r.setup.length == length r.bytes then Some r else None)
     (lt-leb DIRECTION_IN r.setup.request_type is.0)
-    ∙ if_true (r.setup.length == length r.bytes) (Some r) None
+    ∙ cond-true (r.setup.length == length r.bytes) (Some r) None
     (eq-eqb r.setup.length (length r.bytes) is.1)
 
 -- a kind with a path
@@ -182,10 +175,10 @@ by_path : (h : List ℕ) (path : Option (List ℕ)) (f : Fields) (bytes : List �
 by_path h path f bytes k p kind found a b c =
     ap (λ (x : ℕ). want_by x path f bytes) kind
     ∙ ap (λ (x : Option (List ℕ)). want_by k x f bytes) found
-    ∙ if_false (k == 16) (Some Round) (if k == 17 then Some Tree else if k == 29 then Some News
+    ∙ cond-false (k == 16) (Some Round) (if k == 17 then Some Tree else if k == 29 then Some News
     else want_with k p f bytes) a
-    ∙ if_false (k == 17) (Some Tree) (if k == 29 then Some News else want_with k p f bytes) b
-    ∙ if_false (k == 29) (Some News) (want_with k p f bytes) c
+    ∙ cond-false (k == 17) (Some Tree) (if k == 29 then Some News else want_with k p f bytes) b
+    ∙ cond-false (k == 29) (Some News) (want_with k p f bytes) c
 
 moved : (h g : List ℕ) (k : ℕ) (p : List ℕ) (a s n : ℕ) (u : List ℕ) → g ≡ h
     → HeadIs g k p a s n u → HeadIs h k p a s n u
@@ -257,9 +250,6 @@ likely h path f bytes looked fields (Look p) is e d =
     by_path h path f bytes 28 p i.kind (path_found h p is i.place path looked) refl refl refl
 
 -- ---- one want has one record
-
-same_Some : {A : Type 0} (x y : A) → Some x ≡ Some y → x ≡ y
-same_Some x y e = cc
 
 same_want : (v w : Want) → IsWant v → IsWant w → want_head v ≡ want_head w
     → want_data v ≡ want_data w → v ≡ w

@@ -1,4 +1,5 @@
 -- How lines and their replies follow each other, and what stops them.
+use mathlib.Core.Bool.{and-false, and-true}
 use Rattle.std.proofs.Common.{◌≡◌, ◌≢◌, inl, inr, ◌∙◌, ℕ, ◌+◌, ◌<◌, ◌≤◌, Bool, true, false}
 use Rattle.std.proofs.Common.{not, ◌&&◌}
 use Rattle.std.proofs.Common.{List, [], ◌∷◌, ◌++◌, length, take, Option, Ok, Err}
@@ -30,14 +31,6 @@ use Rattle.usb_far.specs.{brings_full, is_taken, may_ask_as, rest_behind}
 use Rattle.usb_far.specs.declared.far_end.Phase.TheVariants.{Asks}
 use Rattle.usb_far.specs.{passed, phase_behind}
 use Rattle.usb_far.specs.declared.fault.FarFault.TheVariants as fault
-
-and_true : (b : Bool) → (b && true) ≡ b
-and_true true = refl
-and_true false = refl
-
-and_false : (b : Bool) → (b && false) ≡ false
-and_false true = refl
-and_false false = refl
 
 -- ---- bytes that were read
 
@@ -205,9 +198,9 @@ row_may asked old before mid w q (RowFront.further front r e traced gone) may =
 pending_then : (a b c : Bool) (xs ys : List ℕ) → b ≡ (a && not (is_some_text xs))
     → c ≡ (b && not (is_some_text ys)) → c ≡ (a && not (is_some_text (xs ++ ys)))
 pending_then a b c [] ys first next =
-    next ∙ ap (λ x. x && not (is_some_text ys)) (first ∙ and_true a)
+    next ∙ ap (λ x. x && not (is_some_text ys)) (first ∙ and-true a)
 pending_then a b c (x ∷ xs) ys first next =
-    next ∙ ap (λ y. y && not (is_some_text ys)) (first ∙ and_false a) ∙ sym (and_false a)
+    next ∙ ap (λ y. y && not (is_some_text ys)) (first ∙ and-false a) ∙ sym (and-false a)
 
 -- what has gone out of a row
 record Gone (asked : Question) (old : Played) (before : OutPipe) (new : Played) (now : OutPipe)
@@ -227,7 +220,7 @@ reply_flushed : (q : Question) (mid new : Far) (lines : List ℕ) (w now : OutPi
 reply_flushed q mid new lines w now r gone =
     let some : is_some_text lines ≡ true = ap is_some_text r.is
     ∙ some_reply _ (said_line (Answered r.answer)) in
-    gone.flushed ∙ sym (ap (λ b. w.pending && not b) some ∙ and_false w.pending)
+    gone.flushed ∙ sym (ap (λ b. w.pending && not b) some ∙ and-false w.pending)
 
 gone_so : (asked : Question) (old : Played) (before : OutPipe) (mid : Played) (w : OutPipe)
     (q : Question)

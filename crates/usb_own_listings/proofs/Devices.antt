@@ -2,10 +2,9 @@
 use Rattle.std.proofs.Common.{◌≡◌, ◌≤◌, ◌<◌, ◌==◌, ◌∙◌, refl, sym, ap, subst, arith, ℕ, Bool}
 use Rattle.std.proofs.Common.{true, false, not, nat_le, nat_lt, List, [], length, append-nil, min}
 use Rattle.std.proofs.Common.{take, Option, None, Some, option_map, Result, Ok, Err, if◌then◌else◌}
-use Rattle.std.proofs.Common.{slice_index, slice_index_or, IsSomeAnd, IfSome}
+use Rattle.std.proofs.Common.{slice_index, slice_index_or, IsSomeAnd, IfSome, ne_of_gt}
 use Rattle.std.specs.Global.{Vec}
-use Rattle.std.proofs.lemmas.Bool.{and_parts, leb-true}
-use Rattle.std.proofs.lemmas.Bool.Decides.{nat_tests}
+use Rattle.std.proofs.lemmas.Bool.{and_parts, leb-true, ne_eqb}
 use Rattle.std.proofs.lemmas.List.{get_or-map, length-map, length-take}
 use Rattle.std.proofs.lemmas.List.Quantifiers.{position-Some}
 use Rattle.std.proofs.lemmas.Option.{same_Some}
@@ -60,9 +59,6 @@ ports_told spec o is = subst (λ x. IfSome (option_map (λ (facts : HubFacts). f
 
 -- Configurations
 
-zero_not : (n : ℕ) → 1 ≤ n → (n == 0) ≡ false
-zero_not n h = grind (arith, nat_tests, h)
-
 -- the text of the configuration that was chosen is a configuration descriptor at least
 chosen_long : (spec : Spec) (chosen : ℕ) (h : HasChosen spec chosen)
     → 9 ≤ length (text_read h.text)
@@ -113,7 +109,7 @@ module _ (options : HostOptions) (tier supply : ℕ) (device : Accepted) (s : St
   has_configuration =
       ap (λ n. if n == 0 then None else Some (text_of s.spec s.registers)) configured
       ∙ ap (λ b. if b then None else Some (text_of s.spec s.registers))
-      (zero_not (slice_index chosen.text 5) chosen.read.some)
+      (ne_eqb (slice_index chosen.text 5) 0 (ne_of_gt chosen.read.some))
       ∙ ap (λ t. Some t) text_same
 
   long : 9 ≤ length (configuration_of device)

@@ -36,9 +36,6 @@ use Rattle.usb_own_listings.proofs.ListedEntries.{IsListedAs, IsPortOf, Passes, 
 use Rattle.usb_own_listings.proofs.ListedEntries.{any_there, listed_as, one_passes, port_is}
 use Rattle.usb_own_listings.proofs.Worlds.{IsHubOf, enabled_there, hub_of, root_has, same_supply}
 
-path_is : (path other : List ℕ) → bytes_eq path other ≡ true → path ≡ other
-path_is path other h = (bytes_eq-Decides path other).0 h
-
 path_same : (path other : List ℕ) → path ≡ other → bytes_eq path other ≡ true
 path_same path other h = (bytes_eq-Decides path other).1 h
 
@@ -65,11 +62,6 @@ never (Some b) on off = cc (on, off)
 
 -- Paths
 
-all_three : (x y z : Bool) → x ≡ true → y ≡ true → z ≡ true → (x && y && z) ≡ true
-all_three true true z h i j = j
-all_three true false z h i j = absurd (cc i)
-all_three false y z h i j = absurd (cc h)
-
 all_numbers : (path : List ℕ) → All IsPortNumber path → list_all is_port_number path ≡ true
 all_numbers [] all = refl
 all_numbers (n ∷ path) all =
@@ -80,9 +72,10 @@ all_numbers (n ∷ path) all =
 
 -- the path of a port names it
 path_named : (path : List ℕ) → IsPath path → names_port path ≡ true
-path_named path is = all_three (nat_le 1 (length path)) (nat_le (length path) 7)
-    (list_all is_port_number path) (le-leb 1 (length path) is.0) (le-leb (length path) 7 is.1)
-    (all_numbers path is.2)
+path_named path is =
+    and_from (nat_le 1 (length path) && nat_le (length path) 7) (list_all is_port_number path)
+    (and_from (nat_le 1 (length path)) (nat_le (length path) 7) (le-leb 1 (length path) is.0)
+    (le-leb (length path) 7 is.1)) (all_numbers path is.2)
 
 -- What a claim says
 
@@ -253,7 +246,7 @@ module _ (options : HostOptions) (w : World) (entries : Entries) (sane : Consist
       it.is in
       let e : IsPortOf it.element entries = port_is entries listing same it.element it.has in
       let there : e.path ≡ hub = sym (ap (λ (said : SaidPort). said.0) e.is)
-      ∙ path_is it.element.path hub parts.0 in
+      ∙ (bytes_eq-Decides it.element.path hub).0 parts.0 in
       let accepted : is_some (claim_of_entry e.finding) ≡ true =
       sym (ap (λ (said : SaidPort). is_some said.1) e.is)
       ∙ sym (accepted_as it.element.claim) ∙ parts.1 in
@@ -323,8 +316,8 @@ module _ (options : HostOptions) (w : World) (entries : Entries) (sane : Consist
   once : (path : List ℕ) → count_by (is_listed_at path) listing ≤ 1
   once path = one_passes (is_listed_at path) entries listing m.lists.rises same
       (λ d e x y has also of also_of one other.
-      sym (ap (λ (said : SaidPort). said.0) of) ∙ path_is x.path path one
-      ∙ sym (path_is y.path path other) ∙ ap (λ (said : SaidPort). said.0) also_of)
+      sym (ap (λ (said : SaidPort). said.0) of) ∙ (bytes_eq-Decides x.path path).0 one
+      ∙ sym ((bytes_eq-Decides y.path path).0 other) ∙ ap (λ (said : SaidPort). said.0) also_of)
 
   alone : (address : ℕ) → count_by (claims_address address) listing ≤ 1
   alone address = one_passes (claims_address address) entries listing m.lists.rises same

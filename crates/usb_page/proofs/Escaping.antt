@@ -1,12 +1,10 @@
 -- What a browser shows of an escaped text.
 use Rattle.std.proofs.Common.{◌≡◌, ◌≢◌, ◌∙◌, refl, sym, ap, subst, arith, ℕ, suc, zero, ◌==◌, List}
 use Rattle.std.proofs.Common.{[], ◌∷◌, ◌++◌, Bool, true, false, codes, if◌then◌else◌}
+use Rattle.std.proofs.lemmas.Bool.{eqb-true}
 use Rattle.std.proofs.lemmas.Bool.Decides.{nat_tests}
 use Rattle.usb_page.specs.{Shows, escaped}
 use Rattle.usb_page.specs.Escape.{nothing, plain, quote, ampersand, apostrophe, less, greater}
-
-is_same : (c k : ℕ) → (c == k) ≡ true → c ≡ k
-is_same c k test = grind (arith, nat_tests, test)
 
 is_other : (c k : ℕ) → (c == k) ≡ false → c ≢ k
 is_other c k test same = absurd (grind (arith, nat_tests, test, same))
@@ -17,17 +15,17 @@ shows_tested : (c : ℕ) {source text : List ℕ} (q a p l g : Bool) → (c == 3
     → Shows ((if q then codes "&quot;" else if a then codes "&amp;" else if p then codes "&#39;"
     else if l then codes "&lt;" else if g then codes "&gt;" else c ∷ []) ++ source) (c ∷ text)
 shows_tested c {source} {text} true a p l g iq ia ip il ig shows =
-    subst (λ x. Shows (codes "&quot;" ++ source) (x ∷ text)) (sym (is_same c 34 iq)) (quote shows)
+    subst (λ x. Shows (codes "&quot;" ++ source) (x ∷ text)) (sym (eqb-true c 34 iq)) (quote shows)
 shows_tested c {source} {text} false true p l g iq ia ip il ig shows =
-    subst (λ x. Shows (codes "&amp;" ++ source) (x ∷ text)) (sym (is_same c 38 ia))
+    subst (λ x. Shows (codes "&amp;" ++ source) (x ∷ text)) (sym (eqb-true c 38 ia))
     (ampersand shows)
 shows_tested c {source} {text} false false true l g iq ia ip il ig shows =
-    subst (λ x. Shows (codes "&#39;" ++ source) (x ∷ text)) (sym (is_same c 39 ip))
+    subst (λ x. Shows (codes "&#39;" ++ source) (x ∷ text)) (sym (eqb-true c 39 ip))
     (apostrophe shows)
 shows_tested c {source} {text} false false false true g iq ia ip il ig shows =
-    subst (λ x. Shows (codes "&lt;" ++ source) (x ∷ text)) (sym (is_same c 60 il)) (less shows)
+    subst (λ x. Shows (codes "&lt;" ++ source) (x ∷ text)) (sym (eqb-true c 60 il)) (less shows)
 shows_tested c {source} {text} false false false false true iq ia ip il ig shows =
-    subst (λ x. Shows (codes "&gt;" ++ source) (x ∷ text)) (sym (is_same c 62 ig)) (greater shows)
+    subst (λ x. Shows (codes "&gt;" ++ source) (x ∷ text)) (sym (eqb-true c 62 ig)) (greater shows)
 shows_tested c {source} {text} false false false false false iq ia ip il ig shows =
     plain c (record {
       quote = is_other c 34 iq;

@@ -2,7 +2,7 @@
 use Rattle.std.proofs.Common.{◌≡◌, ◌<◌, ℕ, zero, suc, List, [], ◌∷◌, take, drop, length, get_or, refl, ap, sym}
 use Rattle.std.proofs.Common.{Bool, true, false, not, arith, map, cond, String, Global, string_bytes}
 use Rattle.std.proofs.Common.{nat_cmp, if◌then◌else◌}
-use Rattle.std.proofs.lemmas.Bool.{and_parts, or_parts}
+use Rattle.std.proofs.lemmas.Bool.{and_parts, not-true, or_parts}
 use Rattle.std.proofs.lemmas.List.{take-map}
 use Rattle.std.specs.List.{list_any}
 use Rattle.std.specs.Str.{bytes_eq}
@@ -23,10 +23,6 @@ any_apart p (x ∷ xs) zero d e lt = (or_parts (p x) (list_any p xs) e).0
 any_apart p (x ∷ xs) (suc i) d e lt =
     any_apart p xs i d (or_parts (p x) (list_any p xs) e).1 (omega (arith, lt))
 
-not_true : (b : Bool) → not b ≡ true → b ≡ false
-not_true true e = absurd (cc e)
-not_true false e = refl
-
 -- no device before one has its name
 pub named_apart : (xs : List Spec) (i : ℕ) (d : Spec) → names_differ xs ≡ true → i < length xs
     → is_named (take i xs) (get_or xs i d).name ≡ false
@@ -36,7 +32,7 @@ named_apart (x ∷ xs) (suc i) d e lt =
     let parts = and_parts (not (is_named xs x.name)) (names_differ xs) e in
     let below : i < length xs = omega (arith, lt) in
     let apart = any_apart (λ s. bytes_eq s.name x.name) xs i d
-    (not_true (is_named xs x.name) parts.0) below in
+    (not-true (is_named xs x.name) parts.0) below in
     rw (bytes_eq-sym (get_or xs i d).name x.name apart, named_apart xs i d parts.1 below)
 
 abbrev Entry : Type 0

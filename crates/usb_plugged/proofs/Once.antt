@@ -3,12 +3,13 @@ use Rattle.std.proofs.Common.{◌≡◌, ◌⊎◌, inl, inr, ◌<◌, ℕ, ◌+
 use Rattle.std.proofs.Common.{Option, None, Some, refl, ap, sym, ◌∙◌, subst, slice_get}
 use Rattle.std.proofs.Common.{is_some, arith, length, option_map}
 use Rattle.std.specs.Prelude.{All}
+use Rattle.std.proofs.lemmas.List.{same_from_push}
 use Rattle.std.proofs.lemmas.List.Elements.{All-append, All-weaker}
 use Rattle.std.proofs.lemmas.Option.{same_Some, slice_get_within}
 use Rattle.usb_device.specs.{Ports}
 use Rattle.usb_judge.specs.declared.plugged.PluggedDevice.{PluggedDevice}
 use Rattle.usb_plugged.specs.{AddsPorts, IsOnPort, IsSeen, ListsOnce}
-use Rattle.usb_plugged.proofs.Places.{Apart, all_at, get_kept, once_joined, same_above}
+use Rattle.usb_plugged.proofs.Places.{Apart, all_at, get_kept, once_joined}
 use Rattle.usb_plugged.proofs.Found.{NamesPort, Walked, names_from, plugged_named}
 use Rattle.usb_plugged.proofs.Found.{walk_begun, walk_next}
 
@@ -115,7 +116,7 @@ hub_apart roots i hub found more w at all j k a b old new same =
     let below : IsBelow i found a = all_at (IsBelow i found) found j a w.below old in
     let on : IsOnPort hub.path 16 b = all_at (IsOnPort hub.path 16) more k b all new in
     not_before roots i hub found below.above w at
-    (same_above below.above hub.path below.number on.0 (sym below.is ∙ same ∙ on.2)) below.hub
+    (same_from_push below.above hub.path below.number on.0 (sym below.is ∙ same ∙ on.2)).0 below.hub
 
 once_next : (roots : Ports) (i : ℕ) (hub : PluggedDevice) (found new : List PluggedDevice)
     → WalkedOnce roots i found → slice_get found i ≡ Some hub

@@ -1,8 +1,7 @@
 -- The places of a list's elements, and lists that have each device once.
 use Rattle.std.proofs.Common.{◌≡◌, ◌⊎◌, inl, inr, ◌<◌, ℕ, zero, suc, ◌+◌, List, [], ◌∷◌, ◌++◌}
-use Rattle.std.proofs.Common.{Some, refl, ap, sym, ◌∙◌, subst, slice_get, arith}
-use Rattle.std.proofs.Common.{length, length-append, take}
-use Rattle.std.proofs.Math.Seq.{take-append_seam}
+use Rattle.std.proofs.Common.{Some, refl, sym, ◌∙◌, subst, slice_get, arith}
+use Rattle.std.proofs.Common.{length}
 use Rattle.std.proofs.lemmas.List.{append_cancel_left}
 use Rattle.std.specs.Prelude.{All}
 use Rattle.std.proofs.lemmas.List.Elements.{All-get_or}
@@ -77,13 +76,6 @@ once_joined xs ys once more apart i j a b at other =
     same_place xs ys once more apart i j a b (in_either xs ys i a at) (in_either xs ys j b other)
 
 -- Two paths that end with a number
-
-pub same_above : (p q : List ℕ) (m n : ℕ) → p ++ m ∷ [] ≡ q ++ n ∷ [] → p ≡ q
-same_above p q m n e =
-    let long : length p ≡ length q =
-    omega (arith, length-append p (m ∷ []), length-append q (n ∷ []), ap length e) in
-    sym (take-append_seam p (m ∷ [])) ∙ ap (take (length p)) e
-    ∙ ap (λ (k : ℕ). take k (q ++ n ∷ [])) long ∙ take-append_seam q (n ∷ [])
 
 same_number : (p : List ℕ) (m n : ℕ) → p ++ m ∷ [] ≡ p ++ n ∷ [] → m ≡ n
 same_number p m n e =

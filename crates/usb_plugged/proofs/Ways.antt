@@ -1,8 +1,9 @@
 -- A device and its way, by the numbers of its path.
+use mathlib.Core.Bool.{and-false, and-true}
 use Rattle.std.proofs.Common.{◌≡◌, ℕ, zero, suc, ◌-◌, List, [], ◌∷◌, ◌++◌, Option, None, Some}
 use Rattle.std.proofs.Common.{refl, ap, sym, ◌∙◌, true, false, Bool, slice_get, is_some, arith}
 use Rattle.std.proofs.Common.{option_map, ◌+◌, ◌*◌}
-use Rattle.std.specs.Prelude.{◌&&◌, ◌==◌, if◌then◌else◌, nat_le, slice_index}
+use Rattle.std.specs.Prelude.{◌==◌, if◌then◌else◌, nat_le, slice_index}
 use Rattle.std.proofs.lemmas.Bool.{false≢true, ne_eqb}
 use Rattle.std.proofs.lemmas.Option.{same_Some}
 use Rattle.usb_port.specs.{PortState, bit, status_of}
@@ -10,22 +11,14 @@ use Rattle.usb_device.specs.{Ports, ended, vacant, taken, device_there, numbered
 use Rattle.usb_device.specs.{plugged_at, reach, reach_at, row_of, state_at, state_there}
 use Rattle.usb_plugged.specs.{is_enabled, reach_through}
 
-yes_and : (b : Bool) → b ≡ (b && true)
-yes_and true = refl
-yes_and false = refl
-
-no_and : (b : Bool) → false ≡ (b && false)
-no_and true = refl
-no_and false = refl
-
 reach_at-step : (k : Ports) (i : ℕ) (p : List ℕ)
     → reach_at k i p ≡ reach_through (slice_get (row_of k) i) (plugged_at k i []) p
 unfolding reach_at plugged_at row_of
 reach_at-step ended i p = refl
 reach_at-step (vacant b k) zero p = refl
 reach_at-step (vacant b k) (suc i) p = reach_at-step k i p
-reach_at-step (taken b s a k) zero [] = yes_and b.enable
-reach_at-step (taken b s a k) zero (zero ∷ p) = no_and b.enable
+reach_at-step (taken b s a k) zero [] = sym (and-true b.enable)
+reach_at-step (taken b s a k) zero (zero ∷ p) = sym (and-false b.enable)
 reach_at-step (taken b s a k) zero (suc j ∷ p) = refl
 reach_at-step (taken b s a k) (suc i) p = reach_at-step k i p
 

@@ -3,7 +3,7 @@ use Rattle.std.proofs.Common.{◌≡◌, ℕ, zero, suc, ◌+◌, ◌-◌, ◌<�
 use Rattle.std.proofs.Common.{get_or, Bool, true, false, cond, ◌||◌, ◌&&◌, ◌==◌, nat_lt, Option, Some, None}
 use Rattle.std.proofs.Common.{refl, ap, sym, ◌∙◌, arith, length-drop}
 use Rattle.std.specs.Option.{option_or}
-use Rattle.std.proofs.lemmas.Bool.{ltb-false}
+use Rattle.std.proofs.lemmas.Bool.{ltb-false, or_parts}
 use Rattle.std.proofs.lemmas.List.{drop-drop, drop_all}
 use Rattle.usb_request.specs.{ENDPOINT, ENDPOINT_LENGTH, INTERFACE, INTERFACE_LENGTH}
 use Rattle.usb_descriptor.specs.{DescriptorFault, Length, Total, front_fault}
@@ -22,10 +22,6 @@ passed : (b : Bool) (fault : DescriptorFault) (o : Option DescriptorFault)
 passed true fault o h = absurd cc
 passed false fault o h = (refl, h)
 
-neither : (a b : Bool) → (a || b) ≡ false → (a ≡ false) × (b ≡ false)
-neither true b h = absurd cc
-neither false b h = (refl, h)
-
 -- an item without a fault has two bytes, and does not pass the end
 pub front_long : (rest : List ℕ) → 0 < length rest → front_fault rest ≡ None
     → (2 ≤ get_or rest 0 0) × (get_or rest 0 0 ≤ length rest)
@@ -34,9 +30,9 @@ front_long (l ∷ []) some h = absurd cc
 front_long (l ∷ t ∷ bytes) some h =
     let a = passed (is_too_small l t) Length _ h in
     let b = passed (nat_lt (length (l ∷ t ∷ bytes)) l) Total _ a.1 in
-    let c = neither (nat_lt l 2 || (t == INTERFACE && nat_lt l INTERFACE_LENGTH))
+    let c = or_parts (nat_lt l 2 || (t == INTERFACE && nat_lt l INTERFACE_LENGTH))
     (t == ENDPOINT && nat_lt l ENDPOINT_LENGTH) a.0 in
-    let d = neither (nat_lt l 2) (t == INTERFACE && nat_lt l INTERFACE_LENGTH) c.0 in
+    let d = or_parts (nat_lt l 2) (t == INTERFACE && nat_lt l INTERFACE_LENGTH) c.0 in
     (ltb-false l 2 d.0, ltb-false (length (l ∷ t ∷ bytes)) l b.0)
 
 pub items_first : (text : List ℕ) → ItemsLeft text 9

@@ -1,11 +1,12 @@
 -- What a transfer to a device moves through each of its endpoints.
-use Rattle.std.proofs.Common.{◌≡◌, ◌≢◌, ◌∙◌, refl, sym, ap, subst, Bool, true, false, not, ◌&&◌, ℕ}
+use Rattle.std.proofs.Common.{◌≡◌, ◌≢◌, ◌∙◌, refl, sym, ap, subst, Bool, true, false, not, ℕ}
 use Rattle.std.proofs.Common.{◌==◌, List, [], Option, None, Some, Result, Ok, Err, eq-eqb}
 use Rattle.std.proofs.Common.{eqb-true, get_or, is_ok, if◌then◌else◌}
 use Rattle.usb_device.specs.{OnlySource, State, Location, no_in, out_end, reach_on}
 use Rattle.usb_device.specs.{state_on}
 use Rattle.usb_world.specs.{Send, Receive, BusFault, Was, World}
 use Rattle.usb_tree.specs.{address_of}
+use Rattle.usb_tree.proofs.Interface.{both}
 use Rattle.usb_transaction.specs.{Target, is_at}
 use Rattle.usb_pipe.specs.declared.condition.Condition.TheVariants.{Ready}
 use Rattle.usb_pipe.specs.{PipeFault, PipeState, InPipeInSync, Sends, OutPipeInSync, pipe_made}
@@ -192,10 +193,6 @@ sends_pick device below pipes are (At a) pipe found =
     no_in_way false is = refl
 
 -- the pipe that a receive picks
-both_so : (a b : Bool) → (a && b) ≡ true → a ≡ true
-both_so true b is = refl
-both_so false b is = is
-
 pub receives_pick : (device : Accepted) (below : Bool) (pipes : FunctionPipes)
     → ArePipesTo device below (Function pipes) → (choice : EndpointChoice) (pipe : PipeState)
     → receives_through choice pipes ≡ Some pipe
@@ -204,7 +201,7 @@ receives_pick device below pipes are FirstBulk pipe found =
     picks_first device below pipes are true pipe found
 receives_pick device below pipes are (At a) pipe found =
     picks_at device below pipes are true a gives_bytes pipe
-    (λ is. both_so pipe.is_in (is_bulk_kind pipe.kind) is) (λ rest same. ap gives_bytes same) found
+    (λ is. (both pipe.is_in (is_bulk_kind pipe.kind) is).0) (λ rest same. ap gives_bytes same) found
 
 -- and a poll
 pub polls_pick : (device : Accepted) (below : Bool) (pipes : FunctionPipes)
@@ -213,7 +210,7 @@ pub polls_pick : (device : Accepted) (below : Bool) (pipes : FunctionPipes)
     → Picks device below true (At a) (polls_through a) pipes pipe
 polls_pick device below pipes are a pipe found =
     picks_at device below pipes are true a gives_reports pipe
-    (λ is. both_so pipe.is_in (not (is_bulk_kind pipe.kind)) is)
+    (λ is. (both pipe.is_in (not (is_bulk_kind pipe.kind)) is).0)
     (λ rest same. ap gives_reports same) found
 
 module _ (device : Accepted) (below : Bool) (path : List ℕ) (t : ToldItem)

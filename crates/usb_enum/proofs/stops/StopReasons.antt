@@ -132,10 +132,6 @@ settle_failed port changed why old new settles = elim (decided changed) [
   | inr e ↦ (let done = (settles.unset e).0 in absurd cc)
 ]
 
-pub unfalse : (b : Bool) → not b ≡ false → b ≡ true
-unfalse true h = refl
-unfalse false h = false_true (sym h)
-
 pub reset_goes : (port : HubPort) (l m n : ℕ) (status : PortStatus) (old set : World)
     {told new : World} {a b c d e h : Option (List ℕ)} → StepRun l old a set b
     → StepRun m set c told d → StepRun n told e new h

@@ -17,6 +17,7 @@ use Rattle.std.specs.Cmp.{eq_by_cmp_equiv}
 use Rattle.usb_port.specs.{path_cmp}
 use Rattle.usb_table.proofs.Interface.{path_itself}
 use Rattle.usb_host.specs.{IsPlaceOf, ReportedDevices, ReportedRise, reported_at}
+use Rattle.usb_host.proofs.entries.RisingEntries.{above_all}
 
 pub rise_none : ReportedRise []
 unfolding IsStrictlySortedBy
@@ -101,13 +102,6 @@ inserted_at p n (suc i) (r ∷ rs) none is =
       before = λ k d lt at. is.before (suc k) d (omega arith) at;
       after = λ d at. is.after d at;
     })))
-
-above_all : (path first : List ℕ) (ks : List (List ℕ)) → path_cmp path first ≡ Less
-    → AllByRecursion (λ k. path_cmp first k ≡ Less) ks
-    → AllByRecursion (λ k. path_cmp path k ≡ Less) ks
-above_all path first [] less h = tt
-above_all path first (k ∷ ks) less h =
-    (nat_list_cmp_total.trans path first k less h.0, above_all path first ks less h.1)
 
 entered_step : (p : List ℕ) (n : ℕ) (r : List ℕ × ℕ) (rs : ReportedDevices)
     → ReportedRise (r ∷ rs) → ReportedRise (insert_entry path_cmp rs p n) → (o : Ordering)

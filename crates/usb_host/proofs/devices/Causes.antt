@@ -4,6 +4,7 @@ use Rattle.std.proofs.Common.{List, [], ◌∷◌, ◌++◌, length, Option, Non
 use Rattle.std.proofs.Common.{Err}
 use Rattle.std.proofs.Common.{IsSomeAnd, IfErr}
 use Rattle.std.specs.Prelude.{⊤}
+use Rattle.std.proofs.lemmas.List.{same_from_push}
 use Rattle.std.specs.BTreeMap.{insert_entry}
 use Rattle.arrayvec.specs.ArrayVec.{ArrayVec}
 use Rattle.usb_port.specs.{path_cmp, parent_of, port_on_hub, PortStatus, ClearEnable, clear_call}
@@ -48,7 +49,6 @@ use Rattle.usb_host.proofs.knowledge.FoundDevices.{entered_sound, unfound_bulk, 
 use Rattle.usb_host.proofs.knowledge.FoundDevices.{unfound_where}
 use Rattle.usb_host.proofs.OwnedPorts.{root_done}
 use Rattle.usb_host.proofs.knowledge.Places.{finding-none, causes_dropped, causes_found}
-use Rattle.usb_host.proofs.devices.Requests.{push-same_front}
 use Rattle.usb_host.proofs.knowledge.RestedWorlds.{but_of_sound, sound_rests, sound_rests_but}
 use Rattle.usb_host.proofs.entries.Roots.{accounted}
 use Rattle.usb_host.proofs.knowledge.ServedPorts.{rests_stands, stands_way}
@@ -82,7 +82,7 @@ joined_as path hub h s at above target n is =
   where
     by_port : IsAt (claims h.entries) (External target n) path → path ≡ hub ++ n ∷ []
     by_port x = x.path ∙ ap (λ l. l ++ n ∷ [])
-        (push-same_front x.hub hub n (port_on_hub path) (sym x.path ∙ rejoined path hub above))
+        (same_from_push x.hub hub n (port_on_hub path) (sym x.path ∙ rejoined path hub above)).0
 
 module _ {path : List ℕ} {port : KnownPort} {h : HostState} (s : StandsAt path port h)
     (i : IsSoundBut path h) (still : h.world.fault ≡ None) where

@@ -1,8 +1,9 @@
 -- What requests to a port keep, as the host tells of them.
 use Rattle.usb_device.specs.{path_to, port_there}
-use Rattle.std.proofs.Common.{◌≡◌, inl, inr, refl, sym, ap, subst, ◌∙◌, ℕ, true, false, List, []}
-use Rattle.std.proofs.Common.{◌∷◌, ◌++◌, Option, None, Some, Result, Ok, Err, IfOk, OnOk}
+use Rattle.std.proofs.Common.{◌≡◌, inl, inr, refl, sym, ap, subst, ◌∙◌, ℕ, true, false, List}
+use Rattle.std.proofs.Common.{Option, None, Some, Result, Ok, Err, IfOk, OnOk}
 use Rattle.std.specs.Global.{Vec}
+use Rattle.std.proofs.lemmas.List.{same_from_push}
 use Rattle.usb_request.specs.{PORT_ENABLE, C_PORT_CONNECTION, C_PORT_ENABLE, C_PORT_RESET}
 use Rattle.usb_port.specs.{PortStatus, status_in, PortCall, ClearEnable, ClearConnectionChange}
 use Rattle.usb_port.specs.{ClearResetChange, clear_call, is_reset}
@@ -85,18 +86,6 @@ still_by (Root number) old result new read can = absurd can
 still_by (External hub number) old (Ok status) new read can = read.ends.sound
 still_by (External hub number) old (Err fault) new read can = tt
 
--- the hub of a path that is joined twice
-pub push-same_front : (q r : List ℕ) (m n : ℕ) → q ++ m ∷ [] ≡ r ++ n ∷ [] → q ≡ r
-push-same_front [] [] m n e = refl
-push-same_front [] (i ∷ []) m n e = absurd (cc e)
-push-same_front [] (i ∷ j ∷ r) m n e = absurd (cc e)
-push-same_front (i ∷ []) [] m n e = absurd (cc e)
-push-same_front (i ∷ j ∷ q) [] m n e = absurd (cc e)
-push-same_front (i ∷ q) (j ∷ r) m n e =
-    let tails : q ++ m ∷ [] ≡ r ++ n ∷ [] = cc e in
-    let heads : i ≡ j = cc e in
-    ap (λ l. i ∷ l) (push-same_front q r m n tails) ∙ ap (λ k. k ∷ r) heads
-
 pub watched : (port : HubPort) (old : World) (result : Result PortStatus PipeFault) (new : World)
     → PortRead port old result new → ReadsPort port old result new → KeepsAsked port old result new
     → Watches port old (at_port result) new
@@ -117,7 +106,7 @@ watched port old result new read tells asked = record {
         absurd (lost_unserved result e (tells.why hub number is few single most serves b.0
         (subst (λ l. port_there old.roots l ≡ Some b.0) path b.1)))
     lost p (inr x) few still single e hub number is most serves path =
-        let same = push-same_front x.0 (path_to serves.spot) x.1 number (sym x.2 ∙ path) in
+        let same = (same_from_push x.0 (path_to serves.spot) x.1 number (sym x.2 ∙ path)).0 in
         subst (λ l. pending new.roots l ≡ true) same
         (pending_persists x.0 (course_wider (λ s w k. k.spares)
         (port_read_rests port old result new read (sound_by result (subst LetsGoOn (sym e) tt))

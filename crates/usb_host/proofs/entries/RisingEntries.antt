@@ -20,7 +20,7 @@ unfolding IsStrictlySortedBy
 rises_none = tt
 
 -- what is above a path is above one before it
-above_all : (path first : List ℕ) (ks : List (List ℕ)) → path_cmp path first ≡ Less
+pub above_all : (path first : List ℕ) (ks : List (List ℕ)) → path_cmp path first ≡ Less
     → AllByRecursion (λ k. path_cmp first k ≡ Less) ks
     → AllByRecursion (λ k. path_cmp path k ≡ Less) ks
 above_all path first [] less h = tt

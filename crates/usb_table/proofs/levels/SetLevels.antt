@@ -1,7 +1,7 @@
 -- After SET_INTERFACE the pipes are as far as the endpoints at their other ends.
 use Rattle.std.proofs.Common.{◌≡◌, ◌⊎◌, inl, inr, ◌∙◌, refl, sym, ap, subst, arith, Bool, true}
 use Rattle.std.proofs.Common.{false}
-use Rattle.std.proofs.Common.{ℕ, ◌<◌, ◌≤◌, ◌==◌, ◌&&◌, ◌||◌, eq-eqb, List, [], length, Option, Some}
+use Rattle.std.proofs.Common.{ℕ, ◌<◌, ◌≤◌, ◌==◌, ◌&&◌, eq-eqb, List, [], length, Option, Some}
 use Rattle.std.proofs.Common.{None, IfSome, if◌then◌else◌}
 use Rattle.std.proofs.lemmas.Bool.{cases_lt}
 use Rattle.std.proofs.lemmas.Bool.Decides.{nat_tests}
@@ -17,7 +17,7 @@ use Rattle.usb_device.specs.{out_end, out_max, rested, rested_in, rested_out, se
 use Rattle.usb_device.specs.{status_number, tells_changes, text_of, with_interface}
 use Rattle.usb_device.proofs.Interface.{in_end-setting, in_max-elsewhere, is_of_setting-elsewhere}
 use Rattle.usb_device.proofs.Interface.{out_end-setting, out_max-elsewhere}
-use Rattle.usb_tree.proofs.Interface.{and_false}
+use Rattle.usb_tree.proofs.Interface.{and_false, or_right}
 use Rattle.usb_pipe.specs.{PipeState}
 use Rattle.usb_hub.specs.{TookSetting, offers_setting}
 use Rattle.usb_enum.specs.{Accepted, configuration_of, target_of}
@@ -26,10 +26,6 @@ use Rattle.usb_table.specs.{lost_function, new_pipe, pipe_at, row_at, set_functi
 use Rattle.usb_table.proofs.levels.FittingPipes.{source_at-same}
 use Rattle.usb_table.proofs.levels.SetPipes.{loss-elsewhere, loss-named, set-elsewhere, set-named}
 use Rattle.usb_table.proofs.levels.SetPipes.{set-past}
-
-or_second : (a b : Bool) → b ≡ true → (a || b) ≡ true
-or_second true b h = refl
-or_second false b h = h
 
 -- the pipes of an interface are lost, and the device is as it is
 pub loss_kept : (device : Accepted) (below_hub : Bool) (interface setting : ℕ)
@@ -228,7 +224,7 @@ module _ (device : Accepted) (below_hub : Bool) (interface setting : ℕ) (pipes
             let own : end.interface ≡ interface =
             usable-own interface setting (with_setting interface setting default_settings)
             device.low is_in e text end has named is in
-            or_second (belongs_to interface (served_at s.spec s.registers is_in e)) _
+            or_right (belongs_to interface (served_at s.spec s.registers is_in e)) _
             (ap (belongs_to interface) (served_is ∙ is) ∙ eq-eqb end.interface interface own)
 
         most : max_of_usable (served_at s.spec (with_interface interface setting s.registers) is_in

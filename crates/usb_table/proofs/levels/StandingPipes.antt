@@ -1,7 +1,7 @@
 -- Pipes of a function that stand in their places, and those that are picked among them.
 use Rattle.std.proofs.Common.{◌≡◌, ◌≢◌, ◌∙◌, refl, sym, ap, subst, arith, Bool, true, false, ℕ}
 use Rattle.std.proofs.Common.{zero}
-use Rattle.std.proofs.Common.{suc, ◌==◌, ◌≤◌, ◌<◌, ◌%◌, ◌&&◌, not, nat_le, List, [], ◌∷◌, length}
+use Rattle.std.proofs.Common.{suc, ◌==◌, ◌≤◌, ◌<◌, ◌%◌, not, nat_le, List, [], ◌∷◌, length}
 use Rattle.std.proofs.Common.{get_or}
 use Rattle.std.proofs.Common.{slice_set, Option, Some, None, IfSome, if◌then◌else◌}
 use Rattle.std.specs.Option.{option_map}
@@ -10,6 +10,7 @@ use Rattle.usb_descriptor.specs.{EndpointKind, UsableEndpoint}
 use Rattle.usb_descriptor.proofs.Interface.{usable_under-small}
 use Rattle.usb_device.specs.{with_at}
 use Rattle.usb_device.proofs.Interface.{at_mapped, at_other, at_same}
+use Rattle.usb_tree.proofs.Interface.{both, not-true}
 use Rattle.usb_transaction.specs.{Target}
 use Rattle.usb_pipe.specs.{PipeState, pipe_made}
 use Rattle.usb_enum.specs.{Accepted, configuration_of}
@@ -296,31 +297,24 @@ first_way is_in pipes pipe placed h =
     by_number None at = absurd (cc at)
     by_number (Some e) at = (place_of pipes placed is_in e pipe at).0
 
-takes_way : (b : Bool) → not b ≡ true → b ≡ false
-takes_way true h = absurd (cc h)
-takes_way false h = refl
-
-gives_way : (b c : Bool) → (b && c) ≡ true → b ≡ true
-gives_way true c h = refl
-gives_way false c h = absurd (cc h)
-
 pub sends_way : (choice : EndpointChoice) (pipes : FunctionPipes) (pipe : PipeState)
     → AreInPlace pipes → sends_through choice pipes ≡ Some pipe → pipe.is_in ≡ false
 sends_way FirstBulk pipes pipe placed h = first_way false pipes pipe placed h
 sends_way (At a) pipes pipe placed h =
-    takes_way pipe.is_in (only_some takes_bytes (pipe_to a pipes) pipe h).1
+    not-true pipe.is_in (only_some takes_bytes (pipe_to a pipes) pipe h).1
 
 pub receives_way : (choice : EndpointChoice) (pipes : FunctionPipes) (pipe : PipeState)
     → AreInPlace pipes → receives_through choice pipes ≡ Some pipe → pipe.is_in ≡ true
 receives_way FirstBulk pipes pipe placed h = first_way true pipes pipe placed h
 receives_way (At a) pipes pipe placed h =
-    gives_way pipe.is_in (is_bulk_kind pipe.kind) (only_some gives_bytes (pipe_to a pipes) pipe h).1
+    (both pipe.is_in (is_bulk_kind pipe.kind)
+    (only_some gives_bytes (pipe_to a pipes) pipe h).1).0
 
 pub polls_way : (a : ℕ) (pipes : FunctionPipes) (pipe : PipeState)
     → polls_through a pipes ≡ Some pipe → pipe.is_in ≡ true
 polls_way a pipes pipe h =
-    gives_way pipe.is_in (not (is_bulk_kind pipe.kind))
-    (only_some gives_reports (pipe_to a pipes) pipe h).1
+    (both pipe.is_in (not (is_bulk_kind pipe.kind))
+    (only_some gives_reports (pipe_to a pipes) pipe h).1).0
 
 -- Pipes to a function that was found
 

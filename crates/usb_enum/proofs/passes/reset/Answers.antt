@@ -1,5 +1,6 @@
 use Rattle.usb_enum.specs.{not_enabled}
 use Rattle.std.proofs.Common.{arith}
+use Rattle.std.proofs.lemmas.Bool.{not-false}
 use Rattle.usb_request.specs.{PORT_RESET, C_PORT_RESET}
 use Rattle.usb_hub.proofs.Interface.{is_asked_stays}
 use Rattle.usb_enum.proofs.devices.Frames.{at_asked}
@@ -9,7 +10,7 @@ use Rattle.usb_enum.proofs.devices.Presence.{reset_finds}
 use Rattle.usb_enum.proofs.devices.ReachedDevices.{done_at, reset_reaches}
 use Rattle.usb_port.specs.{set_call, clear_call}
 use Rattle.usb_enum.proofs.courses.Fairness.{called_faulted, faulted_after, status_faulted}
-use Rattle.usb_enum.proofs.stops.StopReasons.{reset_goes, reset_lost, settle_failed, unfalse}
+use Rattle.usb_enum.proofs.stops.StopReasons.{reset_goes, reset_lost, settle_failed}
 use Rattle.usb_tree.proofs.Interface.{not-true}
 use Rattle.usb_enum.proofs.courses.LastRequests.{leads_went}
 use Rattle.usb_enum.proofs.stops.Reasons.{fault_after, fault_by}
@@ -113,7 +114,7 @@ returns-clause-part g c known a =
             all.keeps.within none;
         reaches = reset_reaches _ a _ _ _ _ begun.went status.went settle.went begun.keeps
             status.keeps told.keeps settle.keeps shown
-            (unfalse c.in_ok-status.status.enabled c.if-not-status.false) settles;
+            (not-false c.in_ok-status.status.enabled c.if-not-status.false) settles;
         goes = reset_goes port _ _ _ _ _ _ begun.went status.went settle.went
             (c.in_ok-begin_reset.ensures.calls known) shown settles;
       };
