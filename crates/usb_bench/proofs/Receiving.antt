@@ -7,7 +7,8 @@ use Rattle.usb_conduct.specs.{HasNoPlace, IsAfter}
 use Rattle.usb_conduct.specs.declared.window.Window.{Window}
 use Rattle.usb_far.specs.{Played}
 use Rattle.usb_world.specs.{World}
-use Rattle.usb_bench.specs.{AfterDigits, AfterReport, Kept, ReadsReport, Report, ReportLine, path_in}
+use Rattle.usb_bench.specs.{AfterDigits, AfterReport, Kept, ReadsReport, Report, ReportLine}
+use Rattle.usb_bench.specs.{path_in}
 use Rattle.usb_bench.specs.declared.judge.Judge.{Judge}
 use Rattle.usb_bench.specs.declared.received.Receipt.{Receipt}
 

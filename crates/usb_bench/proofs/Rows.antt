@@ -15,7 +15,8 @@ pub row_shrinks : (last : ℕ) (q more : Question) (j new_judge : Judge) (old ne
     → OneAnswered last q j old before rest new_judge new now → rest ≡ Some more
     → row_size more < row_size q
 row_shrinks last q more j new_judge old new before now rest h a is =
-    row_less q a.one.behind.seen a.one.behind.replied a.reply more h a.one.behind.replies (sym a.left ∙ is)
+    row_less q a.one.behind.seen a.one.behind.replied a.reply more h a.one.behind.replies
+    (sym a.left ∙ is)
 
 pub row_goes_on : (last : ℕ) (asked q more : Question) (j mid_judge new_judge : Judge)
     (old mid new : Played) (before w now : OutPipe) (rest : Option Question)
@@ -58,7 +59,8 @@ row_stops last asked q j mid_judge old mid new before w now f front none = recor
 pub unforeseen_stops : (last : ℕ) (q : Question) (j : Judge) (old new : Played) (w : OutPipe)
     (f : BenchFault) → IsUnforeseen last q old new f → PlacedUnreplied last q j old w new w f
 unforeseen_stops last q j old new w fault.NoRest h = PlacedUnreplied.restless h.2 h.0 h.1 refl
-unforeseen_stops last q j old new w fault.OtherPlan h = PlacedUnreplied.unsaid fault.OtherPlan h refl
+unforeseen_stops last q j old new w fault.OtherPlan h =
+    PlacedUnreplied.unsaid fault.OtherPlan h refl
 unforeseen_stops last q j old new w fault.Memory h = PlacedUnreplied.unsaid fault.Memory h refl
 unforeseen_stops last q j old new w (fault.Far why) h =
     PlacedUnreplied.unsaid (fault.Far why) h refl

@@ -10,15 +10,15 @@ pub use Said.{IsUnsaid, Says, lines_text}
 pub use Reports.{IsFaultOf, LineTaken, ListingJudged, Taken, opened, claim_lines}
 pub use Reports.{is_end, judgement_said, refusal}
 pub use Received.{AfterData, AfterDigits, AfterReport, gives_source}
-pub use Received.{KeepsWindow, Kept, Report, ReportLine, ReportTaken, ReadsReport, anywhere, begun_anew}
-pub use Received.{behind_word, done_at, is_at, outcome_at, path_in, report_of, reported_at}
-pub use Received.{begun_by, cleared_at, received_at, report_view, source_at, widened, window_at}
-pub use Received.{with_fault, with_window}
+pub use Received.{KeepsWindow, Kept, Report, ReportLine, ReportTaken, ReadsReport, anywhere}
+pub use Received.{begun_anew, behind_word, done_at, is_at, outcome_at, path_in, report_of}
+pub use Received.{reported_at, begun_by, cleared_at, received_at, report_view, source_at, widened}
+pub use Received.{window_at, with_fault, with_window}
 unfoldable pub use Received.{report_in}
 pub use Attempts.{AfterJudged, BeforeJudged, CallNoted, EmptyNoted, Foreseen, IsSeen}
 pub use Attempts.{IsUnforeseen, Judged, ResetNoted}
-pub use Attempts.{attempt_asked, babbled, empty_lines, faults_with, holder_in, holder_of, next_number}
-pub use Attempts.{out_asked, outcome_of, remark_after, remark_lines, taken_on}
+pub use Attempts.{attempt_asked, babbled, empty_lines, faults_with, holder_in, holder_of}
+pub use Attempts.{next_number, out_asked, outcome_of, remark_after, remark_lines, taken_on}
 pub use Placing.{AnyPlaced, DeedPlaced, IsDeedIn, IsOtherPlan, IsUnfollowed, IsUnmoved, IsUnplaced}
 pub use Placing.{JudgePlaced, Placed, PlacedIn, QuestionPlaced, UnplacedIn}
 pub use Placing.{deed_of, told_at, told_beside, told_to, try_in}

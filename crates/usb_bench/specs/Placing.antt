@@ -19,8 +19,8 @@ use Rattle.usb_bench.specs.declared.fault.BenchFault.TheVariants as fault
 use Rattle.usb_bench.specs.declared.judge.Judge.{Judge}
 use Rattle.usb_bench.specs.Attempts.{attempt_asked, holder_of}
 
--- what a question has the host do, as places count it: an attempt at the port of the device that holds
--- its address, a call at a root port, or a wait
+-- what a question has the host do, as places count it: an attempt at the port of the device that
+-- holds its address, a call at a root port, or a wait
 abbrev pub try_in : List PluggedDevice → Option Attempt → Option Deed
 try_in plugged a = option_map (λ b. deed.Attempt (try_of b) (holder_of plugged b)) a
 

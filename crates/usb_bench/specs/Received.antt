@@ -1,7 +1,7 @@
 -- The data that a host reports to have received, and what the judge says of them.
-use Rattle.std.specs.Prelude.{◌≡◌, ◌-◌, ◌^◌, ℕ, ◌+◌, ◌==◌, ◌&&◌, ◌||◌, nat_le, not, Bool, true, false, List}
-use Rattle.std.specs.Prelude.{[], ◌∷◌, ◌++◌, length, codes, filter, map, if◌then◌else◌, Option, None}
-use Rattle.std.specs.Prelude.{Some, min, slice_index_or}
+use Rattle.std.specs.Prelude.{◌≡◌, ◌-◌, ◌^◌, ℕ, ◌+◌, ◌==◌, ◌&&◌, ◌||◌, nat_le, not, Bool, true}
+use Rattle.std.specs.Prelude.{false, List, [], ◌∷◌, ◌++◌, length, codes, filter, map, if◌then◌else◌}
+use Rattle.std.specs.Prelude.{Option, None, Some, min, slice_index_or}
 use Rattle.std.specs.List.{find, ends_with}
 use Rattle.std.specs.Option.{option_map_or}
 use Rattle.std.specs.Str.{IsUtf8, bytes_eq}
@@ -166,8 +166,8 @@ abbrev pub widened : Bool → Receipt → Receipt
 widened true r = record r { window = after_clear r.window }
 widened false r = record r { window = anywhere }
 
--- by bRequest: a device that gets its address may be a new one at its port; toggles begin anew where
--- a device is configured, or its interface is set (9.4.6, 9.4.7, 9.4.10)
+-- by bRequest: a device that gets its address may be a new one at its port; toggles begin anew
+-- where a device is configured, or its interface is set (9.4.6, 9.4.7, 9.4.10)
 abbrev pub begun_by : ℕ → List Receipt → List Receipt
 begun_by request receipts =
     if request == SET_ADDRESS then map (widened false) receipts

@@ -54,8 +54,8 @@ refusal attempts port = claim_lines attempts port.path port.claim
 abbrev pub judgement_said : ℕ → Judgement → List ℕ
 judgement_said attempts j = judgement_text attempts j.path j.cause
 
--- all that is wrong with the listing in the world as it is goes to the trace, in the order of paths,
--- behind the notes
+-- all that is wrong with the listing in the world as it is goes to the trace, in the order of
+-- paths, behind the notes
 pub record ListingJudged (ports : List ListedPort) (old : Played) (count : ℕ) (new : Played) :
     Type 0 where
   pub judgements : List Judgement
@@ -66,7 +66,8 @@ pub record ListingJudged (ports : List ListedPort) (old : Played) (count : ℕ) 
   pub counted : count ≡ length judgements
 
 -- a line of a listing or of news
-pub data Taken (line : List ℕ) (old : Played) : Tally → Block → Tally × Block → Played → Type 0 where
+pub data Taken (line : List ℕ) (old : Played) : Tally → Block → Tally × Block → Played
+    → Type 0 where
   judged : {t : Tally} {ports : List ListedPort} {count : ℕ} {new : Played} → is_end line ≡ true
       → ListingJudged ports old count new
       → Taken line old t (block.Listing ports) (counted count t, block.Outside) new

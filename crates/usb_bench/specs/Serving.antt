@@ -232,8 +232,8 @@ pub record ServedUpTo (rounds : Option ℕ) (first : Judge) (old : Scene) (numbe
   pub next : number ≡ count + 1
   pub stops : StopsFor rounds last judge mid new f ⊎ IsLastLine mid number f new
 
-abbrev pub JudgesHost : Option ℕ → Judge → Scene → Result (Unit {0}) (ℕ × BenchFault) → Judge → Scene
-    → Type 0
+abbrev pub JudgesHost : Option ℕ → Judge → Scene → Result (Unit {0}) (ℕ × BenchFault)
+    → Judge → Scene → Type 0
 JudgesHost rounds first old (Ok done) judge new = ServedAll rounds first old judge new
 JudgesHost rounds first old (Err end) judge new = ServedUpTo rounds first old end.0 end.1 new
 

@@ -56,7 +56,8 @@ pub judged_several : (a : Attempt) (plugged : List PluggedDevice) (address n : �
     → address ≡ (destination_of a).address → n ≡ count_by (holds address) plugged
     → 1 < n → Some remark.TwoDevices ≡ judged plugged a
 judged_several a plugged address n at number many =
-    ap (λ (b : Bool). cond b (Some remark.TwoDevices) (judged_first a (find (holds address) plugged)))
+    ap (λ (b : Bool). cond b (Some remark.TwoDevices)
+    (judged_first a (find (holds address) plugged)))
     (sym (lt-ltb 1 n many))
     ∙ ap (λ (m : ℕ). judged_found a m (find (holds address) plugged)) number
     ∙ sym (judged_by-filter a (holds address) plugged)

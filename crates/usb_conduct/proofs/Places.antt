@@ -5,7 +5,8 @@ use Rattle.std.specs.Prelude.{IfNone, IfSome, min, nat_eq}
 use Rattle.std.specs.List.{starts_with}
 use Rattle.std.proofs.lemmas.Bool.{and_from, and_parts, both_ways, cases_lt, le-leb, leb-true}
 use Rattle.std.proofs.lemmas.Bool.Decides.{Decides-eqb}
-use Rattle.std.proofs.lemmas.List.{append_assoc, drop_at, length-append, length-take-le, take-append-drop}
+use Rattle.std.proofs.lemmas.List.{append_assoc, drop_at, length-append, length-take-le}
+use Rattle.std.proofs.lemmas.List.{take-append-drop}
 use Rattle.std.proofs.lemmas.Slice.Eq.{starts_is}
 use Rattle.usb_conduct.specs.declared.window.Window.{Window}
 use Rattle.usb_conduct.specs.{GoesOn, HasNoPlace, IsPlace, Narrows, goes_on, with_place}
@@ -36,7 +37,8 @@ goes_from source bytes place inside h = record {
 goes_into : (source bytes : List ℕ) (place : ℕ) → GoesOn source bytes place
     → starts_with nat_eq (drop place source) bytes ≡ true
 goes_into source bytes place g = (starts_is Decides-eqb (drop place source) bytes _ refl).1 g.after
-    (ap (λ (s : List ℕ). drop place s) (g.text ∙ append_assoc g.before bytes g.after) ∙ drop_at g.before (bytes ++ g.after) place g.at)
+    (ap (λ (s : List ℕ). drop place s) (g.text ∙ append_assoc g.before bytes g.after)
+    ∙ drop_at g.before (bytes ++ g.after) place g.at)
 
 pub goes_yes : (source bytes : List ℕ) (place : ℕ) → goes_on source bytes place ≡ true
     → GoesOn source bytes place
@@ -123,7 +125,8 @@ pub upto_no : (source bytes : List ℕ) (w : Window) (n : ℕ) (found : Option W
     → Upto source bytes w n found → goes_on source bytes n ≡ false
     → Upto source bytes w (n + 1) found
 upto_no source bytes w n None u h = λ place p.
-    above source bytes n place (goes_no source bytes n h) p.goes_on (cases_lt place (n + 1)) (u place p)
+    above source bytes n place (goes_no source bytes n h) p.goes_on (cases_lt place (n + 1))
+    (u place p)
 upto_no source bytes w n (Some narrow) u h = record {
   first = u.first;
   last = u.last;

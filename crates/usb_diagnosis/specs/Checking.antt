@@ -23,7 +23,8 @@ pub record TellsPlan (text lines : List ℕ) : Type 0 where
   pub spelled : spelled_plan text ≡ Ok plan
   pub told : lines ≡ plan_report plan
 
--- they begin with the file, a spot of the text and the fault; where the text is no document a column is told
+-- they begin with the file, a spot of the text and the fault; where the text is no document a
+-- column is told
 pub record BeginsAt (file text : List ℕ) (fault : PlanFault) (lines : List ℕ) : Type 0 where
   pub spot : Spot
   pub found : IsSpotIn text spot

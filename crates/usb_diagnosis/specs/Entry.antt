@@ -1,6 +1,6 @@
 -- The keys of an entry, as the plan's reader takes them.
-use Rattle.std.specs.Prelude.{◌≡◌, ℕ, ◌-◌, ◌==◌, codes, List, [], ◌∷◌, Bool, false, Option, Some, None, Ok, Err}
-use Rattle.std.specs.Prelude.{if◌then◌else◌, option_and_then, slice_get}
+use Rattle.std.specs.Prelude.{◌≡◌, ℕ, ◌-◌, ◌==◌, codes, List, [], ◌∷◌, Bool, false, Option, Some}
+use Rattle.std.specs.Prelude.{None, Ok, Err, if◌then◌else◌, option_and_then, slice_get}
 use Rattle.toml.specs.Data.{Data, Members, get_member, as_bool, as_str, as_table}
 use Rattle.toml.specs.View.{table_view}
 use Rattle.usb_diagnosis.specs.declared.entry.Entry.{Entry}

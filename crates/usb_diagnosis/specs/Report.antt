@@ -1,6 +1,6 @@
 -- The lines that tell what a text holds.
-use Rattle.std.specs.Prelude.{ℕ, Bool, codes, List, [], ◌++◌, length, decimal, flat_map, Option, Some}
-use Rattle.std.specs.Prelude.{None}
+use Rattle.std.specs.Prelude.{ℕ, Bool, codes, List, [], ◌++◌, length, decimal, flat_map, Option}
+use Rattle.std.specs.Prelude.{Some, None}
 use Rattle.std.specs.Str.{chars}
 use Rattle.usb_device.specs.{Spec}
 use Rattle.usb_plan.specs.{bound_of, place_text, PlanFault}

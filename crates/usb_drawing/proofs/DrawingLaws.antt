@@ -11,8 +11,8 @@ length-entry_lines style wide tree all [] = refl
 length-entry_lines style wide tree all (entry ∷ behind) =
     ap suc (length-entry_lines style wide tree all behind)
 
-pub drawing_lines-length : (style : Style) (number : ℕ) (wide : Bool) (tree : SpecTree) (entries : Entries)
-    → length (drawing_lines style number wide tree entries) ≡ length entries + 1
+pub drawing_lines-length : (style : Style) (number : ℕ) (wide : Bool) (tree : SpecTree)
+    (entries : Entries) → length (drawing_lines style number wide tree entries) ≡ length entries + 1
 unfolding drawing_lines
 drawing_lines-length style number wide tree entries = let each =
     length-entry_lines style wide tree entries entries in omega (arith, each)

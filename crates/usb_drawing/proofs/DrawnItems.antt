@@ -51,9 +51,10 @@ drawn_begun style plan before thrown over h opens at_work few = record {
 }
 
 -- the text of an item's lines
-drawn_next : (style : Style) (plan : PlanData) (items : List Item) (next : ℕ) (item : Item) (vs : List (Vec ℕ))
-    → map (λ v. v.items) vs ≡ drawn_lines style plan next item → next ≡ number_of item (listings items)
-    → written_lines vs ≡ drawn_item style plan items item
+drawn_next : (style : Style) (plan : PlanData) (items : List Item) (next : ℕ) (item : Item)
+    (vs : List (Vec ℕ))
+    → map (λ v. v.items) vs ≡ drawn_lines style plan next item
+    → next ≡ number_of item (listings items) → written_lines vs ≡ drawn_item style plan items item
 drawn_next style plan items next item vs lines is =
     sym (flat_map-map (λ line. line ++ 10 ∷ []) (λ v. v.items) vs) ∙ ap lines_text lines
     ∙ ap (λ n. lines_text (drawn_lines style plan n item)) is
@@ -68,7 +69,8 @@ pub drawn_told : {style : Style} {plan : PlanData} {before : Option (List ℕ)} 
     → Appends now s (written_lines vs)
     → DrawnSoFar style plan before next on k s
 unfolding drawn_items
-drawn_told {style = style} {plan = plan} {before = before} {now = now} r next item on k vs s counted makes fewer
+drawn_told {style = style} {plan = plan} {before = before} {now = now} r next item on k vs s counted
+    makes fewer
     lines appends = record {
       items = item ∷ r.items;
       thrown = r.thrown;
@@ -77,7 +79,8 @@ drawn_told {style = style} {plan = plan} {before = before} {now = now} r next it
       so_far = told_next r.so_far makes (appends_no_text k);
       knows = λ _. makes_knows makes.1;
       numbered = numbered_next r.numbered next item on k.world k.world counted fewer refl;
-      text = Appends-trans before now s (drawn_items style plan r.items) (drawn_item style plan r.items item)
+      text = Appends-trans before now s (drawn_items style plan r.items)
+          (drawn_item style plan r.items item)
           r.text (subst (λ t. Appends now s t) (drawn_next style plan r.items next item vs lines
           (number_next r.numbered next item counted)) appends);
     }
@@ -167,7 +170,8 @@ drawn_cut {style} {plan} {before} {now = now} r next item on k vs result s is co
     front in
     drawn_ended style plan before r.thrown r.first r.opens (item ∷ r.items) k result s serve.Write
     is (behind (λ cut. cut) (told_next r.so_far makes (appends_no_text k))) tt single
-    (front_after_first before now s (drawn_items style plan r.items) (drawn_item style plan r.items item)
+    (front_after_first before now s (drawn_items style plan r.items)
+    (drawn_item style plan r.items item)
     r.text part)
 
 -- a run that is over

@@ -11,8 +11,8 @@ use Rattle.std.proofs.lemmas.Str.{inside_one}
 use Rattle.hex.specs.Hex.{encode_with, lower_digits, upper_digits}
 use Rattle.usb_port.specs.{number_text, path_text}
 use Rattle.usb_enum.specs.{Cause, Silent, Busy, Stalled, BadDevice, TooDeep, BadConfiguration}
-use Rattle.usb_enum.specs.{TooLarge, NoPower, BadHub, Lost, NoAddress, Request, Accepted, Finding, HubFacts}
-use Rattle.usb_enum.specs.{Strings, configuration_of, need_of}
+use Rattle.usb_enum.specs.{TooLarge, NoPower, BadHub, Lost, NoAddress, Request, Accepted, Finding}
+use Rattle.usb_enum.specs.{HubFacts, Strings, configuration_of, need_of}
 use Rattle.usb_enum.specs.declared.cause.Request.TheVariants as request
 use Rattle.usb_enum.specs.declared.finding.Finding.TheVariants.{Device, Refused}
 use Rattle.usb_table.specs.{Entries, SpecTree}
@@ -340,11 +340,12 @@ heading_unbroken n entries =
     (no_line_feed-append (codes "listing ") (decimal n) refl (number n))
     (heading_end_unbroken entries)
 
-pub drawing_lines-unbroken : (style : Style) (n : ℕ) (wide : Bool) (tree : SpecTree) (entries : Entries)
-    → All HasNoLineFeed (drawing_lines style n wide tree entries)
+pub drawing_lines-unbroken : (style : Style) (n : ℕ) (wide : Bool) (tree : SpecTree)
+    (entries : Entries) → All HasNoLineFeed (drawing_lines style n wide tree entries)
 unfolding drawing_lines
 drawing_lines-unbroken style n wide tree entries =
-    All-from_recursion HasNoLineFeed (heading n entries ∷ drawn_entries style wide tree entries entries) (
+    All-from_recursion HasNoLineFeed (heading n entries
+    ∷ drawn_entries style wide tree entries entries) (
       heading_unbroken n entries,
       entries_unbroken style wide tree entries entries,
     )

@@ -1,7 +1,7 @@
 -- What is plugged at one path, event by event.
-use Rattle.std.proofs.Common.{◌≡◌, ℕ, not, cond, Bool, true, false, List, [], ◌∷◌, Option, None, Some}
-use Rattle.std.proofs.Common.{nat_eq, refl, ap, sym, ◌∙◌, arith, ⊎_elim, if◌then◌else◌, ◌+◌, ◌<◌}
-use Rattle.std.proofs.Common.{◌++◌, get_or, length, take}
+use Rattle.std.proofs.Common.{◌≡◌, ℕ, not, cond, Bool, true, false, List, [], ◌∷◌, Option, None}
+use Rattle.std.proofs.Common.{Some, nat_eq, refl, ap, sym, ◌∙◌, arith, ⊎_elim, if◌then◌else◌, ◌+◌}
+use Rattle.std.proofs.Common.{◌<◌, ◌++◌, get_or, length, take}
 use Rattle.std.proofs.Common.{Ordering, Less, Equal, Greater, is_eq}
 use Rattle.std.specs.Ordering.{match_ordering}
 use Rattle.std.specs.Cmp.Lexicographic.{bytes_decides, pointwise}

@@ -1,6 +1,7 @@
 -- No rule that is told has a newline.
-use Rattle.std.proofs.Common.{refl, ℕ, ◌+◌, ◌*◌, ◌-◌, ◌%◌, ◌==◌, ◌||◌, not, Bool, true, false, List, [], ◌++◌, length, drop, Option, None}
-use Rattle.std.proofs.Common.{Some, get_or, nat_lt, slice_index_or, codes, decimal}
+use Rattle.std.proofs.Common.{refl, ℕ, ◌+◌, ◌*◌, ◌-◌, ◌%◌, ◌==◌, ◌||◌, not, Bool, true, false, List}
+use Rattle.std.proofs.Common.{[], ◌++◌, length, drop, Option, None, Some, get_or, nat_lt}
+use Rattle.std.proofs.Common.{slice_index_or, codes, decimal}
 use Rattle.usb_descriptor.specs.{DescriptorFault}
 use Rattle.usb_descriptor.specs.declared.fault.DescriptorFault.TheVariants as flaw
 use Rattle.usb_device.specs.{Spec, hub_ports}
@@ -8,11 +9,12 @@ use Rattle.usb_enum.specs.{Cause, Finding, text_read}
 use Rattle.usb_enum.specs.declared.finding.Finding.TheVariants.{Device, Refused}
 use Rattle.usb_remarks.specs.{Remark, TextRemark, config_words, count_words, cut_words}
 use Rattle.usb_remarks.specs.{descriptor_words, device_words, given_words, head_words, hub_bytes}
-use Rattle.usb_remarks.specs.{hub_words, index_words, is_count, item_rule, item_words, key_words, length_rule}
-use Rattle.usb_remarks.specs.{missing_words, packet_rule, passing_words, portless_words, ports_rule, ports_words}
-use Rattle.usb_remarks.specs.{remark_of, remark_words, repeated_words, rule_words, said_total}
-use Rattle.usb_remarks.specs.{address_rule, endpoint_words, first_endpoint, is_status_address}
-use Rattle.usb_remarks.specs.{lacking_words, size_rule, small_words, status_words, text_words}
+use Rattle.usb_remarks.specs.{hub_words, index_words, is_count, item_rule, item_words, key_words}
+use Rattle.usb_remarks.specs.{length_rule, missing_words, packet_rule, passing_words}
+use Rattle.usb_remarks.specs.{portless_words, ports_rule, ports_words, remark_of, remark_words}
+use Rattle.usb_remarks.specs.{repeated_words, rule_words, said_total, address_rule, endpoint_words}
+use Rattle.usb_remarks.specs.{first_endpoint, is_status_address, lacking_words, size_rule}
+use Rattle.usb_remarks.specs.{small_words, status_words, text_words}
 use Rattle.usb_remarks.specs.declared.remark.Remark.TheVariants as remark
 use Rattle.usb_remarks.specs.declared.text.TextRemark.TheVariants as part
 use Rattle.usb_drawing.specs.{is_cause_of, rule_if, rule_of, rule_text}
@@ -148,7 +150,8 @@ again : (configs : List (List ℕ)) (n : ℕ) → HasNoLineFeed (repeated_words 
 again configs n =
     let value = get_or (slice_index_or configs n []) 5 0 in
     no_line_feed-append (index_words n)
-    (rule_words 5 (codes "bConfigurationValue is ") value (codes ", as of an earlier one")) (index n)
+    (rule_words 5 (codes "bConfigurationValue is ") value (codes ", as of an earlier one"))
+    (index n)
     (one_rule 5 (codes "bConfigurationValue is ") value (codes ", as of an earlier one") refl refl)
 
 missing : (bytes : List ℕ) (n : ℕ) → HasNoLineFeed (missing_words bytes n)
@@ -158,18 +161,20 @@ missing bytes n =
     no_line_feed-append (key_words (codes "descriptor")) (count_words bytes n)
     (key (codes "descriptor") refl)
     (no_line_feed-append rule (decimal n)
-    (one_rule 17 (codes "bNumConfigurations is ") (get_or bytes 17 0) (codes ", `configs` has ") refl
+    (one_rule 17 (codes "bNumConfigurations is ") (get_or bytes 17 0)
+    (codes ", `configs` has ") refl
     refl) (number n))
 
-in_descriptor : (spec : Spec) (fault : DescriptorFault) → HasNoLineFeed (descriptor_words spec fault)
+in_descriptor : (spec : Spec) (fault : DescriptorFault)
+    → HasNoLineFeed (descriptor_words spec fault)
 in_descriptor spec fault = no_line_feed-append (key_words (codes "descriptor"))
     (device_words spec.low spec.descriptor fault) (key (codes "descriptor") refl)
     (device spec.low spec.descriptor fault)
 
 portless : (bytes : List ℕ) → HasNoLineFeed (portless_words bytes)
 portless bytes = no_line_feed-append (key_words (codes "descriptor"))
-    (rule_words 4 (codes "bDeviceClass is ") (get_or bytes 4 0) (codes ", of a hub: it needs `ports`"))
-    (key (codes "descriptor") refl)
+    (rule_words 4 (codes "bDeviceClass is ") (get_or bytes 4 0)
+    (codes ", of a hub: it needs `ports`")) (key (codes "descriptor") refl)
     (one_rule 4 (codes "bDeviceClass is ") (get_or bytes 4 0) (codes ", of a hub: it needs `ports`")
     refl refl)
 
@@ -231,7 +236,8 @@ if_told wide spec cause None = refl
 if_told wide spec cause (Some r) = choice (is_cause_of r cause) _ _
     (no_line_feed-append (codes "; ") (remark_words wide spec r) refl (told wide spec r)) refl
 
-of_plugged : (wide : Bool) (spec : Option Spec) (cause : Cause) → HasNoLineFeed (rule_of wide spec cause)
+of_plugged : (wide : Bool) (spec : Option Spec) (cause : Cause)
+    → HasNoLineFeed (rule_of wide spec cause)
 of_plugged wide None cause = refl
 of_plugged wide (Some spec) cause = if_told wide spec cause (remark_of wide spec)
 

@@ -3,8 +3,8 @@ use Rattle.std.specs.Prelude.{ℕ, List, [], ◌∷◌, ◌++◌, Bool, Option, 
 use Rattle.std.specs.Prelude.{decimal, if◌then◌else◌, slice_index, ◌+◌}
 use Rattle.hex.specs.Hex.{encode_lower}
 use Rattle.usb_enum.specs.{Cause, Silent, Busy, Stalled, BadDevice, TooDeep, BadConfiguration}
-use Rattle.usb_enum.specs.{TooLarge, NoPower, BadHub, Lost, NoAddress, Request, Accepted, Finding, Strings}
-use Rattle.usb_enum.specs.{configuration_of, need_of}
+use Rattle.usb_enum.specs.{TooLarge, NoPower, BadHub, Lost, NoAddress, Request, Accepted, Finding}
+use Rattle.usb_enum.specs.{Strings, configuration_of, need_of}
 use Rattle.usb_enum.specs.declared.cause.Request.TheVariants as request
 use Rattle.usb_enum.specs.declared.finding.Finding.TheVariants.{Device, Refused}
 use Rattle.usb_drawing.specs.declared.art.Style.{Style}

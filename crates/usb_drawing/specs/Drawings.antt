@@ -1,6 +1,6 @@
 -- The lines of a drawn listing, one for each entry.
-use Rattle.std.specs.Prelude.{ℕ, zero, suc, ◌+◌, ◌-◌, ◌*◌, Bool, true, false, not, ◌==◌, max, List, []}
-use Rattle.std.specs.Prelude.{◌∷◌, ◌++◌, length, Option, None, Some, codes, decimal, nat_eq}
+use Rattle.std.specs.Prelude.{ℕ, zero, suc, ◌+◌, ◌-◌, ◌*◌, Bool, true, false, not, ◌==◌, max, List}
+use Rattle.std.specs.Prelude.{[], ◌∷◌, ◌++◌, length, Option, None, Some, codes, decimal, nat_eq}
 use Rattle.std.specs.Prelude.{if◌then◌else◌}
 use Rattle.std.specs.List.{list_all}
 use Rattle.std.specs.Cmp.Lexicographic.{pointwise}

@@ -160,4 +160,5 @@ pub row_fits_on : {F : Type 0} (c : CallState) (r : Result Step F) (p : Question
 row_fits_on {F} c r p e is =
     let goes : ∥ NeedsAnswer c p ∥₁ =
     subst (λ (x : Result Step F). IfOk x (λ s. ∥ CallIs c s ∥₁)) e is in
-    ∥∥₁_elim goes le_prop (λ n. row_max-fits c.roots p (question_asked n.goes.course p n.goes.asked))
+    ∥∥₁_elim goes le_prop
+    (λ n. row_max-fits c.roots p (question_asked n.goes.course p n.goes.asked))

@@ -85,7 +85,8 @@ pathed k p a s n is = head_is k (place_bytes p) a s n nothing (length-place_byte
 
 -- and of a request
 requested : (k : ℕ) (p : List ℕ) (r : Setup) → IsPath p
-    → HeadIs (head_bytes k (place_bytes p) (0, 0, 0) (bytes_of r)) k (place_bytes p) 0 0 0 (bytes_of r)
+    → HeadIs (head_bytes k (place_bytes p) (0, 0, 0) (bytes_of r)) k (place_bytes p) 0 0 0
+    (bytes_of r)
 requested k p r is =
     head_is k (place_bytes p) 0 0 0 (bytes_of r) (length-place_bytes p is) (length-bytes_of r)
 

@@ -30,7 +30,8 @@ pub data SizesFailed (modelled : Bool) (disk : Transport) (old : HostState) : �
     → HostState → Type 0 where
   none_asked : SizesFailed modelled disk old 0 disk old
   one_failed : {n : ℕ} {next : Transport} {mid new : HostState}
-      → SizesFailed modelled disk old n next mid → Takes modelled next Capacity 8 mid (Err Failed) new
+      → SizesFailed modelled disk old n next mid
+      → Takes modelled next Capacity 8 mid (Err Failed) new
       → SizesFailed modelled disk old (n + 1) (with_next_tag next) new
 
 abbrev pub is_failed : {A : Type 0} → Result A DriverFault → Bool
@@ -61,7 +62,8 @@ pub data DiskOpens (modelled : Bool) (found : Result Transport DriverFault) (old
 abbrev pub next_disk : Disk → Disk
 next_disk disk = record disk { transport = with_next_tag disk.transport }
 
--- blocks are written, if the bytes are those of whole blocks, 255 at most; else nothing is attempted
+-- blocks are written, if the bytes are those of whole blocks, 255 at most; else nothing is
+-- attempted
 pub data WritesBlocks (modelled : Bool) (disk : Disk) (first : ℕ) (bytes : List ℕ)
     (old : HostState) (result : Result (Unit {0}) DriverFault) (next : Disk) (new : HostState)
     : Type 0 where

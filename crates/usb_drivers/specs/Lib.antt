@@ -24,9 +24,9 @@ pub use Requests.{class_request}
 pub use Keyboards.{AsksOnce, AsksReport, Begins, KeyboardOpens, clear_told, given_if}
 pub use Keyboards.{keyboard_at, keyboard_of, keyboard_with, keys_told, poll_told, set_idle}
 pub use Keyboards.{set_protocol, set_report}
-pub use Transports.{Collects, Concludes, Gives, Puts, Recovers, SendsCommand, Takes, came, came_none}
-pub use Transports.{packets_of, put, reset_request, taken, taken_if, transport_at, transport_of}
-pub use Transports.{transport_with, went, with_next_tag}
+pub use Transports.{Collects, Concludes, Gives, Puts, Recovers, SendsCommand, Takes, came}
+pub use Transports.{came_none, packets_of, put, reset_request, taken, taken_if, transport_at}
+pub use Transports.{transport_of, transport_with, went, with_next_tag}
 pub use Capacities.{IsNoCapacity, capacity_bytes}
 pub use Disks.{AsksSize, DiskOpens, SizeTold, SizesFailed, WritesBlocks}
 pub use Disks.{is_failed, next_disk}

@@ -13,8 +13,8 @@ pub use Text.{basic_string, char_text, direction_word, entry_codes, first_config
 pub use Text.{is_self_powered, item_line, misfit_text, power_line, product_text, transfer_word}
 pub use Text.{word_digits}
 unfoldable pub use Text.{comment_text, configuration_lines, descriptor_line, endpoint_line}
-unfoldable pub use Text.{entry_text, head_line, identity_lines, interface_line, key_text, maker_text}
-unfoldable pub use Text.{name_line}
+unfoldable pub use Text.{entry_text, head_line, identity_lines, interface_line, key_text}
+unfoldable pub use Text.{maker_text, name_line}
 unfoldable pub use Text.{ports_line, setting_text, speed_line}
 unfoldable pub use Text.{known_speed_line}
 pub use Writing.{AddsTable, AreTables, HasSourceFault, IsNamedEntry, IsSource, IsTable}

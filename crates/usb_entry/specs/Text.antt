@@ -163,6 +163,7 @@ identity_lines name notes e = head_line notes.product e ++ codes "[[device]]\n" 
 -- the whole table
 unfoldable pub entry_text : List ℕ → ℕ → Notes → EntryData → List ℕ
 entry_text name ports notes e =
-    identity_lines name notes e ++ codes "configs = [\n" ++ flat_map configuration_lines e.configs ++
+    identity_lines name notes e ++ codes "configs = [\n"
+    ++ flat_map configuration_lines e.configs ++
     codes "]\n"
     ++ ports_line e.device ports ++ power_line (is_self_powered e.configs)

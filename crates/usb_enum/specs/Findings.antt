@@ -41,8 +41,8 @@ use Rattle.usb_enum.specs.StringRequests.{AsksStrings, EndsWithStrings}
 use Rattle.usb_enum.specs.Text.{ValuesDiffer, choice_of, texts_length}
 use Rattle.usb_enum.specs.TextLengths.{FewFrom, HasPlanWithin}
 
--- the device has an address, its descriptor is good, every configuration was read, they have no more
--- bytes than the host takes, and the first that the supply allows is chosen
+-- the device has an address, its descriptor is good, every configuration was read, they have no
+-- more bytes than the host takes, and the first that the supply allows is chosen
 pub record IsWhole (options : HostOptions) (supply : ℕ) (device : Accepted) : Type 0 where
   pub address : IsAddress device.address
   pub head : is_device device.low device.bytes ≡ true
@@ -170,8 +170,8 @@ TakesFor (Err fault) old new = new ≡ old
 -- where nothing is claimed at the port, and only addresses that are taken are claimed, the device
 -- that was found is the one at the port, where that
 -- is reachable
-pub record FindingIsTrue (port : HubPort) (addresses : Addresses) (options : HostOptions) (tier supply : ℕ)
-    (old : World) (result : Result Finding EnumFault) (new : World) : Type 0 where
+pub record FindingIsTrue (port : HubPort) (addresses : Addresses) (options : HostOptions)
+    (tier supply : ℕ) (old : World) (result : Result Finding EnumFault) (new : World) : Type 0 where
   pub truth : (f : AddressMap) (p : List ℕ) → IsAt f port p → Free f p
       → ((x : List ℕ) (a : ℕ) → f x ≡ Some a → IsTaken addresses a) → WhileBusWorks (MapHolds f) old
       → IsRegular old
@@ -229,8 +229,8 @@ pub record FewAttempts (port : HubPort) (addresses : Addresses) (old new : World
 -- who holds which address at each end, that what was found is so and there, why a device is
 -- refused, where all is fair and whatever is damaged, how
 -- few attempts that takes, how strings are asked for, and what is left at the port
-pub record Enumerates (port : HubPort) (before : Addresses) (options : HostOptions) (tier supply : ℕ)
-    (old : World) (result : Result Finding EnumFault) (new : World) : Type 0 where
+pub record Enumerates (port : HubPort) (before : Addresses) (options : HostOptions)
+    (tier supply : ℕ) (old : World) (result : Result Finding EnumFault) (new : World) : Type 0 where
   pub addresses : KeepsEnumerated port before old result new
   pub own : FindingIsTrue port before options tier supply old result new
   pub places : FindingStands port before old result new

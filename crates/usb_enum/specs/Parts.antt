@@ -132,7 +132,8 @@ StopsConfiguring t bytes options tier supply = Both (StopsDevice t bytes options
 
 -- why one at a port is not
 abbrev pub StopsExamining : HubPort → ℕ → HostOptions → ℕ → ℕ → World → World → Stop → Type 0
-StopsExamining port address options tier supply = Both (StopsAtPort port address options tier supply)
+StopsExamining port address options tier supply =
+    Both (StopsAtPort port address options tier supply)
     (λ old new stop. StopsFairly (whole_fault options tier supply) port address stop old new)
 
 -- a call at the port is done, or failed

@@ -225,7 +225,8 @@ pub record BadChosen (t : Target) (bytes : List ℕ) (wide : Bool) (supply : ℕ
 -- needs as little power as the port gives; or as a hub that is bad
 pub data RefusedAs (t : Target) (bytes : List ℕ) (options : HostOptions) (tier supply : ℕ)
     (old new : World) : Cause → Type 0 where
-  by_answer : {why : Cause} → Because t old new why → RefusedAs t bytes options tier supply old new why
+  by_answer : {why : Cause} → Because t old new why
+      → RefusedAs t bytes options tier supply old new why
   too_deep : tier ≡ LAST_TIER → is_hub_device bytes ≡ true → new ≡ old
       → RefusedAs t bytes options tier supply old new cause.TooDeep
   too_large : GoesOver options.device_bytes t old new
@@ -328,17 +329,18 @@ StoppedWithout port stop old new = (stop ≡ Refused cause.NoAddress)
 -- Of a whole enumeration
 
 -- the cause was found at a moment, at an address that is free; or none is
-pub data HasReason (port : HubPort) (addresses : Addresses) (options : HostOptions) (tier supply : ℕ)
-    (old new : World) : Cause → Type 0 where
+pub data HasReason (port : HubPort) (addresses : Addresses) (options : HostOptions)
+    (tier supply : ℕ) (old new : World) : Cause → Type 0 where
   refused_for : {why : Cause} (address : ℕ) → IsFree addresses address
       → RefusedFor port address options tier supply old new why
       → HasReason port addresses options tier supply old new why
   refused_early : {why : Cause} → IsFull addresses → RefusedEarly port 0 old new why
       → HasReason port addresses options tier supply old new why
-  none_free : IsFull addresses → HasReason port addresses options tier supply old new cause.NoAddress
+  none_free : IsFull addresses
+      → HasReason port addresses options tier supply old new cause.NoAddress
 
-pub record RefusedBefore (port : HubPort) (addresses : Addresses) (options : HostOptions) (tier supply : ℕ)
-    (old new : World) (why : Cause) : Type 0 where
+pub record RefusedBefore (port : HubPort) (addresses : Addresses) (options : HostOptions)
+    (tier supply : ℕ) (old new : World) (why : Cause) : Type 0 where
   pub moment : World
   pub reason : HasReason port addresses options tier supply old moment why
   pub led : Leads moment new

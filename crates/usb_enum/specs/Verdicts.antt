@@ -53,8 +53,8 @@ abbrev pub is_good_text : List ℕ → Bool
 is_good_text text = is_ok (config_head_of (take CONFIGURATION_LENGTH text)) &&
     is_ok (config_of (text_read text))
 
--- what is wrong with the text of an index: there is none, its head says more bytes than are left, it
--- is malformed, or its value is that of an earlier one. A head that is malformed says none
+-- what is wrong with the text of an index: there is none, its head says more bytes than are left,
+-- it is malformed, or its value is that of an earlier one. A head that is malformed says none
 abbrev pub text_fault : Option ℕ → ℕ → List (List ℕ) → Option (List ℕ) → Option Cause
 text_fault room index earlier None = Some (Stalled request.Config)
 text_fault room index earlier (Some text) =

@@ -1,8 +1,8 @@
 -- How an explained text goes on, byte after byte.
-use Rattle.std.proofs.Common.{◌≡◌, ◌≢◌, ◌==◌, inl, inr, ℕ, ◌+◌, ◌-◌, ◌^◌, ◌<◌, ◌≤◌, min, Bool, true, false, Decides}
-use Rattle.std.proofs.Common.{List, [], ◌∷◌, ◌++◌, length, take, drop, All, Option, Some, None, IfSome}
-use Rattle.std.proofs.Common.{Result, Ok, Err, IsErrOf, get_or, refl, sym, ap, subst, ◌∙◌, arith}
-use Rattle.std.proofs.Common.{append_assoc, append-nil, length-append}
+use Rattle.std.proofs.Common.{◌≡◌, ◌≢◌, ◌==◌, inl, inr, ℕ, ◌+◌, ◌-◌, ◌^◌, ◌<◌, ◌≤◌, min, Bool, true}
+use Rattle.std.proofs.Common.{false, Decides, List, [], ◌∷◌, ◌++◌, length, take, drop, All, Option}
+use Rattle.std.proofs.Common.{Some, None, IfSome, Result, Ok, Err, IsErrOf, get_or, refl, sym, ap}
+use Rattle.std.proofs.Common.{subst, ◌∙◌, arith, append_assoc, append-nil, length-append}
 use Rattle.std.proofs.lemmas.List.{take_more, take-append-drop, take_all}
 use Rattle.std.proofs.lemmas.List.Elements.{All-nil, All-push}
 use Rattle.std.proofs.lemmas.Bool.{eqb-true}
@@ -12,10 +12,11 @@ use Rattle.usb_bus.specs.{AppendsFront}
 use Rattle.usb_bus.proofs.Interface.{front_after_first}
 use Rattle.usb_pcap.specs.{IsAttemptLine, IsRunLine, IsTold, TracedAttempt, longest, next_number}
 use Rattle.usb_pcap.specs.{read_attempt}
-use Rattle.usb_explain.specs.{BeginsOtherwise, BegunLine, ExplainFault, ExplainedInPart, ExplainedTo}
-use Rattle.usb_explain.specs.{ExplainsText, IsExplained, KeepsLine, Kept, Known, Only, Reaches}
-use Rattle.usb_explain.specs.{ReachesOr, after_attempt, after_read, after_told, kept_attempt}
-use Rattle.usb_explain.specs.{kept_of, kept_text, kept_told, known_after, line_text, nothing_known}
+use Rattle.usb_explain.specs.{BeginsOtherwise, BegunLine, ExplainFault, ExplainedInPart}
+use Rattle.usb_explain.specs.{ExplainedTo, ExplainsText, IsExplained, KeepsLine, Kept, Known, Only}
+use Rattle.usb_explain.specs.{Reaches, ReachesOr, after_attempt, after_read, after_told}
+use Rattle.usb_explain.specs.{kept_attempt, kept_of, kept_text, kept_told, known_after, line_text}
+use Rattle.usb_explain.specs.{nothing_known}
 use Rattle.usb_explain.specs.declared.explaining.ExplainFault.TheVariants.{Line as bad_line, Read}
 use Rattle.usb_explain.specs.declared.explaining.ExplainFault.TheVariants.{TooLong, Write}
 

@@ -12,9 +12,9 @@ pub use Requests.{data_setup, is_setup, is_whole, request_of, sent_setup, setup_
 pub use Places.{address_in, after_answer, after_asked, after_attempt, after_plug, after_read}
 pub use Places.{after_request, after_told, below_path, fresh_place, is_done, is_empty_data}
 pub use Places.{is_empty_payload, is_in_control, is_move, is_port_reset, is_port_status, is_request}
-pub use Places.{is_reset_clearing, is_reset_of, is_set_address, known_after, next_places, next_reset}
-pub use Places.{nothing_known, path_of, place_of, plugged_root, reset_answered, reset_asked}
-pub use Places.{root_path, still_begun, with_place, with_root}
+pub use Places.{is_reset_clearing, is_reset_of, is_set_address, known_after, next_places}
+pub use Places.{next_reset, nothing_known, path_of, place_of, plugged_root, reset_answered}
+pub use Places.{reset_asked, root_path, still_begun, with_place, with_root}
 unfoldable pub use Places.{place_path}
 pub use Explained.{BeginsOtherwise, ExplainedInPart, ExplainedTo, ExplainsText, IsExplained}
 pub use Explained.{IsReadLine, IsUnended, KeepsLine, Reaches, ReachesOr, explained_by, is_all}

@@ -1,11 +1,11 @@
 -- What a run's text tells of the ports that its devices are at.
-use Rattle.std.specs.Prelude.{ℕ, zero, suc, ◌-◌, ◌==◌, ◌&&◌, ◌||◌, nat_le, nat_lt, Bool, true, false}
-use Rattle.std.specs.Prelude.{List, [], ◌∷◌, ◌++◌, length, replicate, slice_index_or, slice_set}
-use Rattle.std.specs.Prelude.{option_and_then, Option, Some, None, if◌then◌else◌}
+use Rattle.std.specs.Prelude.{ℕ, zero, suc, ◌-◌, ◌==◌, ◌&&◌, ◌||◌, nat_le, nat_lt, Bool, true}
+use Rattle.std.specs.Prelude.{false, List, [], ◌∷◌, ◌++◌, length, replicate, slice_index_or}
+use Rattle.std.specs.Prelude.{slice_set, option_and_then, Option, Some, None, if◌then◌else◌}
 use Rattle.usb_packet.specs.{InTok, OutTok, SetupTok, Packet, Token, Sof, Payload, Ack, Nak, Stall}
 use Rattle.usb_packet.specs.{Pre, Zero, One}
-use Rattle.usb_request.specs.{C_PORT_RESET, CLEAR_FEATURE, DEVICE_OUT, GET_STATUS, PORT_IN, PORT_OUT}
-use Rattle.usb_request.specs.{PORT_RESET, SET_ADDRESS, SET_FEATURE, Setup}
+use Rattle.usb_request.specs.{C_PORT_RESET, CLEAR_FEATURE, DEVICE_OUT, GET_STATUS, PORT_IN}
+use Rattle.usb_request.specs.{PORT_OUT, PORT_RESET, SET_ADDRESS, SET_FEATURE, Setup}
 use Rattle.usb_world.specs.{Exchange, ExchangeAnswer}
 use Rattle.usb_world.specs.declared.exchange.ExchangeAnswer.TheVariants as answer
 use Rattle.usb_pcap.specs.{TracedAttempt, read_attempt}
@@ -20,7 +20,8 @@ use Rattle.usb_explain.specs.declared.known.Roots.TheVariants as roots
 
 -- before the first line
 abbrev pub nothing_known : Known
-nothing_known = record { roots = roots.Unplugged; reset = reset.Idle; places = replicate 128 place.Unknown }
+nothing_known =
+    record { roots = roots.Unplugged; reset = reset.Idle; places = replicate 128 place.Unknown }
 
 -- ---- the path of an address
 

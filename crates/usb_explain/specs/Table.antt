@@ -33,7 +33,8 @@ port_features =
     (0, codes "PORT_CONNECTION") ∷ (1, codes "PORT_ENABLE") ∷ (2, codes "PORT_SUSPEND") ∷
     (3, codes "PORT_OVER_CURRENT") ∷ (4, codes "PORT_RESET") ∷ (8, codes "PORT_POWER") ∷
     (9, codes "PORT_LOW_SPEED") ∷ (16, codes "C_PORT_CONNECTION") ∷ (17, codes "C_PORT_ENABLE") ∷
-    (18, codes "C_PORT_SUSPEND") ∷ (19, codes "C_PORT_OVER_CURRENT") ∷ (20, codes "C_PORT_RESET") ∷ []
+    (18, codes "C_PORT_SUSPEND") ∷ (19, codes "C_PORT_OVER_CURRENT")
+    ∷ (20, codes "C_PORT_RESET") ∷ []
 
 -- features of a hub's port that have a selector (table 11-17)
 abbrev pub selected_features : List (ℕ × List ℕ)

@@ -10,8 +10,8 @@ use Rattle.usb_explain.specs.declared.field.SetupField.TheVariants as field
 use Rattle.usb_explain.specs.declared.phrase.Phrase.{Phrase}
 use Rattle.usb_explain.specs.declared.phrase.Phrase.TheVariants as phrase
 
--- a field of setup data, or a part of one: a word has a high byte and a low one, and bits 6 and 5 of
--- bmRequestType are the kind of the request (9.3)
+-- a field of setup data, or a part of one: a word has a high byte and a low one, and bits 6 and 5
+-- of bmRequestType are the kind of the request (9.3)
 unfoldable pub field_value : SetupField → Setup → ℕ
 field_value field.RequestType s = s.request_type
 field_value field.Kind s = s.request_type / 32 % 4

@@ -20,8 +20,9 @@ use Rattle.usb_wire.specs.declared.question.Question.TheVariants.{Hello}
 use Rattle.usb_far.specs.{LongSend, Far, IsDone, Played, SendsTooMuch, attempt_done, call_done}
 use Rattle.usb_far.specs.{answer_in, came_of, done, due_wanted, hello_done, is_poll, outcome_answer}
 use Rattle.usb_far.specs.{part_wanted, restart_done, sending_in, unseen_in, wait_done, wanted_done}
-use Rattle.usb_far.specs.{FarFault, PutsLine, bus_told, ChangesTold, Replied, Replies, ToSend, Wanted, far_done, line_of, may_ask}
-use Rattle.usb_far.specs.{rest_behind, status_lines, told_behind}
+use Rattle.usb_far.specs.{FarFault, PutsLine, bus_told, ChangesTold, Replied, Replies, ToSend}
+use Rattle.usb_far.specs.{Wanted, far_done, line_of, may_ask, rest_behind, status_lines}
+use Rattle.usb_far.specs.{told_behind}
 use Rattle.usb_far.specs.declared.far_end.Phase.TheVariants.{Asks}
 
 pub played_attempt : (a : Attempt) (old new : Played) (o : Outcome) (answer : Answer)

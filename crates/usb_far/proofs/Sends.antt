@@ -1,6 +1,7 @@
 -- The parts of a send.
 use Rattle.std.specs.Prelude.{min, if◌then◌else◌}
-use Rattle.std.proofs.Common.{◌≡◌, ◌∙◌, ℕ, Bool, false, List, length, take, drop, Some, ap, ap₂, refl}
+use Rattle.std.proofs.Common.{◌≡◌, ◌∙◌, ℕ, Bool, false, List, length, take, drop, Some, ap, ap₂}
+use Rattle.std.proofs.Common.{refl}
 use Rattle.std.proofs.lemmas.List.{drop_min, take_min}
 use Rattle.usb_wire.specs.{Answer}
 use Rattle.usb_far.specs.{ToSend, Wanted, fits_line, part_wanted, send_answer}

@@ -151,8 +151,8 @@ is_poll a o = is_in_token a.kind && not (a.ep == 0) && brings_nothing o
 -- ---- what is done at a question
 
 -- the answer, where a line has room for it; behind it the world, whether the host may not have seen
--- an event, and what is left of a send; the lines of the trace, and whether the bus makes an attempt or
--- lets an event come; of an attempt, how many bytes of data a device answers
+-- an event, and what is left of a send; the lines of the trace, and whether the bus makes an
+-- attempt or lets an event come; of an attempt, how many bytes of data a device answers
 pub record Deed : Type 0 where
   pub answer : Option Answer
   pub world : World
@@ -171,8 +171,8 @@ abbrev pub is_damaged : World → Bool
 is_damaged w = is_some (damage_of w.damages w.attempts)
 
 -- since the last question other than a poll that brought nothing, an event came in such a poll, or
--- such a poll was damaged: of this attempt, of what was so before it, of the events before it, and of
--- the world behind it
+-- such a poll was damaged: of this attempt, of what was so before it, of the events before it, and
+-- of the world behind it
 abbrev pub unseen_in : Bool → Bool → ℕ → World → Bool
 unseen_in false unseen before w = false
 unseen_in true true before w = true
@@ -472,8 +472,8 @@ abbrev pub bus_told : Result (Unit {0}) BusFault → Result (Unit {0}) FarFault
 bus_told (Ok done) = Ok done
 bus_told (Err bus) = Err (fault.Bus bus)
 
--- a line was put into the trace, or the bus told its fault: a front of it where the trace failed, and
--- nothing where a fault was told before
+-- a line was put into the trace, or the bus told its fault: a front of it where the trace failed,
+-- and nothing where a fault was told before
 pub record PutsLine (line : List ℕ) (old : Played) (result : Result (Unit {0}) FarFault)
     (new : Played) : Type 0 where
   pub bus : Result (Unit {0}) BusFault

@@ -1,5 +1,6 @@
 -- What an event requests of the host, as it is reported.
-use Rattle.std.specs.Prelude.{ℕ, nat_lt, List, length, drop, take, if◌then◌else◌, Option, Some, None}
+use Rattle.std.specs.Prelude.{ℕ, nat_lt, List, length, drop, take, if◌then◌else◌, Option, Some}
+use Rattle.std.specs.Prelude.{None}
 use Rattle.usb_world.specs.declared.event.Ask.{Ask}
 use Rattle.usb_world.specs.declared.event.Ask.TheVariants as ask
 use Rattle.usb_world.specs.{Write}

@@ -3,8 +3,8 @@ use Rattle.std.specs.Prelude.{ℕ, ◌+◌, ◌*◌, ◌&&◌, nat_le, Bool, Lis
 use Rattle.usb_port.specs.{path_text}
 use Rattle.usb_wire.specs.{send_limit, send_room, send_to_limit}
 
--- bytes that are still to go to the device at a port: to the endpoint that is named, or to the first
--- bulk one
+-- bytes that are still to go to the device at a port: to the endpoint that is named, or to the
+-- first bulk one
 pub record ToSend : Type 0 where
   pub path : List ℕ
   pub endpoint : Option ℕ

@@ -37,8 +37,8 @@ pub data GoesOn (asked : Question) (old : Far) : List ℕ → List ℕ → Far �
       → rest_behind q r.answer ≡ Some rest
       → GoesOn asked old (said ++ lines) (traced ++ (done q mid).traced) new rest
 
--- the replies to a question: one; or one to each attempt of a row, until one moved no packet or none
--- was left
+-- the replies to a question: one; or one to each attempt of a row, until one moved no packet or
+-- none was left
 pub data RowReplied (asked : Question) (old : Far) : List ℕ → List ℕ → Far → Type 0 where
   over : {said traced lines : List ℕ} {mid new : Far} {q : Question}
       → GoesOn asked old said traced mid q → (r : IsReplied q mid new lines)
@@ -59,8 +59,8 @@ pub data LineReplied (old : Far) : Passed → Far → Type 0 where
 -- so many lines were read, one after the other, and their replies are these
 pub data AllReplied (old : Far) : ℕ → Passed → Far → Type 0 where
   none : AllReplied old 0 (passed [] [] []) old
-  next : {count : ℕ} {mid new : Far} {p q : Passed} → AllReplied old count p mid → LineReplied mid q new
-      → AllReplied old (count + 1) (and_then p q) new
+  next : {count : ℕ} {mid new : Far} {p q : Passed} → AllReplied old count p mid
+      → LineReplied mid q new → AllReplied old (count + 1) (and_then p q) new
 
 -- ---- what is seen of all that
 
@@ -93,8 +93,8 @@ reading_in s = record { played = s.played; reader = s.reader }
 
 -- ---- why a line stops the far end
 
--- the replies to the first attempts of a row have gone out, each was flushed before the next attempt,
--- and this is left of the row; nothing yet, where all of the question is left
+-- the replies to the first attempts of a row have gone out, each was flushed before the next
+-- attempt, and this is left of the row; nothing yet, where all of the question is left
 pub data RowFront (asked : Question) (old : Played) (before : OutPipe) : Played → OutPipe → Question
     → Type 0 where
   begun : RowFront asked old before old before asked

@@ -312,7 +312,8 @@ module _ {path : List ℕ} {port : KnownPort} {a b c : HostState} (s : StandsAt 
       port = port;
       known = s.known;
       addresses = c.addresses;
-      agrees = rw width (subst (λ (es : Entries). Agrees c.options es c.addresses) look_left f.agrees);
+      agrees =
+          rw width (subst (λ (es : Entries). Agrees c.options es c.addresses) look_left f.agrees);
       found = record {
         finding = g.finding;
         gave = subst (λ (w : World). Enumerates port.port c.addresses d.options (tier_of path)
@@ -328,7 +329,8 @@ module _ {path : List ℕ} {port : KnownPort} {a b c : HostState} (s : StandsAt 
     }
 
     found_looked : (result : Result (Unit {0}) EnumFault) (d : HostState) → Entered path c result d
-        → d.options ≡ c.options → OnOk result (EntersFound path port c.addresses c.world c.entries d)
+        → d.options ≡ c.options
+        → OnOk result (EntersFound path port c.addresses c.world c.entries d)
         → IsOwned a → LookedOrLost path a result d
     found_looked (Ok done) d e width g o = record {
       status = status;

@@ -183,7 +183,8 @@ module _ {hub : List ℕ} {answer : Result (Option (ArrayVec ℕ)) PipeFault} (a
     part = record {
       goes = host_goes_then goes q (omega arith);
       owned = stays_owned_then polled owned;
-      sound = part_where a c (q.options ∙ goes.options) (λ s. part_then 768 a b c goes.went q.went (part
+      sound =
+          part_where a c (q.options ∙ goes.options) (λ s. part_then 768 a b c goes.went q.went (part
           ok) (told s));
     };
     calm = λ is. absurd (cc is);

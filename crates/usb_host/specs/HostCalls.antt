@@ -55,7 +55,8 @@ pub record MovesAnyBus {A : Type 0} (modelled : Bool) (most : ℕ)
 -- `new` and `with_wide_hubs`, whatever was done before over a bus in this world, with this trace:
 -- its root ports lost power and have it again, and no device is known. At no attempt so far two
 -- reachable devices may have held one address, since that stays told
-pub record NewTells (options : HostOptions) (w : World) (t : Option (List ℕ)) (host : HostState) : Type 0
+pub record NewTells (options : HostOptions) (w : World) (t : Option (List ℕ))
+    (host : HostState) : Type 0
   where
     pub opens : host ≡ opening_host options w t
     pub traced : Traced w t host.world host.trace

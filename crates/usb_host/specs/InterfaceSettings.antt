@@ -37,7 +37,8 @@ pub record SetsInterface (path : List ℕ) (interface setting : ℕ) (old : Host
   pub told : result ≡ host_told answer
   pub through : GoesThrough path (table_in old) (table_in new)
   pub did : InterfaceSetIf path interface setting (table_in old)
-      (interface_target path interface setting old.entries) old.world answer (table_in new) new.world
+      (interface_target path interface setting old.entries) old.world answer
+      (table_in new) new.world
   pub keeps : KeepsLevels OnlySets path (new.world.fault ≡ None) (table_in old) old.world
       (table_in new) new.world
 

@@ -14,8 +14,8 @@ kept_bytes (Refused cause) = 0
 abbrev pub kept_in : Entries → ℕ
 kept_in entries = sum_by (λ e. kept_bytes e.1) entries
 
--- a host that takes so many bytes of a device keeps no more of any that is listed, and of all of them
--- no more than of 127, one for each address
+-- a host that takes so many bytes of a device keeps no more of any that is listed, and of all of
+-- them no more than of 127, one for each address
 pub record KeepsFew (options : HostOptions) (entries : Entries) : Type 0 where
   pub each : (most : ℕ) → options.device_bytes ≡ Some most → (path : List ℕ) (finding : Finding)
       → finding_at path entries ≡ Some finding → kept_bytes finding ≤ most

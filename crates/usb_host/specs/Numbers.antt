@@ -40,8 +40,8 @@ known_device None numbers = None
 known_device (Some device) numbers =
     Some (record { accepted = device; number = slice_index numbers.of device.address })
 
--- the accepted devices with their numbers, those that were reported to the caller, and what is taken
--- of devices
+-- the accepted devices with their numbers, those that were reported to the caller, and what is
+-- taken of devices
 pub record Known : Type 0 where
   pub entries : Entries
   pub numbers : DeviceNumbers

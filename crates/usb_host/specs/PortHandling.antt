@@ -174,7 +174,8 @@ pub record DropsLost (path : List ℕ) (served : Result (Unit {0}) EnumFault) (o
       → OnErr result (StaysWhere (new.world.fault ≡ None) old new)
   pub plugs : OnOk result (KeepsPlugs old new)
   pub caused : InvariantAfterPort path served old → IsFairTo old.world new.world
-      → PortCaused path served old → OnOk result (RefusalsJustified new.options new.world new.entries)
+      → PortCaused path served old
+      → OnOk result (RefusalsJustified new.options new.world new.entries)
 
 -- Where a hub is dropped
 

@@ -45,13 +45,15 @@ known_supply path entries = unwrap_or (option_map (λ (known : KnownPort). known
 pub record IsTruthOf (options : HostOptions) (entries : Entries) (path : List ℕ) (device : Accepted)
     (s : State) : Type 0
   where
-    pub found : IsFindingOf s.spec options (tier_of path) (known_supply path entries) (Device device)
+    pub found : IsFindingOf s.spec options (tier_of path) (known_supply path entries)
+        (Device device)
     pub set : IsSet device s
 
 -- what is known of the accepted device at a path is so where it is reached, whatever is damaged or
 -- pending
 abbrev pub IsAccurateAt : HostOptions → World → Entries → List ℕ → Type 0
-IsAccurateAt options w entries path = (device : Accepted) (s : State) → accepted_device_at path entries
+IsAccurateAt options w entries path =
+    (device : Accepted) (s : State) → accepted_device_at path entries
     ≡ Some device → reach w.roots path ≡ true → state_there w.roots path ≡ Some s
     → IsTruthOf options entries path device s
 
@@ -100,7 +102,8 @@ EachStillBut path = EachElsewhere path SameDevice
 
 -- entries agree with the addresses that are taken, and one without a hub stands at a port that the
 -- root has
-pub record Accounted (options : HostOptions) (roots : ℕ) (entries : Entries) (addresses : Addresses) : Type 0
+pub record Accounted (options : HostOptions) (roots : ℕ) (entries : Entries)
+    (addresses : Addresses) : Type 0
   where
     pub agrees : Agrees options entries addresses
     pub root : (path : List ℕ) → IsSome (finding_at path entries) → parent_of path ≡ None

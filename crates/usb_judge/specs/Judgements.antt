@@ -50,9 +50,9 @@ IsRightOf Refused seen = IsAside seen × IsPowered seen
 
 -- What is right of a listing
 
--- The listing is what is plugged. At each port of the root and of each hub that is listed the device
--- that is plugged there is listed, or refused. Nothing else is listed, and nothing twice. What is
--- said of each device is so. No two devices are listed at one address.
+-- The listing is what is plugged. At each port of the root and of each hub that is listed the
+-- device that is plugged there is listed, or refused. Nothing else is listed, and nothing twice.
+-- What is said of each device is so. No two devices are listed at one address.
 pub record IsRight (scene : Scene) (listing : List ListedPort) : Type 0 where
   pub there : (port : ListedPort) → Contains listing port
       → IsSomeAnd (scene port.path) (IsRightOf port.claim)
@@ -82,8 +82,8 @@ abbrev pub Stands : Scene → List ListedPort → List ℕ → Cause → Type 0
 Stands scene listing path cause.Missing = LacksDevice scene listing path
 Stands scene listing path other = IsWrongFor scene listing path other
 
--- each of these judgements stands, each one that stands is one of them, and there is none exactly if
--- the listing is right
+-- each of these judgements stands, each one that stands is one of them, and there is none exactly
+-- if the listing is right
 pub record Judges (scene : Scene) (listing : List ListedPort) (judgements : List Judgement) :
     Type 0 where
   pub stands : (j : Judgement) → Contains judgements j → Stands scene listing j.path j.cause

@@ -46,8 +46,8 @@ abbrev pub names_port : List ℕ → Bool
 names_port path =
     nat_le 1 (length path) && nat_le (length path) 7 && list_all is_port_number path
 
--- the device at each path of a tree: its own descriptor and speed, the address and the configuration
--- that it has, and whether it is reached
+-- the device at each path of a tree: its own descriptor and speed, the address and the
+-- configuration that it has, and whether it is reached
 abbrev pub scene_on : Ports → Scene
 scene_on roots path = if names_port path then option_map
     (state_seen (reach roots path) (given_below roots (parent_of path))) (state_there roots path)

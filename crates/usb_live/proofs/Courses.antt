@@ -26,10 +26,10 @@ use Rattle.usb_packet.specs.{Toggle}
 use Rattle.std.proofs.Common.{length}
 use Rattle.std.specs.Int.{div_ceil}
 use Rattle.usb_text.specs.{lines_text, listing_lines}
-use Rattle.usb_live.specs.{LiveCourse, LiveHost, CourseTo, EndsBy, EndsLiveAs, IsShown, StandsAtStage, Lives}
-use Rattle.usb_live.specs.{is_nothing, is_wait, listed, owed_by, owed_left, owes, questions_in}
-use Rattle.usb_live.specs.{settles, stage_behind, stage_behind_answer, told_text, LiveEnd, Line}
-use Rattle.usb_live.specs.{Memory, Rounds, Owed}
+use Rattle.usb_live.specs.{LiveCourse, LiveHost, CourseTo, EndsBy, EndsLiveAs, IsShown}
+use Rattle.usb_live.specs.{StandsAtStage, Lives, is_nothing, is_wait, listed, owed_by, owed_left}
+use Rattle.usb_live.specs.{owes, questions_in, settles, stage_behind, stage_behind_answer}
+use Rattle.usb_live.specs.{told_text, LiveEnd, Line, Memory, Rounds, Owed}
 use Rattle.usb_live.specs.{Stage, Asks, EndWanted, Over}
 use Rattle.usb_live.specs.declared.owed.Owed.TheVariants as owed
 
@@ -43,8 +43,8 @@ left_behind q r0 r1 w0 w1 j (Err f) k h = h.spent
 
 -- ---- one step
 
-pub on_asks : {st : Stage} {o : Owed} {host : LiveHost} {m : ℕ} {u r : Pipe} {b w : OutPipe} {k : Kept}
-    → CourseTo st o host m u b r w k → CourseTo Asks o host m u b r w k
+pub on_asks : {st : Stage} {o : Owed} {host : LiveHost} {m : ℕ} {u r : Pipe} {b w : OutPipe}
+    {k : Kept} → CourseTo st o host m u b r w k → CourseTo Asks o host m u b r w k
 on_asks c = record {
   asked = c.asked;
   course = c.course;
@@ -98,8 +98,8 @@ asked_on r0 r1 w0 w1 j k q result c sound plain single h =
     }
 
 -- what is wanted was asked
-wanted_on : {st : Stage} {host : LiveHost} {m : ℕ} {u : Pipe} {b : OutPipe} (r0 r1 : Pipe) (w0 w1 : OutPipe)
-    (j k : Kept)
+wanted_on : {st : Stage} {host : LiveHost} {m : ℕ} {u : Pipe} {b : OutPipe} (r0 r1 : Pipe)
+    (w0 w1 : OutPipe) (j k : Kept)
     (result : Result Answer LiveFault) → CourseTo st owed.Nothing host m u b r0 w0 j → j.fault ≡
     None
     → AsksOnce Wait (streams r0 r1 w0 w1) j result k
@@ -193,7 +193,8 @@ row_left plan most r0 r1 w0 w1 j k done got h =
 ins_made : {st : Stage} {o : Owed} {host : LiveHost} {m : ℕ} {u : Pipe} {b : OutPipe}
     (r0 r1 : Pipe) (w0 w1 : OutPipe) (j k : Kept) (to : Destination) (first : Toggle) (most : ℕ)
     (done : RowDone) (got : List ℕ) → CourseTo st o host m u b r0 w0 j → j.fault ≡ None
-    → InsByLine to first most (streams r0 r1 w0 w1) j done got k → CourseTo Asks o host m u b r1 w1 k
+    → InsByLine to first most (streams r0 r1 w0 w1) j done got k
+    → CourseTo Asks o host m u b r1 w1 k
 ins_made r0 r1 w0 w1 j k to first most done got c sound h =
     let less = row_left (ins_plan j.rows to first most) most r0 r1 w0 w1 j k done got h in
     let few = c.few in
@@ -228,7 +229,8 @@ outs_made r0 r1 w0 w1 j k to first total done c sound h =
 -- ---- one call, of a bus that may have a fault
 
 -- behind a fault nothing goes on
-by_fault : {R W : Type 0} (rem : R → Option (List ℕ)) (con : W → Option (List ℕ)) (host : LiveHost) (m : ℕ)
+by_fault : {R W : Type 0} (rem : R → Option (List ℕ))
+    (con : W → Option (List ℕ)) (host : LiveHost) (m : ℕ)
     (u : Pipe) (b : OutPipe) (old new : StreamBus R W) (st : Stage)
     (ow : Owed) (o : Option LiveFault) → (kept_of old).fault ≡ o
     → ((f : LiveFault) → (kept_of old).fault ≡ Some f → new ≡ old)
@@ -311,7 +313,8 @@ calls_by r0 r1 w0 w1 j k port (Some call) c sound h =
     c sound refl refl one.asked)
     (λ beyond. course_nothing_asked r0 r1 w0 w1 j k c (h.2 beyond))
 
-pub call_on : {R W : Type 0} (rem : R → Option (List ℕ)) (con : W → Option (List ℕ)) (host : LiveHost) (m : ℕ)
+pub call_on : {R W : Type 0} (rem : R → Option (List ℕ))
+    (con : W → Option (List ℕ)) (host : LiveHost) (m : ℕ)
     (u : Pipe) (b : OutPipe) (old new : StreamBus R W) (st : Stage)
     (ow : Owed) (port : ℕ) (call : Option PortCall) → ((kept_of old).fault ≢ None → new ≡ old)
     → ((kept_of old).fault ≡ None → Calls port call
@@ -339,12 +342,13 @@ restart_on rem con host m u b old new st ow address number is_in again asks c =
     (λ f e. again (λ none. let clash : Some f ≡ None = sym e ∙ none in cc))
     (λ e. let one = asks e in
     asked_on (unread_of rem old) (unread_of rem new) (written_of con old) (written_of con new)
-    (kept_of old) (kept_of new) (restart_of address number is_in) one.result c e refl refl one.asked) c
+    (kept_of old) (kept_of new) (restart_of address number is_in) one.result c e refl refl
+    one.asked) c
 
 -- ---- what is wanted, and what is told
 
-waits_by : {st : Stage} {host : LiveHost} {m : ℕ} {u : Pipe} {b : OutPipe} (r0 r1 : Pipe) (w0 w1 : OutPipe)
-    (j k : Kept) (result : Result Answer LiveFault)
+waits_by : {st : Stage} {host : LiveHost} {m : ℕ} {u : Pipe} {b : OutPipe} (r0 r1 : Pipe)
+    (w0 w1 : OutPipe) (j k : Kept) (result : Result Answer LiveFault)
     → CourseTo st owed.Nothing host m u b r0 w0 j → j.fault ≡ None
     → AsksOnce Wait (streams r0 r1 w0 w1) j result k
     → CourseTo (stage_behind_answer result) (owed_by result) host m u b r1 w1 k
@@ -374,7 +378,8 @@ nothing_is owed.Nothing h = refl
 nothing_is _ h = cc
 
 -- behind a fault it is told again, and the stage is as at any other answer
-pub wait_on : {R W : Type 0} (rem : R → Option (List ℕ)) (con : W → Option (List ℕ)) (host : LiveHost) (m : ℕ)
+pub wait_on : {R W : Type 0} (rem : R → Option (List ℕ))
+    (con : W → Option (List ℕ)) (host : LiveHost) (m : ℕ)
     (u : Pipe) (b : OutPipe) (old new : StreamBus R W) (st : Stage)
     (result : Result Answer LiveFault) (o : Option LiveFault) → (kept_of old).fault ≡ o
     → ((f : LiveFault) → (kept_of old).fault ≡ Some f → (result ≡ Err f) × (new ≡ old))
@@ -428,7 +433,8 @@ course_tells {o} {host} {m} Asks r w0 w1 j k item done c sound fits shown h =
 course_tells {o} {host} {m} Over r w0 w1 j k item done c sound fits shown h =
     told_on r w0 w1 j k item (Ok done) c sound
     (same_left (told_text (number_of item m) item) w0 w1 j (Ok done) k h) fits shown h
-course_tells {o} {host} {m} EndWanted r w0 w1 j k (Listing entries taken said) done c sound fits shown h
+course_tells {o} {host} {m} EndWanted r w0 w1 j k (Listing entries taken said) done c sound
+    fits shown h
     =
     let same = same_left (told_text (m + 1) (Listing entries taken said)) w0 w1 j (Ok done) k h in
     let on = told_on r w0 w1 j k (Listing entries taken said) (Ok done) c sound same fits shown h in
@@ -454,7 +460,8 @@ course_tells {o} {host} {m} EndWanted r w0 w1 j k item done c sound fits shown h
     (same_left (told_text (number_of item m) item) w0 w1 j (Ok done) k h) fits shown h
 
 -- an item was told well; the reader stays
-pub tell_on : {R W : Type 0} (rem : R → Option (List ℕ)) (con : W → Option (List ℕ)) (host : LiveHost) (m : ℕ)
+pub tell_on : {R W : Type 0} (rem : R → Option (List ℕ))
+    (con : W → Option (List ℕ)) (host : LiveHost) (m : ℕ)
     (u : Pipe) (b : OutPipe) (old new : StreamBus R W) (st : Stage)
     (ow : Owed) (item : Item) (text : List ℕ) (result : Result (Unit {0}) LiveFault)
     (o : Option LiveFault)
@@ -494,7 +501,8 @@ tells_off {st} {o} {host} {m} r w0 w1 j k item (Err f) bad c sound fits shown h 
     (same_left (told_text (number_of item m) item) w0 w1 j (Err f) k h) fits shown h
 
 -- an item was told, or a front of it
-pub tell_off : {R W : Type 0} (rem : R → Option (List ℕ)) (con : W → Option (List ℕ)) (host : LiveHost) (m : ℕ)
+pub tell_off : {R W : Type 0} (rem : R → Option (List ℕ))
+    (con : W → Option (List ℕ)) (host : LiveHost) (m : ℕ)
     (u : Pipe) (b : OutPipe) (old new : StreamBus R W) (st : Stage)
     (ow : Owed) (item : Item) (text : List ℕ) (result : Result (Unit {0}) LiveFault)
     → is_ok result ≡ false → text ≡ told_text (number_of item m) item → settles ow item ≡ true
@@ -520,8 +528,8 @@ number_fits : (count n left limit owing : ℕ) → owing ≡ 1 → count + owing
     → limit < 2 ^ 64 → count + 1 < 2 ^ 64
 number_fits count n left limit owing one few all bound = omega (arith, one, few, all, bound)
 
-pub has_number : {st : Stage} {o : Owed} {host : LiveHost} {m : ℕ} {u r : Pipe} {b w : OutPipe} {k : Kept}
-    (item : Item) → settles o item ≡ true → host.limit < 2 ^ 64
+pub has_number : {st : Stage} {o : Owed} {host : LiveHost} {m : ℕ} {u r : Pipe} {b w : OutPipe}
+    {k : Kept} (item : Item) → settles o item ≡ true → host.limit < 2 ^ 64
     → ∥ CourseTo st o host m u b r w k ∥₁ → m + 1 < 2 ^ 64
 has_number {st} {o} {host} {m} {u} {r} {b} {w} {k} item fits bound course =
     elim (cases_lt (m + 1) (2 ^ 64)) [
@@ -549,7 +557,8 @@ left_greeted (Ok _) k = refl
 left_greeted (Err f) k = refl
 
 greeted_course : {host : LiveHost} (u r : Pipe) (b w : OutPipe) (mid : Kept)
-    (result : Result Answer LiveFault) → AsksOnce Hello (streams u r b w) (unasked host.wide host.limit) result mid
+    (result : Result Answer LiveFault)
+    → AsksOnce Hello (streams u r b w) (unasked host.wide host.limit) result mid
     → CourseTo Asks owed.Nothing host 0 u b r w (greeted result mid)
 greeted_course {host} u r b w mid result h =
     let fewer = left_behind Hello u r b w (unasked host.wide host.limit) result mid h in
@@ -562,7 +571,8 @@ greeted_course {host} u r b w mid result h =
       at = tt;
     }
 
-pub opens : {host : LiveHost} (u r : Pipe) (b w : OutPipe) (k : Kept) → SaysHello host.wide host.limit (streams u r b w)
+pub opens : {host : LiveHost} (u r : Pipe) (b w : OutPipe) (k : Kept)
+    → SaysHello host.wide host.limit (streams u r b w)
     k
     → CourseTo Asks owed.Nothing host 0 u b r w k
 opens {host} u r b w k h = subst (λ (x : Kept). CourseTo Asks owed.Nothing host 0 u b r w x)
@@ -584,8 +594,8 @@ ends_as fault lines left (Err (Rounds number)) is same none by c =
     (sym is ∙ by.0, by.1 ∙ same, omega (arith, few, none, all))
 ends_as fault lines left (Err Memory) is same none by c = sym is ∙ by
 
-pub lives : {st : Stage} {o : Owed} {host : LiveHost} {m : ℕ} {u r : Pipe} {b w : OutPipe} {k : Kept}
-    (fault : Option LiveFault) (lines left : ℕ)
+pub lives : {st : Stage} {o : Owed} {host : LiveHost} {m : ℕ} {u r : Pipe} {b w : OutPipe}
+    {k : Kept} (fault : Option LiveFault) (lines left : ℕ)
     (ended : Result (Unit {0}) LiveEnd) → fault ≡ k.fault → lines ≡ k.lines → left ≡ k.left
     → EndsBy fault lines left st ended → CourseTo st o host m u b r w k
     → Lives host u r b w ended

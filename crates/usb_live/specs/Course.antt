@@ -138,8 +138,8 @@ listed count item (Ok done) = number_of item count
 listed count item (Err f) = count
 
 -- so many questions were asked, from the hello on, each was answered by the lines that were read
--- next or left a fault, a row of attempts by those of each attempt up to the first one that moved no
--- packet. Items were told between them: behind what was wanted the one that this owes, once, and
+-- next or left a fault, a row of attempts by those of each attempt up to the first one that moved
+-- no packet. Items were told between them: behind what was wanted the one that this owes, once, and
 -- before it is asked again what is wanted; behind a fault nothing was asked or told. So many
 -- listings were told, numbered from 1 on
 pub data LiveCourse (host : LiveHost) (unread : Pipe) (before : OutPipe) : Owed → ℕ → Pipe → OutPipe
@@ -211,7 +211,8 @@ abbrev pub stage_behind : Stage → Item → Stage
 stage_behind EndWanted (Listing entries taken said) = Over
 stage_behind stage item = Asks
 
-abbrev pub StandsAtStage : Stage → LiveHost → ℕ → Pipe → OutPipe → Pipe → OutPipe → Kept → ℕ → Type 0
+abbrev pub StandsAtStage : Stage → LiveHost → ℕ → Pipe → OutPipe → Pipe → OutPipe → Kept
+    → ℕ → Type 0
 StandsAtStage Asks host count unread before left now k n = ⊤
 StandsAtStage EndWanted host count unread before left now k n =
     WantsEnd host count unread before left now k n
@@ -228,8 +229,8 @@ pub record CourseTo (stage : Stage) (o : Owed) (host : LiveHost) (count : ℕ) (
 
 -- it ended because the end was wanted, or because of a fault, which is told with the number of
 -- lines that were read; Rounds tells that as many questions were asked as there may be
-abbrev pub EndsLiveAs : Result (Unit {0}) LiveEnd → LiveHost → Pipe → OutPipe → Pipe → OutPipe → Kept → ℕ
-    → Type 0
+abbrev pub EndsLiveAs : Result (Unit {0}) LiveEnd → LiveHost → Pipe → OutPipe → Pipe → OutPipe
+    → Kept → ℕ → Type 0
 EndsLiveAs (Ok done) host unread before left now k n = IsOver host unread before left now k n
 EndsLiveAs (Err (Line number f)) host unread before left now k n = (k.fault ≡ Some f)
     × (number ≡ k.lines)

@@ -3,8 +3,8 @@ pub mod Wanted
 -- the words of this crate, wherever one stands
 pub use Course.{CourseTo, EndsBy, EndsLiveAs, IsOver, IsShown, ListsEntries, LiveCourse, LiveHost}
 pub use Course.{Lives, MayHold, live_host}
-pub use Course.{StandsAtStage, WantsEnd, goes_on, is_count, is_nothing, is_there, is_wait, is_within}
-pub use Course.{listed, owed_by, owed_left, owes, questions_in, settles, stage_behind}
+pub use Course.{StandsAtStage, WantsEnd, goes_on, is_count, is_nothing, is_there, is_wait}
+pub use Course.{is_within, listed, owed_by, owed_left, owes, questions_in, settles, stage_behind}
 pub use Course.{stage_behind_answer, told_text}
 pub use Wanted.{DoesWanted, IsOwed, Lists, ask_of}
 pub use declared.end.LiveEnd.{LiveEnd}

@@ -152,7 +152,8 @@ next_number-next n k m e f = omega arith
 more_packets : (had now : Bool) (file records : List ℕ)
     → now ≡ (had || not (length records == 0))
     → (had ≡ true → length header < length file) → (had ≡ false → file ≡ header)
-    → (now ≡ true → length header < length (file ++ records)) × (now ≡ false → file ++ records ≡ header)
+    → (now ≡ true → length header < length (file ++ records))
+    × (now ≡ false → file ++ records ≡ header)
 more_packets true now file records e some none = (
   λ _. let long = length-append file records in let more = some refl in omega (arith, long, more),
   λ bare. let apart : true ≡ false = sym e ∙ bare in absurd (cc),

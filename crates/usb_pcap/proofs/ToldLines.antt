@@ -1,6 +1,7 @@
 -- Lines of no attempt, by their forms.
-use Rattle.std.proofs.Common.{◌≡◌, ◌⊎◌, inl, inr, true, false, ◌==◌, ◌<◌, ◌≤◌, ◌+◌, ◌++◌, ◌∷◌, [], List, ℕ, Bool, length, take}
-use Rattle.std.proofs.Common.{get_or, Decides, refl, sym, ap, subst, ◌∙◌}
+use Rattle.std.proofs.Common.{◌≡◌, ◌⊎◌, inl, inr, true, false, ◌==◌, ◌<◌, ◌≤◌, ◌+◌, ◌++◌, ◌∷◌, []}
+use Rattle.std.proofs.Common.{List, ℕ, Bool, length, take, get_or, Decides, refl, sym, ap, subst}
+use Rattle.std.proofs.Common.{◌∙◌}
 use Rattle.std.proofs.lemmas.List.{take_all, take_more}
 use Rattle.usb_pcap.specs.{Begins, IsPlug, IsReport, IsShownText, fits_form, has_form, longest}
 use Rattle.usb_pcap.specs.{plug_form, report_forms}

@@ -1,7 +1,7 @@
 -- Devices, damages and values that are copied one by one.
-use Rattle.std.proofs.Common.{◌≡◌, ◌<◌, ℕ, zero, suc, List, [], ◌∷◌, take, drop, length, get_or, refl, ap, sym}
-use Rattle.std.proofs.Common.{Bool, true, false, not, arith, map, cond, String, Global, string_bytes}
-use Rattle.std.proofs.Common.{nat_cmp, if◌then◌else◌}
+use Rattle.std.proofs.Common.{◌≡◌, ◌<◌, ℕ, zero, suc, List, [], ◌∷◌, take, drop, length, get_or}
+use Rattle.std.proofs.Common.{refl, ap, sym, Bool, true, false, not, arith, map, cond, String}
+use Rattle.std.proofs.Common.{Global, string_bytes, nat_cmp, if◌then◌else◌}
 use Rattle.std.proofs.lemmas.Bool.{and_parts, not-true, or_parts}
 use Rattle.std.proofs.lemmas.List.{take-map}
 use Rattle.std.specs.List.{list_any}

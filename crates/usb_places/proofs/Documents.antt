@@ -1,6 +1,6 @@
 -- The places of a document, by its parts.
-use Rattle.std.proofs.Common.{◌≡◌, ◌≢◌, ◌+◌, ◌-◌, length, arith, ℕ, List, [], codes, drop, map, take, None, Result, Ok, Err}
-use Rattle.std.proofs.Common.{IsErrAnd, refl, sym, ap, ◌∙◌}
+use Rattle.std.proofs.Common.{◌≡◌, ◌≢◌, ◌+◌, ◌-◌, length, arith, ℕ, List, [], codes, drop, map}
+use Rattle.std.proofs.Common.{take, None, Result, Ok, Err, IsErrAnd, refl, sym, ap, ◌∙◌}
 use Rattle.std.proofs.lemmas.List.{take_all, length-drop}
 use Rattle.toml.specs.Data.{Members}
 use Rattle.toml.specs.View.{view}
@@ -39,7 +39,8 @@ places_with ms first plan es ds ps n start all so_far all_is =
     let two : plan_of_entries ms (map plain (entries_of (codes "event") ms))
     (take (fixed_damages (entries_of (codes "damage") ms)) (entries_of (codes "damage") ms))
     ≡ Ok plan =
-    rw (so_far.plain, view_take n ds, so_far.fixed, so_far.events, so_far.damages) at so_far.plan_is in
+    rw (so_far.plain, view_take n ds, so_far.fixed, so_far.events, so_far.damages) at
+    so_far.plan_is in
     let three : damages_from first (fixed_damages (entries_of (codes "damage") ms) + 1)
     (drop (fixed_damages (entries_of (codes "damage") ms)) (entries_of (codes "damage") ms))
     ≡ Ok all = rw (rest_all n ds, view_drop n ds, so_far.fixed, so_far.damages) at all_is in
@@ -56,7 +57,8 @@ places_refused ms first plan es ds ps n start why so_far why_is =
     let two : plan_of_entries ms (map plain (entries_of (codes "event") ms))
     (take (fixed_damages (entries_of (codes "damage") ms)) (entries_of (codes "damage") ms))
     ≡ Ok plan =
-    rw (so_far.plain, view_take n ds, so_far.fixed, so_far.events, so_far.damages) at so_far.plan_is in
+    rw (so_far.plain, view_take n ds, so_far.fixed, so_far.events, so_far.damages) at
+    so_far.plan_is in
     let three : damages_from first (fixed_damages (entries_of (codes "damage") ms) + 1)
     (drop (fixed_damages (entries_of (codes "damage") ms)) (entries_of (codes "damage") ms))
     ≡ Err why = rw (rest_all n ds, view_drop n ds, so_far.fixed, so_far.damages) at why_is in

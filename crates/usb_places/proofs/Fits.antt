@@ -1,7 +1,7 @@
 -- The plan as far as it is known is a plan.
 use Rattle.std.proofs.Common.{◌≡◌, ◌+◌, ◌≤◌, ℕ, zero, suc, List, [], ◌∷◌, take, refl, arith}
-use Rattle.std.proofs.Common.{Bool, true, false, ◌&&◌, nat_le, nat_lt, Option, None, Some, IfSome, All}
-use Rattle.std.proofs.Common.{if◌then◌else◌}
+use Rattle.std.proofs.Common.{Bool, true, false, ◌&&◌, nat_le, nat_lt, Option, None, Some, IfSome}
+use Rattle.std.proofs.Common.{All, if◌then◌else◌}
 use Rattle.std.proofs.lemmas.Bool.{and_parts, leb-true, le-leb, lt-ltb}
 use Rattle.usb_device.specs.{Spec}
 use Rattle.usb_world.specs.{Damage, Event, PluggedMap, action_fits, after_most, damage_fits}
@@ -46,7 +46,8 @@ event_step : (roots : ℕ) (devices : List Spec) (tree : PluggedMap) (e : Event)
     (elim o [ None ↦ [] | Some n ↦ record e { after = n } ∷ rest ]) ≡ true
 event_step roots devices tree e rest None fits le more = refl
 event_step roots devices tree e rest (Some n) fits le more =
-    let parts = and_parts (nat_le e.after after_most) (action_fits roots devices tree e.action) fits in
+    let parts =
+    and_parts (nat_le e.after after_most) (action_fits roots devices tree e.action) fits in
     rw (le-leb n after_most le, parts.1, more)
 
 -- the events are those of a plan
@@ -63,7 +64,8 @@ events_fit_known roots devices tree ss before (e ∷ events) all fits =
     parts.0 in
     event_step roots devices tree e _ (after_of ss before e.after) parts.0
     (after_good ss before e.after all (leb-true e.after after_most own.0))
-    (events_fit_known roots devices (plugged_after e.action tree) ss (before + 1) events all parts.1)
+    (events_fit_known roots devices (plugged_after e.action tree) ss (before + 1) events
+    all parts.1)
 
 -- what a damage does fits, wherever it is
 record FitsAlone (d : Damage) : Type 0 where

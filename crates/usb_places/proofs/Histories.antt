@@ -1,7 +1,7 @@
 -- One more of what a host does.
-use Rattle.std.proofs.Common.{◌≡◌, ℕ, List, [], ◌∷◌, ◌++◌, Bool, true, false, ◌&&◌, ◌||◌, ◌==◌, Option, ◌+◌, arith}
-use Rattle.std.proofs.Common.{None, Some, is_none, All, map, refl, sym, IfSome, ◌≤◌}
-use Rattle.std.proofs.Common.{if◌then◌else◌, nat_le}
+use Rattle.std.proofs.Common.{◌≡◌, ℕ, List, [], ◌∷◌, ◌++◌, Bool, true, false, ◌&&◌, ◌||◌, ◌==◌}
+use Rattle.std.proofs.Common.{Option, ◌+◌, arith, None, Some, is_none, All, map, refl, sym, IfSome}
+use Rattle.std.proofs.Common.{◌≤◌, if◌then◌else◌, nat_le}
 use Rattle.std.proofs.lemmas.Bool.{leb-true}
 use Rattle.std.proofs.lemmas.List.Elements.{All-map}
 use Rattle.usb_places.specs.declared.seen.Seen.{Seen}

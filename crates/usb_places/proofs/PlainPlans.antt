@@ -15,8 +15,9 @@ use Rattle.toml.specs.Data.{integer, member, no_members, string, table}
 use Rattle.usb_plan.specs.declared.fault.Place.{Place}
 use Rattle.usb_plan.specs.declared.fault.Place.TheVariants as place
 use Rattle.usb_plan.specs.{BadValue, EqualUnless, PlanFault, damage_entry, damage_room, damage_with}
-use Rattle.usb_plan.specs.{entries_of, entry_at, fault_in_part, last_from, least_fault, no_when, plan_of}
-use Rattle.usb_plan.specs.{devices_from, plan_of_entries, plan_with, ports_said, read_damage, sooner, ◌>>=◌}
+use Rattle.usb_plan.specs.{entries_of, entry_at, fault_in_part, last_from, least_fault, no_when}
+use Rattle.usb_plan.specs.{plan_of, devices_from, plan_of_entries, plan_with, ports_said}
+use Rattle.usb_plan.specs.{read_damage, sooner, ◌>>=◌}
 use Rattle.usb_plan.specs.Damage as damage
 use Rattle.usb_plan.specs.Event as plan
 use Rattle.usb_world.specs.{Damage, Event, Harm, PlanData, plan_data}
@@ -24,10 +25,10 @@ use Rattle.usb_device.specs.{Spec}
 use Rattle.usb_places.specs.declared.fault.PlacesFault.{PlacesFault}
 use Rattle.usb_places.specs.declared.fault.PlacesFault.TheVariants.{Plan}
 use Rattle.usb_places.specs.declared.sought.Sought.{Sought}
-use Rattle.usb_places.specs.{PlacesData, after_of, damages_from, damages_known, event_when, events_from}
-use Rattle.usb_places.specs.{events_known, fixed_damages, has_when, in_plan, members_when, no_memory}
-use Rattle.usb_places.specs.{places_data, places_of, plain, plain_when, plan_known, table_has_when}
-use Rattle.usb_places.specs.{uses_when, without}
+use Rattle.usb_places.specs.{PlacesData, after_of, damages_from, damages_known, event_when}
+use Rattle.usb_places.specs.{events_from, events_known, fixed_damages, has_when, in_plan}
+use Rattle.usb_places.specs.{members_when, no_memory, places_data, places_of, plain, plain_when}
+use Rattle.usb_places.specs.{plan_known, table_has_when, uses_when, without}
 use Rattle.usb_places.proofs.Beginnings.{each_way, followed}
 
 none_of : {A : Type 0} (o : Option A) → is_some o ≡ false → o ≡ None

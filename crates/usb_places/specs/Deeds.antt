@@ -1,6 +1,6 @@
 -- What a host does, and the control transfer in progress by that alone (8.5.3).
-use Rattle.std.specs.Prelude.{ℕ, List, Bool, true, false, ◌&&◌, ◌==◌, not, nat_le, Option, None, Some}
-use Rattle.std.specs.Prelude.{if◌then◌else◌}
+use Rattle.std.specs.Prelude.{ℕ, List, Bool, true, false, ◌&&◌, ◌==◌, not, nat_le, Option, None}
+use Rattle.std.specs.Prelude.{Some, if◌then◌else◌}
 use Rattle.usb_request.specs.{Setup, DIRECTION_IN, setup_of}
 use Rattle.usb_world.specs.declared.types.Attempt.{Attempt as Asked}
 use Rattle.usb_world.specs.declared.types.Attempt.TheVariants as asked

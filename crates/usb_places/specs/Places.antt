@@ -1,7 +1,7 @@
 -- The places of a host's run, by what it did.
 use Rattle.std.specs.Prelude.{◌≡◌, ℕ, List, [], ◌∷◌, ◌+◌, ◌-◌, Bool, true, false, ◌&&◌, ◌||◌, ◌==◌}
-use Rattle.std.specs.Prelude.{nat_eq, nat_le, ◌≤◌, All, IfSome, map, Option, None, Some, is_none, is_some}
-use Rattle.std.specs.Prelude.{if◌then◌else◌}
+use Rattle.std.specs.Prelude.{nat_eq, nat_le, ◌≤◌, All, IfSome, map, Option, None, Some, is_none}
+use Rattle.std.specs.Prelude.{is_some, if◌then◌else◌}
 use Rattle.std.specs.List.{count_by}
 use Rattle.std.specs.Cmp.Lexicographic.{pointwise}
 use Rattle.usb_port.specs.{is_reset}

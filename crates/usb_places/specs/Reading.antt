@@ -2,7 +2,8 @@
 use Rattle.std.specs.Prelude.{ℕ, codes, List, [], ◌∷◌, ◌++◌, ◌+◌, Bool, false, Option, None, Some}
 use Rattle.std.specs.Prelude.{is_some, Result, Ok, Err, drop, take, map, ◌||◌, if◌then◌else◌}
 use Rattle.std.specs.List.{list_any}
-use Rattle.toml.specs.Data.{Data, Members, table, no_members, member, get_member, as_table, same_key}
+use Rattle.toml.specs.Data.{Data, Members, table, no_members, member, get_member, as_table}
+use Rattle.toml.specs.Data.{same_key}
 use Rattle.toml.specs.Parse.{parse_document}
 use Rattle.usb_plan.specs.{PlanFault, entries_of, placed_damage, plan_of_entries, ◌>>=◌}
 use Rattle.usb_plan.specs.declared.fault.Place.{Place}

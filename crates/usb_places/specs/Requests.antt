@@ -1,6 +1,6 @@
 -- Which setup data the names of requests in a plan mean.
-use Rattle.std.specs.Prelude.{ℕ, codes, List, Bool, true, false, ◌&&◌, ◌==◌, nat_le, Result, Ok, Err}
-use Rattle.std.specs.Prelude.{if◌then◌else◌}
+use Rattle.std.specs.Prelude.{ℕ, codes, List, Bool, true, false, ◌&&◌, ◌==◌, nat_le, Result, Ok}
+use Rattle.std.specs.Prelude.{Err, if◌then◌else◌}
 use Rattle.std.specs.Str.{bytes_eq}
 use Rattle.usb_request.specs.{Setup, DEVICE_IN, ENDPOINT_IN, ENDPOINT_OUT, PORT_IN, PORT_OUT}
 use Rattle.usb_request.specs.{GET_STATUS, CLEAR_FEATURE, SET_FEATURE, SET_ADDRESS, GET_DESCRIPTOR}
@@ -9,12 +9,13 @@ use Rattle.usb_request.specs.{C_PORT_CONNECTION}
 use Rattle.usb_places.specs.declared.fault.WhenFault.{WhenFault}
 use Rattle.usb_places.specs.declared.fault.WhenFault.TheVariants as why
 use Rattle.usb_places.specs.declared.request.Request.{Request}
-use Rattle.usb_places.specs.declared.request.Request.TheVariants.{GetStatus, ClearFeature, SetFeature}
-use Rattle.usb_places.specs.declared.request.Request.TheVariants.{SetAddress, GetDescriptor}
-use Rattle.usb_places.specs.declared.request.Request.TheVariants.{SetConfiguration, SetInterface}
-use Rattle.usb_places.specs.declared.request.Request.TheVariants.{GetPortStatus, ClearPortFeature}
-use Rattle.usb_places.specs.declared.request.Request.TheVariants.{SetPortFeature, PortReset}
-use Rattle.usb_places.specs.declared.request.Request.TheVariants.{PortPower, ClearConnection}
+use Rattle.usb_places.specs.declared.request.Request.TheVariants.{GetStatus, ClearFeature}
+use Rattle.usb_places.specs.declared.request.Request.TheVariants.{SetFeature, SetAddress}
+use Rattle.usb_places.specs.declared.request.Request.TheVariants.{GetDescriptor, SetConfiguration}
+use Rattle.usb_places.specs.declared.request.Request.TheVariants.{SetInterface, GetPortStatus}
+use Rattle.usb_places.specs.declared.request.Request.TheVariants.{ClearPortFeature, SetPortFeature}
+use Rattle.usb_places.specs.declared.request.Request.TheVariants.{PortReset, PortPower}
+use Rattle.usb_places.specs.declared.request.Request.TheVariants.{ClearConnection}
 use Rattle.usb_places.specs.declared.request.Asked.{Asked}
 use Rattle.usb_places.specs.declared.request.Asked.TheVariants.{Named, Exact}
 

@@ -7,8 +7,8 @@ use Rattle.std.proofs.Common.{option_map, cond}
 use Rattle.std.specs.Prelude.{All, nat_le, find, ◌&&◌, ◌||◌, if◌then◌else◌}
 use Rattle.std.specs.List.{list_all}
 use Rattle.std.specs.Str.{bytes_eq}
-use Rattle.std.proofs.lemmas.Bool.{and_from, and_parts, both_ways, cases_lt, false≢true, leb-true, le-leb}
-use Rattle.std.proofs.lemmas.Bool.{or_left, or_cases}
+use Rattle.std.proofs.lemmas.Bool.{and_from, and_parts, both_ways, cases_lt, false≢true, leb-true}
+use Rattle.std.proofs.lemmas.Bool.{le-leb, or_left, or_cases}
 use Rattle.std.proofs.lemmas.List.Elements.{All-append, All-head}
 use Rattle.std.proofs.lemmas.List.Elements.{All-nil, All-tail, All-weaker}
 use Rattle.std.proofs.lemmas.List.Folds.{list_all-append, list_any-append}
@@ -203,7 +203,8 @@ plugged_above roots n p q h =
 
 pub has-kept : (path : List ℕ) (xs ys : List PluggedDevice) → has_path xs path ≡ true
     → has_path (xs ++ ys) path ≡ true
-has-kept path xs ys h = list_any-append (λ (d : PluggedDevice). bytes_eq d.path path) xs ys ∙ or_left _ _ h
+has-kept path xs ys h =
+    list_any-append (λ (d : PluggedDevice). bytes_eq d.path path) xs ys ∙ or_left _ _ h
 
 has_kept_in : (path : List ℕ) (old more new : List PluggedDevice) → new ≡ old ++ more
     → has_path old path ≡ true → has_path new path ≡ true

@@ -19,7 +19,8 @@ pub endpoints_next : (text rest : List ℕ) (at : ℕ) (counts : Bool) → rest 
     → 0 < length rest → nat_lt (get_or rest 0 0) 2 ≡ false
     → (counts && get_or rest 1 0 == ENDPOINT) ≡ false → EndpointsLeft text at counts
     → EndpointsLeft text (at + get_or rest 0 0) (counts_behind counts rest)
-endpoints_next text rest at counts e some long other h = next h.fuel rest e some long other h.enough h.same
+endpoints_next text rest at counts e some long other h =
+    next h.fuel rest e some long other h.enough h.same
   where
     next : (fuel : ℕ) (rest : List ℕ) → rest ≡ drop at text → 0 < length rest
         → nat_lt (get_or rest 0 0) 2 ≡ false → (counts && get_or rest 1 0 == ENDPOINT) ≡ false
@@ -52,7 +53,8 @@ pub endpoints_found : (text rest : List ℕ) (at : ℕ) (counts : Bool) → rest
     → (counts && get_or rest 1 0 == ENDPOINT) ≡ true → EndpointsLeft text at counts
     → Some at ≡ first_endpoint text
 unfolding first_endpoint
-endpoints_found text rest at counts e some long is h = sym (found h.fuel rest e some long is h.enough h.same)
+endpoints_found text rest at counts e some long is h =
+    sym (found h.fuel rest e some long is h.enough h.same)
   where
     found : (fuel : ℕ) (rest : List ℕ) → rest ≡ drop at text → 0 < length rest
         → nat_lt (get_or rest 0 0) 2 ≡ false → (counts && get_or rest 1 0 == ENDPOINT) ≡ true

@@ -93,7 +93,8 @@ own_whole text total t is = split (nat_lt (length text) total) refl is
     split : (b : Bool) → nat_lt (length text) total ≡ b
         → (if b then Some Cut else item_remark (take total text)) ≡ Some t
         → config_after (Ok total) (take total text) ≡ Err (fault_in t)
-    split true cut same = cut_short text total cut ∙ ap (λ r. Err (fault_in r)) (same_Some Cut t same)
+    split true cut same =
+        cut_short text total cut ∙ ap (λ r. Err (fault_in r)) (same_Some Cut t same)
     split false enough same = read_items text total enough
         ∙ ap (λ o. unless_fault (option_map fault_in o) (take total text)) same
 

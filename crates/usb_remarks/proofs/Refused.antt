@@ -1,20 +1,20 @@
 -- A host refuses a device with a remark.
 use Rattle.std.proofs.Common.{◌≡◌, ◌⊎◌, inl, inr, ℕ, zero, suc, ◌==◌, ◌&&◌, not, Bool, true, false}
-use Rattle.std.proofs.Common.{List, [], ◌∷◌, take, slice_get, slice_index_or, Option, Some, None, is_some}
-use Rattle.std.proofs.Common.{Result, Ok, Err, is_ok, if◌then◌else◌, refl, ap, sym}
+use Rattle.std.proofs.Common.{List, [], ◌∷◌, take, slice_get, slice_index_or, Option, Some, None}
+use Rattle.std.proofs.Common.{is_some, Result, Ok, Err, is_ok, if◌then◌else◌, refl, ap, sym}
 use Rattle.std.specs.Option.{option_or, IfSome}
 use Rattle.usb_descriptor.specs.{DescriptorFault, configuration_count, configuration_value}
 use Rattle.usb_descriptor.specs.{config_head_of, config_of, device_head_of, device_spelled}
 use Rattle.usb_descriptor.specs.{hub_spelled, status_endpoint_of}
 use Rattle.usb_device.specs.{Hub, Spec, hub_ports}
 use Rattle.usb_enum.specs.{BadConfiguration, BadHub, Cause, any_has_value}
-use Rattle.usb_enum.specs.{choice_of, config_fault, first_fault, gives_hub, holds_changes, is_good_text}
-use Rattle.usb_enum.specs.{is_device, is_hub_device, read_verdict, set_verdict, text_fault, text_read}
-use Rattle.usb_enum.specs.{texts_below, texts_of, usual_options, verdict}
-use Rattle.usb_remarks.specs.{IsRefused, Remark, TextRemark, at_index, config_remark, configs_remark}
-use Rattle.usb_remarks.specs.{device_remark, has_status, hub_remark, lack_status, remark_of}
-use Rattle.usb_remarks.specs.{spelled_remark, status_remark, text_remark, unless_repeated}
-use Rattle.usb_remarks.specs.{whole_hub_remark, with_text}
+use Rattle.usb_enum.specs.{choice_of, config_fault, first_fault, gives_hub, holds_changes}
+use Rattle.usb_enum.specs.{is_good_text, is_device, is_hub_device, read_verdict, set_verdict}
+use Rattle.usb_enum.specs.{text_fault, text_read, texts_below, texts_of, usual_options, verdict}
+use Rattle.usb_remarks.specs.{IsRefused, Remark, TextRemark, at_index, config_remark}
+use Rattle.usb_remarks.specs.{configs_remark, device_remark, has_status, hub_remark, lack_status}
+use Rattle.usb_remarks.specs.{remark_of, spelled_remark, status_remark, text_remark}
+use Rattle.usb_remarks.specs.{unless_repeated, whole_hub_remark, with_text}
 use Rattle.usb_remarks.specs.declared.remark.Remark.TheVariants as remark
 use Rattle.usb_remarks.proofs.Readers.{remarked_bad}
 
@@ -24,7 +24,8 @@ unless_err true cause r h = refl
 unless_err false cause r h = h
 
 -- its device descriptor is malformed
-device_bad : (spec : Spec) (wide : Bool) (tier supply : ℕ) → is_device spec.low (take 18 spec.descriptor) ≡ false
+device_bad : (spec : Spec) (wide : Bool) (tier supply : ℕ)
+    → is_device spec.low (take 18 spec.descriptor) ≡ false
     → is_ok (verdict spec (usual_options wide) tier supply) ≡ false
 unfolding verdict
 device_bad spec wide tier supply bad =
@@ -46,8 +47,8 @@ later_bad spec wide tier supply bad =
 
 -- Configurations
 
-text_bad : (index : ℕ) (earlier : List (List ℕ)) (text : List ℕ) (o : Option TextRemark) (r : Remark)
-    → text_remark text ≡ o
+text_bad : (index : ℕ) (earlier : List (List ℕ)) (text : List ℕ) (o : Option TextRemark)
+    (r : Remark) → text_remark text ≡ o
     → with_text index (any_has_value (configuration_value (text_read text)) earlier) o ≡ Some r
     → (is_good_text text && not (any_has_value (configuration_value (text_read text)) earlier))
     ≡ false
@@ -57,7 +58,8 @@ text_bad index earlier text (Some t) r is h =
 text_bad index earlier text None r is h =
     repeated (is_good_text text) (any_has_value (configuration_value (text_read text)) earlier) h
   where
-    repeated : (good again : Bool) → unless_repeated index again ≡ Some r → (good && not again) ≡ false
+    repeated : (good again : Bool) → unless_repeated index again ≡ Some r
+        → (good && not again) ≡ false
     repeated true true h = refl
     repeated false again h = refl
     repeated true false h = absurd cc
@@ -100,7 +102,8 @@ unfolding first_fault configs_remark
 configs_bad spec zero r h = absurd cc
 configs_bad spec (suc n) r h =
     elim (either_some (configs_remark spec.configs n) (config_remark spec.configs n) r h) [
-      | inl before ↦ left_some (first_fault None spec n) (config_fault None spec n) (configs_bad spec n r before)
+      | inl before ↦ left_some (first_fault None spec n) (config_fault None spec n)
+          (configs_bad spec n r before)
       | inr here ↦ right_some (first_fault None spec n) (config_fault None spec n)
           (config_bad_one spec n r here)
     ]
@@ -177,7 +180,8 @@ set_bad wide spec texts (Some chosen) hub bad = unless_err spec.stalls.set_confi
     neither true chosen = refl
     neither false chosen = refl
 
-bad_hub_read : (wide : Bool) (spec : Spec) (supply : ℕ) (o : Option Cause) → is_hub_device spec.descriptor ≡ true
+bad_hub_read : (wide : Bool) (spec : Spec) (supply : ℕ) (o : Option Cause)
+    → is_hub_device spec.descriptor ≡ true
     → gives_hub wide spec spec.hub ≡ false → is_ok (read_verdict wide spec supply o) ≡ false
 bad_hub_read wide spec supply (Some cause) hub bad = refl
 bad_hub_read wide spec supply None hub bad = set_bad wide spec (texts_of spec)
@@ -205,8 +209,10 @@ unfolding remark_of
 remarked_refused wide spec r is tier supply =
     split (device_spelled spec.low (take 18 spec.descriptor)) refl is
   where
-    split : (o : Result (List ℕ) DescriptorFault) → device_spelled spec.low (take 18 spec.descriptor)
-        ≡ o → device_remark wide spec o ≡ Some r → is_ok (verdict spec (usual_options wide) tier supply) ≡ false
+    split : (o : Result (List ℕ) DescriptorFault)
+        → device_spelled spec.low (take 18 spec.descriptor)
+        ≡ o → device_remark wide spec o ≡ Some r
+        → is_ok (verdict spec (usual_options wide) tier supply) ≡ false
     split (Err fault) spelled h = device_bad spec wide tier supply (ap is_ok spelled)
     split (Ok bytes) spelled h =
         later_bad spec wide tier supply (elim (either_some (configs_remark spec.configs

@@ -1,8 +1,8 @@
 -- Without a remark a host finds no descriptor malformed.
 use Rattle.std.proofs.Common.{◌≡◌, ℕ, zero, suc, ◌≤◌, ◌==◌, ◌&&◌, not, Bool, true, false, List}
 use Rattle.std.proofs.Common.{[], length, take, slice_get, slice_index_or, Option, Some, None}
-use Rattle.std.proofs.Common.{Result, Ok, Err, is_ok, nat_lt, if◌then◌else◌, refl, ap, sym, ◌∙◌, arith}
-use Rattle.std.proofs.Common.{length-take}
+use Rattle.std.proofs.Common.{Result, Ok, Err, is_ok, nat_lt, if◌then◌else◌, refl, ap, sym, ◌∙◌}
+use Rattle.std.proofs.Common.{arith, length-take}
 use Rattle.std.specs.Option.{option_or, IfNone}
 use Rattle.std.proofs.lemmas.Bool.{le-ltb, ltb-false}
 use Rattle.std.proofs.lemmas.List.{get_or-take}
@@ -35,8 +35,8 @@ never false cause r h k = k
 
 -- The head of a good descriptor
 
-ok_parts : (b : Bool) (r : Result (List ℕ) DescriptorFault) → is_ok (if b then Err Short else r) ≡ true
-    → (b ≡ false) × (is_ok r ≡ true)
+ok_parts : (b : Bool) (r : Result (List ℕ) DescriptorFault)
+    → is_ok (if b then Err Short else r) ≡ true → (b ≡ false) × (is_ok r ≡ true)
 ok_parts true r h = absurd cc
 ok_parts false r h = (refl, h)
 
@@ -115,7 +115,8 @@ unfolding first_fault configs_remark
 good_configs spec zero h = refl
 good_configs spec (suc n) h =
     let parts = both_none (configs_remark spec.configs n) (config_remark spec.configs n) h in
-    neither_speaks (first_fault None spec n) (config_fault None spec n) (good_configs spec n parts.0)
+    neither_speaks (first_fault None spec n) (config_fault None spec n)
+    (good_configs spec n parts.0)
     (good_config spec n parts.1)
 
 -- The verdict
@@ -130,7 +131,8 @@ set_other wide spec texts (Some chosen) = other_cause spec.stalls.set_config _ _
 read_other : (wide : Bool) (spec : Spec) (supply : ℕ) (o : Option Cause) → speaks o ≡ false
     → blames_descriptor (read_verdict wide spec supply o) ≡ false
 read_other wide spec supply (Some cause) h = h
-read_other wide spec supply None h = set_other wide spec (texts_of spec) (choice_of supply (texts_of spec))
+read_other wide spec supply None h =
+    set_other wide spec (texts_of spec) (choice_of supply (texts_of spec))
 
 verdict_other : (spec : Spec) (wide : Bool) (tier supply : ℕ)
     → is_ok (device_head_of spec.low (take 8 spec.descriptor)) ≡ true
@@ -152,12 +154,13 @@ unfolding remark_of
 unremarked_unblamed wide spec is tier supply =
     split (device_spelled spec.low (take 18 spec.descriptor)) refl is
   where
-    split : (o : Result (List ℕ) DescriptorFault) → device_spelled spec.low (take 18 spec.descriptor)
-        ≡ o → device_remark wide spec o ≡ None
+    split : (o : Result (List ℕ) DescriptorFault)
+        → device_spelled spec.low (take 18 spec.descriptor) ≡ o → device_remark wide spec o ≡ None
         → blames_descriptor (verdict spec (usual_options wide) tier supply) ≡ false
     split (Err fault) spelled h = absurd cc
     split (Ok bytes) spelled h =
-        let parts = both_none (configs_remark spec.configs (configuration_count spec.descriptor)) _ h
+        let parts =
+        both_none (configs_remark spec.configs (configuration_count spec.descriptor)) _ h
         in
         verdict_other spec wide tier supply (head_good spec.low spec.descriptor (ap is_ok spelled))
         (ap is_ok spelled) (good_configs spec (configuration_count spec.descriptor) parts.0)

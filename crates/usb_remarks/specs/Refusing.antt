@@ -15,8 +15,8 @@ fault_in (Head fault) = fault
 fault_in Cut = Short
 fault_in (Item at fault) = fault
 
--- of a text whose first nine bytes were read as this: it is the fault of these bytes, or else of all
--- that is read
+-- of a text whose first nine bytes were read as this: it is the fault of these bytes, or else of
+-- all that is read
 abbrev pub IsOwnOf : Result ℕ DescriptorFault → List ℕ → TextRemark → Type 0
 IsOwnOf (Err fault) text remark = remark ≡ Head fault
 IsOwnOf (Ok total) text remark = config_of (text_read text) ≡ Err (fault_in remark)

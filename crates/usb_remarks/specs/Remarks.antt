@@ -1,5 +1,5 @@
--- Which rule the bytes of a device break (9.6.1, 9.6.3, 11.23.2.1): the first, in the order in which a
--- host reads.
+-- Which rule the bytes of a device break (9.6.1, 9.6.3, 11.23.2.1): the first, in the order in
+-- which a host reads.
 use Rattle.std.specs.Prelude.{ℕ, zero, suc, ◌+◌, ◌-◌, ◌==◌, ◌&&◌, ◌||◌, Bool, List, [], ◌∷◌, length}
 use Rattle.std.specs.Prelude.{take, drop, map, slice_get, Option, Some, None, Result, Ok}
 use Rattle.std.specs.Prelude.{Err, nat_lt, get_or, not, false, if◌then◌else◌}

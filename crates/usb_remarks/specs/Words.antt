@@ -150,7 +150,8 @@ abbrev pub missing_words : List ℕ → ℕ → List ℕ
 missing_words bytes index = key_words (codes "descriptor") ++ count_words bytes index
 
 abbrev pub descriptor_words : Spec → DescriptorFault → List ℕ
-descriptor_words spec fault = key_words (codes "descriptor") ++ device_words spec.low spec.descriptor fault
+descriptor_words spec fault =
+    key_words (codes "descriptor") ++ device_words spec.low spec.descriptor fault
 
 -- of a hub without ports
 abbrev pub portless_words : List ℕ → List ℕ
@@ -196,8 +197,8 @@ abbrev pub status_words : Bool → Spec → List ℕ
 status_words wide spec = let text = text_read (slice_index_or spec.configs 0 []) in
     index_words 0 ++ lacking_words wide (nat_lt 7 (hub_ports spec.hub)) text (first_endpoint text)
 
--- a remark on a device, for a host that takes wide hubs or not: the key with the bytes, the byte, the
--- field with its value, and the rule
+-- a remark on a device, for a host that takes wide hubs or not: the key with the bytes, the byte,
+-- the field with its value, and the rule
 unfoldable pub remark_words : Bool → Spec → Remark → List ℕ
 remark_words wide spec (remark.Device fault) = descriptor_words spec fault
 remark_words wide spec (remark.Text index t) = config_words spec.configs index t

@@ -73,7 +73,8 @@ pub hear_more : (a : Asked) (pushed : ℕ) (fn l n : Kept) (r0 r1 r2 : Pipe) (nu
     (status : List ℕ) (st : List (List ℕ))
     → ToldSo a pushed r0 r1 fn l → l ≡ record fn { statuses = l.statuses; lines = l.lines }
     → n ≡ record l { lines = counted_on l.lines 1 }
-    → Says a (hubs_of l) r1 r2 (Changed number status) → st ≡ slice_set n.statuses (number - 1) status
+    → Says a (hubs_of l) r1 r2 (Changed number status)
+    → st ≡ slice_set n.statuses (number - 1) status
     → ToldSo a (pushed + 1) r0 r2 fn (record n { statuses = st })
 hear_more a pushed fn l n r0 r1 r2 number status st so same kept says is =
     let asked_of : Says a (hubs_of fn) r1 r2 (Changed number status) =

@@ -14,9 +14,9 @@ use Rattle.usb_wire.specs.{Answer, Question}
 use Rattle.usb_world.specs.{BusFault, Destination, Outcome}
 use Rattle.usb_world.specs.declared.types.Outcome.TheVariants.{Payload}
 use Rattle.usb_bus.specs.{Whole, Answered as EndAnswered, Faulted, is_full}
-use Rattle.usb_stream.specs.{Kept, RowBy, RowHeard, RowPlan, RowStep, StepBy, bytes_in, ins_for, ins_plan}
-use Rattle.usb_stream.specs.{LiveFault, bus_fault, none_heard, one_heard, outcome_for, outs_for, outs_plan}
-use Rattle.usb_stream.specs.{streams, was_asked}
+use Rattle.usb_stream.specs.{Kept, RowBy, RowHeard, RowPlan, RowStep, StepBy, bytes_in, ins_for}
+use Rattle.usb_stream.specs.{ins_plan, LiveFault, bus_fault, none_heard, one_heard, outcome_for}
+use Rattle.usb_stream.specs.{outs_for, outs_plan, streams, was_asked}
 
 -- a full packet that is due
 pub full_is : (max : ℕ) (due : Toggle) (bytes : List ℕ) → length bytes ≡ max

@@ -9,9 +9,9 @@ use Rattle.usb_request.specs.{setup_of}
 use Rattle.usb_port.specs.{PortCall}
 use Rattle.usb_lines.specs.{FailsToFlush, Flushes, IsUnbroken, OutPipe, Pipe, ReadPart, Reads}
 use Rattle.usb_lines.specs.{out_pipe_of, pipe_of}
-use Rattle.usb_wire.specs.{Hubs, IsSaidLine, MaySay, MaySayTo, kind_asked, line_fault, question_line, Answer}
-use Rattle.usb_wire.specs.{Said, LineTooLong, WireFault, Changed, Answered, Asked, DataPacket}
-use Rattle.usb_wire.specs.{Endpoint, Question, row_limit}
+use Rattle.usb_wire.specs.{Hubs, IsSaidLine, MaySay, MaySayTo, kind_asked, line_fault}
+use Rattle.usb_wire.specs.{question_line, Answer, Said, LineTooLong, WireFault, Changed, Answered}
+use Rattle.usb_wire.specs.{Asked, DataPacket, Endpoint, Question, row_limit}
 use Rattle.usb_packet.specs.{Toggle, flips}
 use Rattle.usb_bus.specs.{RowDone, RowEnd, Whole, Answered as EndAnswered, Faulted, is_full}
 use Rattle.usb_wire.specs.declared.answer.Answer.TheVariants as answer
@@ -56,10 +56,10 @@ outcome_for most _ = Nothing
 
 -- ---- what is kept
 
--- how many root ports there are, whether hubs may have 8 to 15 ports, whether the far end takes rows
--- and how many answers of the row that was asked last are still to come, the statuses of the root
--- ports as they were told last, how many more questions may be asked, for how many attempts one went
--- out, how many lines were read, and why nothing is asked any more
+-- how many root ports there are, whether hubs may have 8 to 15 ports, whether the far end takes
+-- rows and how many answers of the row that was asked last are still to come, the statuses of the
+-- root ports as they were told last, how many more questions may be asked, for how many attempts
+-- one went out, how many lines were read, and why nothing is asked any more
 pub record Kept : Type 0 where
   pub roots : ℕ
   pub wide : Bool
@@ -375,8 +375,8 @@ abbrev pub HearsMore : StreamPipes → Kept → Result Answer LiveFault → Kept
 HearsMore s old (Ok got) new = HeardMore s old got new
 HearsMore s old (Err f) new = HearsNoMore s old f new
 
--- an attempt of a row stands in the line that was asked last: it is not the first of the row, and an
--- answer is still to come
+-- an attempt of a row stands in the line that was asked last: it is not the first of the row, and
+-- an answer is still to come
 abbrev pub was_asked : ℕ → ℕ → Bool
 was_asked moved ahead = nat_lt 0 moved && nat_lt 0 ahead
 
@@ -466,7 +466,8 @@ pub record RowBy (plan : RowPlan) (most : ℕ) (s : StreamPipes) (old : Kept) (d
   pub heard : RowHeard plan s.unread s.before old done.moved got mid between kept
   pub ends : RowEndsBy plan done.moved most (streams mid s.left between s.now) kept done.end new
 
--- a row of INs: each packet but those of the outcome that ended it is full, of the toggle that is due
+-- a row of INs: each packet but those of the outcome that ended it is full, of the toggle that is
+-- due
 abbrev pub ins_plan : Bool → Destination → Toggle → ℕ → RowPlan
 ins_plan rows to first most = record {
   ask = λ n. ins_for rows to (flips n first) (most - n);

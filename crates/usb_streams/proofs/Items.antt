@@ -334,7 +334,8 @@ module _ (path : List ℕ) (device : Accepted) (old new : HostState)
           let has : address_of s ≡ device.address =
           held_address (table_in old) old.world path device s (knows.sound.owned.so still) listed
           reached there in
-          let level : PipesInSync device Before s = (knows.sound.level still path).level device s listed
+          let level : PipesInSync device Before s =
+          (knows.sound.level still path).level device s listed
           reached there in
           sends_move device (is_below_hub path) path (Told due item) choice bytes asks tells
           old.world new.world x s v on stands stood has single hands.answer
@@ -479,7 +480,8 @@ module _ (path : List ℕ) (device : Accepted) (old new : HostState)
           let same : SameSettings x s v = subst (λ (d : State). SameSettings x d v)
           (one_stands old.world x s was.before stood was.stands) was.so in
           cleared_move device (is_below_hub path) path (Told due made) refl (is_ok told) known s v
-          Before After old.world new.world hands.answer hands.moves (pipes_to hands.through) refl cleared
+          Before After old.world new.world hands.answer hands.moves (pipes_to hands.through)
+          refl cleared
           same (λ end. refl) (λ end. refl)
           (plain_none due made (λ bytes asked. cc asked) (λ packets asked. cc asked)))
 
@@ -501,7 +503,8 @@ module _ (path : List ℕ) (device : Accepted) (old new : HostState)
           let same : SameSettings x s v = subst (λ (d : State). SameSettings x d v)
           (one_stands old.world x s was.before stood was.stands) was.so in
           cleared_of_move device (is_below_hub path) path (Told due made) a refl (is_ok told) known
-          s v Before After old.world new.world hands.answer hands.moves (pipes_to hands.through) cleared
+          s v Before After old.world new.world hands.answer hands.moves
+          (pipes_to hands.through) cleared
           same (λ end. refl) (λ end. refl)
           (plain_none due made (λ bytes asked. cc asked) (λ packets asked. cc asked)))
 
@@ -712,8 +715,8 @@ module _ (path : List ℕ) (device : Accepted) (old new : HostState)
           by_path (λ p. Transfers (ClearTells p) old told new) (λ p. Some (Clear p))
           (λ p. item.Cleared p told) to (cleared_here told)
           (λ away came. apart to (Some (Clear to)) (item.Cleared to told)
-          (HaltsCleared (is_ok told) (accepted_device_at to old.entries) (pipes_at to (table_in old))
-          (pipes_at to (table_in new))) away
+          (HaltsCleared (is_ok told) (accepted_device_at to old.entries)
+          (pipes_at to (table_in old)) (pipes_at to (table_in new))) away
           (quiet_item (Some (Clear to)) (item.Cleared to told) (λ end. refl) (λ end. refl)
           (λ bytes asked. cc asked) (λ more asked. cc asked)) (came.call.did running).through
           (told_cleared to old new knows.sound still running told came).each) is
@@ -817,8 +820,8 @@ module _ (path : List ℕ) (device : Accepted) (old new : HostState)
           moves_as (listed said asks e same) =
               let listing : Item = listing_of said new in
               inl (told_as (Some (Show said)) listing asks e (shown said listing
-              (quiet_item (Some (Show said)) listing (λ end. refl) (λ end. refl) (λ bytes asked. cc asked)
-              (λ more asked. cc asked)) same))
+              (quiet_item (Some (Show said)) listing (λ end. refl) (λ end. refl)
+              (λ bytes asked. cc asked) (λ more asked. cc asked)) same))
           moves_as (sent to bytes told asks e came) =
               inl (told_as (Some (Send to bytes)) _ asks e (sent_item to bytes told came))
           moves_as (received from packets told asks e came) =

@@ -1,6 +1,6 @@
 -- What SET_INTERFACE leaves of the endpoints of a device: it moves nothing.
-use Rattle.std.proofs.Common.{◌≡◌, ◌⊎◌, inl, inr, ◌∙◌, refl, sym, ap, Bool, true, false, ℕ, List, []}
-use Rattle.std.proofs.Common.{Option, None, Some, Result, Ok, Err}
+use Rattle.std.proofs.Common.{◌≡◌, ◌⊎◌, inl, inr, ◌∙◌, refl, sym, ap, Bool, true, false, ℕ, List}
+use Rattle.std.proofs.Common.{[], Option, None, Some, Result, Ok, Err}
 use Rattle.usb_device.specs.{OnlyStage, Registers, State, begun_if, is_of_setting, no_out}
 use Rattle.usb_device.specs.{out_end, rested_out, with_interface}
 use Rattle.usb_world.specs.{SetInterface}

@@ -30,8 +30,8 @@ pub record TookSent (end : Endpoint) (told : List ToldItem) (left : Option PipeS
   pub works : IsAtWork left → front ≡ []
 
 -- It took what was sent to it, as long as it does not begin again. Over clears and settings too
--- each send that is told done was taken whole, and of each that failed a front. Without a pipe to it,
--- it took nothing, as long as no setting is asked for.
+-- each send that is told done was taken whole, and of each that failed a front. Without a pipe to
+-- it, it took nothing, as long as no setting is asked for.
 pub record OutStream (end : Endpoint) (told : List ToldItem) (left : Option PipeState)
     (s v : State) : Type 0 where
   pub took : AllByRecursion (ClearsNone end) told → TookSent end told left s v
@@ -76,8 +76,8 @@ pub record InStream (end : Endpoint) (told : List ToldItem) (pipe left : Option 
 
 -- A device over a stretch
 
--- the registers of a device stay, but for the alternate settings of its interfaces; these stay where
--- none was asked for
+-- the registers of a device stay, but for the alternate settings of its interfaces; these stay
+-- where none was asked for
 pub record RegistersStay (path : List ℕ) (told : List ToldItem) (s v : State) : Type 0 where
   pub rest : v.registers ≡ record s.registers { settings = v.registers.settings }
   pub settings : AllByRecursion (SetsNone path) told → v.registers.settings ≡ s.registers.settings

@@ -87,7 +87,8 @@ ListsEach entries = (address : ℕ) → IsAddress address → (path : List ℕ)
 -- Nothing else is listed. No two devices have one address. Hubs of 8 to 15 ports, and status
 -- endpoints of any number, are accepted where hubs may be wide; a device that has more bytes than
 -- the host takes is not.
-pub record Lists (options : HostOptions) (roots : ℕ) (tree : SpecTree) (entries : Entries) : Type 0 where
+pub record Lists (options : HostOptions) (roots : ℕ) (tree : SpecTree)
+    (entries : Entries) : Type 0 where
   pub rises : Rises entries
   pub there : (path : List ℕ) (spec : Spec) → IsListedPort roots entries path
       → tree path ≡ Some spec

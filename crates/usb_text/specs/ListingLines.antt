@@ -6,7 +6,8 @@ use Rattle.hex.specs.Hex.{encode_upper}
 use Rattle.usb_packet.specs.{hex_text}
 use Rattle.usb_port.specs.{path_text}
 use Rattle.usb_enum.specs.{Cause, Silent, Busy, Stalled, BadDevice, TooDeep, BadConfiguration}
-use Rattle.usb_enum.specs.{TooLarge, NoPower, BadHub, Lost, NoAddress, Request, Accepted, Finding, HubFacts}
+use Rattle.usb_enum.specs.{TooLarge, NoPower, BadHub, Lost, NoAddress, Request, Accepted, Finding}
+use Rattle.usb_enum.specs.{HubFacts}
 use Rattle.usb_enum.specs.declared.cause.Request.TheVariants as request
 use Rattle.usb_enum.specs.declared.finding.Finding.TheVariants.{Device, Refused}
 

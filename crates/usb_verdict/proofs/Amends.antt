@@ -22,7 +22,8 @@ amended_at path detail (z ∷ w ∷ ws) (suc i) x y last at h =
 
 refused_at : (path : List ℕ) (detail : DetailSaid) (xs : List ListedPort) (i : ℕ)
     (x : ListedPort) (f : ListingFault) → length xs ≡ suc i → x ≡ slice_index_or xs i x
-    → amended_port path detail (port_said x) ≡ Err f → amended path detail (map port_said xs) ≡ Err f
+    → amended_port path detail (port_said x) ≡ Err f
+    → amended path detail (map port_said xs) ≡ Err f
 refused_at path detail [] i x f last at h = absurd (omega arith)
 refused_at path detail (z ∷ []) zero x f last at h =
     ap (λ (p : ListedPort). alone (amended_port path detail (port_said p))) (sym at) ∙ ap alone h

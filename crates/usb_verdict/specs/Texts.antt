@@ -57,7 +57,8 @@ refusal_text attempts path =
 
 -- `N listings right, M wrong`
 unfoldable pub tally_text : ℕ → ℕ → List ℕ
-tally_text right wrong = decimal right ++ codes " listings right, " ++ decimal wrong ++ codes " wrong"
+tally_text right wrong =
+    decimal right ++ codes " listings right, " ++ decimal wrong ++ codes " wrong"
 
 abbrev pub no_listings : Tally
 no_listings = record { right = 0; wrong = 0 }

@@ -171,7 +171,8 @@ given_allows true given x is = absurd cc
 given_allows false given x is = (refl, is)
 
 text_faultless : (room : Option ℕ) (index : ℕ) (earlier : List (List ℕ)) (o : Option (List ℕ))
-    (text : List ℕ) → o ≡ Some text → is_over room (said_length text) ≡ false → is_good_text text ≡ true
+    (text : List ℕ) → o ≡ Some text → is_over room (said_length text) ≡ false
+    → is_good_text text ≡ true
     → any_has_value (configuration_value (text_read text)) earlier ≡ false
     → text_fault room index earlier o ≡ None
 text_faultless room index earlier o text is fits good differs = rw (is, fits, good, differs) refl

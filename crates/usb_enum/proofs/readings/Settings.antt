@@ -83,7 +83,8 @@ pub listed_learns : (options : HostOptions) (t : Target) (bytes : List ℕ) (dev
     (text : List ℕ) (indexes : StringIndexes) (outcome : Result (Unit {0}) PipeFault)
     {before given set told new : World} {b c d e : Option (List ℕ)}
     → count ≡ configuration_count bytes
-    → DeviceFact (AtMaximum t (HasConfigurations options.device_bytes count device.configs)) t before given
+    → DeviceFact (AtMaximum t (HasConfigurations options.device_bytes count device.configs)) t
+    before given
     → StepRun l given b set c → value ≡ configuration_value (configuration_of device)
     → outcome ≡ Ok tt → (set.shared ≡ false
     → EachWas (ConfigurationAsked t value outcome set) given set)
@@ -97,7 +98,8 @@ listed_learns options t bytes device count value l m n text indexes outcome {bef
     {told}
     {new} same_count configs went_set same_value done asked went_told same_text ports went
     same_indexes strings single =
-    let Texts : Spec → Type 0 = AtMaximum t (HasConfigurations options.device_bytes count device.configs) in
+    let Texts : Spec → Type 0 =
+    AtMaximum t (HasConfigurations options.device_bytes count device.configs) in
     let Ports : Spec → Type 0 = AtMaximum t (TellsPorts options.wide_hubs text device.hub) in
     let Named : Spec → Type 0 = AtMaximum t (λ spec. device.strings ≡ strings_by spec indexes) in
     each_wider (LearnedSet (λ x. (Allowed Texts x × Ports x) × Named x) t value)
@@ -109,10 +111,12 @@ listed_learns options t bytes device count value l m n text indexes outcome {bef
       so = λ at.
           let so = x.so at in (
             (λ most. record {
-              configs = subst (λ k. HasConfigurations options.device_bytes k device.configs s.spec) same_count
+              configs = subst (λ k. HasConfigurations options.device_bytes k device.configs s.spec)
+                  same_count
                   (so.0.0.0.0 most);
               allowed = so.0.0.0.1;
-              ports = subst (λ y. TellsPorts options.wide_hubs y device.hub s.spec) same_text (so.0.0.1 most);
+              ports = subst (λ y. TellsPorts options.wide_hubs y device.hub s.spec) same_text
+                  (so.0.0.1 most);
               strings = so.0.1 most ∙ ap (strings_by s.spec) same_indexes;
             }),
             so.1 ∙ same_value,

@@ -1,7 +1,7 @@
 -- How many bytes texts have together, and what they leave of a budget.
-use Rattle.std.proofs.Common.{◌≡◌, ◌<◌, ◌≤◌, ◌+◌, ℕ, zero, suc, Bool, true, false, List, [], ◌∷◌, ◌++◌}
-use Rattle.std.proofs.Common.{map, take, length, slice_get, Option, None, Some, Result, Ok, Err}
-use Rattle.std.proofs.Common.{if◌then◌else◌, is_ok, nat_lt, refl, ap, sym, subst, ◌∙◌, arith}
+use Rattle.std.proofs.Common.{◌≡◌, ◌<◌, ◌≤◌, ◌+◌, ℕ, zero, suc, Bool, true, false, List, [], ◌∷◌}
+use Rattle.std.proofs.Common.{◌++◌, map, take, length, slice_get, Option, None, Some, Result, Ok}
+use Rattle.std.proofs.Common.{Err, if◌then◌else◌, is_ok, nat_lt, refl, ap, sym, subst, ◌∙◌, arith}
 use Rattle.std.specs.List.{sum_by}
 use Rattle.std.proofs.lemmas.Bool.{and_parts, le-ltb, ltb-false}
 use Rattle.std.proofs.lemmas.List.{get_or-take}

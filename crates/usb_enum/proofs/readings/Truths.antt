@@ -121,7 +121,8 @@ own_finding options tier supply addressed device s ruled found is whole read =
     )
 
 -- it is set as it says, where its address is the target's and its configuration the chosen one's
-accepted_own_device : (options : HostOptions) (tier supply : ℕ) (addressed : Addressed) (device : Accepted)
+accepted_own_device : (options : HostOptions) (tier supply : ℕ) (addressed : Addressed)
+    (device : Accepted)
     (j : Location) (s v : State) {old new : World} → IsWhole options supply device
     → IsListed addressed options tier old new device
     → LearnedSet (AtMaximum addressed.target (HasReadings options addressed.bytes device))
@@ -133,7 +134,8 @@ accepted_own_device options tier supply addressed device j s v whole is learned 
     let read : HasReadings options addressed.bytes device s.spec =
     learned_of.0 (head_packet s.spec target.low target.max found.low found.head) in (
       subst (λ x. (verdict x options tier supply ≡ Ok device.chosen) × IsAs x device)
-          (sym learned.spec) (own_finding options tier supply addressed device s ruled found is whole
+          (sym learned.spec)
+          (own_finding options tier supply addressed device s ruled found is whole
           read),
       record {
         address = learned.address ∙ found.address ∙ sym is.address;
@@ -155,7 +157,8 @@ own_found : (port : HubPort) (address : ℕ) (options : HostOptions) (tier suppl
     → KeepsAddresses mid new → IsWhole options supply device
     → IsListed addressed options tier mid new device
     → Finds (IsOwn options tier supply device) port address old new
-own_found port address options tier supply n addressed device {old} {mid} {new} went within taken keeps
+own_found port address options tier supply n addressed device {old} {mid} {new} went within
+    taken keeps
     whole is =
     finds_on (LearnedSet (AtMaximum addressed.target (HasReadings options addressed.bytes device))
     addressed.target (configuration_value (configuration_of device)))
@@ -188,7 +191,8 @@ pub accepted : (port : HubPort) (address : ℕ) (options : HostOptions) (tier su
     → IfOk result (λ device. IsWhole options supply device)
     → IfOk result (IsListed addressed options tier mid new)
     → IfOk result (IsAccepted port address options tier supply old new)
-accepted port address options tier supply n m addressed (Ok device) {old} {mid} {new} went within taken
+accepted port address options tier supply n m addressed (Ok device) {old} {mid} {new} went
+    within taken
     sets later whole is = record {
       served = is.served;
       takes = takes_then port address old mid new taken.takes sets.addresses;

@@ -44,7 +44,8 @@ module _ (room : Option ℕ) (spec : Spec) (index : ℕ) (text : List ℕ)
     (given : config_given index spec ≡ Some text) where
   -- by its length and by what is read of it
   abbrev At : Bool → Bool → Option Cause
-  At over good = if over then Some TooLarge else if good then None else Some (BadConfiguration index)
+  At over good =
+      if over then Some TooLarge else if good then None else Some (BadConfiguration index)
 
   abbrev is_right : Bool
   is_right = is_good_text text && not (any_has_value (configuration_value (text_read text))
@@ -76,8 +77,8 @@ module _ (room : Option ℕ) (spec : Spec) (index : ℕ) (text : List ℕ)
         (texts_below spec index))) bad)
 
     -- it has the value of an earlier one
-    config_repeated : is_good_text text ≡ true → any_has_value (configuration_value (text_read text))
-        (texts_below spec index) ≡ true
+    config_repeated : is_good_text text ≡ true
+        → any_has_value (configuration_value (text_read text)) (texts_below spec index) ≡ true
         → config_fault room spec index ≡ Some (BadConfiguration index)
     config_repeated good again =
         config_bad (ap (λ b. b && not (any_has_value (configuration_value (text_read text))
@@ -181,7 +182,8 @@ text_refused room t stalled index total n outcome bytes old mid new fits answere
 
 module _ (t : Target) (budget room : Option ℕ) (i count : ℕ) (texts : List (List ℕ))
     (same : room ≡ left_of budget (texts_length texts)) (below : i < count) where
-  pub first_refused : (stop : Stop) (spec : Spec) → AtMaximum t (HasConfigurations budget i texts) spec
+  pub first_refused : (stop : Stop) (spec : Spec)
+      → AtMaximum t (HasConfigurations budget i texts) spec
       → Refuses t (λ spec. config_fault room spec i) stop spec
       → Refuses t (λ spec. first_fault budget spec count) stop spec
   first_refused (Refused cause) spec before refused r =

@@ -69,14 +69,15 @@ caused : (r : Result ℕ Cause) (cause : Cause) → cause_in r ≡ Some cause �
 caused (Ok chosen) cause h = absurd cc
 caused (Err why) cause h = ap (λ c. Err c) (same_Some why cause h)
 
-pub whole_right : (full : Type 0) (options : HostOptions) (tier supply : ℕ) (spec : Spec) (cause : Cause)
-    → whole_fault options tier supply spec ≡ Some cause
+pub whole_right : (full : Type 0) (options : HostOptions) (tier supply : ℕ) (spec : Spec)
+    (cause : Cause) → whole_fault options tier supply spec ≡ Some cause
     → IsRight full spec options tier supply (RefusedFinding cause)
 whole_right full options tier supply spec cause h =
     inl (caused (verdict spec options tier supply) cause h)
 
 -- where no address is free
-pub unaddressed_right : (full : Type 0) → full → (options : HostOptions) (tier supply : ℕ) (spec : Spec)
+pub unaddressed_right : (full : Type 0) → full
+    → (options : HostOptions) (tier supply : ℕ) (spec : Spec)
     (cause : Cause) → unaddressed_fault spec ≡ Some cause
     → IsRight full spec options tier supply (RefusedFinding cause)
 unaddressed_right full none options tier supply spec cause h = split (early_fault spec) refl
@@ -119,7 +120,8 @@ record Described (device : Addressed) (spec : Spec) : Type 0 where
   granted : Granted device.target.low device.target.max spec
   bytes : device.bytes ≡ take 18 spec.descriptor
 
-module _ (port : HubPort) (address : ℕ) (options : HostOptions) (tier supply m n : ℕ) (device : Addressed)
+module _ (port : HubPort) (address : ℕ) (options : HostOptions) (tier supply m n : ℕ)
+    (device : Addressed)
     {old mid new : World}
     {a b c d : Option (List ℕ)} (first : StepRun m old a mid b) (second : StepRun n mid c new d)
     (at : AtPort port address old mid)

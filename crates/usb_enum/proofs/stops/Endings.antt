@@ -254,7 +254,8 @@ module _ (port : HubPort) (addresses : Addresses) (address : ℕ) (zero_is : IsT
       till_weaker (MapHolds f) (Enumerating f p 0) old
       (enumerating_begins f p 0 old is.free is.none) fair.begins.owned
 
-  pub device_warranted : (options : HostOptions) (tier supply : ℕ) (old new : World) (device : Accepted)
+  pub device_warranted : (options : HostOptions) (tier supply : ℕ) (old new : World)
+      (device : Accepted)
       → JustifiesRefusal port addresses options tier supply old (Ok (Device device)) new
   device_warranted options tier supply old new device = record {
     cause = λ f p fair cause s e. absurd cc;

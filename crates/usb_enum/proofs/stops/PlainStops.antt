@@ -148,7 +148,8 @@ module _ (addresses : Addresses) (options : HostOptions) (tier supply : ℕ) whe
   fits_found _ _ hands fits = absurd cc
 
   pub without_found : (stop : Stop) (result : Result Finding EnumFault) → IsFull addresses
-      → HandsOn stop result → IsStopWithout stop → IfOk result (IsFound addresses options tier supply)
+      → HandsOn stop result → IsStopWithout stop
+      → IfOk result (IsFound addresses options tier supply)
   without_found (Refused why) (Ok (finding.Refused other)) full hands (inl none) =
       inl (sym (same_cause other why hands) ∙ none, full)
   without_found (Refused why) (Ok (finding.Refused other)) full hands (inr early) =

@@ -31,7 +31,8 @@ stops_by t bytes options tier supply (Refused why) old new told = record {
   fits = plain_fits tier why (because_plain why t old new told);
   because = by_answer told;
 }
-stops_by t bytes options tier supply (Fault why) old new told = record { fits = told; because = told }
+stops_by t bytes options tier supply (Fault why) old new told =
+    record { fits = told; because = told }
 
 -- by the texts of its configurations
 pub texts_stops : (t : Target) (bytes : List ℕ) (options : HostOptions) (tier supply : ℕ)
@@ -48,8 +49,8 @@ texts_stops t bytes options tier supply (Fault why) old new told =
 
 -- In the last tier
 
-pub fits_stop : (t : Target) (bytes : List ℕ) (options : HostOptions) (tier supply : ℕ) (stop : Stop)
-    (w : World)
+pub fits_stop : (t : Target) (bytes : List ℕ) (options : HostOptions) (tier supply : ℕ)
+    (stop : Stop) (w : World)
     → fits_tier tier bytes ≡ Err stop → StopsDevice t bytes options tier supply w w stop
 fits_stop t bytes options tier supply stop w is =
     let deep = deep_is tier bytes stop is in
@@ -89,27 +90,29 @@ module _ (t : Target) (bytes : List ℕ) (options : HostOptions) (tier supply : 
       → CauseAllowedAtStart options.wide_hubs t (slice_index_or texts chosen []) stop set new
       → StopsDevice t bytes options tier supply old new stop
   hub_stops stop old read set new fits hub texts all chosen choice first led told = record {
-    fits = told_of_hub options.wide_hubs tier bytes stop t (slice_index_or texts chosen []) set new fits hub
+    fits = told_of_hub options.wide_hubs tier bytes stop t (slice_index_or texts chosen []) set
+        new fits hub
         told;
     because = hub_as stop old read set new hub texts all chosen choice first led told;
   }
 
 -- At the port
 
-pub device_stops : (port : HubPort) (address : ℕ) (options : HostOptions) (tier supply : ℕ) (t : Target)
-    (bytes : List ℕ) (stop : Stop) (old mid new : World) → IsSpokenTo port address t
+pub device_stops : (port : HubPort) (address : ℕ) (options : HostOptions) (tier supply : ℕ)
+    (t : Target) (bytes : List ℕ) (stop : Stop) (old mid new : World) → IsSpokenTo port address t
     → DescriptorRead t bytes old mid
     → StopsDevice t bytes options tier supply mid new stop
     → StopsAtPort port address options tier supply old new stop
 device_stops port address options tier supply t bytes (Refused why) old mid new is read told =
     record { fits = told.fits; because = late t bytes mid is read told.because }
-device_stops port address options tier supply t bytes (Fault why) old mid new is read told = record {
-  fits = fault_at port why new told.fits;
-  because = fault_told_by port why old new told.because;
-}
+device_stops port address options tier supply t bytes (Fault why) old mid new is read told =
+    record {
+      fits = fault_at port why new told.fits;
+      because = fault_told_by port why old new told.because;
+    }
 
-pub early_stops : (port : HubPort) (address : ℕ) (options : HostOptions) (tier supply : ℕ) (stop : Stop)
-    (old new : World) → CauseAllowedAt port address stop old new
+pub early_stops : (port : HubPort) (address : ℕ) (options : HostOptions) (tier supply : ℕ)
+    (stop : Stop) (old new : World) → CauseAllowedAt port address stop old new
     → StopsAtPort port address options tier supply old new stop
 early_stops port address options tier supply (Refused why) old new told = record {
   fits = told_in tier (Refused why) port address old new told;

@@ -79,27 +79,32 @@ no_head = function [] (device_bytes 0 0 1) ((9 ∷ 4 ∷ 18 ∷ 0 ∷ 1 ∷ 1 �
 abbrev at_most : ℕ → HostOptions
 at_most bytes = record { wide_hubs = false; device_bytes = Some bytes }
 
--- what a host finds in them that takes wide hubs or not, or so many bytes, in a tier and at a port of
--- so many mA
+-- what a host finds in them that takes wide hubs or not, or so many bytes, in a tier and at a port
+-- of so many mA
 pub record Examples : Type 0 where
-  pub silent : verdict (record small { silent = true; busy = true }) (usual_options false) 2 500 ≡ Err Silent
+  pub silent : verdict (record small { silent = true; busy = true }) (usual_options false) 2 500
+      ≡ Err Silent
   pub busy : verdict (record small { busy = true }) (usual_options false) 2 500 ≡ Err Busy
-  pub stalled_device : verdict (record small { stalls = record no_stalls { device = true } }) (usual_options false)
+  pub stalled_device : verdict (record small { stalls = record no_stalls { device = true } })
+      (usual_options false)
       2 500 ≡ Err (Stalled request.Device)
-  pub bad_head : verdict (record small { descriptor = 18 ∷ 1 ∷ [] }) (usual_options false) 2 500 ≡ Err BadDevice
+  pub bad_head : verdict (record small { descriptor = 18 ∷ 1 ∷ [] }) (usual_options false) 2 500
+      ≡ Err BadDevice
   pub stalled_address : verdict (record unconfigured {
     stalls = record no_stalls { address = true };
   }) (usual_options false) 2 500 ≡ Err (Stalled request.Address)
   pub bad_device : verdict unconfigured (usual_options false) 2 500 ≡ Err BadDevice
   pub too_deep : verdict two_ports (usual_options false) 7 500 ≡ Err TooDeep
-  pub stalled_config : verdict (record small { stalls = record no_stalls { config = true } }) (usual_options false)
+  pub stalled_config : verdict (record small { stalls = record no_stalls { config = true } })
+      (usual_options false)
       2 500 ≡ Err (Stalled request.Config)
   pub no_text : verdict missing (usual_options false) 2 500 ≡ Err (Stalled request.Config)
   pub bad_item : verdict no_item (usual_options false) 2 500 ≡ Err (BadConfiguration 0)
   pub bad_length : verdict cut_device (usual_options false) 2 500 ≡ Err (BadConfiguration 0)
   pub bad_value : verdict twice_configured (usual_options false) 2 500 ≡ Err (BadConfiguration 1)
   pub no_power : verdict large (usual_options false) 3 100 ≡ Err NoPower
-  pub stalled_set : verdict (record small { stalls = record no_stalls { set_config = true } }) (usual_options false)
+  pub stalled_set : verdict (record small { stalls = record no_stalls { set_config = true } })
+      (usual_options false)
       2 500 ≡ Err (Stalled request.SetConfig)
   pub bad_hub : verdict (record two_ports { hub = None }) (usual_options false) 2 500 ≡ Err BadHub
   pub accepted : verdict small (usual_options false) 2 500 ≡ Ok 0
@@ -118,7 +123,8 @@ pub record Examples : Type 0 where
   pub bad_before : verdict no_head (at_most 0) 2 500 ≡ Err (BadConfiguration 0)
 
 pub examples : Examples
-unfolding verdict first_fault config_fault text_read lengths.said_length text.needs_of device.device_head_of
+unfolding verdict first_fault config_fault text_read lengths.said_length text.needs_of
+    device.device_head_of
     device.device_spelled config.config_head_of config.config_of config.items_fault config.pieces_of
     hub.hub_spelled choice.status_endpoint_of choice.first_counting choice.status_at
     choice.interrupt_in_at choice.interrupt_described item.items_in item.items_of

@@ -64,8 +64,8 @@ causes_above : (options : HostOptions) (path below : List ℕ) (w : World) (es :
     → is_way path below ≡ true → CausesBut options below w es → CausesBut options path w es
 causes_above options path below w es on caused x away = caused x (way_apart path below x on away)
 
-causes_gone : (options : HostOptions) (path : List ℕ) (w : World) (es : Entries) → has_at path es ≡ false
-    → CausesBut options path w es → RefusalsJustified options w es
+causes_gone : (options : HostOptions) (path : List ℕ) (w : World) (es : Entries)
+    → has_at path es ≡ false → CausesBut options path w es → RefusalsJustified options w es
 causes_gone options path w es gone caused x = pick (decided (is_way path x))
   where
     pick : (is_way path x ≡ true) ⊎ (is_way path x ≡ false) → IsJustifiedAt options w es x
@@ -134,7 +134,8 @@ module _ {n : ℕ} (a : HostState) {b : HostState} (r : OnlyBusSteps a b) (went 
   before = went_sound n a.world b.world went still
 
   pub causes_rests : TouchesNoPort a.world b.world → HostInvariant a
-      → RefusalsJustified a.options a.world a.entries → RefusalsJustified b.options b.world b.entries
+      → RefusalsJustified a.options a.world a.entries
+      → RefusalsJustified b.options b.world b.entries
   causes_rests rests i caused =
       rw (ap (λ (h : HostState). h.options) r, ap (λ (h : HostState). h.entries) r)
       (causes_stay a.world b.world
@@ -152,7 +153,8 @@ module _ {n : ℕ} (a : HostState) {b : HostState} (r : OnlyBusSteps a b) (went 
   -- a port is tidied
   pub causes_tidied : (path : List ℕ) → RestElsewhere path a.world b.world
       → ((x : List ℕ) → is_way path x ≡ true → HoldsAt x a.world b.world) → HostInvariant a
-      → RefusalsJustified a.options a.world a.entries → RefusalsJustified b.options b.world b.entries
+      → RefusalsJustified a.options a.world a.entries
+      → RefusalsJustified b.options b.world b.entries
   causes_tidied path rests holds i caused =
       rw (ap (λ (h : HostState). h.options) r, ap (λ (h : HostState). h.entries) r) each
     where
@@ -236,7 +238,8 @@ module _ {n : ℕ} {path : List ℕ} {port : KnownPort} {a b : HostState} (s : S
       → ClearsChange port.port a.world (Ok status) b.world
       → c ≡ record b { entries = c.entries; pipes = c.pipes; addresses = c.addresses }
       → c.entries ≡ without path b.entries → HostInvariant a → b.world.fault ≡ None
-      → RefusalsJustified a.options a.world a.entries → RefusalsJustified c.options c.world c.entries
+      → RefusalsJustified a.options a.world a.entries
+      → RefusalsJustified c.options c.world c.entries
   forgot_caused c x others rest i still caused =
       let rests = x.others (claims a.entries) path (stands_at-claim s) i.owned tt in
       let there = causes_rests_but a r went s.agrees still rests (but_of_sound path i)
@@ -253,7 +256,8 @@ right_free full spec options tier supply f (inr x) =
     inr (record { none = tt; head = x.head; refused = x.refused })
 
 module _ (n : ℕ) {path : List ℕ} {port : KnownPort} (a b : HostState) (s : StandsAt path port a)
-    (width : b.options ≡ a.options) (gone : has_at path a.entries ≡ false) (accounts : Accounts a.entries
+    (width : b.options ≡ a.options) (gone : has_at path a.entries ≡ false)
+    (accounts : Accounts a.entries
     a.addresses)
     (went : HostSteps n a b) (o : IsOpen path a) (fair : IsFairTo a.world b.world) where
   sound_before : a.world.fault ≡ None
@@ -327,7 +331,8 @@ module _ (n : ℕ) {path : List ℕ} {port : KnownPort} (a b : HostState) (s : S
 
 -- what was found at a port is entered, or its hub is lost
 module _ {n : ℕ} {path : List ℕ} {port : KnownPort} {a b : HostState} (s : StandsAt path port a)
-    (width : b.options ≡ a.options) (gone : has_at path a.entries ≡ false) (accounts : Accounts a.entries
+    (width : b.options ≡ a.options) (gone : has_at path a.entries ≡ false)
+    (accounts : Accounts a.entries
     a.addresses)
     (went : HostSteps n a b) where
   pub entered_finds : (f : Finding) → Enumerates port.port a.addresses b.options (tier_of path)

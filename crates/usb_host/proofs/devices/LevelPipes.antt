@@ -123,7 +123,8 @@ level_refused path cause said t w is others =
     (λ device s found. absurd (cc found))) others
 
 -- those to a device whose finding is its own are new, as its endpoints are
-pub level_found : (path : List ℕ) (f : Finding) (said : ArrayVec ℕ) (options : HostOptions) (tier supply : ℕ)
+pub level_found : (path : List ℕ) (f : Finding) (said : ArrayVec ℕ) (options : HostOptions)
+    (tier supply : ℕ)
     (t : Table) {u : Table} (w : World) → u ≡ entered path f said t → Consistent w.roots
     → ((device : Accepted) (s : State) → f ≡ Device device → reach w.roots path ≡ true
     → state_there w.roots path ≡ Some s → IsOwn options tier supply device s) → AllInSync t w

@@ -18,8 +18,8 @@ use Rattle.usb_host.proofs.entries.EntryClaims.{lookup-insert_entry_here}
 pub found_none : {options : HostOptions} → AreFound options []
 found_none = record { each = λ path finding port is at. absurd cc }
 
-kept : {options : HostOptions} (path : List ℕ) (es : Entries) (q : List ℕ) (g : Finding) (port : KnownPort)
-    → AreFound options es
+kept : {options : HostOptions} (path : List ℕ) (es : Entries) (q : List ℕ) (g : Finding)
+    (port : KnownPort) → AreFound options es
     → (b : Bool) → is_at_or_below q path ≡ b
     → lookup (is_at (path_cmp q)) (without path es) ≡ Some g
     → known_port q (without path es) ≡ Some port → IsFoundAt options q port g
@@ -35,7 +35,8 @@ found_without path es w = record {
   each = λ q g port found at. kept path es q g port w (is_at_or_below q path) refl found at;
 }
 
-module _ {options : HostOptions} (path : List ℕ) (f : Finding) {es : Entries} (away : has_at path es ≡ false)
+module _ {options : HostOptions} (path : List ℕ) (f : Finding) {es : Entries}
+    (away : has_at path es ≡ false)
     (own : (port : KnownPort) → known_port path es ≡ Some port → IsFoundAt options path port f)
     (w : AreFound options es) where
   entered : (q : List ℕ) (g : Finding) (port : KnownPort) (b : Bool) → is_at (path_cmp q) path ≡ b

@@ -118,7 +118,8 @@ apart ((path, Device device) ∷ es) a none = (
   apart es a (omega (arith, none, of_kind-cons (has_address a) (path, Device device) es)),
 )
 
-distinct : (es : Entries) → ((a : ℕ) → of_kind (has_address a) es ≤ 1) → IsDistinct eqb (addresses_in es)
+distinct : (es : Entries) → ((a : ℕ) → of_kind (has_address a) es ≤ 1)
+    → IsDistinct eqb (addresses_in es)
 unfolding addresses_in has_address one_when IsDistinct
 distinct [] once = tt
 distinct ((path, Refused cause) ∷ es) once =
@@ -131,7 +132,8 @@ distinct ((path, Device device) ∷ es) once =
         of_kind-cons (has_address a) (path, Device device) es,
         ap one_when (eq-eqb a a refl),
       )),
-      distinct es (λ b. omega (arith, once b, of_kind-cons (has_address b) (path, Device device) es)),
+      distinct es
+          (λ b. omega (arith, once b, of_kind-cons (has_address b) (path, Device device) es)),
     )
 
 -- none of them is 0
@@ -152,7 +154,8 @@ module _ (es : Entries) (pool : Addresses) (accounts : Accounts es pool)
   once : (a : ℕ) → of_kind (has_address a) es ≤ 1
   once a = pick (contains pool a) (accounts.each a)
     where
-      pick : (b : Bool) → of_kind (has_address a) es ≡ (if b then 1 else 0) → of_kind (has_address a) es ≤ 1
+      pick : (b : Bool) → of_kind (has_address a) es ≡ (if b then 1 else 0)
+          → of_kind (has_address a) es ≤ 1
       pick true is = omega (arith, is)
       pick false is = omega (arith, is)
 

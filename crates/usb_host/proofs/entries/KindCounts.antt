@@ -20,7 +20,8 @@ abbrev pub of_kind : (Finding → Bool) → Entries → ℕ
 of_kind kind entries = count_by (λ e. kind e.1) entries
 
 module _ (kind : Finding → Bool) where
-  pub of_kind-cons : (e : List ℕ × Finding) (es : Entries) → of_kind kind (e ∷ es) ≡ one_when (kind e.1)
+  pub of_kind-cons : (e : List ℕ × Finding) (es : Entries)
+      → of_kind kind (e ∷ es) ≡ one_when (kind e.1)
       + of_kind kind es
   unfolding one_when
   of_kind-cons e es = sum_by-cons (λ d. cond (kind d.1) 1 0) e es

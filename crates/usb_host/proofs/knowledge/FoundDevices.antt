@@ -33,8 +33,8 @@ use Rattle.usb_host.proofs.PortLocations.{stands_at-claim}
 use Rattle.usb_host.proofs.knowledge.KnowledgeKept.{known_but_each, truthful_but_stays}
 
 -- nothing is known of what is not listed
-truthful_gone : {options : HostOptions} (path : List ℕ) (w : World) (es : Entries) → has_at path es ≡ false
-    → TruthfulBut options path w es → DevicesAccurate options w es
+truthful_gone : {options : HostOptions} (path : List ℕ) (w : World) (es : Entries)
+    → has_at path es ≡ false → TruthfulBut options path w es → DevicesAccurate options w es
 truthful_gone {options = options} path w es gone told x = pick (decided (is_way path x))
   where
     pick : (is_way path x ≡ true) ⊎ (is_way path x ≡ false) → IsAccurateAt options w es x
@@ -62,7 +62,8 @@ hub_device (Device device) n h = pick device.hub refl h
     pick (Some facts) e h = (device, facts, refl, e, h.0, h.1)
 
 module _ (n : ℕ) (path : List ℕ) (port : KnownPort) (pool : Addresses) (a b : HostState)
-    (s : StandsAt path port a) (width : b.options ≡ a.options) (gone : has_at path a.entries ≡ false)
+    (s : StandsAt path port a) (width : b.options ≡ a.options)
+    (gone : has_at path a.entries ≡ false)
     (accounts : Accounts a.entries pool) (went : HostSteps n a b) (o : IsOpen path a) where
   taken_by : (x : List ℕ) (address : ℕ) → claims a.entries x ≡ Some address → IsTaken pool address
   taken_by = claims_taken accounts
@@ -113,7 +114,8 @@ module _ (n : ℕ) (path : List ℕ) (port : KnownPort) (pool : Addresses) (a b 
         (λ number has. let d : _ = hub_device f number has in
         here.below d.0 d.2 d.1 number d.3 d.4 d.5))
 
-    told_here : b.world.fault ≡ None → IsAccurateAt b.options b.world (insert_entry path_cmp a.entries
+    told_here : b.world.fault ≡ None
+        → IsAccurateAt b.options b.world (insert_entry path_cmp a.entries
         path f)
         path
     told_here still device t at on stands =

@@ -64,10 +64,12 @@ known_but_each first w v entries roots calm known path away port =
 
 -- Accepted devices
 
-tells_still : {options : HostOptions} {entries : Entries} {path : List ℕ} {device : Accepted} (j : Location)
+tells_still : {options : HostOptions} {entries : Entries} {path : List ℕ} {device : Accepted}
+    (j : Location)
     {s : State}
     (v : State)
-    → SameDevice j s v → IsTruthOf options entries path device s → IsTruthOf options entries path device v
+    → SameDevice j s v → IsTruthOf options entries path device s
+    → IsTruthOf options entries path device v
 tells_still j v still t = record {
   found = rw still.spec t.found;
   set = record {
@@ -103,8 +105,8 @@ truthful_but_stays first w v entries each told (suc j ∷ p) away =
 
 -- Refused devices
 
-is_caused_at-kept : (options : HostOptions) (path : List ℕ) (entries : Entries) (w v : World) (cause : Cause)
-    (s : State)
+is_caused_at-kept : (options : HostOptions) (path : List ℕ) (entries : Entries) (w v : World)
+    (cause : Cause) (s : State)
     → (pending w.roots path ≡ true → pending v.roots path ≡ true)
     → IsJustifiedAt options w entries path
     → finding_at path entries ≡ Some (Refused cause) → (o : Option State)
@@ -157,20 +159,24 @@ pub causes_stay : {options : HostOptions} (w v : World) {entries : Entries} {add
     → Accounted options (roots_of w) entries addresses → PortsListed w entries
     → ((path : List ℕ) → IsListedPort (roots_of w) entries path → Course (KeepsPendingAt path) w v)
     → RefusalsJustified options w entries → RefusalsJustified options v entries
-causes_stay {options = options} w v {entries = entries} accounted known spares caused path cause s at
+causes_stay {options = options} w v {entries = entries} accounted known spares caused path
+    cause s at
     stands =
     let port = listed_port w accounted path (Refused cause) at in
     cause_stays options path entries (spares path port) (known path port) (caused path) cause s at
     stands
 
-pub causes_but_stay : {options : HostOptions} (first : List ℕ) (w v : World) {entries : Entries} {addresses :
+pub causes_but_stay : {options : HostOptions} (first : List ℕ) (w v : World) {entries : Entries}
+    {addresses :
     Addresses}
     → Accounted options (roots_of w) entries addresses → KnownBut first w entries
     → Elsewhere first (λ path. Course (KeepsPendingAt path) w v) → CausesBut options first w entries
     → CausesBut options first v entries
-causes_but_stay {options = options} first w v {entries = entries} accounted known spares caused path away
+causes_but_stay {options = options} first w v {entries = entries} accounted known spares
+    caused path away
     cause s at
     stands =
     let port = listed_port w accounted path (Refused cause) at in
-    cause_stays options path entries (spares path away) (known path away port) (caused path away) cause
+    cause_stays options path entries (spares path away) (known path away port)
+    (caused path away) cause
     s at stands

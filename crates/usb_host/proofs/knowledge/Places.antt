@@ -176,7 +176,8 @@ caused_as : (options : HostOptions) (w : World) (es fs : Entries) (path : List �
 caused_as options w es fs path same supply caused cause s at stands =
     pick (caused cause s (sym same ∙ at) stands)
   where
-    pick : (pending w.roots path ≡ true) ⊎ IsRight ⊤ s.spec options (tier_of path) (known_supply path
+    pick : (pending w.roots path ≡ true)
+        ⊎ IsRight ⊤ s.spec options (tier_of path) (known_supply path
         es)
         (Refused cause) → (pending w.roots path ≡ true)
         ⊎ IsRight ⊤ s.spec options (tier_of path) (known_supply path fs) (Refused cause)
@@ -214,7 +215,8 @@ causes_dropped options first w es caused path = pick (decided (is_way first path
     pick : (is_way first path ≡ true) ⊎ (is_way first path ≡ false)
         → IsJustifiedAt options w (without first es) path
     pick (inl way) = λ cause s at stands. absurd (cc (finding-dropped first path es way, at))
-    pick (inr away) = caused_as options w es (without first es) path (finding-kept first path es away)
+    pick (inr away) =
+        caused_as options w es (without first es) path (finding-kept first path es away)
         (supply-kept first path es away) (caused path away)
 
 -- An entry comes, where none is at its path or below it

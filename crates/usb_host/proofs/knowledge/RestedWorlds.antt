@@ -99,7 +99,8 @@ module _ {n : ℕ} (a : HostState) {b : HostState} (r : OnlyBusSteps a b) (went 
         known = λ still. subst (PortsListed b.world) (sym same_entries)
             (known_each a.world b.world a.entries went.spends.roots (λ path port. rests path)
             (s.known (went_sound n a.world b.world went still)));
-        truthful = λ still. rw same_wide (subst (DevicesAccurate a.options b.world) (sym same_entries)
+        truthful =
+            λ still. rw same_wide (subst (DevicesAccurate a.options b.world) (sym same_entries)
             (truthful_stays a.world b.world a.entries (kept_each_still devices owned.single)
             (s.truthful (went_sound n a.world b.world went still))));
         level = λ still x. level_rests a b r devices owned.single x
@@ -144,8 +145,8 @@ occupied_by w path (Refused cause) (inr x) = inr (x.0, x.1.0)
 -- the hub of a port that is known may be dropped, where what is known elsewhere than at the port is
 -- so
 pub droppable_above : (path hub : List ℕ) (h : HostState) → parent_of path ≡ Some hub
-    → IsSome (known_port path h.entries) → Agrees h.options h.entries h.addresses → IsSoundBut path h
-    → IsDroppable hub h
+    → IsSome (known_port path h.entries) → Agrees h.options h.entries h.addresses
+    → IsSoundBut path h → IsDroppable hub h
 droppable_above path hub h above known agrees s = record {
   listed = rw found.1 refl;
   but = but_of_above hub path h (way_parent path hub above) s;

@@ -146,7 +146,8 @@ facts_supply spec facts h = pick (is_hub_device spec.descriptor) h
 -- The listing
 
 right_moved : (full : Type 0) (options : HostOptions) {a : Spec} (b : Spec) (tier : ℕ) {m n : ℕ}
-    (f : Finding) → a ≡ b → m ≡ n → IsRight full a options tier m f → IsRight full b options tier n f
+    (f : Finding) → a ≡ b → m ≡ n → IsRight full a options tier m f
+    → IsRight full b options tier n f
 right_moved full options b tier {n = n} f e g x = rw (← g) (rw e at x)
 
 module _ (options : HostOptions) (w : World) (entries : Entries) (addresses : Addresses)

@@ -291,7 +291,8 @@ sound_event a b agrees same width pipes is k = record {
           (rw is (level_event (table_in a) a.world (s.level (before still))));
     }
 
-    caused : HostInvariant a → IsFairTo a.world b.world → RefusalsJustified a.options a.world a.entries
+    caused : HostInvariant a → IsFairTo a.world b.world
+        → RefusalsJustified a.options a.world a.entries
         → RefusalsJustified b.options b.world b.entries
     caused s fair causes =
         rw (width, same) (rw is (causes_event a.world (accounted a agrees s.rooted)

@@ -58,7 +58,8 @@ facts_of-hub spec facts is = pick (is_hub_device spec.descriptor) refl is
     pick true hub e = refl
     pick false hub e = let none : facts_of spec ≡ None = rw hub refl in absurd (cc (none, e))
 
-verdict-not_deep : (spec : Spec) (options : HostOptions) (tier supply : ℕ) {chosen : ℕ} (facts : HubFacts)
+verdict-not_deep : (spec : Spec) (options : HostOptions) (tier supply : ℕ) {chosen : ℕ}
+    (facts : HubFacts)
     → verdict spec options tier supply ≡ Ok chosen → facts_of spec ≡ Some facts → tier ≡ 7 → ⊥
 unfolding verdict
 verdict-not_deep spec options tier supply facts e hub last =

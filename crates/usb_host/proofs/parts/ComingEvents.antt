@@ -11,7 +11,8 @@ use Rattle.usb_host.proofs.knowledge.Soundness.{sound_event}
 
 -- what it knew is so as before, where the event came or none was left
 pub sound_came : (old new : HostState) (due : Option (Option Ask))
-    → Agrees old.options old.entries old.addresses → TakesEvent old.world old.trace (Ok due) new.world
+    → Agrees old.options old.entries old.addresses
+    → TakesEvent old.world old.trace (Ok due) new.world
     new.trace
     → OnlyBusSteps old new → KeepsInvariant old new
 sound_came old new due agrees takes rests =

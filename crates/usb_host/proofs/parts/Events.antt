@@ -40,8 +40,8 @@ pub known_event : (w : World) (entries : Entries) → PortsListed w entries
 known_event w entries known = known_each w (after event w) entries
     (course_later (event_calm [] w)).roots (λ path port. event_calm path w) known
 
-pub truthful_event : {options : HostOptions} (w : World) (entries : Entries) → DevicesAccurate options w entries
-    → DevicesAccurate options (after event w) entries
+pub truthful_event : {options : HostOptions} (w : World) (entries : Entries)
+    → DevicesAccurate options w entries → DevicesAccurate options (after event w) entries
 truthful_event w entries told = truthful_stays w (after event w) entries
     (each_wider (λ x s v. v ≡ s) SameDevice
     (λ j s v e. record {

@@ -124,8 +124,8 @@ known_opening w sane (n ∷ m ∷ rest) port =
     absurd wrong
 
 pub sound_opening : (options : HostOptions) (w : World) (t : Option (List ℕ))
-    → Traced w t (opening_host options w t).world (opening_host options w t).trace → IsSettled w.roots
-    → IsInOrder w → w.shared ≡ false → HostInvariant (opening_host options w t)
+    → Traced w t (opening_host options w t).world (opening_host options w t).trace
+    → IsSettled w.roots → IsInOrder w → w.shared ≡ false → HostInvariant (opening_host options w t)
 sound_opening options w t traced settled order single = record {
   owned = (owning_opening options w t settled single).owned refl;
   rooted = rooted_opening options w t;

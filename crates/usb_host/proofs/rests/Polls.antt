@@ -83,7 +83,8 @@ change_by None h = tt
 change_by (Some b) h = change_none b h
 
 -- the device that is reached at a path
-record ReachedAt (options : HostOptions) (w : World) (entries : Entries) (j : Location) (device : Accepted)
+record ReachedAt (options : HostOptions) (w : World) (entries : Entries) (j : Location)
+    (device : Accepted)
     : Type 0 where
   state : State
   on : reach_on w.roots j ≡ true
@@ -102,7 +103,8 @@ module _ {options : HostOptions} (w : World) {entries : Entries} {addresses : Ad
       elim here [ inl pends ↦ false_true (sym none ∙ pends) | inr there ↦ there.1 ]
 
   stands_at : (j : Location) {device : Accepted} → finding_at (path_to j) entries
-      ≡ Some (Device device) → reach w.roots (path_to j) ≡ true → ReachedAt options w entries j device
+      ≡ Some (Device device) → reach w.roots (path_to j) ≡ true
+      → ReachedAt options w entries j device
   stands_at j {device = device} found on =
       let there : _ = reached_there w.roots (path_to j) on in
       record {

@@ -258,13 +258,13 @@ pub none_right : {A : Type 0} (P Q : Type 0) (o : Option A) → IfNone o Q → I
 none_right P Q None q = inr q
 none_right P Q (Some x) q = tt
 
-pub full_lists : {options : HostOptions} {es : Entries} {addresses : Addresses} → Agrees options es addresses
-    → IsFull addresses → ListsEach es
+pub full_lists : {options : HostOptions} {es : Entries} {addresses : Addresses}
+    → Agrees options es addresses → IsFull addresses → ListsEach es
 full_lists agrees full address is =
     accounts_listed agrees.rises agrees.accounts address (full address is)
 
-pub none_waits : {options : HostOptions} {es : Entries} {addresses : Addresses} → Agrees options es addresses
-    → (IsFull addresses ⊎ IsLast is_waiting None es) → NoneWaiting es
+pub none_waits : {options : HostOptions} {es : Entries} {addresses : Addresses}
+    → Agrees options es addresses → (IsFull addresses ⊎ IsLast is_waiting None es) → NoneWaiting es
 none_waits agrees (inl full) path at = full_lists agrees full
 none_waits agrees (inr none) path at =
     absurd (none path (record { finding = Refused NoAddress; found = at; fits = refl; after = tt }))

@@ -1,7 +1,7 @@
 -- What a host knows stays so over the parts of a run, and a host that has settled lists what is
 -- plugged.
-use Rattle.std.proofs.Common.{◌≡◌, ◌∙◌, refl, sym, ap, subst, Bool, false, ℕ, List, Option, None, Some}
-use Rattle.std.proofs.Common.{Result, Ok, is_some}
+use Rattle.std.proofs.Common.{◌≡◌, ◌∙◌, refl, sym, ap, subst, Bool, false, ℕ, List, Option, None}
+use Rattle.std.proofs.Common.{Some, Result, Ok, is_some}
 use Rattle.usb_device.specs.{Ports}
 use Rattle.usb_world.specs.declared.event.Ask.{Ask}
 use Rattle.usb_tree.specs.{pending}
@@ -13,9 +13,9 @@ use Rattle.usb_host.specs.{Agrees, HostFault, HostState, IsAtRest, IsFairTo, Hos
 use Rattle.usb_host.specs.{KeepsInvariant, TransferTells}
 use Rattle.usb_host.proofs.Interface.{accounted, settled_matches, sound_event, sound_none}
 use Rattle.usb_world.specs.{BusFault}
-use Rattle.usb_run.specs.{Item, Mode, Arrives, Comes, Knows, LeavesSettled, Ran, idle, silent, Reaches}
-use Rattle.usb_run.specs.{Rounds, none, more, Settled, Settles, AppendsText, Makes, asked, last}
-use Rattle.usb_run.specs.{IsItemOf, begun as run_begun, told as run_told}
+use Rattle.usb_run.specs.{Item, Mode, Arrives, Comes, Knows, LeavesSettled, Ran, idle, silent}
+use Rattle.usb_run.specs.{Reaches, Rounds, none, more, Settled, Settles, AppendsText, Makes, asked}
+use Rattle.usb_run.specs.{last, IsItemOf, begun as run_begun, told as run_told}
 use Rattle.usb_run.specs.Transcript.{Transcript}
 use Rattle.usb_run.proofs.AskedCalls.{AskAnswered, silent as no_item, listed, sent, received}
 use Rattle.usb_run.proofs.AskedCalls.{cleared, read, written, looked, news, answered}
@@ -101,7 +101,8 @@ settled_at h running agrees knows rest = record {
   knows = knows;
   rest = rest;
   matches = λ fair.
-      settled_matches h.options h.world h.entries h.addresses (accounted h agrees knows.sound.rooted)
+      settled_matches h.options h.world h.entries h.addresses
+      (accounted h agrees knows.sound.rooted)
       (knows.sound.known fair.still) (knows.sound.truthful fair.still) (knows.causes fair)
       (rest fair.still);
 }

@@ -1,5 +1,6 @@
 -- What a run makes of an event, by what the event asks.
-use Rattle.std.proofs.Common.{◌≡◌, refl, sym, subst, Bool, false, Option, Some, Result, Ok, Err, IsErrAnd}
+use Rattle.std.proofs.Common.{◌≡◌, refl, sym, subst, Bool, false, Option, Some, Result, Ok, Err}
+use Rattle.std.proofs.Common.{IsErrAnd}
 use Rattle.usb_world.specs.declared.event.Ask.{Ask}
 use Rattle.usb_world.specs.{Show}
 use Rattle.usb_host.specs.{HostState}

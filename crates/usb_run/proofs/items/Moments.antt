@@ -168,10 +168,12 @@ module _ (plan : PlanData) (rules : IsPlan plan) (paths : AtPorts plan.events) (
         few = subst AtMostTwoRunning (sym (course_later (before still).course).damages) two;
         kept = omega (arith, on, few);
       } in
-      lists_of_plan plan rules paths h.world (before still).course (usual_options plan.wide) h.entries
+      lists_of_plan plan rules paths h.world (before still).course
+      (usual_options plan.wide) h.entries
       (subst (λ x. Matches x h.world h.entries) kept (settled.matches here))
 
-  due_right : {due : Option Ask} (made : Item) (mid k : HostState) → k.options ≡ usual_options plan.wide
+  due_right : {due : Option Ask} (made : Item) (mid k : HostState)
+      → k.options ≡ usual_options plan.wide
       → RunsOnward (opening plan) k.world → mid.world.fault ≡ None → IsWorse k.world end
       → AskAnswered due (Some made) mid k → TellsRight due made mid k → IsListingOf plan made
   due_right made mid k kept before still on (silent nothing same) right = absurd (cc nothing)
@@ -202,7 +204,8 @@ module _ (plan : PlanData) (rules : IsPlan plan) (paths : AtPorts plan.events) (
   due_right made mid k kept before still on (cleared_of path endpoint answer asks e came) right =
       let is : made ≡ item.ClearedOf path endpoint answer = cc e in
       subst (IsListingOf plan) (sym is) tt
-  due_right made mid k kept before still on (interface_set path interface setting answer asks e came)
+  due_right made mid k kept before still on
+      (interface_set path interface setting answer asks e came)
       right =
       let is : made ≡ item.InterfaceSet path interface setting answer = cc e in
       subst (IsListingOf plan) (sym is) tt
@@ -234,7 +237,8 @@ module _ (plan : PlanData) (rules : IsPlan plan) (paths : AtPorts plan.events) (
       (over_makes onward_runs (last {new = k} reaches settled))) (reaches_still reaches) on settled
 
   items_right : {mode : Mode} {was : Bool} {old : HostState} {items : List Item} {over : Bool}
-      {new : HostState} → old.options ≡ usual_options plan.wide → RunsOnward (opening plan) old.world
+      {new : HostState} → old.options ≡ usual_options plan.wide
+      → RunsOnward (opening plan) old.world
       → Transcript mode was old items over new → IsWorse new.world end
       → AllByRecursion (IsListingOf plan) items
   items_right kept before begun on = tt
@@ -248,7 +252,8 @@ module _ (plan : PlanData) (rules : IsPlan plan) (paths : AtPorts plan.events) (
       )
 
   stopped_right : {mode : Mode} {IsOf : RunFault → Type 0} {IsCut : Type 0} {was : Bool}
-      {old : HostState} {items : List Item} {new : HostState} → old.options ≡ usual_options plan.wide
+      {old : HostState} {items : List Item} {new : HostState}
+      → old.options ≡ usual_options plan.wide
       → RunsOnward (opening plan) old.world → StoppedRun mode IsOf IsCut was old items new
       → IsWorse new.world end → AllByRecursion (IsListingOf plan) items
   stopped_right kept before (on_the_way {h = h} {new = new} of t stops) on =

@@ -1,7 +1,7 @@
 -- A table that is copied entry by entry, by rising path.
 use Rattle.std.proofs.Common.{◌≡◌, ◌∙◌, refl, sym, ap, subst, inl, inr, true, false, Bool, ℕ, ◌+◌}
-use Rattle.std.proofs.Common.{cond, List, [], ◌∷◌, ◌++◌, Option, Some, None, All, append_assoc, arith}
-use Rattle.std.proofs.Common.{option_map}
+use Rattle.std.proofs.Common.{cond, List, [], ◌∷◌, ◌++◌, Option, Some, None, All, append_assoc}
+use Rattle.std.proofs.Common.{arith, option_map}
 use Rattle.std.specs.Prelude.{unwrap_or}
 use Rattle.std.specs.Map.{keys_of, lookup}
 use Rattle.std.specs.BTreeMap.{is_at, insert_entry}
@@ -77,8 +77,8 @@ middle P (y ∷ xs) x ys all = middle P xs x ys all.1
 
 -- No entry before it has its address
 
-address_of_found : (o : Option Finding) (a : ℕ) → has_address a (unwrap_or o (Refused Silent)) ≡ true
-    → address_in o ≡ Some a
+address_of_found : (o : Option Finding) (a : ℕ)
+    → has_address a (unwrap_or o (Refused Silent)) ≡ true → address_in o ≡ Some a
 unfolding has_address
 address_of_found None a has = absurd cc
 address_of_found (Some (Device device)) a has = ap Some (eqb-true device.address a has)

@@ -1,6 +1,6 @@
 -- Calls through the pipes at a path, as the keys show them.
-use Rattle.std.proofs.Common.{◌≡◌, ◌≢◌, ◌∙◌, refl, sym, ap, subst, inl, inr, true, false, ℕ, List, []}
-use Rattle.std.proofs.Common.{Bool, Option, Some, None, Result, is_some, option_map}
+use Rattle.std.proofs.Common.{◌≡◌, ◌≢◌, ◌∙◌, refl, sym, ap, subst, inl, inr, true, false, ℕ, List}
+use Rattle.std.proofs.Common.{[], Bool, Option, Some, None, Result, is_some, option_map}
 use Rattle.std.proofs.Math.Path.{fun_ext}
 use Rattle.std.proofs.lemmas.Option.{same_Some}
 use Rattle.std.specs.Prelude.{unwrap_or}
@@ -13,10 +13,11 @@ use Rattle.usb_enum.specs.{Finding}
 use Rattle.usb_enum.specs.declared.finding.Finding.TheVariants.{Device, Refused}
 use Rattle.usb_table.specs.{Absent, Function, Hub, SetOrRefused, TableFault, accepted_device_at}
 use Rattle.usb_table.specs.{interface_asked, pipes_set, said_at, said_in, said_of}
-use Rattle.usb_table.specs.{Pipes, no_pipes, accepted_device_of, Entry, IsPiped, TableSlots, PathKeys}
-use Rattle.usb_table.specs.{AddressKeys, key_of_path, under, entries_of, findings, pipings}
-use Rattle.usb_table.specs.{table_of, AreIndexes, ArePiped, ArePlaced, is_below_hub, finding_at}
-use Rattle.usb_table.specs.{AreAbsent, ArePipesIf, ArePipesOf, pipes_made, pipes_at, ArePipesAt, GoesThrough}
+use Rattle.usb_table.specs.{Pipes, no_pipes, accepted_device_of, Entry, IsPiped, TableSlots}
+use Rattle.usb_table.specs.{PathKeys, AddressKeys, key_of_path, under, entries_of, findings}
+use Rattle.usb_table.specs.{pipings, table_of, AreIndexes, ArePiped, ArePlaced, is_below_hub}
+use Rattle.usb_table.specs.{finding_at, AreAbsent, ArePipesIf, ArePipesOf, pipes_made, pipes_at}
+use Rattle.usb_table.specs.{ArePipesAt, GoesThrough}
 use Rattle.usb_table.proofs.levels.KeptPipes.{same_keep}
 use Rattle.usb_table.proofs.ThroughPipes.{placed_of}
 use Rattle.usb_table.proofs.entries.Keys.{entries_of-key, entries_of-no_key, findings-standing}

@@ -52,13 +52,15 @@ by_path P first second none path = pick (is_at (path_cmp path) (1 ∷ []))
 
 abbrev IsFoundAt : List ℕ → Type 0
 IsFoundAt path = (spec : Spec) → tree path ≡ Some spec → IsSomeAnd (finding_at path example_entries)
-    (IsRight (ListsEach example_entries) spec (usual_options false) (tier_of path) (supply_at tree path))
+    (IsRight (ListsEach example_entries) spec (usual_options false) (tier_of path)
+    (supply_at tree path))
 
 found_first : IsFoundAt (1 ∷ [])
 unfolding parent_of supply_of
 found_first spec at =
     let same : two_ports ≡ spec = cc at in
-    subst (λ s. IsRight (ListsEach example_entries) s (usual_options false) 2 500 (Device listed_hub)) same
+    subst (λ s. IsRight (ListsEach example_entries) s (usual_options false) 2 500
+    (Device listed_hub)) same
     (inl (
       examples.hub,
       record { low = refl; bytes = refl; configs = refl; strings = refl; hub = refl },
@@ -68,7 +70,8 @@ found_second : IsFoundAt (1 ∷ 2 ∷ [])
 unfolding parent_of supply_of
 found_second spec at =
     let same : silent_function ≡ spec = cc at in
-    subst (λ s. IsRight (ListsEach example_entries) s (usual_options false) 3 500 (Refused Silent)) same
+    subst (λ s. IsRight (ListsEach example_entries) s (usual_options false) 3 500
+    (Refused Silent)) same
     (inl (row_silent silent_function (usual_options false) 3 500 refl))
 
 example_elsewhere : (path : List ℕ) → is_at (path_cmp path) (1 ∷ []) ≡ false

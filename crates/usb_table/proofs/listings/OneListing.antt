@@ -1,6 +1,7 @@
 -- What is plugged has one right listing, but for addresses.
 use Rattle.std.proofs.Common.{◌≡◌, inl, inr, ◌≤◌, ◌<◌, ◌+◌, ℕ, zero, suc, List, length}
-use Rattle.std.proofs.Common.{Option, None, Some, refl, ap, sym, subst, ◌∙◌, arith, IsSome, IsSomeAnd}
+use Rattle.std.proofs.Common.{Option, None, Some, refl, ap, sym, subst, ◌∙◌, arith, IsSome}
+use Rattle.std.proofs.Common.{IsSomeAnd}
 use Rattle.usb_port.specs.{parent_of, port_on_hub}
 use Rattle.usb_device.specs.{Spec}
 use Rattle.usb_enum.specs.{Finding, HostOptions, HubFacts, IsFindingOf, IsRight}
@@ -11,7 +12,8 @@ use Rattle.usb_table.specs.{IsFoundLike, ListsLike}
 use Rattle.usb_table.proofs.entries.Ports.{parent_shorter}
 
 found_like : (spec : Spec) (options : HostOptions) (tier supply : ℕ) (f g : Finding)
-    → IsFindingOf spec options tier supply f → IsFindingOf spec options tier supply g → IsFoundLike f g
+    → IsFindingOf spec options tier supply f → IsFindingOf spec options tier supply g
+    → IsFoundLike f g
 found_like spec options tier supply (Device d) (Device e) x y =
     let same : d.chosen ≡ e.chosen = cc (x.0, y.0) in
     record {
@@ -30,7 +32,8 @@ found_like spec options tier supply (Refused c) (Refused b) x y = cc (x, y)
 by_description : (entries : Entries) → NoneWaits entries
     → (path : List ℕ) (spec : Spec) (f : Finding) (options : HostOptions) (tier supply : ℕ)
     → finding_at path entries ≡ Some f
-    → IsRight (ListsEach entries) spec options tier supply f → IsFindingOf spec options tier supply f
+    → IsRight (ListsEach entries) spec options tier supply f
+    → IsFindingOf spec options tier supply f
 by_description entries none path spec f options tier supply at (inl x) = x
 by_description entries none path spec f options tier supply at (inr x) =
     absurd (none path (at ∙ ap (λ x. Some x) x.refused))
@@ -45,7 +48,8 @@ listed_finding options roots tree entries l none path spec port t =
     pick (finding_at path entries) refl (l.there path spec port t)
   where
     pick : (o : Option Finding) → finding_at path entries ≡ o
-        → IsSomeAnd o (IsRight (ListsEach entries) spec options (tier_of path) (supply_at tree path))
+        → IsSomeAnd o
+        (IsRight (ListsEach entries) spec options (tier_of path) (supply_at tree path))
         → IsSomeAnd o (IsFindingOf spec options (tier_of path) (supply_at tree path))
     pick None at h = h
     pick (Some f) at h = by_description entries none path spec f options (tier_of path)
@@ -119,8 +123,8 @@ same_here options roots tree a b x y m n path f at move =
         (listed_finding options roots tree a x m path spec port t))
         (listed_finding options roots tree b y n path spec (move port) t)
 
-listed_alike : (options : HostOptions) (roots : ℕ) (tree : SpecTree) (a b : Entries) → Lists options roots tree a
-    → Lists options roots tree b → NoneWaits a → NoneWaits b
+listed_alike : (options : HostOptions) (roots : ℕ) (tree : SpecTree) (a b : Entries)
+    → Lists options roots tree a → Lists options roots tree b → NoneWaits a → NoneWaits b
     → (n : ℕ) (path : List ℕ) → length path < n → (f : Finding) → finding_at path a ≡ Some f
     → IsSomeAnd (finding_at path b) (IsFoundLike f)
 listed_alike options roots tree a b x y m n zero path l f at = absurd (omega (arith, l))
@@ -130,6 +134,7 @@ listed_alike options roots tree a b x y m n (suc k) path l f at =
     (omega (arith, l, q))))
 
 pub one_listing : (options : HostOptions) (roots : ℕ) (tree : SpecTree) (a b : Entries)
-    → Lists options roots tree a → Lists options roots tree b → NoneWaits a → NoneWaits b → ListsLike a b
+    → Lists options roots tree a → Lists options roots tree b → NoneWaits a → NoneWaits b
+    → ListsLike a b
 one_listing options roots tree a b x y m n path f at =
     listed_alike options roots tree a b x y m n (length path + 1) path (omega arith) f at

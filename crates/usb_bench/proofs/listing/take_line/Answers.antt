@@ -6,7 +6,8 @@ use Rattle.usb_bench.proofs.listing.take_line.Goals as goal
 pub returns-in_ok-tally-in-Listing-clause-taken : goal.returns-in_ok-tally-in-Listing-clause-taken
 returns-in_ok-tally-in-Listing-clause-taken g c =
     let judged = c.in_ok-tally-in-Listing.ensures.judged in
-    taken_judged _ _ _ _ _ _ _ _ judged.0 c.in-Listing.is (sym c.eq-is_end.ensures ∙ c.if-is_end.true)
+    taken_judged _ _ _ _ _ _ _ _ judged.0 c.in-Listing.is (sym c.eq-is_end.ensures
+    ∙ c.if-is_end.true)
     c.ports.ensures judged.1 judged.2
 
 pub returns-in_ok-block-in-Listing-clause-taken : goal.returns-in_ok-block-in-Listing-clause-taken

@@ -13,7 +13,8 @@ pub returns : goal.returns
 returns g c =
     let fault = c.match-from_utf8.fault in
     let text = c.as_slice.ensures.value ∙ c.in_ok-text-in_default.ensures
-    ∙ ap (λ n. fault_line_text n fault) (c.attempts.ensures.value ∙ ap (λ w. w.attempts) c.bus.ensures.world) in
+    ∙ ap (λ n. fault_line_text n fault) (c.attempts.ensures.value
+    ∙ ap (λ w. w.attempts) c.bus.ensures.world) in
     let why : IsFaultOf c.args.listing c.args.line.now fault = elim c.match-from_utf8.branch [
       | in-Ok+in-Err-take w ↦ fault_of_text _ _ _ _ w.in-Ok.ensures.cases.0 w.in-Ok.ensures.cases.1
           (rw w.fault-is w.in-Err-take.ensures.fault) c.in_default.not-Memory

@@ -1,5 +1,5 @@
-use Rattle.std.proofs.Common.{◌≡◌, ◌∙◌, ap, subst, append_assoc, ℕ, List, ◌++◌, Result, Ok, Err, OnOk}
-use Rattle.std.proofs.Common.{is_ok, if◌then◌else◌, codes}
+use Rattle.std.proofs.Common.{◌≡◌, ◌∙◌, ap, subst, append_assoc, ℕ, List, ◌++◌, Result, Ok, Err}
+use Rattle.std.proofs.Common.{OnOk, is_ok, if◌then◌else◌, codes}
 use Rattle.std.specs.Str.{chars}
 use Rattle.usb_diagnosis.specs.{remark_head, text_shown}
 use Rattle.usb_diagnosis.proofs.report.push_head.Goals as goal
@@ -22,4 +22,5 @@ returns c =
     let shown = text_shown (chars c.args.name.now) in
     one_piece c.push_str-2.result _ (codes "remark: device \"" ++ shown) _ _ _
     (c.in_ok-push_shown.ensures ∙ ap (λ t. t ++ shown) c.in_ok-push_str.ensures.bytes
-    ∙ append_assoc _ (codes "remark: device \"") shown) (on_ok c.push_str-2.result _ _ _ c.push_str-2.ensures.bytes)
+    ∙ append_assoc _
+    (codes "remark: device \"") shown) (on_ok c.push_str-2.result _ _ _ c.push_str-2.ensures.bytes)

@@ -9,6 +9,11 @@ returns-clause-read c =
     let count = c.from_le_bytes.ensures in
     answer_in-reads c.args.bytes.now c.in-Some.head.now c.in-Some-split_first_chunk.statuses.now
     c.in-Some-split_first_chunk.came.now
-    (record { first = search rules; second = search rules; third = search rules; size = search rules })
+    (record {
+      first = search rules;
+      second = search rules;
+      third = search rules;
+      size = search rules;
+    })
     c.in_ok-outcome_of.field-0 c.in_ok-outcome_of.ensures.read c.statuses_of.result
     c.statuses_of.ensures.bytes c.statuses_of.ensures.are (search rules)

@@ -8,7 +8,8 @@ pub returns-clause-step : goal.returns-clause-step
 returns-clause-step g c =
     calls_on c.finished.result.0 c.args.roots g.B.Begun.roots c.args.statuses g.B.Begun.statuses
     c.args.heard.items g.B.Begun.answers c.with_options-host.result
-    (done.Moved (Ok tt)) (Call.opens c.args.options) c.requires.roots c.requires.statuses c.requires.heard (
+    (done.Moved (Ok tt)) (Call.opens c.args.options) c.requires.roots c.requires.statuses
+    c.requires.heard (
       record {
         entries = c.with_options-host.ensures.any_bus.0;
         going = c.with_options-host.ensures.any_bus.1.0;

@@ -11,4 +11,5 @@ pub returns-clause-first : goal.returns-clause-first
 returns-clause-first c =
     came_packets c.args.statuses c.args.question.now c.in-Ins.to c.in-Ins.toggle c.in-Ins.most
     c.from-max.result c.from.result c.args.before.now c.in_ok-packets_of.field-0.items c.in-Ins.is
-    c.from-max.ensures c.from.ensures c.in_ok-packets_of.ensures (omega (arith, c.if-before-from.false))
+    c.from-max.ensures c.from.ensures c.in_ok-packets_of.ensures
+    (omega (arith, c.if-before-from.false))

@@ -18,7 +18,8 @@ returns c =
     five c.args.told.now.items _ _ _ _ _ c.push_record.new.told.items
     c.push_configs.new.told.items c.push_string.new.told.items c.push_string-2.new.told.items
     c.push_string-3.new.told.items
-    (c.in_ok-push_record.ensures ∙ ap (λ (x : List ℕ). c.args.told.now.items ++ record_of 33 x) body)
+    (c.in_ok-push_record.ensures
+    ∙ ap (λ (x : List ℕ). c.args.told.now.items ++ record_of 33 x) body)
     (c.in_ok-push_configs.ensures
     ∙ ap (λ (x : List (List ℕ)). c.push_record.new.told.items ++ config_records x)
     c.as_slice-2.ensures)

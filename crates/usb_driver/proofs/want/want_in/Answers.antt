@@ -6,7 +6,8 @@ pub returns-in-Some-want_of-clause-read : goal.returns-in-Some-want_of-clause-re
 returns-in-Some-want_of-clause-read c =
     let bytes = c.args.bytes.now in
     let first : c.in-Some.head.now ≡ take 24 bytes = search rules in
-    let second : c.in-Some-split_first_chunk.statuses.now ≡ take 28 (drop 24 bytes) = search rules in
+    let second : c.in-Some-split_first_chunk.statuses.now ≡ take 28 (drop 24 bytes) =
+    search rules in
     let rest : c.in-Some-split_first_chunk.sent.now ≡ drop 28 (drop 24 bytes) = search rules in
     let third : c.new-sent.result ≡ drop 28 (drop 24 bytes) =
     c.new-sent.ensures ∙ c.in_ok-from_slice.ensures.items ∙ rest in

@@ -12,7 +12,8 @@ returns c =
     let name = name_line c.args.name.now in
     let head = head_line notes.product e ++ codes "[[device]]\n" in
     let speed = known_speed_line notes.speed e in
-    let first = pieces_more old (head_line notes.product e) c.push_head.new.out.items (codes "[[device]]\n")
+    let first =
+    pieces_more old (head_line notes.product e) c.push_head.new.out.items (codes "[[device]]\n")
     c.push_text.new.out.items c.in_ok-push_head.ensures c.in_ok-push_text.ensures in
     let second = pieces_more old head c.push_text.new.out.items name c.push_name.new.out.items first
     c.in_ok-push_name.ensures in

@@ -64,7 +64,8 @@ returns-in_err-bytes-clause-read g c known =
       so = explains_on (AtMaximum t (HasTotal index total))
           (Refuses t (λ spec. config_fault room spec index) _)
           (Refuses t (λ spec. config_fault room spec index) _) t _ _ old mid new (λ spec a b. b)
-          head.ends.so head.steps.went text.went (config_refused room t index total c.get_config.result
+          head.ends.so head.steps.went text.went
+          (config_refused room t index total c.get_config.result
           _ mid new c.in_err-bytes.ensures c.requires.max what (answer.why known));
     })
 

@@ -74,7 +74,8 @@ returns-clause-read g c known room =
       ends = record {
         told = bad_total bytes.items c.in-Err.field-0 (was_read (Stalled Config) bytes
             c.in_ok-head.ensures asked) bad;
-        so = total_refused room c.args.target _ c.args.index c.get_config.result bytes c.in-Err.field-0
+        so = total_refused room c.args.target _ c.args.index c.get_config.result bytes
+            c.in-Err.field-0
             old new c.in_ok-head.ensures bad what;
       };
     }

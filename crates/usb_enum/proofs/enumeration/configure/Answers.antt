@@ -121,7 +121,8 @@ returns-in_err-hub-clause-part g c known =
     part_fails _ _ c.from_residual-in_err-hub.ensures.1 (steps_as
     (sets_at c.requires) (steps_then (setting t.addr) steps (steps_as (sets_told _) hub.steps)
     (omega arith))) (record {
-      told = hub_stops t device.bytes c.args.place.options c.args.place.tier c.args.place.supply stop
+      told =
+          hub_stops t device.bytes c.args.place.options c.args.place.tier c.args.place.supply stop
           old mid before asked fits
           is_hub configs (record {
             asked = read.ends.told;
@@ -130,7 +131,8 @@ returns-in_err-hub-clause-part g c known =
           (leads_went (set.uses.steps known)) (subst
           (λ text. CauseAllowedAtStart c.args.place.options.wide_hubs t text stop before asked)
           same_text hub.ends.told);
-      so = hub_refused t c.args.place.options c.args.place.tier c.args.place.supply device.bytes fits
+      so =
+          hub_refused t c.args.place.options c.args.place.tier c.args.place.supply device.bytes fits
           configs c.in-Some.chosen choice
           c.value-value.result _ _ _ stop old before asked (λ z. omega (arith, z, c.requires))
           is_hub inside (c.value-value.ensures ∙ ap configuration_value chosen) (omega arith)
@@ -163,7 +165,8 @@ returns-in_err-strings-clause-part g c known =
     (steps_as (sets_asked _) strings.steps) (omega arith))) (record {
       told = stops_by _ _ _ _ _ _ _ _
           (told_after _ t _ _ _ (leads_went steps.went) strings.ends.told);
-      so = strings_refused t c.args.place.options c.args.place.tier c.args.place.supply device.bytes _
+      so = strings_refused t c.args.place.options c.args.place.tier c.args.place.supply
+          device.bytes _
           c.value-value.result _ _ _
           _ _ _ (set_then _ _ t c.value-value.result _ old before asked learned
           hub.steps.went hub.ends.learned) steps.went strings.steps.went strings.ends.so;

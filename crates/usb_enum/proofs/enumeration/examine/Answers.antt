@@ -46,7 +46,8 @@ returns-clause-part g c known =
         went = went_on_more _ _ _ _ _ _ went set.steps.went (omega arith);
         keeps = at_configured _ _ _ _ _ _ at taken.takes set.steps.went sets;
       };
-      ends = matched result _ (StopsExamining port a options tier supply _ _) (accepted _ _ _ _ _ _ _ _
+      ends =
+          matched result _ (StopsExamining port a options tier supply _ _) (accepted _ _ _ _ _ _ _ _
           result went at.within taken sets set.steps.went (whole_only result _ _ _
           (matched_ok result _ _ c.configure.ensures.whole)) (matched_ok result _ _ set.ends))
           (by_error result (StopsExamining port a options tier supply _ _) (λ stop is.

@@ -2,8 +2,8 @@ use Rattle.std.proofs.Common.{◌≡◌, [], ◌++◌, take, arith, length-appen
 use Rattle.std.proofs.lemmas.List.{length-take}
 use Rattle.std.proofs.KnownBytes.{Consumes-nil, Consumes-trans}
 use Rattle.usb_bus.specs.{inner_of}
-use Rattle.usb_explain.proofs.Lines.{all_read, fault_of_front, not_read, nothing_read, reaches_first}
-use Rattle.usb_explain.proofs.Lines.{read_stopped, read_too_long}
+use Rattle.usb_explain.proofs.Lines.{all_read, fault_of_front, not_read, nothing_read}
+use Rattle.usb_explain.proofs.Lines.{reaches_first, read_stopped, read_too_long}
 use Rattle.usb_explain.proofs.explaining.explain.Goals as goal
 
 pub reads-init : goal.reads-init

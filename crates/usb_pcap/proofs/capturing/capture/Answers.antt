@@ -16,7 +16,8 @@ reads-init g c =
       [],
       Consumes-nil _,
       stands_first _ _ _ gone c.first-line.ensures.number
-          c.first-line.ensures.front c.first-line.ensures.long c.first-line.ensures.begun c.first-line.ensures.packets,
+          c.first-line.ensures.front c.first-line.ensures.long c.first-line.ensures.begun
+          c.first-line.ensures.packets,
       omega arith,
     )
 

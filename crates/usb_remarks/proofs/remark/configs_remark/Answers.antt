@@ -8,7 +8,8 @@ unfolding configs_remark
 configs-init c = refl
 
 pub returns-in-Some : goal.returns-in-Some
-returns-in-Some c = sym (configs_found c.args.configs.now c.configs.index c.args.count c.in-Some.remark
+returns-in-Some c =
+    sym (configs_found c.args.configs.now c.configs.index c.args.count c.in-Some.remark
     c.configs-test.true c.configs.invariant (sym c.config_remark.ensures ∙ c.in-Some.is))
 
 pub configs-preserved : goal.configs-preserved

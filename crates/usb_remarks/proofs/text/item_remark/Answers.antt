@@ -11,7 +11,8 @@ returns-in-Some c =
     let rest = take_rest c.args.text.now c.items.at in
     let some : 0 < length (drop c.items.at c.args.text.now) =
     omega (arith, length-drop c.items.at c.args.text.now, c.items-test.true) in
-    items_found c.args.text.now _ c.items.at c.in-Some.fault rest (omega (arith, ap length rest, some))
+    items_found c.args.text.now _ c.items.at c.in-Some.fault rest
+    (omega (arith, ap length rest, some))
     (sym c.front_fault.ensures ∙ c.in-Some.is) c.items.invariant
 
 pub items-preserved : goal.items-preserved

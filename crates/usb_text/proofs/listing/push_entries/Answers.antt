@@ -1,5 +1,5 @@
-use Rattle.std.proofs.Common.{◌≡◌, ◌∙◌, sym, ap, append_assoc, append-nil, ◌++◌, add-one, suc, arith}
-use Rattle.std.proofs.Common.{take, List, ℕ, get_or, []}
+use Rattle.std.proofs.Common.{◌≡◌, ◌∙◌, sym, ap, append_assoc, append-nil, ◌++◌, add-one, suc}
+use Rattle.std.proofs.Common.{arith, take, List, ℕ, get_or, []}
 use Rattle.usb_text.specs.{told_lines, entry_lines, said_lines}
 use Rattle.usb_text.proofs.ToldLines.{told_lines-take}
 use Rattle.usb_text.proofs.listing.push_entries.Goals as goal

@@ -22,7 +22,8 @@ packets-preserved g c =
           c.other-due.ensures,
       search rules,
       heard_more g.B.Begun.answers c.packets.self.answers.items c.args.to c.args.toggle
-          c.packets.due c.args.most c.packets.moved _ c.packets.self.so_far c.hear_in.new.self.so_far
+          c.packets.due c.args.most c.packets.moved _ c.packets.self.so_far
+          c.hear_in.new.self.so_far
           c.packets.got.items (Ok c.in-Ok.outcome) c.packets.self.heard turned
           c.packets.invariant.3 c.in-Ok.ensures.gives c.in-Ok.ensures.asks added.0 _
           (ap Ok added.1) added.2 added.3,

@@ -12,7 +12,8 @@ returns-in_default-clause-reaches g c = λ w text h.
 pub returns-in-Ok-clause-reaches : goal.returns-in-Ok-clause-reaches
 returns-in-Ok-clause-reaches g c = λ w text h.
     let gives = kept_gives c.args.only _ _ _ _ _ c.as_slice-line.ensures.value c.in-Some.ensures in
-    reaches_next c.args.only w _ _ text c.args.self.now _ h (omega (arith, c.as_slice-line.ensures.fits, ap length c.as_slice-line.ensures.value))
+    reaches_next c.args.only w _ _ text c.args.self.now _ h
+    (omega (arith, c.as_slice-line.ensures.fits, ap length c.as_slice-line.ensures.value))
     gives.0 (subst (Appends _ _) gives.1 c.in-Ok.ensures.ok)
     c.saturating_add-self.ensures c.clear.ensures gives.2
 

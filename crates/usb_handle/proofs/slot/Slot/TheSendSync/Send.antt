@@ -19,10 +19,12 @@ use Rattle.usb_handle.specs.contracts.slot.Slot.{the_row, the_type}
 
 slot_keyless : (a : Global) (p : Ptr) (m : Option Driver) → Keyless (slot_owns a p m)
 slot_keyless a p None = tt
-slot_keyless a p (Some x) = (lies driver.the_row the_send p x, heap.frees.frees a (raw (lone driver.the_row.mir)) p)
+slot_keyless a p (Some x) =
+    (lies driver.the_row the_send p x, heap.frees.frees a (raw (lone driver.the_row.mir)) p)
 
 pub send : IsSend the_row
 send =
     let all : AllSend (fields the_type) = (search sendable, (of_heap.the_field_send, tt)) in
     owning_send the_type all (λ d. slot_keyless d.alloc d.at d.held)
-    (λ k. quiet (to the_type) (exits_of k (fields the_type)) ((struct_send (shape the_type) all).leaving k))
+    (λ k. quiet (to the_type) (exits_of k (fields the_type))
+    ((struct_send (shape the_type) all).leaving k))

@@ -13,7 +13,8 @@ use Rattle.usb_host.proofs.host.Host.forget.Goals as goal
 use Rattle.usb_enum.specs.{HostOptions}
 
 -- what is left agrees with the addresses that are left
-agrees_left : {options : HostOptions} (path : List ℕ) {old : Entries} {before : Addresses} {new : Entries}
+agrees_left : {options : HostOptions} (path : List ℕ) {old : Entries} {before : Addresses}
+    {new : Entries}
     {after : Addresses} → Agrees options old before → new ≡ without path old → Accounts new after
     → HasAddresses after → Agrees options new after
 agrees_left path {old = old} agrees left accounts range = record {

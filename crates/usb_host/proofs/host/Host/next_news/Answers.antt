@@ -31,7 +31,8 @@ returns-in-Some-clause-numbers g c =
 pub enter-requires-clause-room : goal.enter-requires-clause-room
 enter-requires-clause-room g c =
     rw (ap (λ (h : HostState). h.reported) c.self.view_is) (host_room c.args.self.now
-    (subst (λ (h : HostState). Agrees h.options h.entries h.addresses) c.self.view_is c.self.invariant)
+    (subst (λ (h : HostState). Agrees h.options h.entries h.addresses) c.self.view_is
+    c.self.invariant)
     c.first_left.ensures.rises c.in_default.ensures.none c.in-Some-next_unreported.path
     c.in-Some-next_unreported.ensures.some.arrived.is)
 

@@ -27,7 +27,8 @@ packets-preserved g c =
           let (clash, same) = c.in-Ok.ensures.again f (ap (λ s. (kept_of s).fault) so.1 ∙ is) in cc,
       λ sound. let so = c.packets.invariant.4 sound in
           rw (added.3 ∙ ap (λ b. c.packets.got.items ++ b) (sym (ap bytes_in added.1)))
-          (one_so_far (ins_plan (kept_of c.args.self.now).rows c.args.to c.args.toggle c.args.most) _
+          (one_so_far
+          (ins_plan (kept_of c.args.self.now).rows c.args.to c.args.toggle c.args.most) _
           _ _ c.packets.moved c.packets.got.items _ _ _ _ _ _ c.in-Ok.answer _ _ so
           (ins_as_planned c.args.to c.args.toggle c.packets.due c.args.most c.packets.moved
           (c.args.most - c.packets.moved) _ _ so.rows turned refl) (c.in-Ok.ensures.asks so.sound)

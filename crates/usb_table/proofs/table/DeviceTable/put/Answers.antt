@@ -5,7 +5,8 @@ use Rattle.std.specs.BTreeMap.{is_at}
 use Rattle.std.specs.Map.{lookup}
 use Rattle.slab.specs.Slab.{Slab, get, Updates}
 use Rattle.usb_port.specs.{path_cmp}
-use Rattle.usb_table.specs.{HasNewAddress, Entry, findings, Enters, Table, address_found, with_entry}
+use Rattle.usb_table.specs.{HasNewAddress, Entry, findings, Enters, Table, address_found}
+use Rattle.usb_table.specs.{with_entry}
 use Rattle.usb_table.proofs.entries.NewEntries.{away_key, free_key}
 use Rattle.usb_table.proofs.entries.OneMore.{OneMore, come, come_piped, come_table, entered_one}
 use Rattle.usb_table.proofs.table.DeviceTable.put.Goals as goal

@@ -30,7 +30,8 @@ pub put-requires-clause-address : goal.put-requires-clause-address
 put-requires-clause-address c =
     rw c.in_ok-entry.ensures
     (next_address _ _ _ _ _ _ _ c.iter-path-items.ensures.ordered c.iter-path-items.ensures.found
-    c.entries.invariant c.in-Some.ensures.steps c.self.inside.indexes.by_address.entries c.index.result.now c.index.ensures
+    c.entries.invariant c.in-Some.ensures.steps c.self.inside.indexes.by_address.entries
+    c.index.result.now c.index.ensures
     c.self.invariant.0)
 
 pub entries-init : goal.entries-init

@@ -7,7 +7,8 @@ use Rattle.usb_verdict.proofs.report.ReportedListing.amend.Goals.{in-None+in-Por
 
 pub returns-clause-fault : goal.returns-clause-fault
 returns-clause-fault c = elim c.match-last_mut.branch [
-  | in-Some w ↦ rw w.result-is (refused_last c.args.path.now _ c.args.self.now _ w.in-Some.port.now _
+  | in-Some w ↦ rw w.result-is
+      (refused_last c.args.path.now _ c.args.self.now _ w.in-Some.port.now _
       (search rules) (w.in-Some.ensures.variant.0 refl) (search rules) w.amend_port.ensures.fault)
   | in-None+in-Configuration-1 w ↦ rw w.result-is (search (rules, none_last))
   | in-None+in-Ports-1 w ↦ rw w.result-is (search (rules, none_last))
