@@ -226,8 +226,7 @@ module _ (t : Target) (a : ℕ) (most : a ≤ 127) (old new : World) where
         → (s.spec.stalls.address ≡ false) × TookItOrLost a old new s v
     address_done (Ok u) x y at e =
         let d : EffectDone t request old new j s v = x.done at u refl in
-        let free : s.spec.stalls.address ≡ false =
-        (ended_of s v d.row d.address d.is d.given).0 in (
+        let free : s.spec.stalls.address ≡ false = (ended_of s v d.row d.address d.is d.given).0 in (
           free,
           (y tt).done at u refl a (address_outcome s.spec s.registers a most
               ∙ ap (λ b. unless b (takes_address a)) free),

@@ -11,20 +11,20 @@ use Rattle.usb_port.specs.{path_of}
 use Rattle.usb_request.specs.{DIRECTION_IN}
 use Rattle.usb_plan.specs.declared.entry_fault.EntryFault.{EntryFault}
 use Rattle.usb_plan.specs.{MissingKey, BadValue, UnknownDevice, BadPath, PortTaken, PortEmpty}
-use Rattle.usb_plan.specs.{Identity, DeviceTables, DeviceTexts, SceneData, Way, fault_in_part}
-use Rattle.usb_plan.specs.{is_port, sooner, least_fault, entry_at, ◌>>=◌, read_text, number_in}
-use Rattle.usb_plan.specs.{number_at, number_or, class_at, hub_at, no_hub, is_low_speed, is_other}
-use Rattle.usb_plan.specs.{quirks_with, quirks_of, flag_at, stalls_at, source_at, naks_at}
-use Rattle.usb_plan.specs.{bulk_with, read_bulk, halt_at, halt_in, name_in, name_at, speed_at}
-use Rattle.usb_plan.specs.{descriptor_at, with_quirks, with_halt, with_hub, named_device, HubFits}
-use Rattle.usb_plan.specs.{FewNaks, HaltsLater, identity_with, identity_of, device_of_parts}
-use Rattle.usb_plan.specs.{device_with, read_device, device_in, has_numbers_of, read_path}
-use Rattle.usb_plan.specs.{free_path, taken_path, verb_at, action_of, EventValues, event_values}
-use Rattle.usb_plan.specs.{device_index_at, bytes_at, packets_at, plug_of, unplug_of, send_of}
-use Rattle.usb_plan.specs.{receive_of, clear_of, control_of, look_of, asked, request_at, after_at}
-use Rattle.usb_plan.specs.{event_room, interrupt_of, any_endpoint, out_endpoint, in_endpoint}
-use Rattle.usb_plan.specs.{in_endpoint_at, send_to, receive_from, send_with, receive_with}
-use Rattle.usb_plan.specs.{clear_with, clear_end, interface_of, byte_at, show_of}
+use Rattle.usb_plan.specs.{Identity, DeviceTables, DeviceTexts, SceneData, Way, fault_in_part, is_port}
+use Rattle.usb_plan.specs.{sooner, least_fault, entry_at, ◌>>=◌, read_text, number_in, number_at}
+use Rattle.usb_plan.specs.{number_or, class_at, hub_at, no_hub, is_low_speed, is_other, quirks_with}
+use Rattle.usb_plan.specs.{quirks_of, flag_at, stalls_at, source_at, naks_at, bulk_with, read_bulk}
+use Rattle.usb_plan.specs.{halt_at, halt_in, name_in, name_at, speed_at, descriptor_at, with_quirks}
+use Rattle.usb_plan.specs.{with_halt, with_hub, named_device, HubFits, FewNaks, HaltsLater}
+use Rattle.usb_plan.specs.{identity_with, identity_of, device_of_parts, device_with, read_device}
+use Rattle.usb_plan.specs.{device_in, has_numbers_of, read_path, free_path, taken_path, verb_at, action_of}
+use Rattle.usb_plan.specs.{EventValues, event_values, device_index_at, bytes_at, packets_at}
+use Rattle.usb_plan.specs.{plug_of, unplug_of, send_of, receive_of, clear_of, control_of, look_of}
+use Rattle.usb_plan.specs.{asked, request_at, after_at, event_room, interrupt_of, any_endpoint}
+use Rattle.usb_plan.specs.{out_endpoint, in_endpoint, in_endpoint_at, send_to, receive_from}
+use Rattle.usb_plan.specs.{send_with, receive_with, clear_with, clear_end, interface_of, byte_at}
+use Rattle.usb_plan.specs.{show_of}
 use Rattle.usb_plan.specs.declared.action.Request.{Request}
 use Rattle.usb_plan.specs.declared.action.Request.TheVariants.{Read, Write}
 use Rattle.usb_plan.specs.{event_with, event_of, event_in, attempt_at, packet_number, way_at}
@@ -205,8 +205,8 @@ read_bulk_ok ms b h =
     let same : e2.value ≡ b.halt_after = cc e2.rest in
     halt_at_ok (get_member (codes "halt_after") ms) b.halt_after (e2.good ∙ ap Ok same)
 
-class_at_ok : (wide : Bool) (ports descriptor : Option Data) (low : Bool) (bytes : List ℕ)
-    (u : Unit {0}) (hub : Option Hub) → class_at ports (Ok low) (Ok bytes) ≡ Ok u
+class_at_ok : (wide : Bool) (ports descriptor : Option Data) (low : Bool) (bytes : List ℕ) (u : Unit {0})
+    (hub : Option Hub) → class_at ports (Ok low) (Ok bytes) ≡ Ok u
     → hub_at wide ports descriptor ≡ Ok hub → hub_fits low bytes hub ≡ true
 unfolding class_at hub_at no_hub is_low_speed is_other
 class_at_ok wide None None low bytes u hub c h = let same : None ≡ hub = cc h in rw (← same) refl
