@@ -2,15 +2,15 @@
 ghost use Rattle.std.specs.Prelude.{◌≡◌, ◌≤◌};
 ghost use Rattle.usb_packet.specs.declared.Speed.TheVariants.{Full};
 
+use super::ends::{Frail, Torn, answer_of};
 use arrayvec::ArrayVec;
 use std::alloc::{AllocError, Global};
-use std::io;
-use std::io::{Error, ErrorKind, Read, Write};
+use std::io::{Read, Write};
 use std::test::Fail;
-use usb_bus::{Bus, BusFault, Destination, Outcome, ROW_ROOM, RowDone, RowEnd, Watched};
+use usb_bus::{Bus, BusFault, Destination, ROW_ROOM, RowDone, RowEnd, Watched};
 use usb_packet::{Speed, Toggle};
 use usb_stream::{LiveFault, StreamBus};
-use usb_wire::{Answer, DataPacket, Said, WireFault, said_line};
+use usb_wire::{Said, WireFault, said_line};
 
 /// A row of attempts, to endpoint 1 of the device at address 1.
 #[derive(Clone, Copy)]
@@ -366,51 +366,6 @@ fn push_hex(given: &mut String, bytes: &[u8]) -> Result<(), AllocError> {
         }
     }
     Ok(())
-}
-
-fn answer_of(outcome: Outcome) -> Answer {
-    match outcome {
-        Outcome::Payload(toggle, bytes) => Answer::Data(DataPacket { toggle, bytes }),
-        Outcome::Ack => Answer::Ack,
-        Outcome::Nak => Answer::Nak,
-        Outcome::Stall => Answer::Stall,
-        Outcome::Nothing => Answer::Nothing,
-    }
-}
-
-/// A writer that fails after n writes.
-#[derive(Drop)]
-struct Frail {
-    taken: Vec<u8>,
-    writes_left: u64,
-}
-
-impl Write for Frail {
-    fn write(&mut self, buf: &[u8]) -> io::Result<usize> {
-        let Some(left) = self.writes_left.checked_sub(1) else {
-            return Err(Error::from(ErrorKind::Other));
-        };
-        self.writes_left = left;
-        self.taken.extend_from_slice(buf)?;
-        Ok(buf.len())
-    }
-
-    fn flush(&mut self) -> io::Result<()> {
-        Ok(())
-    }
-}
-
-/// A reader that fails after a text.
-#[derive(Drop)]
-struct Torn(&'static [u8]);
-
-impl Read for Torn {
-    fn read(&mut self, buf: &mut [u8]) -> io::Result<usize> {
-        if self.0.is_empty() {
-            return Err(Error::from(ErrorKind::Other));
-        }
-        self.0.read(buf)
-    }
 }
 
 #[test]
