@@ -3,12 +3,12 @@ ghost use Rattle.std.specs.Prelude.{◌≡◌};
 ghost use Rattle.usb_world.specs.PlainAttempts.{attempt_data};
 ghost use Rattle.usb_world.specs.Worlds.{IsAttempt};
 
-use super::ends::{Frail, Torn, answer_of};
+use super::ends::{Played, Torn, answer_of, ended, opened};
 use arrayvec::ArrayVec;
 use std::alloc::{AllocError, Global};
 use std::io::{Read, Write};
 use std::test::Fail;
-use usb_bus::{Attempt, Bus, Destination, Outcome, Watched};
+use usb_bus::{Attempt, Bus, Destination, Outcome};
 use usb_packet::{Speed, Toggle};
 use usb_request::feature::{C_PORT_CONNECTION, PORT_RESET};
 use usb_stream::{LiveFault, StreamBus};
@@ -133,15 +133,6 @@ const FAULTS: &[Row] = &[
     },
 ];
 
-/// What was asked of a controller side, what it gave, how many attempts were counted, and why no more was asked.
-#[derive(Drop)]
-struct Played {
-    host: Vec<u8>,
-    given: String,
-    attempts: u128,
-    fault: Option<LiveFault>,
-}
-
 /// An endpoint of the device at an address.
 fn to(address: u8, number: u8, speed: Speed, max: u8) -> Destination
     ensures { result ≡ record { address = address; number = number; speed = speed; max = max } }
@@ -223,12 +214,8 @@ fn play<R: Read + Drop>(
     writes: u64,
     limit: u64,
 ) -> Result<Played, AllocError> {
-    let writer = Frail {
-        taken: Vec::new(alloc),
-        writes_left: writes,
-    };
     let mut given = String::new(alloc);
-    let mut bus = StreamBus::open(Watched::new(reader), Watched::new(writer), limit);
+    let mut bus = opened(alloc, reader, writes, limit);
     push_said(&mut given, &Said::Answered(Answer::Roots(bus.root_ports())))?;
     make(&mut bus, &mut given, &setup([0x80, 6, 0, 1, 0, 0, 8, 0]))?;
     make(&mut bus, &mut given, &take(true))?;
@@ -249,15 +236,7 @@ fn play<R: Read + Drop>(
     if bus.tell(b"listing 1\nend\n").is_ok() {
         given.push_str("told; ")?;
     }
-    let attempts = bus.attempts();
-    let fault = bus.fault();
-    let (_reader, writer) = bus.into_ends();
-    Ok(Played {
-        host: writer.into_inner().taken,
-        given,
-        attempts,
-        fault,
-    })
+    Ok(ended(bus, given))
 }
 
 fn newlines(text: &[u8]) -> usize {
