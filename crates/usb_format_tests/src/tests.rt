@@ -1,4 +1,5 @@
 //! One module a crate.
+mod broken;
 mod conduct;
 mod drawing;
 mod entry;

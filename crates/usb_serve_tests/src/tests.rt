@@ -1,4 +1,5 @@
 //! Tests of the words, of plans, and of readers and writers that fail.
+mod devices;
 mod endpoints;
 mod frail;
 mod hubs;
@@ -11,3 +12,4 @@ mod transfers;
 mod wide;
 mod words;
 mod writers;
+mod written;

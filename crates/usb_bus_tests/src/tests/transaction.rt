@@ -5,6 +5,7 @@ ghost use Rattle.usb_transaction.specs.Transactions.{IsTarget};
 
 mod rows;
 
+use super::devices::PLUG_FUNCTION;
 use rows::ROWS;
 use std::alloc::{AllocError, Global};
 use std::str;
@@ -54,13 +55,8 @@ struct Row {
     told: &'static str,
 }
 
-/// A function with packets of at most 8 bytes and the endpoints bulk IN 1 and bulk OUT 2, at root port 1.
+/// A function with packets of at most 8 bytes and the endpoints bulk IN 1 and bulk OUT 2.
 const FUNCTION: &str = r#"
-[[event]]
-do = "plug"
-path = "1"
-device = "fn"
-
 [[device]]
 name = "fn"
 speed = "full"
@@ -171,7 +167,11 @@ fn lines_of(
 
 /// What a row's function reports.
 fn told_by(alloc: Global, row: &Row) -> Result<String, Fail> {
-    let text = plan_text(alloc, row.limit, &[FUNCTION, row.keys, row.damages])?;
+    let text = plan_text(
+        alloc,
+        row.limit,
+        &[PLUG_FUNCTION, FUNCTION, row.keys, row.damages],
+    )?;
     let mut bus = plugged(alloc, text.as_str())?;
     let lines = lines_of(alloc, &mut bus, row.steps);
     let trace = trace_of(bus);

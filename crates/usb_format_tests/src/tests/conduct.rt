@@ -1,24 +1,14 @@
 //! What a host does on the bus, judged: each remark, and right attempts beside it.
+use super::judge::{Plug, plugged};
 use arrayvec::ArrayVec;
 use std::alloc::{AllocError, Global};
 use std::test::Fail;
 use usb_conduct::{
     Outs, Remark, Window, data_line, empty_line, judge_attempt, remark_line, resets_empty,
 };
-use usb_judge::PluggedDevice;
 use usb_packet::{Speed, Toggle};
 use usb_port::PortPath;
 use usb_world::{Attempt, Destination, Outcome};
-
-/// A device that is plugged; `size` is bMaxPacketSize0. An empty configuration is none.
-struct Plug {
-    path: &'static str,
-    low: bool,
-    size: &'static [u8],
-    configuration: &'static [u8],
-    address: u8,
-    reached: bool,
-}
 
 /// What goes to an endpoint: the number of bytes of an OUT, or SETUP, or IN.
 #[derive(Clone, Copy)]
@@ -48,8 +38,10 @@ const TEXT: &[u8] =
 const HUB: Plug = Plug {
     path: "1",
     low: false,
-    size: SIZE_64,
+    descriptor: SIZE_64,
     configuration: b"",
+    ports: 0,
+    supply: 500,
     address: 1,
     reached: true,
 };
@@ -57,8 +49,10 @@ const HUB: Plug = Plug {
 const LAMP: Plug = Plug {
     path: "1.2",
     low: false,
-    size: SIZE_64,
+    descriptor: SIZE_64,
     configuration: TEXT,
+    ports: 0,
+    supply: 500,
     address: 3,
     reached: true,
 };
@@ -66,8 +60,10 @@ const LAMP: Plug = Plug {
 const MOUSE: Plug = Plug {
     path: "1.1",
     low: true,
-    size: SIZE_64,
+    descriptor: SIZE_64,
     configuration: b"",
+    ports: 0,
+    supply: 500,
     address: 2,
     reached: true,
 };
@@ -243,7 +239,7 @@ const ROWS: &[Row] = &[
         plugged: &[
             HUB,
             Plug {
-                size: SIZE_8,
+                descriptor: SIZE_8,
                 ..LAMP
             },
         ],
@@ -253,7 +249,13 @@ const ROWS: &[Row] = &[
         ..RIGHT
     },
     Row {
-        plugged: &[HUB, Plug { size: b"", ..LAMP }],
+        plugged: &[
+            HUB,
+            Plug {
+                descriptor: b"",
+                ..LAMP
+            },
+        ],
         number: 0,
         packet: Packet::Out(Toggle::One, 8),
         ..RIGHT
@@ -267,29 +269,6 @@ const ROWS: &[Row] = &[
         ..RIGHT
     },
 ];
-
-fn plugged(
-    alloc: Global,
-    plugs: &'static [Plug],
-) -> Result<Vec<PluggedDevice<'static>>, AllocError> {
-    let mut all = Vec::new(alloc);
-    for plug in plugs {
-        let Some(path) = PortPath::from_text(plug.path) else {
-            continue;
-        };
-        all.push(PluggedDevice {
-            path,
-            low: plug.low,
-            descriptor: plug.size,
-            configuration: Some(plug.configuration).filter(|text| !text.is_empty()),
-            ports: 0,
-            supply: 500,
-            address: plug.address,
-            reached: plug.reached,
-        })?;
-    }
-    Ok(all)
-}
 
 fn attempt(to: Destination, packet: Packet) -> Attempt {
     match packet {
@@ -373,26 +352,45 @@ const LOST: Step = Step {
     ..ZERO
 };
 
+/// Data of a control write, and the status stage of a request, that bring no answer.
+const WRITE_LOST: Step = Step {
+    number: 0,
+    got: Got::Nothing,
+    ..ONE
+};
+
+const STATUS_LOST: Step = Step {
+    number: 0,
+    packet: Packet::In,
+    got: Got::Nothing,
+    ..ZERO
+};
+
+/// Data that the device does not take, with each toggle.
+const NOT_TAKEN: Step = Step {
+    took: false,
+    ..ZERO
+};
+
+const ONE_NOT_TAKEN: Step = Step { took: false, ..ONE };
+
+/// The same, and the toggle is not the one that is due.
+const OUT_OF_TURN: Step = Step {
+    after: true,
+    ..NOT_TAKEN
+};
+
+const ONE_OUT_OF_TURN: Step = Step {
+    after: true,
+    ..ONE_NOT_TAKEN
+};
+
 const RUNS: &[&[Step]] = &[
     &[ZERO, ONE, ZERO],
     // a toggle that is not the one that is due
-    &[
-        ZERO,
-        Step {
-            took: false,
-            after: true,
-            ..ZERO
-        },
-    ],
+    &[ZERO, OUT_OF_TURN],
     // a packet that came twice: its ACK was lost
-    &[
-        LOST,
-        Step {
-            took: false,
-            ..ZERO
-        },
-        ONE,
-    ],
+    &[LOST, NOT_TAKEN, ONE],
     &[
         LOST,
         LOST,
@@ -401,24 +399,10 @@ const RUNS: &[&[Step]] = &[
             took: false,
             ..ZERO
         },
-        Step {
-            took: false,
-            ..ZERO
-        },
+        NOT_TAKEN,
     ],
     // once it has an ACK, the next one is not sent again
-    &[
-        LOST,
-        Step {
-            took: false,
-            ..ZERO
-        },
-        Step {
-            took: false,
-            after: true,
-            ..ZERO
-        },
-    ],
+    &[LOST, NOT_TAKEN, OUT_OF_TURN],
     // what another endpoint, or another device, left
     &[
         LOST,
@@ -434,10 +418,7 @@ const RUNS: &[&[Step]] = &[
             after: true,
             ..ZERO
         },
-        Step {
-            took: false,
-            ..ZERO
-        },
+        NOT_TAKEN,
     ],
     &[
         LOST,
@@ -490,21 +471,13 @@ const RUNS: &[&[Step]] = &[
     // a control write
     &[
         ASKED,
-        Step {
-            number: 0,
-            got: Got::Nothing,
-            ..ONE
-        },
+        WRITE_LOST,
         Step { number: 0, ..ONE },
         Step { number: 0, ..ZERO },
     ],
     &[
         ASKED,
-        Step {
-            number: 0,
-            got: Got::Nothing,
-            ..ONE
-        },
+        WRITE_LOST,
         Step {
             number: 0,
             before: true,
@@ -512,51 +485,17 @@ const RUNS: &[&[Step]] = &[
         },
     ],
     // a request that may have begun the toggles anew
-    &[
-        ZERO,
-        ASKED,
-        Step {
-            number: 0,
-            packet: Packet::In,
-            got: Got::Nothing,
-            ..ZERO
-        },
-        Step { took: false, ..ONE },
-        Step { took: false, ..ONE },
-    ],
-    &[
-        ZERO,
-        ASKED,
-        Step {
-            number: 0,
-            packet: Packet::In,
-            got: Got::Nothing,
-            ..ZERO
-        },
-        ASKED,
-        Step {
-            took: false,
-            after: true,
-            ..ONE
-        },
-    ],
+    &[ZERO, ASKED, STATUS_LOST, ONE_NOT_TAKEN, ONE_NOT_TAKEN],
+    &[ZERO, ASKED, STATUS_LOST, ASKED, ONE_OUT_OF_TURN],
     &[
         Step {
             got: Got::Nothing,
             ..ASKED
         },
-        Step { took: false, ..ONE },
+        ONE_NOT_TAKEN,
     ],
     // a toggle that was not begun anew
-    &[
-        ZERO,
-        ASKED,
-        Step {
-            took: false,
-            after: true,
-            ..ONE
-        },
-    ],
+    &[ZERO, ASKED, ONE_OUT_OF_TURN],
 ];
 
 const ONE_SKIPPED: Step = Step {

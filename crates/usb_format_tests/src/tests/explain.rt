@@ -1,5 +1,5 @@
 //! Requests in words, worked from the standard, and the lines of a run with them.
-use std::alloc::Global;
+use std::alloc::{AllocError, Global};
 use std::io::{Error, ErrorKind, Read, Write};
 use std::test::Fail;
 use std::{io, str};
@@ -302,22 +302,33 @@ const CLEARED: &str = "9 SETUP 1.0 / DATA0 2301140002000000 / ACK";
 
 const DONE: &str = "10 IN 1.0 / DATA1 - / ACK";
 
-/// Lines, and the path of the device at address 0 after them, as the host that asks for them means it: none where they
-/// do not tell it (9.1.2, 9.4.6, 11.24.2).
-const PATHS: &[(&[&str], &str)] = &[
-    (&[PLUG], "1"),
-    (&[], ""),
+/// These up to where the port's change is cleared.
+const RESET: &[&str] = &[PLUG, GIVEN, BEGUN, STATUS, CLEARED];
+
+/// Those up to the read of its status.
+const BEFORE: &[&str] = &[PLUG, GIVEN, BEGUN, STATUS];
+
+/// Lines, more lines behind them, and the path of the device at address 0 after them. It is as the host that asks for
+/// them means it: none where they do not tell it (9.1.2, 9.4.6, 11.24.2).
+const PATHS: &[(&[&str], &[&str], &str)] = &[
+    (&[], &[PLUG], "1"),
+    (&[], &[], ""),
     // root ports
-    (&["plug 2 a", "plug 2.1 b", "unplug 2", "plug 2 c"], "2"),
-    (&["plug 7 a"], "7"),
-    (&["plug 2 a", "plug 1 b"], ""),
-    (&["plug 2 a", "plug 1 b", "unplug 1"], ""),
-    (&["plug 2.1 a"], ""),
-    (&["unplug 2"], ""),
-    // the port of a hub
-    (&[PLUG, GIVEN, BEGUN, STATUS, CLEARED, DONE], "1.2"),
-    (&[PLUG, GIVEN, BEGUN, CLEARED, DONE], "1.2"),
     (
+        &[],
+        &["plug 2 a", "plug 2.1 b", "unplug 2", "plug 2 c"],
+        "2",
+    ),
+    (&[], &["plug 7 a"], "7"),
+    (&[], &["plug 2 a", "plug 1 b"], ""),
+    (&[], &["plug 2 a", "plug 1 b", "unplug 1"], ""),
+    (&[], &["plug 2.1 a"], ""),
+    (&[], &["unplug 2"], ""),
+    // the port of a hub
+    (RESET, &[DONE], "1.2"),
+    (&[], &[PLUG, GIVEN, BEGUN, CLEARED, DONE], "1.2"),
+    (
+        &[],
         &[
             PLUG,
             GIVEN,
@@ -331,157 +342,46 @@ const PATHS: &[(&[&str], &str)] = &[
         ],
         "1.2",
     ),
-    (
-        &[
-            PLUG,
-            GIVEN,
-            BEGUN,
-            STATUS,
-            CLEARED,
-            "10 IN 1.0 / DATA1 - / ACK [lost]",
-        ],
-        "1.2",
-    ),
-    (
-        &[PLUG, GIVEN, BEGUN, STATUS, CLEARED, DONE, "plug 1.3 x"],
-        "1.2",
-    ),
-    (
-        &[PLUG, GIVEN, BEGUN, STATUS, CLEARED, DONE, "unplug 1.2"],
-        "1.2",
-    ),
+    (RESET, &["10 IN 1.0 / DATA1 - / ACK [lost]"], "1.2"),
+    (RESET, &[DONE, "plug 1.3 x"], "1.2"),
+    (RESET, &[DONE, "unplug 1.2"], "1.2"),
     // a reset that is not over
-    (&[PLUG, GIVEN, BEGUN], ""),
-    (&[PLUG, GIVEN, BEGUN, STATUS], ""),
-    (&[PLUG, GIVEN, BEGUN, DONE], ""),
-    (&[PLUG, GIVEN, BEGUN, STATUS, CLEARED], ""),
-    (
-        &[PLUG, GIVEN, BEGUN, STATUS, CLEARED, "10 IN 1.0 / none"],
-        "",
-    ),
-    (
-        &[PLUG, GIVEN, BEGUN, STATUS, CLEARED, "10 IN 1.0 / STALL"],
-        "",
-    ),
-    (
-        &[
-            PLUG,
-            GIVEN,
-            BEGUN,
-            STATUS,
-            CLEARED,
-            "10 IN 1.0 / DATA1 - [lost]",
-        ],
-        "",
-    ),
-    (
-        &[
-            PLUG,
-            GIVEN,
-            BEGUN,
-            STATUS,
-            CLEARED,
-            "10 IN 1.0 / DATA0 - / ACK",
-        ],
-        "",
-    ),
-    (
-        &[
-            PLUG,
-            GIVEN,
-            BEGUN,
-            STATUS,
-            CLEARED,
-            "10 IN 1.0 / DATA1 00 / ACK",
-        ],
-        "",
-    ),
-    (
-        &[
-            PLUG,
-            GIVEN,
-            BEGUN,
-            STATUS,
-            CLEARED,
-            "10 IN 1.1 / DATA1 - / ACK",
-        ],
-        "",
-    ),
-    (
-        &[
-            PLUG,
-            GIVEN,
-            BEGUN,
-            STATUS,
-            CLEARED,
-            "10 IN 2.0 / DATA1 - / ACK",
-        ],
-        "",
-    ),
-    (
-        &[
-            PLUG,
-            GIVEN,
-            BEGUN,
-            STATUS,
-            CLEARED,
-            "10 OUT 1.0 / DATA1 - / ACK",
-        ],
-        "",
-    ),
+    (&[], &[PLUG, GIVEN, BEGUN], ""),
+    (BEFORE, &[], ""),
+    (&[], &[PLUG, GIVEN, BEGUN, DONE], ""),
+    (RESET, &[], ""),
+    (RESET, &["10 IN 1.0 / none"], ""),
+    (RESET, &["10 IN 1.0 / STALL"], ""),
+    (RESET, &["10 IN 1.0 / DATA1 - [lost]"], ""),
+    (RESET, &["10 IN 1.0 / DATA0 - / ACK"], ""),
+    (RESET, &["10 IN 1.0 / DATA1 00 / ACK"], ""),
+    (RESET, &["10 IN 1.1 / DATA1 - / ACK"], ""),
+    (RESET, &["10 IN 2.0 / DATA1 - / ACK"], ""),
+    (RESET, &["10 OUT 1.0 / DATA1 - / ACK"], ""),
     // none, so that it is the root port
-    (&[PLUG, GIVEN, CLEARED, DONE], "1"),
-    (&[PLUG, GIVEN, STATUS, CLEARED, DONE], "1"),
+    (&[], &[PLUG, GIVEN, CLEARED, DONE], "1"),
+    (&[], &[PLUG, GIVEN, STATUS, CLEARED, DONE], "1"),
     (
-        &[
-            PLUG,
-            GIVEN,
-            BEGUN,
-            STATUS,
-            "9 SETUP 1.0 / DATA0 2301140003000000 / ACK",
-            DONE,
-        ],
+        BEFORE,
+        &["9 SETUP 1.0 / DATA0 2301140003000000 / ACK", DONE],
         "1",
     ),
     (
-        &[
-            PLUG,
-            GIVEN,
-            BEGUN,
-            STATUS,
-            "9 SETUP 3.0 / DATA0 2301140002000000 / ACK",
-            DONE,
-        ],
+        BEFORE,
+        &["9 SETUP 3.0 / DATA0 2301140002000000 / ACK", DONE],
         "1",
     ),
     (
-        &[
-            PLUG,
-            GIVEN,
-            BEGUN,
-            STATUS,
-            CLEARED,
-            DONE,
-            "12 SETUP 1.0 / DATA0 2301010002000000 / ACK",
-        ],
+        RESET,
+        &[DONE, "12 SETUP 1.0 / DATA0 2301010002000000 / ACK"],
         "1",
     ),
-    (
-        &[
-            PLUG,
-            GIVEN,
-            BEGUN,
-            STATUS,
-            CLEARED,
-            DONE,
-            "control 1 out done 0",
-        ],
-        "1",
-    ),
-    (&[PLUG, GIVEN, BEGUN, "listing 1"], "1"),
+    (RESET, &[DONE, "control 1 out done 0"], "1"),
+    (&[], &[PLUG, GIVEN, BEGUN, "listing 1"], "1"),
     // a hub of which the path is not known, and a port that no hub has
-    (&[PLUG, BEGUN, STATUS, CLEARED, DONE], ""),
+    (&[], &[PLUG, BEGUN, STATUS, CLEARED, DONE], ""),
     (
+        &[],
         &[
             PLUG,
             GIVEN,
@@ -492,6 +392,7 @@ const PATHS: &[(&[&str], &str)] = &[
         "",
     ),
     (
+        &[],
         &[
             PLUG,
             GIVEN,
@@ -503,12 +404,8 @@ const PATHS: &[(&[&str], &str)] = &[
     ),
     // a hub below a hub, and a device that is given another address
     (
+        RESET,
         &[
-            PLUG,
-            GIVEN,
-            BEGUN,
-            STATUS,
-            CLEARED,
             DONE,
             "14 SETUP 0.0 / DATA0 00057F0000000000 / ACK",
             "16 SETUP 127.0 / DATA0 2303040003000000 / ACK",
@@ -518,6 +415,7 @@ const PATHS: &[(&[&str], &str)] = &[
         "1.2.3",
     ),
     (
+        &[],
         &[
             PLUG,
             GIVEN,
@@ -528,26 +426,26 @@ const PATHS: &[(&[&str], &str)] = &[
         ],
         "1.2",
     ),
-    (
-        &[
-            PLUG, GIVEN, BEGUN, STATUS, CLEARED, DONE, GIVEN, BEGUN, STATUS, CLEARED, DONE,
-        ],
-        "",
-    ),
+    (RESET, &[DONE, GIVEN, BEGUN, STATUS, CLEARED, DONE], ""),
 ];
 
 const ASKED: &str = "99 SETUP 0.0 / DATA0 8006000100000800 / ACK";
 
+fn push_lines(text: &mut String, lines: &[&str]) -> Result<(), AllocError> {
+    for line in lines {
+        text.push_str(line)?;
+        text.push('\n')?;
+    }
+    Ok(())
+}
+
 #[test]
 fn paths_that_are_said(rt: HostRuntime) -> Result<(), Fail> {
-    for (lines, path) in PATHS {
+    for (begun, lines, path) in PATHS {
         let mut text = String::new(rt.alloc());
-        for line in *lines {
-            text.push_str(line)?;
-            text.push('\n')?;
-        }
-        text.push_str(ASKED)?;
-        text.push('\n')?;
+        push_lines(&mut text, begun)?;
+        push_lines(&mut text, lines)?;
+        push_lines(&mut text, &[ASKED])?;
         let said = if path.is_empty() { "" } else { ", path " };
         let wanted = format!(in rt.alloc();
             "{ASKED}    GET_DESCRIPTOR device, 8 bytes{said}{path}"

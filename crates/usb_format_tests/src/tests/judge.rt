@@ -5,15 +5,15 @@ use usb_judge::{Cause, Claim, Judgement, ListedDevice, ListedPort, PluggedDevice
 use usb_port::PortPath;
 
 /// A device that is plugged. An empty configuration is none.
-struct Plug {
-    path: &'static str,
-    low: bool,
-    descriptor: &'static [u8],
-    configuration: &'static [u8],
-    ports: u8,
-    supply: u16,
-    address: u8,
-    reached: bool,
+pub(super) struct Plug {
+    pub(super) path: &'static str,
+    pub(super) low: bool,
+    pub(super) descriptor: &'static [u8],
+    pub(super) configuration: &'static [u8],
+    pub(super) ports: u8,
+    pub(super) supply: u16,
+    pub(super) address: u8,
+    pub(super) reached: bool,
 }
 
 /// A port that is listed; address 255 is that of a refused device. An empty configuration and no ports are not said.
@@ -333,7 +333,7 @@ const ROWS: &[Row] = &[
     },
 ];
 
-fn plugged(
+pub(super) fn plugged(
     alloc: Global,
     plugs: &'static [Plug],
 ) -> Result<Vec<PluggedDevice<'static>>, AllocError> {

@@ -1,9 +1,10 @@
 //! The page of a run: which text is in it, what of it is escaped, and readers and writers that fail.
+use super::broken::Broken;
 use super::drawing::writers::Narrow;
 use std::alloc::{AllocError, Global};
-use std::io::{Error, ErrorKind, Read, Write};
+use std::io::{Read, Write};
+use std::str;
 use std::test::Fail;
-use std::{io, str};
 use usb_bus::Watched;
 use usb_page::{escaped, put_page};
 use usb_serve::{Mode, PlanFault, RunFault, ServeFault, serve};
@@ -173,16 +174,6 @@ fn entities(rt: HostRuntime) -> Result<(), Fail> {
         assert_eq!(rt; out.as_slice(), wanted, "{text:?}");
     }
     Ok(())
-}
-
-/// A reader that fails at once.
-#[derive(Drop)]
-struct Broken;
-
-impl Read for Broken {
-    fn read(&mut self, _buf: &mut [u8]) -> io::Result<usize> {
-        Err(Error::from(ErrorKind::Other))
-    }
 }
 
 #[test]

@@ -1,6 +1,5 @@
 //! A test is a loop over rows: a text, and what is written of it.
-use std::io;
-use std::io::{Error, ErrorKind, Read};
+use super::broken::Broken;
 use std::test::Fail;
 use usb_bus::Watched;
 use usb_pcap::{PcapFault, capture, read_attempt};
@@ -383,16 +382,6 @@ fn one_attempt(rt: HostRuntime) {
     let attempt = read_attempt(b"5 PRE IN 2.0 / NAK").expect(&rt, "an attempt");
     assert_eq!(rt; attempt.number, 5);
     assert!(rt; attempt.pre);
-}
-
-/// A reader that fails at once.
-#[derive(Drop)]
-struct Broken;
-
-impl Read for Broken {
-    fn read(&mut self, _buf: &mut [u8]) -> io::Result<usize> {
-        Err(Error::from(ErrorKind::Other))
-    }
 }
 
 #[test]

@@ -1,4 +1,5 @@
 //! Reads of a driver's own from the device at a path, hubs too, and its writes to it.
+use super::devices::{HUB, LOW, PLUG_HUB, PLUG_LOW_BELOW};
 use std::alloc::Global;
 use std::test::Fail;
 use usb_host::{Host, HostFault, Setup};
@@ -8,28 +9,12 @@ use usb_testbus::{bus_of, plan_text};
 
 /// A hub with a function at its first port, their plugs, and damage after the attempts that find them: an acknowledged
 /// SETUP that the host does not see, and an IN that never comes.
-const PLAN: &str = "[[device]]
-name = \"hub\"
-speed = \"full\"
-descriptor = \"120100020900004001000200000100000001\"
-configs = [\"09021900010100C000090400000109000000070581030100FF\"]
-ports = 2
-self_powered = true
-[[device]]
-name = \"low\"
-speed = \"low\"
-descriptor = \"120110010000000834120100000100000001\"
-configs = [\"0902120001010080320904000000FF000000\"]
-[[event]]
-do = \"plug\"
-path = \"1\"
-device = \"hub\"
-[[event]]
-do = \"plug\"
-path = \"1.1\"
-device = \"low\"
-after = 0
-[[damage]]
+const PLAN: &[&str] = &[
+    HUB,
+    LOW,
+    PLUG_HUB,
+    PLUG_LOW_BELOW,
+    "[[damage]]
 attempt = 84
 packet = 3
 how = \"lose\"
@@ -45,7 +30,8 @@ how = \"lose\"
 attempt = 91
 packet = 1
 how = \"lose\"
-";
+",
+];
 
 /// A read, what it reports, and the attempts made so far.
 struct Row {
@@ -147,7 +133,7 @@ type TestHost = Host<SimBus<Tracer<Vec<u8>>>>;
 
 /// A host that has found both devices, in 64 attempts.
 fn settled(alloc: Global) -> Result<TestHost, Fail> {
-    let plan = plan_text(alloc, 10_000, &[PLAN])?;
+    let plan = plan_text(alloc, 10_000, PLAN)?;
     let mut bus = bus_of(alloc, plan.as_str())?;
     bus.apply_next_event()?;
     bus.apply_next_event()?;

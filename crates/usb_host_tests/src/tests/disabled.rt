@@ -1,4 +1,5 @@
 //! Root port 1 is disabled behind the host's back: what the call after it reports, and what is known then.
+use super::devices::{HUB, LOW, PLUG_HUB, PLUG_LOW_BELOW};
 use std::alloc::{AllocError, Global};
 use std::str;
 use std::test::Fail;
@@ -11,31 +12,11 @@ use usb_sim::{SimBus, Tracer};
 use usb_testbus::{bus_of, plan_text, trace_of};
 
 /// A hub of two ports that powers itself, and a low-speed function at its first port.
-const HUB: &str = "[[device]]
-name = \"hub2\"
-speed = \"full\"
-descriptor = \"120100020900004001000200000100000001\"
-configs = [\"09021900010100C000090400000109000000070581030100FF\"]
-ports = 2
-self_powered = true
-[[device]]
-name = \"low\"
-speed = \"low\"
-descriptor = \"120110010000000834120100000100000001\"
-configs = [\"0902120001010080320904000000FF000000\"]
-[[event]]
-do = \"plug\"
-path = \"1\"
-device = \"hub2\"
-[[event]]
-do = \"plug\"
-path = \"1.1\"
-device = \"low\"
-after = 0
-";
+const HUB_AND_LOW: &[&str] = &[HUB, LOW, PLUG_HUB, PLUG_LOW_BELOW];
 
 /// A function with bulk endpoints OUT 2 and IN 2.
-const BULK: &str = "[[device]]
+const BULK: &[&str] = &[
+    "[[device]]
 name = \"bulk\"
 speed = \"full\"
 descriptor = \"120100020000004034127856000100000001\"
@@ -44,7 +25,8 @@ configs = [\"0902200001010080320904000002FF0000000705020240000007058202400000\"]
 do = \"plug\"
 path = \"1\"
 device = \"bulk\"
-";
+",
+];
 
 /// A call of the host.
 #[derive(Clone, Copy, Debug)]
@@ -60,7 +42,7 @@ enum Call {
 
 struct Row {
     about: &'static str,
-    devices: &'static str,
+    devices: &'static [&'static str],
     /// The rounds that the host made since the first event came.
     rounds: u8,
     /// The lines of trace that they made.
@@ -74,7 +56,7 @@ struct Row {
 const ROWS: &[Row] = &[
     Row {
         about: "a hub, behind the round that found it",
-        devices: HUB,
+        devices: HUB_AND_LOW,
         rounds: 1,
         lines: 65,
         calls: &[Call::Round],
@@ -87,7 +69,7 @@ const ROWS: &[Row] = &[
     },
     Row {
         about: "a hub, behind a quiet round",
-        devices: HUB,
+        devices: HUB_AND_LOW,
         rounds: 2,
         lines: 66,
         calls: &[Call::Round, Call::Round],
@@ -101,7 +83,7 @@ Ok(Quiet)
     },
     Row {
         about: "a hub, behind two quiet rounds",
-        devices: HUB,
+        devices: HUB_AND_LOW,
         rounds: 3,
         lines: 67,
         calls: &[Call::Round, Call::Send],
@@ -164,7 +146,7 @@ type TestHost = Host<SimBus<Tracer<Vec<u8>>>>;
 
 /// A host that has made n rounds since the first event came.
 fn host_for(alloc: Global, row: &Row) -> Result<TestHost, Fail> {
-    let text = plan_text(alloc, 10000, &[row.devices])?;
+    let text = plan_text(alloc, 10000, row.devices)?;
     let mut host = Host::new(alloc, bus_of(alloc, text.as_str())?);
     host.round()?;
     host.bus_mut().apply_next_event()?;

@@ -39,61 +39,59 @@ struct Row {
     told: &'static str,
 }
 
+/// A port that has power and gives all it may, and a host that takes no wide hubs.
+const USUAL: Row = Row {
+    about: "",
+    device: "",
+    powered: true,
+    supply: 500,
+    wide: false,
+    device_bytes: None,
+    told: "",
+};
+
 const ROWS: &[Row] = &[
     Row {
         about: "the first configuration that fits is chosen",
         device: "descriptor = \"120100020000004034127856000100010002\"
 configs = [\"0902120001010080FA0904000000FF000000\", \"0902120001020080320904000000FF000000\"]
 ",
-        powered: true,
         supply: 100,
-        wide: false,
-        device_bytes: None,
         told: "1 full 120100020000004034127856000100010002, 0902120001010080FA0904000000FF000000, chosen 0902120001020080320904000000FF000000, no product; said 120100020000004034127856000100010002; 24 attempts, enabled: true, next address 2",
+        ..USUAL
     },
     Row {
         about: "two configurations of one value",
         device: "descriptor = \"120100020000004034127856000100010002\"
 configs = [\"0902120001010080320904000000FF000000\", \"0902120001010080190904000000FF000000\"]
 ",
-        powered: true,
-        supply: 500,
-        wide: false,
-        device_bytes: None,
         told: "refused bad configuration 1; said 120100020000004034127856000100010002; 20 attempts, enabled: false, next address 1",
+        ..USUAL
     },
     Row {
         about: "a need of 102 mA",
         device: "descriptor = \"120100020000004034127856000100000001\"
 configs = [\"0902120001010080330904000000FF000000\"]
 ",
-        powered: true,
         supply: 100,
-        wide: false,
-        device_bytes: None,
         told: "refused no power; said 120100020000004034127856000100000001; 14 attempts, enabled: false, next address 1",
+        ..USUAL
     },
     Row {
         about: "one configuration of two",
         device: "descriptor = \"120100020000004034127856000100010002\"
 configs = [\"0902120001010080320904000000FF000000\"]
 ",
-        powered: true,
-        supply: 500,
-        wide: false,
-        device_bytes: None,
         told: "refused stalled config; said 120100020000004034127856000100010002; 16 attempts, enabled: false, next address 1",
+        ..USUAL
     },
     Row {
         about: "a device of no configuration",
         device: "descriptor = \"120100020000004034127856000100000000\"
 configs = [\"0902120001010080320904000000FF000000\"]
 ",
-        powered: true,
-        supply: 500,
-        wide: false,
-        device_bytes: None,
         told: "refused bad device; said 120100020000004034127856000100000000; 8 attempts, enabled: false, next address 1",
+        ..USUAL
     },
     Row {
         about: "an empty port",
@@ -101,21 +99,16 @@ configs = [\"0902120001010080320904000000FF000000\"]
 configs = []
 ",
         powered: false,
-        supply: 500,
-        wide: false,
-        device_bytes: None,
         told: "refused lost; said nothing; 0 attempts, enabled: false, next address 1",
+        ..USUAL
     },
     Row {
         about: "a device descriptor that is malformed in its first eight bytes",
         device: "descriptor = \"1201000200000041\"
 configs = []
 ",
-        powered: true,
-        supply: 500,
-        wide: false,
-        device_bytes: None,
         told: "refused bad device; said 1201000200000041; 3 attempts, enabled: false, next address 1",
+        ..USUAL
     },
     Row {
         about: "a hub of ten ports, by a host that takes no wide hubs",
@@ -123,11 +116,8 @@ configs = []
 configs = [\"09021900010100C000090400000109000000070581030200FF\"]
 ports = 10
 ",
-        powered: true,
-        supply: 500,
-        wide: false,
-        device_bytes: None,
         told: "refused bad hub; said 120100020900004001000200000100000001; 19 attempts, enabled: false, next address 1",
+        ..USUAL
     },
     Row {
         about: "the same, by a host that takes wide hubs",
@@ -135,11 +125,9 @@ ports = 10
 configs = [\"09021900010100C000090400000109000000070581030200FF\"]
 ports = 10
 ",
-        powered: true,
-        supply: 500,
         wide: true,
-        device_bytes: None,
         told: "1 full 120100020900004001000200000100000001, chosen 09021900010100C000090400000109000000070581030200FF, no product; said 120100020900004001000200000100000001; 42 attempts, enabled: true, next address 2",
+        ..USUAL
     },
     Row {
         about: "one whose status endpoint has room for one byte of two",
@@ -147,11 +135,9 @@ ports = 10
 configs = [\"09021900010100C000090400000109000000070581030100FF\"]
 ports = 10
 ",
-        powered: true,
-        supply: 500,
         wide: true,
-        device_bytes: None,
         told: "refused bad hub; said 120100020900004001000200000100000001; 19 attempts, enabled: false, next address 1",
+        ..USUAL
     },
     Row {
         about: "a hub of two ports whose status endpoint has the number 2, by a host that takes no wide hubs",
@@ -159,11 +145,8 @@ ports = 10
 configs = [\"09021900010100C000090400000109000000070582030100FF\"]
 ports = 2
 ",
-        powered: true,
-        supply: 500,
-        wide: false,
-        device_bytes: None,
         told: "refused bad hub; said 120100020900004001000200000100000001; 16 attempts, enabled: false, next address 1",
+        ..USUAL
     },
     Row {
         about: "the same, by a host that takes wide hubs",
@@ -171,44 +154,39 @@ ports = 2
 configs = [\"09021900010100C000090400000109000000070582030100FF\"]
 ports = 2
 ",
-        powered: true,
-        supply: 500,
         wide: true,
-        device_bytes: None,
         told: "1 full 120100020900004001000200000100000001, chosen 09021900010100C000090400000109000000070582030100FF, no product; said 120100020900004001000200000100000001; 26 attempts, enabled: true, next address 2",
+        ..USUAL
     },
     Row {
         about: "two configurations of 18 bytes, by a host that takes 36",
         device: "descriptor = \"120100020000004034127856000100010002\"
 configs = [\"0902120001010080FA0904000000FF000000\", \"0902120001020080320904000000FF000000\"]
 ",
-        powered: true,
         supply: 100,
-        wide: false,
         device_bytes: Some(36),
         told: "1 full 120100020000004034127856000100010002, 0902120001010080FA0904000000FF000000, chosen 0902120001020080320904000000FF000000, no product; said 120100020000004034127856000100010002; 24 attempts, enabled: true, next address 2",
+        ..USUAL
     },
     Row {
         about: "the same, by a host that takes 35",
         device: "descriptor = \"120100020000004034127856000100010002\"
 configs = [\"0902120001010080FA0904000000FF000000\", \"0902120001020080320904000000FF000000\"]
 ",
-        powered: true,
         supply: 100,
-        wide: false,
         device_bytes: Some(35),
         told: "refused too large; said 120100020000004034127856000100010002; 17 attempts, enabled: false, next address 1",
+        ..USUAL
     },
     Row {
         about: "the same, by a host that takes 17",
         device: "descriptor = \"120100020000004034127856000100010002\"
 configs = [\"0902120001010080FA0904000000FF000000\", \"0902120001020080320904000000FF000000\"]
 ",
-        powered: true,
         supply: 100,
-        wide: false,
         device_bytes: Some(17),
         told: "refused too large; said 120100020000004034127856000100010002; 11 attempts, enabled: false, next address 1",
+        ..USUAL
     },
 ];
 

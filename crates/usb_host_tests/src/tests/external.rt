@@ -1,4 +1,5 @@
 //! Requests to a hub at root port 1, and calls on its ports.
+use super::devices::{HUB, LOW, PLUG_HUB, PLUG_LOW_BELOW};
 use super::hub::{bits, done, read, target};
 use std::alloc::{AllocError, Global};
 use std::test::Fail;
@@ -12,31 +13,11 @@ use usb_testbus::{plan_text, plugged, trace_of};
 
 /// A hub of two ports that powers itself, its plug, and that of a low-speed function at its first
 /// port.
-const OWN_POWER: &str = "[[device]]
-name = \"hub2\"
-speed = \"full\"
-descriptor = \"120100020900004001000200000100000001\"
-configs = [\"09021900010100C000090400000109000000070581030100FF\"]
-ports = 2
-self_powered = true
-[[device]]
-name = \"low\"
-speed = \"low\"
-descriptor = \"120110010000000834120100000100000001\"
-configs = [\"0902120001010080320904000000FF000000\"]
-[[event]]
-do = \"plug\"
-path = \"1\"
-device = \"hub2\"
-[[event]]
-do = \"plug\"
-path = \"1.1\"
-device = \"low\"
-after = 0
-";
+const OWN_POWER: &[&str] = &[HUB, LOW, PLUG_HUB, PLUG_LOW_BELOW];
 
 /// A hub of two ports that is powered by the bus, and its plug.
-const BUS_POWER: &str = "[[device]]
+const BUS_POWER: &[&str] = &[
+    "[[device]]
 name = \"bus2\"
 speed = \"full\"
 descriptor = \"120100020900004001000200000100000001\"
@@ -46,7 +27,8 @@ ports = 2
 do = \"plug\"
 path = \"1\"
 device = \"bus2\"
-";
+",
+];
 
 /// A request, to a hub that has address 1 where it does not give that.
 #[derive(Clone, Copy, Debug)]
@@ -70,7 +52,7 @@ enum Call {
 /// Calls on a hub, and what each reports: the bits of a status, the bytes that were read, or a
 /// fault.
 struct Row {
-    hub: &'static str,
+    hub: &'static [&'static str],
     calls: &'static [(Call, &'static str)],
     /// What goes over the bus for them.
     trace: &'static str,
@@ -101,7 +83,7 @@ const ROWS: &[Row] = &[
             (Call::Port(2), "powered "),
             (Call::Port(3), "Stalled"),
         ],
-        trace: "plug 1 hub2
+        trace: "plug 1 hub
 plug 1.1 low
 1 SETUP 0.0 / DATA0 0005010000000000 / ACK
 2 IN 0.0 / DATA1 - / ACK
@@ -214,7 +196,7 @@ fn first_other(
 fn hubs_tell_what_they_are_asked(rt: HostRuntime) -> Result<(), Fail> {
     let alloc = rt.alloc();
     for row in ROWS {
-        let text = plan_text(alloc, 100, &[row.hub])?;
+        let text = plan_text(alloc, 100, row.hub)?;
         let mut bus = plugged(alloc, text.as_str())?;
         let other = first_other(alloc, &mut bus, row);
         let trace = trace_of(bus);

@@ -2,6 +2,7 @@
 ghost use Rattle.std.specs.Prelude.{◌≤◌, ◌<◌};
 ghost use Rattle.usb_transaction.specs.Transactions.{IsTarget};
 
+use super::devices::{FUNCTION, PLUG_FUNCTION};
 use std::alloc::{AllocError, Global};
 use std::test::Fail;
 use usb_bus::Bus;
@@ -12,18 +13,6 @@ use usb_hub::{
 use usb_request::feature::{C_PORT_CONNECTION, C_PORT_RESET, PORT_POWER, PORT_RESET};
 use usb_sim::{SimBus, Tracer};
 use usb_testbus::{bus_of, plan_text, trace_of};
-
-/// A full-speed function, and its plug.
-const FUNCTION: &str = "[[device]]
-name = \"fn\"
-speed = \"full\"
-descriptor = \"120100020000004034127856000100000001\"
-configs = [\"0902120001010080320904000000FF000000\"]
-[[event]]
-do = \"plug\"
-path = \"1\"
-device = \"fn\"
-";
 
 #[derive(Clone, Copy, Debug)]
 enum Call {
@@ -244,7 +233,7 @@ fn first_other(
 #[test]
 fn calls_tell_what_came(rt: HostRuntime) -> Result<(), Fail> {
     let alloc = rt.alloc();
-    let text = plan_text(alloc, 100, &[FUNCTION])?;
+    let text = plan_text(alloc, 100, &[FUNCTION, PLUG_FUNCTION])?;
     let mut bus = bus_of(alloc, text.as_str())?;
     let other = first_other(alloc, &mut bus);
     let trace = trace_of(bus);

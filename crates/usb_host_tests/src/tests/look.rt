@@ -1,4 +1,5 @@
 //! Looks at ports: what each reports, the attempts that it takes, and what is listed after it.
+use super::devices::{FUNCTION, HUB, PLUG_FUNCTION};
 use std::alloc::{AllocError, Global};
 use std::test::Fail;
 use usb_enum::Finding;
@@ -7,30 +8,16 @@ use usb_port::PortPath;
 use usb_sim::{SimBus, Tracer};
 use usb_testbus::{bus_of, plan_text};
 
-const DEVICES: &str = "[[device]]
-name = \"hub\"
-speed = \"full\"
-descriptor = \"120100020900004001000200000100000001\"
-configs = [\"09021900010100C000090400000109000000070581030100FF\"]
-ports = 2
-self_powered = true
-[[device]]
-name = \"fn\"
-speed = \"full\"
-descriptor = \"120100020000004034127856000100000001\"
-configs = [\"0902120001010080320904000000FF000000\"]
-[[device]]
+const DEVICES: &[&str] = &[
+    HUB,
+    FUNCTION,
+    "[[device]]
 name = \"bad\"
 speed = \"full\"
 descriptor = \"120100020000004034127856000100000001\"
 configs = []
-";
-
-const PLUG_FUNCTION: &str = "[[event]]
-do = \"plug\"
-path = \"1\"
-device = \"fn\"
-";
+",
+];
 
 const PLUG_BAD: &str = "[[event]]
 do = \"plug\"
@@ -175,8 +162,8 @@ fn put_listing(text: &mut String, entries: &[(PortPath, Finding)]) -> Result<(),
 
 /// What a row's looks come to.
 fn told(alloc: Global, row: &Row) -> Result<String, Fail> {
-    let events = plan_text(alloc, 10_000, row.tables)?;
-    let plan = format!(in alloc; "{events}{DEVICES}")?;
+    let mut plan = plan_text(alloc, 10_000, row.tables)?;
+    plan.push_str(DEVICES.concat(alloc)?.as_str())?;
     let mut host = Host::new(alloc, bus_of(alloc, plan.as_str())?);
     host.bus_mut().apply_next_event()?;
     settle(&mut host)?;

@@ -1,4 +1,5 @@
 //! What a host reports of devices that left and arrived, and their numbers.
+use super::devices::OLD_FUNCTION;
 use std::alloc::Global;
 use std::test::Fail;
 use usb_host::{Host, News, Round};
@@ -6,7 +7,8 @@ use usb_sim::{SimBus, Untraced};
 use usb_testbus::untraced_of;
 
 /// A hub of seven ports and a function.
-const DEVICES: &str = "limit = 1000000
+const DEVICES: &[&str] = &[
+    "limit = 1000000
 roots = 2
 [[device]]
 name = \"hub\"
@@ -15,12 +17,9 @@ descriptor = \"120100020900004001000200000100000001\"
 configs = [\"09021900010100C000090400000109000000070581030100FF\"]
 ports = 7
 self_powered = true
-[[device]]
-name = \"fn\"
-speed = \"full\"
-descriptor = \"120110010000000834120100000100000001\"
-configs = [\"0902120001010080320904000000FF000000\"]
-";
+",
+    OLD_FUNCTION,
+];
 
 #[derive(Clone, Copy, Debug)]
 enum Step {
@@ -108,7 +107,7 @@ const ROWS: &[Row] = &[
 
 /// The plan of a row's events. None comes by itself before its step.
 fn plan(alloc: Global, steps: &[Step]) -> Result<String, Fail> {
-    let mut text = DEVICES.to_string(alloc)?;
+    let mut text = DEVICES.concat(alloc)?;
     let mut after = 0;
     for step in steps {
         match step {
@@ -195,7 +194,7 @@ const MOST: usize = 127;
 
 /// A plan that plugs a hub, seven hubs below it, seven below each of those, and functions below these.
 fn full_plan(alloc: Global) -> Result<String, Fail> {
-    let mut text = DEVICES.to_string(alloc)?;
+    let mut text = DEVICES.concat(alloc)?;
     let mut count = 0;
     let head = "[[event]]\ndo = \"plug\"\nafter = 0\n";
     write!(text, "{head}path = \"1\"\ndevice = \"hub\"\n")?;

@@ -54,7 +54,7 @@ fn put_paths(text: &mut String, entries: &[(PortPath, Finding)]) -> Result<(), A
 
 /// What settling ends with, where a device is listed then, and what settling again ends with.
 fn told(alloc: Global, row: &Row) -> Result<String, Fail> {
-    let plan = plan_text(alloc, row.limit, &[PLAN])?;
+    let plan = plan_text(alloc, row.limit, PLAN)?;
     let mut bus = bus_of(alloc, plan.as_str())?;
     bus.apply_next_event()?;
     bus.apply_next_event()?;

@@ -4,6 +4,7 @@
 mod held;
 mod quirk;
 
+use super::devices::{HUB, OLD_FUNCTION, PLUG_FUNCTION_BELOW, PLUG_HUB};
 use quirk::{QuirkBus, Told};
 use std::alloc::{AllocError, Global};
 use std::test::Fail;
@@ -14,28 +15,7 @@ use usb_sim::{SimBus, Tracer};
 use usb_testbus::bus_of;
 
 /// A hub of two ports that powers itself, and a function at its first port.
-pub(crate) const PLAN: &str = "[[device]]
-name = \"hub\"
-speed = \"full\"
-descriptor = \"120100020900004001000200000100000001\"
-configs = [\"09021900010100C000090400000109000000070581030100FF\"]
-ports = 2
-self_powered = true
-[[device]]
-name = \"fn\"
-speed = \"full\"
-descriptor = \"120110010000000834120100000100000001\"
-configs = [\"0902120001010080320904000000FF000000\"]
-[[event]]
-do = \"plug\"
-path = \"1\"
-device = \"hub\"
-[[event]]
-do = \"plug\"
-path = \"1.1\"
-device = \"fn\"
-after = 0
-";
+pub(crate) const PLAN: &[&str] = &[HUB, OLD_FUNCTION, PLUG_HUB, PLUG_FUNCTION_BELOW];
 
 /// A second such function at the other root port.
 const BESIDE: &str = "[[event]]
@@ -134,7 +114,8 @@ fn put_settled(text: &mut String, host: &mut TestHost) -> Result<(), Fail> {
 
 /// What is reported before the change and after it, how often it was cleared, and whether the port is disabled at last.
 fn told(alloc: Global, row: &Row) -> Result<String, Fail> {
-    let plan = format!(in alloc; "limit = 100000\nroots = 2\n{PLAN}{BESIDE}")?;
+    let tables = PLAN.concat(alloc)?;
+    let plan = format!(in alloc; "limit = 100000\nroots = 2\n{tables}{BESIDE}")?;
     let mut bus = bus_of(alloc, plan.as_str())?;
     for _ in 0..3 {
         bus.apply_next_event()?;

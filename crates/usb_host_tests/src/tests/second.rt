@@ -1,6 +1,7 @@
 //! A host hands its bus on to another one, which finds each device again, and gives none an address that one has.
 mod halting;
 
+use super::devices::{HUB, OLD_FUNCTION, PLUG_FUNCTION_BELOW, PLUG_HUB};
 use halting::HaltingBus;
 use std::alloc::{AllocError, Global};
 use std::test::Fail;
@@ -11,35 +12,21 @@ use usb_port::PortPath;
 use usb_testbus::untraced_of;
 
 /// A hub with a function at its first port, and a function that is plugged between the two hosts.
-const PLAN: &str = "limit = 100000
+const PLAN: &[&str] = &[
+    "limit = 100000
 roots = 2
-[[device]]
-name = \"hub\"
-speed = \"full\"
-descriptor = \"120100020900004001000200000100000001\"
-configs = [\"09021900010100C000090400000109000000070581030100FF\"]
-ports = 2
-self_powered = true
-[[device]]
-name = \"fn\"
-speed = \"full\"
-descriptor = \"120110010000000834120100000100000001\"
-configs = [\"0902120001010080320904000000FF000000\"]
-[[event]]
-do = \"plug\"
-path = \"1\"
-device = \"hub\"
-[[event]]
-do = \"plug\"
-path = \"1.1\"
-device = \"fn\"
-after = 0
-[[event]]
+",
+    HUB,
+    OLD_FUNCTION,
+    PLUG_HUB,
+    PLUG_FUNCTION_BELOW,
+    "[[event]]
 do = \"plug\"
 path = \"2\"
 device = \"fn\"
 after = 90000
-";
+",
+];
 
 struct Row {
     about: &'static str,
@@ -106,7 +93,8 @@ fn put_settled<B: Bus>(text: &mut String, host: &mut Host<B>) -> Result<(), Fail
 
 /// What the first host reports, and then the second one.
 fn told(alloc: Global, row: &Row) -> Result<String, Fail> {
-    let mut bus = untraced_of(alloc, PLAN)?;
+    let plan = PLAN.concat(alloc)?;
+    let mut bus = untraced_of(alloc, plan.as_str())?;
     bus.apply_next_event()?;
     bus.apply_next_event()?;
     let mut first = Host::new(alloc, HaltingBus::new(bus, row.attempts));

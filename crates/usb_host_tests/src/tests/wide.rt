@@ -1,4 +1,5 @@
 //! Hosts that take wide hubs, hosts that take none, and what refused devices said.
+use super::devices::FUNCTION;
 use std::alloc::Global;
 use std::test::Fail;
 use usb_enum::Finding;
@@ -10,7 +11,8 @@ use usb_testbus::{bus_of, plan_text};
 type TestBus = SimBus<Tracer<Vec<u8>>>;
 
 /// A hub of ten ports, with a function at the last one and a device of no configuration at another.
-const PLAN: &str = "wide_hubs = true
+const PLAN: &[&str] = &[
+    "wide_hubs = true
 event = [
   { do = \"plug\", path = \"1\", device = \"hub\" },
   { do = \"plug\", path = \"1.10\", device = \"fn\" },
@@ -25,18 +27,16 @@ configs = [\"09021900010100C000090400000109000000070583030200FF\"]
 ports = 10
 self_powered = true
 
-[[device]]
-name = \"fn\"
-speed = \"full\"
-descriptor = \"120100020000004034127856000100000001\"
-configs = [\"0902120001010080320904000000FF000000\"]
-
+",
+    FUNCTION,
+    "
 [[device]]
 name = \"bad\"
 speed = \"full\"
 descriptor = \"120100020000004034127956000100000001\"
 configs = []
-";
+",
+];
 
 struct Row {
     about: &'static str,
@@ -60,7 +60,7 @@ const ROWS: &[Row] = &[
 
 /// The bus, after all three plugs.
 fn plugged(alloc: Global) -> Result<TestBus, Fail> {
-    let text = plan_text(alloc, 20000, &[PLAN])?;
+    let text = plan_text(alloc, 20000, PLAN)?;
     let mut bus = bus_of(alloc, text.as_str())?;
     for _ in 0..3 {
         bus.apply_next_event()?;

@@ -1,4 +1,5 @@
 //! A host against the controller side that plays a plan, where each side sees of the other what that one has flushed.
+use super::plans::{PLUG_THERMOMETER, THERMOMETER};
 use std::alloc::{AllocError, Global};
 use std::cell::RefCell;
 use std::io::{Error, ErrorKind, Read, Write};
@@ -11,28 +12,19 @@ use usb_plan::read_plan;
 use usb_sim::Tracer;
 
 /// One device, a listing, and a transfer.
-const PLAN: &str = r#"
-limit = 1000
-roots = 1
-
-[[device]]
-name = "thermometer"
-speed = "full"
-descriptor = "120100020000004034127856000100000001"
-configs = ["0902120001010080320904000000FF000000"]
-
-[[event]]
-do = "plug"
-path = "1"
-device = "thermometer"
-
+const PLAN: &[&str] = &[
+    "\nlimit = 1000\nroots = 1\n",
+    THERMOMETER,
+    PLUG_THERMOMETER,
+    r#"
 [[event]]
 do = "show"
 
 [[event]]
 do = "clear"
 path = "1"
-"#;
+"#,
+];
 
 /// What the host reports of that.
 const TOLD: &str = "listing 1\n\
@@ -142,7 +134,8 @@ impl Write for Ends<'_> {
 #[test]
 fn both_ends(rt: HostRuntime) -> Result<(), Fail> {
     let alloc = rt.alloc();
-    let Ok(plan) = read_plan(alloc, PLAN) else {
+    let text = PLAN.concat(alloc)?;
+    let Ok(plan) = read_plan(alloc, text.as_str()) else {
         return Err(Fail::from(AllocError));
     };
     let link = RefCell::new(Link {

@@ -1,9 +1,10 @@
 //! A test is a loop over rows: what a host says, and what the controller side of a plan says to it.
 ghost use Rattle.usb_wire.specs.Questions.{IsQuestion};
 
+use super::ends::{Frail, Torn};
+use super::plans::{BULK, HUB, PLUG_BULK, PLUG_HUB, PLUG_THERMOMETER, THERMOMETER};
 use std::alloc::{AllocError, Global};
-use std::io;
-use std::io::{Error, ErrorKind, Read, Write};
+use std::io::Read;
 use std::test::Fail;
 use usb_bus::{BusFault, Watched};
 use usb_far::{Came, FarEnd, FarFault, HostLine, Phase, serve};
@@ -11,9 +12,17 @@ use usb_plan::read_plan;
 use usb_sim::Untraced;
 use usb_wire::Question;
 
+/// The digits of 150 bytes of a text over several lines.
+const ZEROS: &str =
+    r#"0000000000000000000000000000000000000000000000000000000000000000000000000000000000000000000000000000\
+0000000000000000000000000000000000000000000000000000000000000000000000000000000000000000000000000000\
+0000000000000000000000000000000000000000000000000000000000000000000000000000000000000000000000000000\
+"#;
+
 /// A disk that is plugged, pulled out in the fourth attempt and plugged elsewhere, and what its user wants then; the
 /// last of that is to write 481 bytes.
-const PLAN: &str = r#"
+const PLAN: &[&str] = &[
+    r#"
 limit = 8
 roots = 2
 
@@ -60,134 +69,71 @@ do = "control"
 path = "2"
 setup = "210900020000E101"
 bytes = """\
-0000000000000000000000000000000000000000000000000000000000000000000000000000000000000000000000000000\
-0000000000000000000000000000000000000000000000000000000000000000000000000000000000000000000000000000\
-0000000000000000000000000000000000000000000000000000000000000000000000000000000000000000000000000000\
-0000000000000000000000000000000000000000000000000000000000000000000000000000000000000000000000000000\
-0000000000000000000000000000000000000000000000000000000000000000000000000000000000000000000000000000\
-0000000000000000000000000000000000000000000000000000000000000000000000000000000000000000000000000000\
-0000000000000000000000000000000000000000000000000000000000000000000000000000000000000000000000000000\
-0000000000000000000000000000000000000000000000000000000000000000000000000000000000000000000000000000\
-0000000000000000000000000000000000000000000000000000000000000000000000000000000000000000000000000000\
-00000000000000000000000000000000000000000000000000000000000000"""
+"#,
+    ZEROS,
+    ZEROS,
+    ZEROS,
+    r#"00000000000000000000000000000000000000000000000000000000000000"""
+"#,
+];
+
+/// The head of a plan with hubs.
+const TWO_ROOTS: &str = "\nlimit = 100\nroots = 2\n";
+
+/// The second plug, in the sixth attempt.
+const PLUG_BESIDE: &str = r#"
+[[event]]
+do = "plug"
+path = "2"
+device = "hub"
+after = 5
+"#;
+
+/// The sixth attempt finds no answer.
+const LOSE_6: &str = r#"
+[[damage]]
+attempt = 6
+packet = 1
+how = "lose"
 "#;
 
 /// A hub, and a device that is plugged beside it in the sixth attempt.
-const HUB: &str = r#"
-limit = 100
-roots = 2
-
-[[device]]
-name = "hub"
-speed = "full"
-descriptor = "120100020900004001000200000100000001"
-configs = ["09021900010100C000090400000109000000070581030100FF"]
-ports = 4
-self_powered = true
-
-[[event]]
-do = "plug"
-path = "1"
-device = "hub"
-
-[[event]]
-do = "plug"
-path = "2"
-device = "hub"
-after = 5
-"#;
+const TWO_HUBS: &[&str] = &[TWO_ROOTS, HUB, PLUG_HUB, PLUG_BESIDE];
 
 /// The same, and the poll is lost in which the second plug comes.
-const LOST_POLL: &str = r#"
-limit = 100
-roots = 2
-
-[[device]]
-name = "hub"
-speed = "full"
-descriptor = "120100020900004001000200000100000001"
-configs = ["09021900010100C000090400000109000000070581030100FF"]
-ports = 4
-self_powered = true
-
-[[event]]
-do = "plug"
-path = "1"
-device = "hub"
-
-[[event]]
-do = "plug"
-path = "2"
-device = "hub"
-after = 5
-
-[[damage]]
-attempt = 6
-packet = 1
-how = "lose"
-"#;
+const LOST_POLL: &[&str] = &[TWO_ROOTS, HUB, PLUG_HUB, PLUG_BESIDE, LOSE_6];
 
 /// The same, and so is the next one.
-const LOST_POLLS: &str = r#"
-limit = 100
-roots = 2
-
-[[device]]
-name = "hub"
-speed = "full"
-descriptor = "120100020900004001000200000100000001"
-configs = ["09021900010100C000090400000109000000070581030100FF"]
-ports = 4
-self_powered = true
-
-[[event]]
-do = "plug"
-path = "1"
-device = "hub"
-
-[[event]]
-do = "plug"
-path = "2"
-device = "hub"
-after = 5
-
-[[damage]]
-attempt = 6
-packet = 1
-how = "lose"
-
+const LOST_POLLS: &[&str] = &[
+    TWO_ROOTS,
+    HUB,
+    PLUG_HUB,
+    PLUG_BESIDE,
+    LOSE_6,
+    r#"
 [[damage]]
 attempt = 7
 packet = 1
 how = "lose"
-"#;
+"#,
+];
 
 /// One hub, and its first poll is lost.
-const LOST_QUIET_POLL: &str = r#"
-limit = 100
-roots = 2
-
-[[device]]
-name = "hub"
-speed = "full"
-descriptor = "120100020900004001000200000100000001"
-configs = ["09021900010100C000090400000109000000070581030100FF"]
-ports = 4
-self_powered = true
-
-[[event]]
-do = "plug"
-path = "1"
-device = "hub"
-
+const LOST_QUIET_POLL: &[&str] = &[
+    TWO_ROOTS,
+    HUB,
+    PLUG_HUB,
+    r#"
 [[damage]]
 attempt = 5
 packet = 1
 how = "lose"
-"#;
+"#,
+];
 
 /// What a driver of a plan wants of endpoint 0, of an interface, of a port and of the news.
-const DRIVER: &str = r#"
+const DRIVER: &[&str] = &[
+    r#"
 limit = 8
 roots = 1
 
@@ -219,10 +165,12 @@ path = "1"
 
 [[event]]
 do = "news"
-"#;
+"#,
+];
 
 /// What a driver of a plan wants of endpoints that it names.
-const NAMED: &str = r#"
+const NAMED: &[&str] = &[
+    r#"
 limit = 8
 roots = 1
 
@@ -247,76 +195,33 @@ endpoint = 0x81
 do = "clear"
 path = "1"
 endpoint = 1
-"#;
+"#,
+];
 
 /// A device with bulk endpoints of packets of 8 bytes, which gives 20 bytes.
-const BULK: &str = r#"
-limit = 100
-roots = 1
-
-[[device]]
-name = "bulk"
-speed = "full"
-descriptor = "120100020000004034127856000100000001"
-configs = ["0902200001010080320904000002FF0000000705020208000007058202080000"]
-source = "000102030405060708090A0B0C0D0E0F10111213"
-
-[[event]]
-do = "plug"
-path = "1"
-device = "bulk"
-"#;
+const BULK_DEVICE: &[&str] = &["\nlimit = 100\nroots = 1\n", BULK, PLUG_BULK];
 
 /// The same, and the second packet of its data is lost. Two attempts later the device is pulled out.
-const LOST_PACKET: &str = r#"
-limit = 100
-roots = 1
-
-[[device]]
-name = "bulk"
-speed = "full"
-descriptor = "120100020000004034127856000100000001"
-configs = ["0902200001010080320904000002FF0000000705020208000007058202080000"]
-source = "000102030405060708090A0B0C0D0E0F10111213"
-
-[[event]]
-do = "plug"
-path = "1"
-device = "bulk"
-
+const LOST_PACKET: &[&str] = &[
+    "\nlimit = 100\nroots = 1\n",
+    BULK,
+    PLUG_BULK,
+    r#"
 [[event]]
 do = "unplug"
 path = "1"
 after = 8
-
-[[damage]]
-attempt = 6
-packet = 1
-how = "lose"
-"#;
+"#,
+    LOSE_6,
+];
 
 /// The first device, at the sixth attempt of which the limit is reached.
-const CUT_ROW: &str = r#"
-limit = 6
-roots = 1
-
-[[device]]
-name = "bulk"
-speed = "full"
-descriptor = "120100020000004034127856000100000001"
-configs = ["0902200001010080320904000002FF0000000705020208000007058202080000"]
-source = "000102030405060708090A0B0C0D0E0F10111213"
-
-[[event]]
-do = "plug"
-path = "1"
-device = "bulk"
-"#;
+const CUT_ROW: &[&str] = &["\nlimit = 6\nroots = 1\n", BULK, PLUG_BULK];
 
 /// A plan, what a host says, what is said to it, and how that ends.
 #[derive(Clone, Copy)]
 struct Row {
-    plan: &'static str,
+    plan: &'static [&'static str],
     host: &'static str,
     far: &'static str,
     ended: Result<(), (u64, FarFault)>,
@@ -367,21 +272,11 @@ const COURSE: Row = Row {
 
 /// The course of docs/output/live.md, over examples/one_device.toml.
 const PAGE: Row = Row {
-    plan: r#"
-limit = 10000
-roots = 1
-
-[[device]]
-name = "thermometer"
-speed = "full"
-descriptor = "120100020000004034127856000100000001"
-configs = ["0902120001010080320904000000FF000000"]
-
-[[event]]
-do = "plug"
-path = "1"
-device = "thermometer"
-"#,
+    plan: &[
+        "\nlimit = 10000\nroots = 1\n",
+        THERMOMETER,
+        PLUG_THERMOMETER,
+    ],
     host: "usbplan live 1\n\
            port 1 clear PORT_POWER\n\
            port 1 set PORT_POWER\n\
@@ -444,7 +339,7 @@ device = "thermometer"
 
 /// Rows of attempts: each has the answers of its attempts, up to the one that moves no packet.
 const BULK_ROWS: Row = Row {
-    plan: BULK,
+    plan: BULK_DEVICE,
     host: "usbplan live 1\n\
            port 1 set PORT_POWER\nwait\nport 1 clear C_PORT_CONNECTION\n\
            port 1 set PORT_RESET\nport 1 clear C_PORT_RESET\n\
@@ -572,7 +467,7 @@ const ROWS: &[Row] = &[
                wait\nwait\n",
         far: "roots 2 2\nport 1 00010000\nok\nport 2 00010000\nok\nport 1 01010100\nok\n\
               port 1 03011100\nok\nACK\nDATA1 -\nACK\nDATA1 -\nNAK\nport 2 01010100\nNAK\nNAK\nok\nend\n",
-        plan: HUB,
+        plan: TWO_HUBS,
         ended: Ok(()),
     },
     // so it is if that poll is lost
@@ -616,7 +511,7 @@ const ROWS: &[Row] = &[
                wait\n",
         far: "roots 2 2\nport 1 00010000\nok\nport 2 00010000\nok\nport 1 01010100\nok\n\
               port 1 03011100\nok\nACK\nDATA1 -\nACK\nDATA1 -\nNAK\nport 2 01010100\nNAK\nnone\nend\n",
-        plan: HUB,
+        plan: TWO_HUBS,
         ended: Ok(()),
     },
     // and not where an endpoint begins again between
@@ -627,7 +522,7 @@ const ROWS: &[Row] = &[
                wait\n",
         far: "roots 2 2\nport 1 00010000\nok\nport 2 00010000\nok\nport 1 01010100\nok\n\
               port 1 03011100\nok\nACK\nDATA1 -\nACK\nDATA1 -\nNAK\nport 2 01010100\nNAK\nok\nend\n",
-        plan: HUB,
+        plan: TWO_HUBS,
         ended: Ok(()),
     },
     // an endpoint begins again, but not endpoint 0
@@ -698,11 +593,12 @@ struct Played {
 /// What is written to a writer that fails after n writes, of what a reader gives.
 fn play<R: Read + Drop>(
     alloc: Global,
-    plan: &str,
+    plan: &[&str],
     reader: R,
     writes: u64,
 ) -> Result<Played, AllocError> {
-    let Ok(plan) = read_plan(alloc, plan) else {
+    let text = plan.concat(alloc)?;
+    let Ok(plan) = read_plan(alloc, text.as_str()) else {
         return Err(AllocError);
     };
     let mut far = FarEnd::new(alloc, &plan, Watched::new(Vec::new(alloc)))?;
@@ -716,41 +612,6 @@ fn play<R: Read + Drop>(
         far: writer.into_inner().taken,
         ended,
     })
-}
-
-/// A writer that fails after n writes.
-#[derive(Drop)]
-struct Frail {
-    taken: Vec<u8>,
-    writes_left: u64,
-}
-
-impl Write for Frail {
-    fn write(&mut self, buf: &[u8]) -> io::Result<usize> {
-        let Some(left) = self.writes_left.checked_sub(1) else {
-            return Err(Error::from(ErrorKind::Other));
-        };
-        self.writes_left = left;
-        self.taken.extend_from_slice(buf)?;
-        Ok(buf.len())
-    }
-
-    fn flush(&mut self) -> io::Result<()> {
-        Ok(())
-    }
-}
-
-/// A reader that fails after a text.
-#[derive(Drop)]
-struct Torn(&'static [u8]);
-
-impl Read for Torn {
-    fn read(&mut self, buf: &mut [u8]) -> io::Result<usize> {
-        if self.0.is_empty() {
-            return Err(Error::from(ErrorKind::Other));
-        }
-        self.0.read(buf)
-    }
 }
 
 #[test]
@@ -852,7 +713,7 @@ fn sends(rt: HostRuntime) -> Result<(), Fail> {
         plan.push_str("\"\n[[event]]\ndo = \"show\"\n")?;
         host.push_str("wait\n")?;
         far.push_str("show\n")?;
-        let played = play(rt.alloc(), plan.as_str(), host.as_bytes(), u64::MAX)?;
+        let played = play(rt.alloc(), &[plan.as_str()], host.as_bytes(), u64::MAX)?;
         assert_eq!(rt; text_of(played.far.as_slice()), far.as_str());
         assert_eq!(rt; played.ended, Ok(()));
     }
@@ -876,9 +737,10 @@ fn push_part(text: &mut String, count: u16) -> Result<(), AllocError> {
 /// A loop of its own over the pieces says what `serve` says, gets each reported line, and sees the attempts.
 #[test]
 fn pieces(rt: HostRuntime) -> Result<(), Fail> {
-    for row in [COURSE, BULK_ROWS] {
+    for (row, begin) in [(COURSE, "send 1 failed no device"), (BULK_ROWS, "")] {
         let whole = play(rt.alloc(), row.plan, row.host.as_bytes(), u64::MAX)?;
-        let Ok(plan) = read_plan(rt.alloc(), row.plan) else {
+        let text = row.plan.concat(rt.alloc())?;
+        let Ok(plan) = read_plan(rt.alloc(), text.as_str()) else {
             return Err(Fail::from(AllocError));
         };
         let mut far = FarEnd::untraced(rt.alloc(), &plan)?;
@@ -896,8 +758,7 @@ fn pieces(rt: HostRuntime) -> Result<(), Fail> {
         assert_eq!(rt; said.as_slice(), whole.far.as_slice());
         assert_eq!(rt; far.phase(), Phase::Asks);
         assert_eq!(rt; far.put_line(b"over"), Ok(()));
-        let begins = text_of(told.as_slice());
-        assert!(rt; row.plan != PLAN || begins.starts_with("send 1 failed no device"));
+        assert!(rt; text_of(told.as_slice()).starts_with(begin));
     }
     Ok(())
 }

@@ -1,7 +1,7 @@
 //! A test is a loop over rows: what a controller side says, and what the host says to it.
+use super::ends::{Frail, Torn};
 use std::alloc::{AllocError, Global};
-use std::io;
-use std::io::{Error, ErrorKind, Read, Write};
+use std::io::Read;
 use std::test::Fail;
 use usb_bus::Watched;
 use usb_live::{LiveEnd, LiveFault, WireFault, live};
@@ -440,41 +440,6 @@ fn play_as<R: Read + Drop>(
     Played {
         host: writer.into_inner().taken,
         ended,
-    }
-}
-
-/// A writer that fails after n writes.
-#[derive(Drop)]
-struct Frail {
-    taken: Vec<u8>,
-    writes_left: u64,
-}
-
-impl Write for Frail {
-    fn write(&mut self, buf: &[u8]) -> io::Result<usize> {
-        let Some(left) = self.writes_left.checked_sub(1) else {
-            return Err(Error::from(ErrorKind::Other));
-        };
-        self.writes_left = left;
-        self.taken.extend_from_slice(buf)?;
-        Ok(buf.len())
-    }
-
-    fn flush(&mut self) -> io::Result<()> {
-        Ok(())
-    }
-}
-
-/// A reader that fails after a text.
-#[derive(Drop)]
-struct Torn(&'static [u8]);
-
-impl Read for Torn {
-    fn read(&mut self, buf: &mut [u8]) -> io::Result<usize> {
-        if self.0.is_empty() {
-            return Err(Error::from(ErrorKind::Other));
-        }
-        self.0.read(buf)
     }
 }
 

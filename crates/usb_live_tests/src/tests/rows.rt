@@ -2,15 +2,15 @@
 ghost use Rattle.std.specs.Prelude.{◌≡◌, ◌≤◌};
 ghost use Rattle.usb_packet.specs.declared.Speed.TheVariants.{Full};
 
+use super::ends::{Played, Torn, answer_of, ended, opened};
 use arrayvec::ArrayVec;
 use std::alloc::{AllocError, Global};
-use std::io;
-use std::io::{Error, ErrorKind, Read, Write};
+use std::io::{Read, Write};
 use std::test::Fail;
-use usb_bus::{Bus, BusFault, Destination, Outcome, ROW_ROOM, RowDone, RowEnd, Watched};
+use usb_bus::{Bus, BusFault, Destination, ROW_ROOM, RowDone, RowEnd};
 use usb_packet::{Speed, Toggle};
 use usb_stream::{LiveFault, StreamBus};
-use usb_wire::{Answer, DataPacket, Said, WireFault, said_line};
+use usb_wire::{Said, WireFault, said_line};
 
 /// A row of attempts, to endpoint 1 of the device at address 1.
 #[derive(Clone, Copy)]
@@ -37,6 +37,17 @@ struct Row {
 const THREE: &[Asked] = &[Asked::Ins(2, Toggle::Zero, 3)];
 
 const FIVE_BYTES: &[Asked] = &[Asked::Outs(2, Toggle::One, &[0, 1, 2, 3, 4])];
+
+/// A controller side that is refused at its first line.
+const REFUSED: Row = Row {
+    asked: THREE,
+    limit: 9,
+    far: "",
+    host: "usbplan live 1\n",
+    given: "0 of - failed; ",
+    attempts: 0,
+    fault: None,
+};
 
 const ROWS: &[Row] = &[
     // version 1: each attempt is a question
@@ -234,42 +245,21 @@ const ROWS: &[Row] = &[
     },
     // there is no other version
     Row {
-        asked: THREE,
-        limit: 9,
         far: "roots 1 3\n",
-        host: "usbplan live 1\n",
-        given: "0 of - failed; ",
-        attempts: 0,
         fault: Some(LiveFault::Line(WireFault::BadNumber)),
+        ..REFUSED
     },
     Row {
-        asked: THREE,
-        limit: 9,
         far: "roots 8 2\n",
-        host: "usbplan live 1\n",
-        given: "0 of - failed; ",
-        attempts: 0,
         fault: Some(LiveFault::Line(WireFault::BadNumber)),
+        ..REFUSED
     },
     Row {
-        asked: THREE,
-        limit: 9,
         far: "roots 1 2 2\n",
-        host: "usbplan live 1\n",
-        given: "0 of - failed; ",
-        attempts: 0,
         fault: Some(LiveFault::Line(WireFault::NoAnswer)),
+        ..REFUSED
     },
 ];
-
-/// What was asked of a controller side, what it gave, how many attempts were counted, and why no more was asked.
-#[derive(Drop)]
-struct Played {
-    host: Vec<u8>,
-    given: String,
-    attempts: u128,
-    fault: Option<LiveFault>,
-}
 
 /// Endpoint 1 of the device at address 1.
 fn to(max: u8) -> Destination
@@ -291,24 +281,12 @@ fn play<R: Read + Drop>(
     writes: u64,
     limit: u64,
 ) -> Result<Played, AllocError> {
-    let writer = Frail {
-        taken: Vec::new(alloc),
-        writes_left: writes,
-    };
     let mut given = String::new(alloc);
-    let mut bus = StreamBus::open(Watched::new(reader), Watched::new(writer), limit);
+    let mut bus = opened(alloc, reader, writes, limit);
     for row in asked {
         make(&mut bus, &mut given, *row)?;
     }
-    let attempts = bus.attempts();
-    let fault = bus.fault();
-    let (_reader, writer) = bus.into_ends();
-    Ok(Played {
-        host: writer.into_inner().taken,
-        given,
-        attempts,
-        fault,
-    })
+    Ok(ended(bus, given))
 }
 
 /// Makes a row of attempts; what it gives is put after what the others gave.
@@ -366,51 +344,6 @@ fn push_hex(given: &mut String, bytes: &[u8]) -> Result<(), AllocError> {
         }
     }
     Ok(())
-}
-
-fn answer_of(outcome: Outcome) -> Answer {
-    match outcome {
-        Outcome::Payload(toggle, bytes) => Answer::Data(DataPacket { toggle, bytes }),
-        Outcome::Ack => Answer::Ack,
-        Outcome::Nak => Answer::Nak,
-        Outcome::Stall => Answer::Stall,
-        Outcome::Nothing => Answer::Nothing,
-    }
-}
-
-/// A writer that fails after n writes.
-#[derive(Drop)]
-struct Frail {
-    taken: Vec<u8>,
-    writes_left: u64,
-}
-
-impl Write for Frail {
-    fn write(&mut self, buf: &[u8]) -> io::Result<usize> {
-        let Some(left) = self.writes_left.checked_sub(1) else {
-            return Err(Error::from(ErrorKind::Other));
-        };
-        self.writes_left = left;
-        self.taken.extend_from_slice(buf)?;
-        Ok(buf.len())
-    }
-
-    fn flush(&mut self) -> io::Result<()> {
-        Ok(())
-    }
-}
-
-/// A reader that fails after a text.
-#[derive(Drop)]
-struct Torn(&'static [u8]);
-
-impl Read for Torn {
-    fn read(&mut self, buf: &mut [u8]) -> io::Result<usize> {
-        if self.0.is_empty() {
-            return Err(Error::from(ErrorKind::Other));
-        }
-        self.0.read(buf)
-    }
 }
 
 #[test]

@@ -3,16 +3,16 @@ ghost use Rattle.std.specs.Prelude.{◌≡◌};
 ghost use Rattle.usb_world.specs.PlainAttempts.{attempt_data};
 ghost use Rattle.usb_world.specs.Worlds.{IsAttempt};
 
+use super::ends::{Played, Torn, answer_of, ended, opened};
 use arrayvec::ArrayVec;
 use std::alloc::{AllocError, Global};
-use std::io;
-use std::io::{Error, ErrorKind, Read, Write};
+use std::io::{Read, Write};
 use std::test::Fail;
-use usb_bus::{Attempt, Bus, Destination, Outcome, Watched};
+use usb_bus::{Attempt, Bus, Destination, Outcome};
 use usb_packet::{Speed, Toggle};
 use usb_request::feature::{C_PORT_CONNECTION, PORT_RESET};
 use usb_stream::{LiveFault, StreamBus};
-use usb_wire::{Answer, DataPacket, Said, WireFault, said_line};
+use usb_wire::{Answer, Said, WireFault, said_line};
 
 /// All that the bus of these tests says.
 const HOST: &str = "usbplan live 1\n\
@@ -133,15 +133,6 @@ const FAULTS: &[Row] = &[
     },
 ];
 
-/// What was asked of a controller side, what it gave, how many attempts were counted, and why no more was asked.
-#[derive(Drop)]
-struct Played {
-    host: Vec<u8>,
-    given: String,
-    attempts: u128,
-    fault: Option<LiveFault>,
-}
-
 /// An endpoint of the device at an address.
 fn to(address: u8, number: u8, speed: Speed, max: u8) -> Destination
     ensures { result ≡ record { address = address; number = number; speed = speed; max = max } }
@@ -208,14 +199,7 @@ fn make<R: Read + Drop, W: Write + Drop>(
 
 /// What the host got, as a controller side says it.
 fn push_outcome(given: &mut String, outcome: Outcome) -> Result<(), AllocError> {
-    let answer = match outcome {
-        Outcome::Payload(toggle, bytes) => Answer::Data(DataPacket { toggle, bytes }),
-        Outcome::Ack => Answer::Ack,
-        Outcome::Nak => Answer::Nak,
-        Outcome::Stall => Answer::Stall,
-        Outcome::Nothing => Answer::Nothing,
-    };
-    push_said(given, &Said::Answered(answer))
+    push_said(given, &Said::Answered(answer_of(outcome)))
 }
 
 fn push_said(given: &mut String, said: &Said) -> Result<(), AllocError> {
@@ -230,12 +214,8 @@ fn play<R: Read + Drop>(
     writes: u64,
     limit: u64,
 ) -> Result<Played, AllocError> {
-    let writer = Frail {
-        taken: Vec::new(alloc),
-        writes_left: writes,
-    };
     let mut given = String::new(alloc);
-    let mut bus = StreamBus::open(Watched::new(reader), Watched::new(writer), limit);
+    let mut bus = opened(alloc, reader, writes, limit);
     push_said(&mut given, &Said::Answered(Answer::Roots(bus.root_ports())))?;
     make(&mut bus, &mut given, &setup([0x80, 6, 0, 1, 0, 0, 8, 0]))?;
     make(&mut bus, &mut given, &take(true))?;
@@ -256,50 +236,7 @@ fn play<R: Read + Drop>(
     if bus.tell(b"listing 1\nend\n").is_ok() {
         given.push_str("told; ")?;
     }
-    let attempts = bus.attempts();
-    let fault = bus.fault();
-    let (_reader, writer) = bus.into_ends();
-    Ok(Played {
-        host: writer.into_inner().taken,
-        given,
-        attempts,
-        fault,
-    })
-}
-
-/// A writer that fails after n writes.
-#[derive(Drop)]
-struct Frail {
-    taken: Vec<u8>,
-    writes_left: u64,
-}
-
-impl Write for Frail {
-    fn write(&mut self, buf: &[u8]) -> io::Result<usize> {
-        let Some(left) = self.writes_left.checked_sub(1) else {
-            return Err(Error::from(ErrorKind::Other));
-        };
-        self.writes_left = left;
-        self.taken.extend_from_slice(buf)?;
-        Ok(buf.len())
-    }
-
-    fn flush(&mut self) -> io::Result<()> {
-        Ok(())
-    }
-}
-
-/// A reader that fails after a text.
-#[derive(Drop)]
-struct Torn(&'static [u8]);
-
-impl Read for Torn {
-    fn read(&mut self, buf: &mut [u8]) -> io::Result<usize> {
-        if self.0.is_empty() {
-            return Err(Error::from(ErrorKind::Other));
-        }
-        self.0.read(buf)
-    }
+    Ok(ended(bus, given))
 }
 
 fn newlines(text: &[u8]) -> usize {

@@ -1,24 +1,16 @@
 //! What is reported of transfers by their endpoint's address: the lines that `serve` writes, and the
 //! items of `run`.
-use super::transfers::{items_told, lines_told};
+use super::devices::{EVENTS, HUB2, KEYBOARD, KEYBOARD_REQUESTS, MANY};
+use super::transfers::{Told, check};
 use std::test::Fail;
-
-/// A plan, and the lines that are reported of its transfers.
-#[derive(Clone, Copy)]
-struct Row {
-    name: &'static str,
-    plan: &'static str,
-    told: &'static str,
-}
 
 /// Each endpoint has its own toggle and its own bytes; the calls without an address go to the first
 /// bulk pair (5.3).
-const ENDPOINTS_BY_NUMBER: Row = Row {
+const ENDPOINTS_BY_NUMBER: Told = Told {
     name: "endpoints by number",
-    plan: r#"limit = 20000
-roots = 1
-event = [
-  { do = "plug", path = "1", device = "many" },
+    plan: &[
+        EVENTS,
+        r#"  { do = "plug", path = "1", device = "many" },
   { do = "send", path = "1", bytes = "0102", endpoint = 0x04 },
   { do = "send", path = "1", bytes = "03" },
   { do = "send", path = "1", bytes = "04", endpoint = 0x02 },
@@ -26,17 +18,9 @@ event = [
   { do = "receive", path = "1", packets = 1 },
   { do = "interrupt", path = "1", endpoint = 0x85 },
 ]
-
-[[device]]
-name = "many"
-speed = "full"
-descriptor = "120100020000004034127856000100000001"
-configs = ["09022E0001010080320904000004FF00000007050202400000070582024000000705040208000007058503100001"]
-endpoint = [
-  { address = 0x82, source = "AABBCC" },
-  { address = 0x85, packets = ["01", "02"] },
-]
 "#,
+        MANY,
+    ],
     told: r#"send 1 04 done 2
 send 1 done 1
 send 1 02 done 1
@@ -47,12 +31,11 @@ interrupt 1 85 done 01
 };
 
 /// Each verb goes to endpoints of its own kind, and there are none at a hub.
-const KINDS_OF_ENDPOINTS: Row = Row {
+const KINDS_OF_ENDPOINTS: Told = Told {
     name: "kinds of endpoints",
-    plan: r#"limit = 20000
-roots = 1
-event = [
-  { do = "plug", path = "1", device = "hub2" },
+    plan: &[
+        EVENTS,
+        r#"  { do = "plug", path = "1", device = "hub2" },
   { do = "plug", path = "1.1", device = "serial" },
   { do = "receive", path = "1.1", packets = 1, endpoint = 0x83 },
   { do = "interrupt", path = "1.1", endpoint = 0x82 },
@@ -77,15 +60,9 @@ request = [
 endpoint = [
   { address = 0x83, packets = ["A1200000010002000300"] },
 ]
-
-[[device]]
-name = "hub2"
-speed = "full"
-descriptor = "120100020900004001000200000100000001"
-configs = ["09021900010100C000090400000109000000070581030100FF"]
-ports = 2
-self_powered = true
 "#,
+        HUB2,
+    ],
     told: r#"receive 1.1 83 failed no endpoint
 interrupt 1.1 82 failed no endpoint
 send 1.1 03 failed no endpoint
@@ -98,32 +75,23 @@ interrupt 1.2 81 failed no device
 };
 
 /// An empty packet is one: done with no bytes, and the toggle turns (5.7.3).
-const AN_EMPTY_PACKET: Row = Row {
+const AN_EMPTY_PACKET: Told = Told {
     name: "an empty packet",
-    plan: r#"limit = 20000
-roots = 1
-event = [
-  { do = "plug", path = "1", device = "keyboard" },
+    plan: &[
+        EVENTS,
+        r#"  { do = "plug", path = "1", device = "keyboard" },
   { do = "interrupt", path = "1", endpoint = 0x81 },
   { do = "interrupt", path = "1", endpoint = 0x81 },
   { do = "interrupt", path = "1", endpoint = 0x81 },
-]
-
-[[device]]
-name = "keyboard"
-speed = "low"
-descriptor = "120110010000000834120200000100000001"
-configs = ["09022200010100A0320904000001030101000921110100012217000705810308000A"]
-endpoint = [
-  { address = 0x81, packets = ["", "01"] },
-]
-request = [
-  { type = 0x21, request = 0x0B },
-  { type = 0x21, request = 0x0A },
-  { type = 0x21, request = 0x09, value = 0x0200, length = 1 },
-  { type = 0x81, request = 6, value = 0x2200, answer = "05010906A101050719E029E715002501750195088102C0" },
 ]
 "#,
+        KEYBOARD,
+        r#"endpoint = [
+  { address = 0x81, packets = ["", "01"] },
+]
+"#,
+        KEYBOARD_REQUESTS,
+    ],
     told: r#"interrupt 1 81 done -
 interrupt 1 81 done 01
 interrupt 1 81 nothing
@@ -131,12 +99,11 @@ interrupt 1 81 nothing
 };
 
 /// Interrupt OUT is sent as bulk is (5.7); it is no bulk endpoint.
-const INTERRUPT_OUT: Row = Row {
+const INTERRUPT_OUT: Told = Told {
     name: "interrupt OUT",
-    plan: r#"limit = 20000
-roots = 1
-event = [
-  { do = "plug", path = "1", device = "leds" },
+    plan: &[
+        EVENTS,
+        r#"  { do = "plug", path = "1", device = "leds" },
   { do = "send", path = "1", bytes = "0102030405060708AA", endpoint = 0x01 },
   { do = "send", path = "1", bytes = "01" },
 ]
@@ -155,18 +122,18 @@ attempt = 20
 packet = 3
 how = "lose"
 "#,
+    ],
     told: r#"send 1 01 done 9
 send 1 failed no endpoint
 "#,
 };
 
 /// A clear without an answer may have been done: broken until one is done (9.4.5).
-const A_CLEAR_THAT_IS_LOST: Row = Row {
+const A_CLEAR_THAT_IS_LOST: Told = Told {
     name: "a clear that is lost",
-    plan: r#"limit = 20000
-roots = 1
-event = [
-  { do = "plug", path = "1", device = "keyboard" },
+    plan: &[
+        EVENTS,
+        r#"  { do = "plug", path = "1", device = "keyboard" },
   { do = "interrupt", path = "1", endpoint = 0x81 },
   { do = "interrupt", path = "1", endpoint = 0x81 },
   { do = "clear", path = "1", endpoint = 0x81 },
@@ -174,22 +141,14 @@ event = [
   { do = "clear", path = "1", endpoint = 0x81 },
   { do = "interrupt", path = "1", endpoint = 0x81 },
 ]
-
-[[device]]
-name = "keyboard"
-speed = "low"
-descriptor = "120110010000000834120200000100000001"
-configs = ["09022200010100A0320904000001030101000921110100012217000705810308000A"]
-endpoint = [
+"#,
+        KEYBOARD,
+        r#"endpoint = [
   { address = 0x81, packets = ["0000040000000000", "0000000000000000"], halt_after = 1 },
 ]
-request = [
-  { type = 0x21, request = 0x0B },
-  { type = 0x21, request = 0x0A },
-  { type = 0x21, request = 0x09, value = 0x0200, length = 1 },
-  { type = 0x81, request = 6, value = 0x2200, answer = "05010906A101050719E029E715002501750195088102C0" },
-]
-
+"#,
+        KEYBOARD_REQUESTS,
+        r#"
 [[damage]]
 attempt = 27
 packet = 2
@@ -205,6 +164,7 @@ attempt = 29
 packet = 2
 how = "lose"
 "#,
+    ],
     told: r#"interrupt 1 81 done 0000040000000000
 interrupt 1 81 failed stalled
 clear 1 81 failed no answer
@@ -216,33 +176,25 @@ interrupt 1 81 done 0000000000000000
 
 /// By its address an endpoint is cleared in any case; the packet whose ACK was lost is given again
 /// (9.4.5).
-const A_CLEAR_OF_A_WORKING_ENDPOINT: Row = Row {
+const A_CLEAR_OF_A_WORKING_ENDPOINT: Told = Told {
     name: "a clear of a working endpoint",
-    plan: r#"limit = 20000
-roots = 1
-event = [
-  { do = "plug", path = "1", device = "many" },
+    plan: &[
+        EVENTS,
+        r#"  { do = "plug", path = "1", device = "many" },
   { do = "receive", path = "1", packets = 1, endpoint = 0x82 },
   { do = "clear", path = "1" },
   { do = "clear", path = "1", endpoint = 0x82 },
   { do = "receive", path = "1", packets = 1, endpoint = 0x82 },
 ]
-
-[[device]]
-name = "many"
-speed = "full"
-descriptor = "120100020000004034127856000100000001"
-configs = ["09022E0001010080320904000004FF00000007050202400000070582024000000705040208000007058503100001"]
-endpoint = [
-  { address = 0x82, source = "AABBCC" },
-  { address = 0x85, packets = ["01", "02"] },
-]
-
+"#,
+        MANY,
+        r#"
 [[damage]]
 attempt = 17
 packet = 3
 how = "lose"
 "#,
+    ],
     told: r#"receive 1 82 done AABBCC
 clear 1 done
 clear 1 82 done
@@ -251,7 +203,7 @@ receive 1 82 done AABBCC
 };
 
 /// A row for each way in which an address tells.
-const ROWS: [Row; 6] = [
+const ROWS: [Told; 6] = [
     ENDPOINTS_BY_NUMBER,
     KINDS_OF_ENDPOINTS,
     AN_EMPTY_PACKET,
@@ -262,11 +214,5 @@ const ROWS: [Row; 6] = [
 
 #[test]
 fn transfers_by_address_are_told(rt: HostRuntime) -> Result<(), Fail> {
-    for row in &ROWS {
-        let lines = lines_told(rt.alloc(), row.plan)?;
-        assert_eq!(rt; lines.as_str(), row.told, "lines: {}", row.name);
-        let items = items_told(rt.alloc(), row.plan)?;
-        assert_eq!(rt; items.as_str(), row.told, "items: {}", row.name);
-    }
-    Ok(())
+    check(&rt, rt.alloc(), &ROWS)
 }

@@ -78,13 +78,13 @@ impl Write for Late {
 /// A reader of n bytes at once, one of whose calls fails, after n. The calls after that are as those
 /// before.
 #[derive(Drop)]
-pub(super) struct Torn {
-    pub(super) text: &'static [u8],
+pub(super) struct Torn<'a> {
+    pub(super) text: &'a [u8],
     pub(super) at_once: usize,
     pub(super) reads_left: u64,
 }
 
-impl Read for Torn {
+impl Read for Torn<'_> {
     fn read(&mut self, buf: &mut [u8]) -> io::Result<usize> {
         let fails = self.reads_left == 0;
         self.reads_left = self.reads_left.wrapping_sub(1);
@@ -98,13 +98,13 @@ impl Read for Torn {
 
 /// A reader of n bytes at once: those of a text, and then n number signs.
 #[derive(Drop)]
-pub(super) struct Long {
-    pub(super) text: &'static [u8],
+pub(super) struct Long<'a> {
+    pub(super) text: &'a [u8],
     pub(super) signs: usize,
     pub(super) at_once: usize,
 }
 
-impl Read for Long {
+impl Read for Long<'_> {
     fn read(&mut self, buf: &mut [u8]) -> io::Result<usize> {
         let most = buf.len().min(self.at_once);
         if !self.text.is_empty() {

@@ -1,6 +1,6 @@
 //! Writers behind a buffer that fail once: what went out of each row, and the fault that is reported.
 use super::frail::{Frail, Late, Trouble};
-use super::rows::{ROWS, Row};
+use super::rows::{ROWS, Texts};
 use super::writers::{fault_in_line, text_of};
 use std::alloc::{AllocError, Global};
 use std::io::Write;
@@ -25,7 +25,7 @@ struct Outcome {
 /// What is served through a buffer of this room to a writer with trouble after n calls, and none after that.
 fn served(
     alloc: Global,
-    row: &Row,
+    row: &Texts,
     mode: Mode,
     room: usize,
     (trouble, turn): (Trouble, usize),
@@ -73,10 +73,19 @@ fn lines_out(text: &str, calls: usize) -> usize {
 }
 
 /// What is expected where the writer fails in call n + 1, in the last line of a listing or at the end.
-fn wanted(row: &Row, mode: Mode, turn: usize) -> Outcome {
+fn wanted(row: &Texts, mode: Mode, turn: usize) -> Outcome {
+    let taken = bytes_out(row, mode, turn);
+    failed_write(taken < text_of(row, mode).len(), taken)
+}
+
+/// How many bytes of a row's text go out in n calls of a writer.
+fn bytes_out(row: &Texts, mode: Mode, calls: usize) -> usize {
     let text = text_of(row, mode);
-    let lines = lines_out(text, turn);
-    let fails = bytes_of(text, lines) < text.len();
+    bytes_of(text, lines_out(text, calls))
+}
+
+/// What is expected where a write or a flush fails or none does, and this many bytes went out.
+fn failed_write(fails: bool, taken: usize) -> Outcome {
     Outcome {
         ended: if fails {
             Err(ServeFault::Write)
@@ -84,7 +93,7 @@ fn wanted(row: &Row, mode: Mode, turn: usize) -> Outcome {
             Ok(())
         },
         is_marked: fails,
-        taken: bytes_of(text, lines),
+        taken,
         is_front: true,
     }
 }
@@ -92,7 +101,7 @@ fn wanted(row: &Row, mode: Mode, turn: usize) -> Outcome {
 /// The first turn of the trouble at which something else becomes of a row.
 fn first_other_turn(
     alloc: Global,
-    row: &Row,
+    row: &Texts,
     mode: Mode,
     trouble: Trouble,
 ) -> Result<Option<usize>, AllocError> {
@@ -110,8 +119,9 @@ fn first_other(
     trouble: Trouble,
 ) -> Result<Option<(&'static str, Option<usize>, Option<usize>)>, AllocError> {
     for row in &ROWS {
-        let run = first_other_turn(alloc, row, Mode::Run, trouble)?;
-        let tree = first_other_turn(alloc, row, Mode::Tree, trouble)?;
+        let texts = row.texts(alloc)?;
+        let run = first_other_turn(alloc, &texts, Mode::Run, trouble)?;
+        let tree = first_other_turn(alloc, &texts, Mode::Tree, trouble)?;
         if run.is_some() || tree.is_some() {
             return Ok(Some((row.name, run, tree)));
         }
@@ -128,7 +138,7 @@ fn each_listing_goes_out_at_once(rt: HostRuntime) -> Result<(), Fail> {
 }
 
 /// What is expected where nothing waits, and the writer fails in line n + 1.
-fn wanted_in_line(row: &Row, mode: Mode, turn: usize) -> Outcome {
+fn wanted_in_line(row: &Texts, mode: Mode, turn: usize) -> Outcome {
     let text = text_of(row, mode);
     let fails = turn < text.lines().count();
     Outcome {
@@ -146,10 +156,11 @@ fn wanted_in_line(row: &Row, mode: Mode, turn: usize) -> Outcome {
 /// The first row and mode, and the line at which something else becomes of it where nothing waits.
 fn first_other_line(alloc: Global) -> Result<Option<(&'static str, Mode, usize)>, AllocError> {
     for row in &ROWS {
+        let texts = row.texts(alloc)?;
         for mode in [Mode::Run, Mode::Tree] {
-            for turn in 0..=text_of(row, mode).lines().count() {
-                let outcome = served(alloc, row, mode, 0, (Trouble::Fails, turn))?;
-                if outcome != wanted_in_line(row, mode, turn) {
+            for turn in 0..=text_of(&texts, mode).lines().count() {
+                let outcome = served(alloc, &texts, mode, 0, (Trouble::Fails, turn))?;
+                if outcome != wanted_in_line(&texts, mode, turn) {
                     return Ok(Some((row.name, mode, turn)));
                 }
             }
@@ -165,7 +176,7 @@ fn each_line_goes_out_at_once_where_nothing_waits(rt: HostRuntime) -> Result<(),
 }
 
 /// Whether all went out and nothing is reported, or a prefix did and the writer is reported to have failed.
-fn is_told(row: &Row, outcome: Outcome) -> bool {
+fn is_told(row: &Texts, outcome: Outcome) -> bool {
     let is_whole = outcome.taken == row.run.len();
     let is_failure = matches!(
         outcome.ended,
@@ -181,7 +192,7 @@ fn is_told(row: &Row, outcome: Outcome) -> bool {
 }
 
 /// The first turn of a failed write that is not reported, if there is this room.
-fn first_untold_turn(alloc: Global, row: &Row, room: usize) -> Result<Option<usize>, AllocError> {
+fn first_untold_turn(alloc: Global, row: &Texts, room: usize) -> Result<Option<usize>, AllocError> {
     for turn in 0..=row.run.lines().count() {
         let outcome = served(alloc, row, Mode::Run, room, (Trouble::Fails, turn))?;
         if !is_told(row, outcome) {
@@ -194,7 +205,7 @@ fn first_untold_turn(alloc: Global, row: &Row, room: usize) -> Result<Option<usi
 /// The first row of which a failed write is not reported, and its turn.
 fn first_untold(alloc: Global, room: usize) -> Result<Option<(&'static str, usize)>, AllocError> {
     for row in &ROWS {
-        if let Some(turn) = first_untold_turn(alloc, row, room)? {
+        if let Some(turn) = first_untold_turn(alloc, &row.texts(alloc)?, room)? {
             return Ok(Some((row.name, turn)));
         }
     }
@@ -211,7 +222,7 @@ fn a_failed_write_is_told_with_any_room(rt: HostRuntime) -> Result<(), Fail> {
 
 /// What is served through a buffer to a writer that keeps what it takes up to its next flush. The flush n + 1
 /// fails.
-fn flushed(alloc: Global, row: &Row, mode: Mode, turn: usize) -> Result<Outcome, AllocError> {
+fn flushed(alloc: Global, row: &Texts, mode: Mode, turn: usize) -> Result<Outcome, AllocError> {
     let writer = Late {
         flushed: Vec::new(alloc),
         kept: Vec::new(alloc),
@@ -231,28 +242,19 @@ fn flushed(alloc: Global, row: &Row, mode: Mode, turn: usize) -> Result<Outcome,
 }
 
 /// What is expected where the flush n + 1 fails: one is made after each listing, and one at the end.
-fn wanted_flushed(row: &Row, mode: Mode, turn: usize) -> Outcome {
-    let text = text_of(row, mode);
-    let listings = text.lines().filter(|line| *line == "end").count();
-    let fails = turn <= listings;
-    Outcome {
-        ended: if fails {
-            Err(ServeFault::Write)
-        } else {
-            Ok(())
-        },
-        is_marked: fails,
-        taken: bytes_of(text, lines_out(text, turn)),
-        is_front: true,
-    }
+fn wanted_flushed(row: &Texts, mode: Mode, turn: usize) -> Outcome {
+    let lines = text_of(row, mode).lines();
+    let listings = lines.filter(|line| *line == "end").count();
+    failed_write(turn <= listings, bytes_out(row, mode, turn))
 }
 
 /// The first row and mode, and the turn of a failed flush at which something else becomes of it.
 fn first_other_flushed(alloc: Global) -> Result<Option<(&'static str, Mode, usize)>, AllocError> {
     for row in &ROWS {
+        let texts = row.texts(alloc)?;
         for mode in [Mode::Run, Mode::Tree] {
             for turn in 0..5usize {
-                if flushed(alloc, row, mode, turn)? != wanted_flushed(row, mode, turn) {
+                if flushed(alloc, &texts, mode, turn)? != wanted_flushed(&texts, mode, turn) {
                     return Ok(Some((row.name, mode, turn)));
                 }
             }

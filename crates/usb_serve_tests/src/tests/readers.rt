@@ -1,7 +1,8 @@
 //! Readers that give little, fail or never end: the fault that is reported, and that nothing goes out.
 use super::frail::{Long, Torn};
-use super::rows::{ONE_FUNCTION, ROWS, Row};
-use std::alloc::Global;
+use super::rows::{ONE_FUNCTION, ROWS, Texts};
+use std::alloc::{AllocError, Global};
+use std::test::Fail;
 use usb_bus::Watched;
 use usb_run::Mode;
 use usb_serve::{ServeFault, serve};
@@ -23,7 +24,7 @@ struct Outcome {
 }
 
 /// What is served of a row's plan by a reader of n bytes at once, one of whose calls fails, after n.
-fn served(alloc: Global, row: &Row, mode: Mode, at_once: usize, reads_left: u64) -> Outcome {
+fn served(alloc: Global, row: &Texts, mode: Mode, at_once: usize, reads_left: u64) -> Outcome {
     let mut reader = Watched::new(Torn {
         text: row.plan.as_bytes(),
         at_once,
@@ -31,8 +32,8 @@ fn served(alloc: Global, row: &Row, mode: Mode, at_once: usize, reads_left: u64)
     });
     let (ended, writer) = serve(alloc, mode, &mut reader, Watched::new(Vec::new(alloc)));
     let text = match (mode, &ended) {
-        (Mode::Run, Ok(())) => row.run,
-        (Mode::Tree, Ok(())) => row.tree,
+        (Mode::Run, Ok(())) => row.run.as_str(),
+        (Mode::Tree, Ok(())) => row.tree.as_str(),
         _ => "",
     };
     let calls = writer.calls();
@@ -61,7 +62,7 @@ fn wanted(reads: u64, reads_left: u64) -> Outcome {
 }
 
 /// The first turn of the failure at which something else becomes of a row.
-fn first_other_turn(alloc: Global, row: &Row, mode: Mode, at_once: usize) -> Option<u64> {
+fn first_other_turn(alloc: Global, row: &Texts, mode: Mode, at_once: usize) -> Option<u64> {
     let reads = (row.plan.len().div_ceil(at_once.clamp(1, PIECE)) as u64).saturating_add(1);
     for turn in 0..=reads {
         if served(alloc, row, mode, at_once, turn) != wanted(reads, turn) {
@@ -72,22 +73,31 @@ fn first_other_turn(alloc: Global, row: &Row, mode: Mode, at_once: usize) -> Opt
 }
 
 /// The first row of which something else becomes, with the turns of it in both modes.
-fn first_other(alloc: Global, at_once: usize) -> Option<(&'static str, Option<u64>, Option<u64>)> {
+fn first_other(
+    alloc: Global,
+    at_once: usize,
+) -> Result<Option<(&'static str, Option<u64>, Option<u64>)>, AllocError> {
     for row in &ROWS {
-        let run = first_other_turn(alloc, row, Mode::Run, at_once);
-        let tree = first_other_turn(alloc, row, Mode::Tree, at_once);
+        let texts = row.texts(alloc)?;
+        let run = first_other_turn(alloc, &texts, Mode::Run, at_once);
+        let tree = first_other_turn(alloc, &texts, Mode::Tree, at_once);
         if run.is_some() || tree.is_some() {
-            return Some((row.name, run, tree));
+            return Ok(Some((row.name, run, tree)));
         }
     }
-    None
+    Ok(None)
 }
 
 #[test]
-fn each_read_fails_in_turn(rt: HostRuntime) {
+fn each_read_fails_in_turn(rt: HostRuntime) -> Result<(), Fail> {
     for at_once in [1, 100, 4096] {
-        assert_eq!(rt; first_other(rt.alloc(), at_once), None, "{at_once} at once");
+        assert_eq!(rt;
+            first_other(rt.alloc(), at_once)?,
+            None,
+            "{at_once} at once"
+        );
     }
+    Ok(())
 }
 
 /// A plan and a comment after it, of n bytes in all or without an end, in pieces of n; what is reported of it,
@@ -129,8 +139,8 @@ const LENGTHS: [Length; 4] = [
 
 /// Whether a text of this length is served as expected, with no line where it is too long, and its reader is not
 /// marked.
-fn is_as_wanted(alloc: Global, length: Length) -> bool {
-    let plan = ONE_FUNCTION.plan;
+fn is_as_wanted(alloc: Global, row: &Texts, length: Length) -> bool {
+    let plan = row.plan.as_str();
     let mut reader = Watched::new(Long {
         text: plan.as_bytes(),
         signs: length.bytes.saturating_sub(plan.len()),
@@ -138,7 +148,7 @@ fn is_as_wanted(alloc: Global, length: Length) -> bool {
     });
     let (ended, writer) = serve(alloc, Mode::Run, &mut reader, Watched::new(Vec::new(alloc)));
     let text = match length.ended {
-        Ok(()) => ONE_FUNCTION.run,
+        Ok(()) => row.run.as_str(),
         Err(_) => "",
     };
     let is_text = writer.into_inner().as_slice() == text.as_bytes();
@@ -146,8 +156,14 @@ fn is_as_wanted(alloc: Global, length: Length) -> bool {
 }
 
 #[test]
-fn a_text_without_an_end_is_too_long(rt: HostRuntime) {
+fn a_text_without_an_end_is_too_long(rt: HostRuntime) -> Result<(), Fail> {
+    let texts = ONE_FUNCTION.texts(rt.alloc())?;
     for length in LENGTHS {
-        assert!(rt; is_as_wanted(rt.alloc(), length), "{} bytes", length.bytes);
+        assert!(rt;
+            is_as_wanted(rt.alloc(), &texts, length),
+            "{} bytes",
+            length.bytes
+        );
     }
+    Ok(())
 }

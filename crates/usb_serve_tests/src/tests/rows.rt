@@ -1,76 +1,71 @@
 //! Plans, with what is written of each.
 
-/// A plan, and what `run` and `tree` write of it.
+use super::devices::{FUNCTION, HUB2, LOW};
+use super::written::{
+    BULK_LISTED, FUNCTION_FOUND, FUNCTION_LISTED, HUB_FOUND, HUB_LISTED, LOW_LISTED,
+};
+use std::alloc::{AllocError, Global};
+
+/// The parts of a plan, and of what `run` and `tree` write of it.
 #[derive(Clone, Copy)]
 pub(super) struct Row {
     pub(super) name: &'static str,
-    pub(super) plan: &'static str,
-    pub(super) run: &'static str,
-    pub(super) tree: &'static str,
+    pub(super) plan: &'static [&'static str],
+    pub(super) run: &'static [&'static str],
+    pub(super) tree: &'static [&'static str],
 }
 
-pub(super) const ONE_FUNCTION: Row = Row {
-    name: "one function",
-    plan: r#"limit = 10000
-roots = 1
+/// The texts of a row, each in one piece.
+#[derive(Drop)]
+pub(super) struct Texts {
+    pub(super) name: &'static str,
+    pub(super) plan: String,
+    pub(super) run: String,
+    pub(super) tree: String,
+}
 
-[[device]]
-name = "fn"
-speed = "full"
-descriptor = "120100020000004034127856000100000001"
-configs = ["0902120001010080320904000000FF000000"]
+impl Row {
+    pub(super) fn texts(&self, alloc: Global) -> Result<Texts, AllocError> {
+        Ok(Texts {
+            name: self.name,
+            plan: self.plan.concat(alloc)?,
+            run: self.run.concat(alloc)?,
+            tree: self.tree.concat(alloc)?,
+        })
+    }
+}
 
+/// The limit and the root port of each plan.
+const HEAD: &str = "limit = 10000\nroots = 1\n";
+
+/// The plug of the function.
+const PLUG_FUNCTION: &str = r#"
 [[event]]
 do = "plug"
 path = "1"
 device = "fn"
-"#,
-    run: r#"plug 1 fn
-1 SETUP 0.0 / DATA0 8006000100000800 / ACK
-2 IN 0.0 / DATA1 1201000200000040 / ACK
-3 OUT 0.0 / DATA1 - / ACK
-4 SETUP 0.0 / DATA0 0005010000000000 / ACK
-5 IN 0.0 / DATA1 - / ACK
-6 SETUP 1.0 / DATA0 8006000100001200 / ACK
-7 IN 1.0 / DATA1 120100020000004034127856000100000001 / ACK
-8 OUT 1.0 / DATA1 - / ACK
-9 SETUP 1.0 / DATA0 8006000200000900 / ACK
-10 IN 1.0 / DATA1 090212000101008032 / ACK
-11 OUT 1.0 / DATA1 - / ACK
-12 SETUP 1.0 / DATA0 8006000200001200 / ACK
-13 IN 1.0 / DATA1 0902120001010080320904000000FF000000 / ACK
-14 OUT 1.0 / DATA1 - / ACK
-15 SETUP 1.0 / DATA0 0009010000000000 / ACK
-16 IN 1.0 / DATA1 - / ACK
-listing 1
-1 address 1 full 120100020000004034127856000100000001
-1 config 0 0902120001010080320904000000FF000000 *
-end
-"#,
-    tree: r#"listing 1
-1 address 1 full 120100020000004034127856000100000001
-1 config 0 0902120001010080320904000000FF000000 *
-end
-bound 6086002
-"#,
+"#;
+
+pub(super) const ONE_FUNCTION: Row = Row {
+    name: "one function",
+    plan: &[HEAD, FUNCTION, PLUG_FUNCTION],
+    run: &[
+        "plug 1 fn\n",
+        FUNCTION_FOUND,
+        "listing 1\n",
+        FUNCTION_LISTED,
+        "end\n",
+    ],
+    tree: &["listing 1\n", FUNCTION_LISTED, "end\nbound 6086002\n"],
 };
 
 const SHOW_THEN_UNPLUG: Row = Row {
     name: "show then unplug",
-    plan: r#"limit = 10000
-roots = 1
-
-[[device]]
-name = "fn"
-speed = "full"
-descriptor = "120100020000004034127856000100000001"
-configs = ["0902120001010080320904000000FF000000"]
-
-[[event]]
-do = "plug"
-path = "1"
-device = "fn"
-
+    plan: &[
+        HEAD,
+        FUNCTION,
+        PLUG_FUNCTION,
+        r#"
 [[event]]
 do = "show"
 
@@ -78,60 +73,36 @@ do = "show"
 do = "unplug"
 path = "1"
 "#,
-    run: r#"plug 1 fn
-1 SETUP 0.0 / DATA0 8006000100000800 / ACK
-2 IN 0.0 / DATA1 1201000200000040 / ACK
-3 OUT 0.0 / DATA1 - / ACK
-4 SETUP 0.0 / DATA0 0005010000000000 / ACK
-5 IN 0.0 / DATA1 - / ACK
-6 SETUP 1.0 / DATA0 8006000100001200 / ACK
-7 IN 1.0 / DATA1 120100020000004034127856000100000001 / ACK
-8 OUT 1.0 / DATA1 - / ACK
-9 SETUP 1.0 / DATA0 8006000200000900 / ACK
-10 IN 1.0 / DATA1 090212000101008032 / ACK
-11 OUT 1.0 / DATA1 - / ACK
-12 SETUP 1.0 / DATA0 8006000200001200 / ACK
-13 IN 1.0 / DATA1 0902120001010080320904000000FF000000 / ACK
-14 OUT 1.0 / DATA1 - / ACK
-15 SETUP 1.0 / DATA0 0009010000000000 / ACK
-16 IN 1.0 / DATA1 - / ACK
-listing 1
-1 address 1 full 120100020000004034127856000100000001
-1 config 0 0902120001010080320904000000FF000000 *
-end
+    ],
+    run: &[
+        "plug 1 fn\n",
+        FUNCTION_FOUND,
+        "listing 1\n",
+        FUNCTION_LISTED,
+        r#"end
 unplug 1
 listing 2
 end
 "#,
-    tree: r#"listing 1
-1 address 1 full 120100020000004034127856000100000001
-1 config 0 0902120001010080320904000000FF000000 *
-end
+    ],
+    tree: &[
+        "listing 1\n",
+        FUNCTION_LISTED,
+        r#"end
 listing 2
 end
 bound 18558002
 "#,
+    ],
 };
 
 const LOW_SPEED_BELOW_HUB: Row = Row {
     name: "low speed below hub",
-    plan: r#"limit = 10000
-roots = 1
-
-[[device]]
-name = "hub2"
-speed = "full"
-descriptor = "120100020900004001000200000100000001"
-configs = ["09021900010100C000090400000109000000070581030100FF"]
-ports = 2
-self_powered = true
-
-[[device]]
-name = "low"
-speed = "low"
-descriptor = "120110010000000834120100000100000001"
-configs = ["0902120001010080320904000000FF000000"]
-
+    plan: &[
+        HEAD,
+        HUB2,
+        LOW,
+        r#"
 [[event]]
 do = "plug"
 path = "1"
@@ -143,35 +114,11 @@ path = "1.1"
 device = "low"
 after = 0
 "#,
-    run: r#"plug 1 hub2
-plug 1.1 low
-1 SETUP 0.0 / DATA0 8006000100000800 / ACK
-2 IN 0.0 / DATA1 1201000209000040 / ACK
-3 OUT 0.0 / DATA1 - / ACK
-4 SETUP 0.0 / DATA0 0005010000000000 / ACK
-5 IN 0.0 / DATA1 - / ACK
-6 SETUP 1.0 / DATA0 8006000100001200 / ACK
-7 IN 1.0 / DATA1 120100020900004001000200000100000001 / ACK
-8 OUT 1.0 / DATA1 - / ACK
-9 SETUP 1.0 / DATA0 8006000200000900 / ACK
-10 IN 1.0 / DATA1 09021900010100C000 / ACK
-11 OUT 1.0 / DATA1 - / ACK
-12 SETUP 1.0 / DATA0 8006000200001900 / ACK
-13 IN 1.0 / DATA1 09021900010100C000090400000109000000070581030100FF / ACK
-14 OUT 1.0 / DATA1 - / ACK
-15 SETUP 1.0 / DATA0 0009010000000000 / ACK
-16 IN 1.0 / DATA1 - / ACK
-17 SETUP 1.0 / DATA0 A006002900000900 / ACK
-18 IN 1.0 / DATA1 0929020100000000FF / ACK
-19 OUT 1.0 / DATA1 - / ACK
-20 SETUP 1.0 / DATA0 8000000000000200 / ACK
-21 IN 1.0 / DATA1 0100 / ACK
-22 OUT 1.0 / DATA1 - / ACK
-23 SETUP 1.0 / DATA0 2303080001000000 / ACK
-24 IN 1.0 / DATA1 - / ACK
-25 SETUP 1.0 / DATA0 2303080002000000 / ACK
-26 IN 1.0 / DATA1 - / ACK
-27 IN 1.1 / DATA0 02 / ACK
+    ],
+    run: &[
+        "plug 1 hub2\nplug 1.1 low\n",
+        HUB_FOUND,
+        r#"27 IN 1.1 / DATA0 02 / ACK
 28 SETUP 1.0 / DATA0 A300000001000400 / ACK
 29 IN 1.0 / DATA1 01030100 / ACK
 30 OUT 1.0 / DATA1 - / ACK
@@ -210,29 +157,24 @@ plug 1.1 low
 63 PRE IN 2.0 / DATA1 - / PRE ACK
 64 IN 1.1 / NAK
 listing 1
-1 address 1 full 120100020900004001000200000100000001
-1 config 0 09021900010100C000090400000109000000070581030100FF *
-1 hub 2 ports 500 mA
-1.1 address 2 low 120110010000000834120100000100000001
-1.1 config 0 0902120001010080320904000000FF000000 *
-end
 "#,
-    tree: r#"listing 1
-1 address 1 full 120100020900004001000200000100000001
-1 config 0 09021900010100C000090400000109000000070581030100FF *
-1 hub 2 ports 500 mA
-1.1 address 2 low 120110010000000834120100000100000001
-1.1 config 0 0902120001010080320904000000FF000000 *
-end
-bound 12300002
-"#,
+        HUB_LISTED,
+        LOW_LISTED,
+        "end\n",
+    ],
+    tree: &[
+        "listing 1\n",
+        HUB_LISTED,
+        LOW_LISTED,
+        "end\nbound 12300002\n",
+    ],
 };
 
 const BULK_SEND_130: Row = Row {
     name: "bulk send 130",
-    plan: r#"limit = 10000
-roots = 1
-
+    plan: &[
+        HEAD,
+        r#"
 [[device]]
 name = "bulk"
 speed = "full"
@@ -249,7 +191,9 @@ do = "send"
 path = "1"
 bytes = "0102030405060708090A0B0C0D0E0F101112131415161718191A1B1C1D1E1F202122232425262728292A2B2C2D2E2F303132333435363738393A3B3C3D3E3F404142434445464748494A4B4C4D4E4F505152535455565758595A5B5C5D5E5F606162636465666768696A6B6C6D6E6F707172737475767778797A7B7C7D7E7F808182"
 "#,
-    run: r#"plug 1 bulk
+    ],
+    run: &[
+        r#"plug 1 bulk
 1 SETUP 0.0 / DATA0 8006000100000800 / ACK
 2 IN 0.0 / DATA1 1201000200000040 / ACK
 3 OUT 0.0 / DATA1 - / ACK
@@ -271,17 +215,15 @@ bytes = "0102030405060708090A0B0C0D0E0F101112131415161718191A1B1C1D1E1F202122232
 19 OUT 1.2 / DATA0 8182 / ACK
 send 1 done 130
 listing 1
-1 address 1 full 120100020000004034127856000100000001
-1 config 0 0902200001010080320904000002FF0000000705020240000007058202400000 *
-end
 "#,
-    tree: r#"send 1 done 130
-listing 1
-1 address 1 full 120100020000004034127856000100000001
-1 config 0 0902200001010080320904000002FF0000000705020240000007058202400000 *
-end
-bound 12458002
-"#,
+        BULK_LISTED,
+        "end\n",
+    ],
+    tree: &[
+        "send 1 done 130\nlisting 1\n",
+        BULK_LISTED,
+        "end\nbound 12458002\n",
+    ],
 };
 
 pub(super) const ROWS: [Row; 4] = [

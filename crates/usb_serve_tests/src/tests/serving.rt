@@ -60,18 +60,20 @@ struct Counts {
 /// The damages of a plan in which SET_ADDRESS loses its last handshake, and the counts of its run.
 #[derive(Clone, Copy)]
 struct Loss {
-    damages: &'static str,
+    damages: &'static [&'static str],
     counts: Counts,
 }
 
+/// Damages at the last handshakes of the attempts that SET_ADDRESS ends in.
+const LOSE_5: &str = "\n[[damage]]\nattempt = 5\npacket = 3\nhow = \"lose\"\n";
+
+const LOSE_13: &str = "\n[[damage]]\nattempt = 13\npacket = 3\nhow = \"lose\"\n";
+
+const LOSE_21: &str = "\n[[damage]]\nattempt = 21\npacket = 3\nhow = \"lose\"\n";
+
 const LOSSES: [Loss; 3] = [
     Loss {
-        damages: r#"
-[[damage]]
-attempt = 5
-packet = 3
-how = "lose"
-"#,
+        damages: &[LOSE_5],
         counts: Counts {
             listings: 1,
             attempts: 24,
@@ -80,17 +82,7 @@ how = "lose"
         },
     },
     Loss {
-        damages: r#"
-[[damage]]
-attempt = 5
-packet = 3
-how = "lose"
-
-[[damage]]
-attempt = 13
-packet = 3
-how = "lose"
-"#,
+        damages: &[LOSE_5, LOSE_13],
         counts: Counts {
             listings: 1,
             attempts: 32,
@@ -99,22 +91,7 @@ how = "lose"
         },
     },
     Loss {
-        damages: r#"
-[[damage]]
-attempt = 5
-packet = 3
-how = "lose"
-
-[[damage]]
-attempt = 13
-packet = 3
-how = "lose"
-
-[[damage]]
-attempt = 21
-packet = 3
-how = "lose"
-"#,
+        damages: &[LOSE_5, LOSE_13, LOSE_21],
         counts: Counts {
             listings: 1,
             attempts: 24,
@@ -143,7 +120,8 @@ fn counted(alloc: Global, text: &str) -> Option<Counts> {
 #[test]
 fn a_report_counts_the_losses(rt: HostRuntime) -> Result<(), Fail> {
     for loss in &LOSSES {
-        let plan = format!(in rt.alloc(); "{}{}", ONE_FUNCTION.plan, loss.damages)?;
+        let mut plan = ONE_FUNCTION.plan.concat(rt.alloc())?;
+        plan.push_str(loss.damages.concat(rt.alloc())?.as_str())?;
         let counts = counted(rt.alloc(), plan.as_str());
         assert_eq!(rt; counts, Some(loss.counts), "{} losses", loss.counts.losses);
     }

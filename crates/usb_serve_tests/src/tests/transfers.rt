@@ -1,6 +1,8 @@
 //! What is reported of transfers: the lines that `serve` writes, and the items of `run`.
+use super::devices::{BULK, FUNCTION, HALTING, HUB, SILENT};
 use arrayvec::ArrayVec;
 use std::alloc::{AllocError, Global};
+use std::process::Abort;
 use std::str;
 use std::test::Fail;
 use usb_bus::Watched;
@@ -8,257 +10,135 @@ use usb_plan::read_plan;
 use usb_run::{EndpointAddress, Item, Mode, TransferFault, run};
 use usb_serve::serve;
 
-/// The head of each plan: its limit, its root ports and its devices.
-pub const HEAD: &str = r#"limit = 10000
-roots = 2
+/// The limit and the root ports of each plan.
+pub(super) const HEAD: &str = "limit = 10000\nroots = 2\n";
 
-[[device]]
-name = "fn"
-speed = "full"
-descriptor = "120100020000004034127856000100000001"
-configs = ["0902120001010080320904000000FF000000"]
-
-[[device]]
-name = "low"
-speed = "low"
-descriptor = "120110010000000834120100000100000001"
-configs = ["0902120001010080320904000000FF000000"]
-
-[[device]]
-name = "silent"
-speed = "full"
-descriptor = "120100020000004034127856000100000001"
-configs = ["0902120001010080320904000000FF000000"]
-silent = true
-
-[[device]]
-name = "bulk"
-speed = "full"
-descriptor = "120100020000004034127856000100000001"
-configs = ["0902200001010080320904000002FF0000000705020240000007058202400000"]
-source = "AABBCC"
-
-[[device]]
-name = "halting"
-speed = "full"
-descriptor = "120100020000004034127856000100000001"
-configs = ["0902200001010080320904000002FF0000000705020240000007058202400000"]
-halt_after = 1
-
-[[device]]
-name = "hub"
-speed = "full"
-descriptor = "120100020900004001000200000100000001"
-configs = ["09021900010100C000090400000109000000070581030100FF"]
-ports = 2
-self_powered = true
-
-[[device]]
-name = "bus powered hub"
-speed = "full"
-descriptor = "120100020900004001000200000100000001"
-configs = ["090219000101008032090400000109000000070581030100FF"]
-ports = 2
+/// A byte is sent, a packet is received, and halts are cleared: the last events of a plan.
+const SEND_RECEIVE_CLEAR: &str = r#"  { do = "send", path = "1", bytes = "01" },
+  { do = "receive", path = "1", packets = 1 },
+  { do = "clear", path = "1" },
+]
 "#;
 
-/// The events and the damages of a plan, and the lines that are reported of its transfers.
+/// What is reported of these where there is no endpoint for them.
+const NO_ENDPOINTS: &str = r#"send 1 failed no endpoint
+receive 1 failed no endpoint
+clear 1 failed no endpoint
+"#;
+
+/// The parts of a plan, and the lines that are reported of its transfers.
 #[derive(Clone, Copy)]
-struct Row {
-    name: &'static str,
-    events: &'static str,
-    told: &'static str,
+pub(super) struct Told {
+    pub(super) name: &'static str,
+    pub(super) plan: &'static [&'static str],
+    pub(super) told: &'static str,
 }
 
-const TRANSFERS_THAT_ARE_DONE: Row = Row {
+const TRANSFERS_THAT_ARE_DONE: Told = Told {
     name: "transfers that are done",
-    events: r#"
-[[event]]
-do = "plug"
-path = "1"
-device = "bulk"
-
-[[event]]
-do = "send"
-path = "1"
-bytes = "010203"
-
-[[event]]
-do = "receive"
-path = "1"
-packets = 1
-
-[[event]]
-do = "clear"
-path = "1"
+    plan: &[
+        HEAD,
+        r#"event = [
+  { do = "plug", path = "1", device = "bulk" },
+  { do = "send", path = "1", bytes = "010203" },
+  { do = "receive", path = "1", packets = 1 },
+  { do = "clear", path = "1" },
+]
 "#,
+        BULK,
+    ],
     told: r#"send 1 done 3
 receive 1 done AABBCC
 clear 1 done
 "#,
 };
 
-const NOTHING_TO_MOVE: Row = Row {
+const NOTHING_TO_MOVE: Told = Told {
     name: "nothing to move",
-    events: r#"
-[[event]]
-do = "plug"
-path = "1"
-device = "bulk"
-
-[[event]]
-do = "send"
-path = "1"
-bytes = ""
-
-[[event]]
-do = "receive"
-path = "1"
-packets = 0
+    plan: &[
+        HEAD,
+        r#"event = [
+  { do = "plug", path = "1", device = "bulk" },
+  { do = "send", path = "1", bytes = "" },
+  { do = "receive", path = "1", packets = 0 },
+]
 "#,
+        BULK,
+    ],
     told: r#"send 1 done 0
 receive 1 done -
 "#,
 };
 
-const NO_DEVICE: Row = Row {
+const NO_DEVICE: Told = Told {
     name: "no device",
-    events: r#"
-[[event]]
-do = "plug"
-path = "1"
-device = "bulk"
-
-[[event]]
-do = "send"
-path = "2"
-bytes = "01"
-
-[[event]]
-do = "receive"
-path = "2"
-packets = 1
-
-[[event]]
-do = "clear"
-path = "2"
+    plan: &[
+        HEAD,
+        r#"event = [
+  { do = "plug", path = "1", device = "bulk" },
+  { do = "send", path = "2", bytes = "01" },
+  { do = "receive", path = "2", packets = 1 },
+  { do = "clear", path = "2" },
+]
 "#,
+        BULK,
+    ],
     told: r#"send 2 failed no device
 receive 2 failed no device
 clear 2 failed no device
 "#,
 };
 
-const A_REFUSED_DEVICE: Row = Row {
+const A_REFUSED_DEVICE: Told = Told {
     name: "a refused device",
-    events: r#"
-[[event]]
-do = "plug"
-path = "1"
-device = "silent"
-
-[[event]]
-do = "send"
-path = "1"
-bytes = "01"
-
-[[event]]
-do = "receive"
-path = "1"
-packets = 1
-
-[[event]]
-do = "clear"
-path = "1"
-"#,
+    plan: &[
+        HEAD,
+        "event = [\n  { do = \"plug\", path = \"1\", device = \"silent\" },\n",
+        SEND_RECEIVE_CLEAR,
+        SILENT,
+    ],
     told: r#"send 1 failed no device
 receive 1 failed no device
 clear 1 failed no device
 "#,
 };
 
-const NO_ENDPOINT: Row = Row {
+const NO_ENDPOINT: Told = Told {
     name: "no endpoint",
-    events: r#"
-[[event]]
-do = "plug"
-path = "1"
-device = "fn"
-
-[[event]]
-do = "send"
-path = "1"
-bytes = "01"
-
-[[event]]
-do = "receive"
-path = "1"
-packets = 1
-
-[[event]]
-do = "clear"
-path = "1"
-"#,
-    told: r#"send 1 failed no endpoint
-receive 1 failed no endpoint
-clear 1 failed no endpoint
-"#,
+    plan: &[
+        HEAD,
+        "event = [\n  { do = \"plug\", path = \"1\", device = \"fn\" },\n",
+        SEND_RECEIVE_CLEAR,
+        FUNCTION,
+    ],
+    told: NO_ENDPOINTS,
 };
 
-const A_HUB: Row = Row {
+const A_HUB: Told = Told {
     name: "a hub",
-    events: r#"
-[[event]]
-do = "plug"
-path = "1"
-device = "hub"
-
-[[event]]
-do = "send"
-path = "1"
-bytes = "01"
-
-[[event]]
-do = "receive"
-path = "1"
-packets = 1
-
-[[event]]
-do = "clear"
-path = "1"
-"#,
-    told: r#"send 1 failed no endpoint
-receive 1 failed no endpoint
-clear 1 failed no endpoint
-"#,
+    plan: &[
+        HEAD,
+        "event = [\n  { do = \"plug\", path = \"1\", device = \"hub\" },\n",
+        SEND_RECEIVE_CLEAR,
+        HUB,
+    ],
+    told: NO_ENDPOINTS,
 };
 
-const A_HALTED_ENDPOINT: Row = Row {
+const A_HALTED_ENDPOINT: Told = Told {
     name: "a halted endpoint",
-    events: r#"
-[[event]]
-do = "plug"
-path = "1"
-device = "halting"
-
-[[event]]
-do = "send"
-path = "1"
-bytes = "01"
-
-[[event]]
-do = "send"
-path = "1"
-bytes = "02"
-
-[[event]]
-do = "clear"
-path = "1"
-
-[[event]]
-do = "send"
-path = "1"
-bytes = "03"
+    plan: &[
+        HEAD,
+        r#"event = [
+  { do = "plug", path = "1", device = "halting" },
+  { do = "send", path = "1", bytes = "01" },
+  { do = "send", path = "1", bytes = "02" },
+  { do = "clear", path = "1" },
+  { do = "send", path = "1", bytes = "03" },
+]
 "#,
+        HALTING,
+    ],
     told: r#"send 1 done 1
 send 1 failed stalled
 clear 1 done
@@ -266,91 +146,47 @@ send 1 done 1
 "#,
 };
 
-const A_DEVICE_THAT_PUTS_OFF: Row = Row {
+const A_DEVICE_THAT_PUTS_OFF: Told = Told {
     name: "a device that puts off",
-    events: r#"
-[[event]]
-do = "plug"
-path = "1"
-device = "halting"
-
-[[event]]
-do = "receive"
-path = "1"
-packets = 1
-
-[[event]]
-do = "receive"
-path = "1"
-packets = 1
-
-[[event]]
-do = "clear"
-path = "1"
+    plan: &[
+        HEAD,
+        r#"event = [
+  { do = "plug", path = "1", device = "halting" },
+  { do = "receive", path = "1", packets = 1 },
+  { do = "receive", path = "1", packets = 1 },
+  { do = "clear", path = "1" },
+]
 "#,
+        HALTING,
+    ],
     told: r#"receive 1 failed busy
 receive 1 failed broken
 clear 1 done
 "#,
 };
 
-const LOST_PACKETS: Row = Row {
+const LOST_PACKETS: Told = Told {
     name: "lost packets",
-    events: r#"
-[[event]]
-do = "plug"
-path = "1"
-device = "bulk"
-
-[[event]]
-do = "send"
-path = "1"
-bytes = "01"
-
-[[event]]
-do = "send"
-path = "1"
-bytes = "02"
-
-[[event]]
-do = "clear"
-path = "1"
-
-[[event]]
-do = "send"
-path = "1"
-bytes = "03"
-
-[[damage]]
-attempt = 17
-packet = 1
-how = "lose"
-
-[[damage]]
-attempt = 18
-packet = 1
-how = "lose"
-
-[[damage]]
-attempt = 19
-packet = 1
-how = "lose"
-
-[[damage]]
-attempt = 20
-packet = 1
-how = "lose"
-
-[[damage]]
-attempt = 21
-packet = 1
-how = "lose"
-
-[[damage]]
-attempt = 22
-packet = 1
-how = "lose"
+    plan: &[
+        HEAD,
+        r#"event = [
+  { do = "plug", path = "1", device = "bulk" },
+  { do = "send", path = "1", bytes = "01" },
+  { do = "send", path = "1", bytes = "02" },
+  { do = "clear", path = "1" },
+  { do = "send", path = "1", bytes = "03" },
+]
+damage = [
+  { attempt = 17, packet = 1, how = "lose" },
+  { attempt = 18, packet = 1, how = "lose" },
+  { attempt = 19, packet = 1, how = "lose" },
+  { attempt = 20, packet = 1, how = "lose" },
+  { attempt = 21, packet = 1, how = "lose" },
+  { attempt = 22, packet = 1, how = "lose" },
+]
 "#,
+        BULK,
+    ],
     told: r#"send 1 failed no answer
 send 1 failed broken
 clear 1 failed no answer
@@ -359,7 +195,7 @@ send 1 failed broken
 };
 
 /// A row for each way in which a transfer ends.
-const ROWS: [Row; 9] = [
+const ROWS: [Told; 9] = [
     TRANSFERS_THAT_ARE_DONE,
     NOTHING_TO_MOVE,
     NO_DEVICE,
@@ -381,7 +217,7 @@ fn is_of_transfer(line: &str) -> bool {
 }
 
 /// The lines of transfers among those that `serve` writes of a plan.
-pub(super) fn lines_told(alloc: Global, plan: &str) -> Result<String, Fail> {
+fn lines_told(alloc: Global, plan: &str) -> Result<String, Fail> {
     let mut reader = Watched::new(plan.as_bytes());
     let (_, writer) = serve(
         alloc,
@@ -516,7 +352,7 @@ fn digits(alloc: Global, bytes: &[u8]) -> Result<String, AllocError> {
 }
 
 /// The items of a plan's run that are transfers, in the words of their lines.
-pub(super) fn items_told(alloc: Global, plan: &str) -> Result<String, Fail> {
+fn items_told(alloc: Global, plan: &str) -> Result<String, Fail> {
     let plan = read_plan(alloc, plan)?;
     let report = run(alloc, &plan)?;
     let mut told = String::new(alloc);
@@ -526,14 +362,19 @@ pub(super) fn items_told(alloc: Global, plan: &str) -> Result<String, Fail> {
     Ok(told)
 }
 
-#[test]
-fn transfers_are_told(rt: HostRuntime) -> Result<(), Fail> {
-    for row in &ROWS {
-        let plan = format!(in rt.alloc(); "{HEAD}{}", row.events)?;
-        let lines = lines_told(rt.alloc(), plan.as_str())?;
+/// Compares the lines and the items that are reported of each row.
+pub(super) fn check(rt: &impl Abort, alloc: Global, rows: &[Told]) -> Result<(), Fail> {
+    for row in rows {
+        let plan = row.plan.concat(alloc)?;
+        let lines = lines_told(alloc, plan.as_str())?;
         assert_eq!(rt; lines.as_str(), row.told, "lines: {}", row.name);
-        let items = items_told(rt.alloc(), plan.as_str())?;
+        let items = items_told(alloc, plan.as_str())?;
         assert_eq!(rt; items.as_str(), row.told, "items: {}", row.name);
     }
     Ok(())
+}
+
+#[test]
+fn transfers_are_told(rt: HostRuntime) -> Result<(), Fail> {
+    check(&rt, rt.alloc(), &ROWS)
 }

@@ -1,7 +1,8 @@
 //! Writers that take little, and fail: what went out of each row, and the fault that is reported.
 use super::frail::{Frail, Trouble};
-use super::rows::{ONE_FUNCTION, ROWS, Row};
-use std::alloc::Global;
+use super::rows::{ONE_FUNCTION, ROWS, Row, Texts};
+use std::alloc::{AllocError, Global};
+use std::test::Fail;
 use usb_bus::Watched;
 use usb_run::{Mode, RunFault};
 use usb_serve::{ServeFault, serve};
@@ -51,10 +52,10 @@ struct Outcome {
     is_front: bool,
 }
 
-pub(super) fn text_of(row: &Row, mode: Mode) -> &'static str {
+pub(super) fn text_of(row: &Texts, mode: Mode) -> &str {
     match mode {
-        Mode::Run => row.run,
-        Mode::Tree => row.tree,
+        Mode::Run => row.run.as_str(),
+        Mode::Tree => row.tree.as_str(),
     }
 }
 
@@ -71,7 +72,7 @@ fn pieces(at_once: usize, bytes: &[u8]) -> usize {
 }
 
 /// What is served to a writer of this manner, with its trouble after n calls.
-fn served(alloc: Global, row: &Row, mode: Mode, manner: Manner, turn: usize) -> Outcome {
+fn served(alloc: Global, row: &Texts, mode: Mode, manner: Manner, turn: usize) -> Outcome {
     let writer = Frail {
         taken: Vec::new(alloc),
         at_once: manner.at_once,
@@ -94,7 +95,7 @@ fn served(alloc: Global, row: &Row, mode: Mode, manner: Manner, turn: usize) -> 
 
 /// The fault of a writer that failed at this byte or line of a row's text: of a line of report where the tree has that
 /// line too, else of a line of trace.
-fn fault_at(row: &Row, mode: Mode, at_once: usize, turn: usize) -> ServeFault {
+fn fault_at(row: &Texts, mode: Mode, at_once: usize, turn: usize) -> ServeFault {
     let text = text_of(row, mode);
     let number = if at_once == 1 {
         line_ends(text.as_bytes().get(..turn).unwrap_or(b""))
@@ -105,7 +106,7 @@ fn fault_at(row: &Row, mode: Mode, at_once: usize, turn: usize) -> ServeFault {
 }
 
 /// The fault of a writer that failed in line n + 1 of a row's text, or after the last.
-pub(super) fn fault_in_line(row: &Row, mode: Mode, lines: usize) -> ServeFault {
+pub(super) fn fault_in_line(row: &Texts, mode: Mode, lines: usize) -> ServeFault {
     match text_of(row, mode).lines().nth(lines) {
         Some(line) if !row.tree.lines().any(|other| other == line) => {
             ServeFault::Run(RunFault::TraceFailed)
@@ -115,7 +116,7 @@ pub(super) fn fault_in_line(row: &Row, mode: Mode, lines: usize) -> ServeFault {
 }
 
 /// What is expected of it.
-fn wanted(row: &Row, mode: Mode, manner: Manner, turn: usize) -> Outcome {
+fn wanted(row: &Texts, mode: Mode, manner: Manner, turn: usize) -> Outcome {
     let all = pieces(manner.at_once, text_of(row, mode).as_bytes());
     let is_whole = turn == all || matches!(manner.trouble, Trouble::TakesOne);
     let again = usize::from(turn < all);
@@ -133,7 +134,7 @@ fn wanted(row: &Row, mode: Mode, manner: Manner, turn: usize) -> Outcome {
 }
 
 /// The first turn of the trouble at which something else becomes of a row.
-fn first_other_turn(alloc: Global, row: &Row, mode: Mode, manner: Manner) -> Option<usize> {
+fn first_other_turn(alloc: Global, row: &Texts, mode: Mode, manner: Manner) -> Option<usize> {
     for turn in 0..=pieces(manner.at_once, text_of(row, mode).as_bytes()) {
         if served(alloc, row, mode, manner, turn) != wanted(row, mode, manner, turn) {
             return Some(turn);
@@ -146,26 +147,28 @@ fn first_other_turn(alloc: Global, row: &Row, mode: Mode, manner: Manner) -> Opt
 fn first_other(
     alloc: Global,
     manner: Manner,
-) -> Option<(&'static str, Option<usize>, Option<usize>)> {
+) -> Result<Option<(&'static str, Option<usize>, Option<usize>)>, AllocError> {
     for row in manner.rows {
-        let run = first_other_turn(alloc, row, Mode::Run, manner);
-        let tree = first_other_turn(alloc, row, Mode::Tree, manner);
+        let texts = row.texts(alloc)?;
+        let run = first_other_turn(alloc, &texts, Mode::Run, manner);
+        let tree = first_other_turn(alloc, &texts, Mode::Tree, manner);
         if run.is_some() || tree.is_some() {
-            return Some((row.name, run, tree));
+            return Ok(Some((row.name, run, tree)));
         }
     }
-    None
+    Ok(None)
 }
 
 #[test]
-fn each_write_has_trouble_in_turn(rt: HostRuntime) {
+fn each_write_has_trouble_in_turn(rt: HostRuntime) -> Result<(), Fail> {
     for manner in MANNERS {
         assert_eq!(rt;
-            first_other(rt.alloc(), manner),
+            first_other(rt.alloc(), manner)?,
             None,
             "{} at once, {:?}",
             manner.at_once,
             manner.trouble
         );
     }
+    Ok(())
 }

@@ -10,264 +10,163 @@ use usb_packet::Speed::Full;
 use usb_sim::{Damage, Harm, SimBus, Tracer};
 use usb_testbus::{plugged, trace_of};
 
+/// An attempt, its packet, and what happens to that.
+type Hit = (u64, u8, Harm);
+
+fn damage_of((attempt, packet, harm): Hit) -> Damage {
+    Damage {
+        attempt,
+        packet,
+        harm,
+    }
+}
+
 /// The damage to a packet of one of the attempts SETUP, IN and OUT, and what that attempt reports and its line.
 #[derive(Clone, Copy)]
 struct Damaged {
-    damage: Damage,
+    damage: Hit,
     told: &'static str,
     line: &'static str,
 }
 
 const DAMAGES: &[Damaged] = &[
     Damaged {
-        damage: Damage {
-            attempt: 1,
-            packet: 1,
-            harm: Harm::LosePre,
-        },
+        damage: (1, 1, Harm::LosePre),
         told: "ack",
         line: "1 SETUP 0.0 / DATA0 8006000100000800 / ACK",
     },
     Damaged {
-        damage: Damage {
-            attempt: 1,
-            packet: 1,
-            harm: Harm::Lose,
-        },
+        damage: (1, 1, Harm::Lose),
         told: "none",
         line: "1 SETUP 0.0 [lost] / DATA0 8006000100000800 / none",
     },
     Damaged {
-        damage: Damage {
-            attempt: 1,
-            packet: 1,
-            harm: Harm::Flip(7),
-        },
+        damage: (1, 1, Harm::Flip(7)),
         told: "none",
         line: "1 SETUP 0.0 [bit 7] / DATA0 8006000100000800 / none",
     },
     Damaged {
-        damage: Damage {
-            attempt: 1,
-            packet: 1,
-            harm: Harm::Flip(24),
-        },
+        damage: (1, 1, Harm::Flip(24)),
         told: "ack",
         line: "1 SETUP 0.0 / DATA0 8006000100000800 / ACK",
     },
     Damaged {
-        damage: Damage {
-            attempt: 1,
-            packet: 2,
-            harm: Harm::Lose,
-        },
+        damage: (1, 2, Harm::Lose),
         told: "none",
         line: "1 SETUP 0.0 / DATA0 8006000100000800 [lost] / none",
     },
     Damaged {
-        damage: Damage {
-            attempt: 1,
-            packet: 2,
-            harm: Harm::Flip(7),
-        },
+        damage: (1, 2, Harm::Flip(7)),
         told: "none",
         line: "1 SETUP 0.0 / DATA0 8006000100000800 [bit 7] / none",
     },
     Damaged {
-        damage: Damage {
-            attempt: 1,
-            packet: 2,
-            harm: Harm::Flip(88),
-        },
+        damage: (1, 2, Harm::Flip(88)),
         told: "ack",
         line: "1 SETUP 0.0 / DATA0 8006000100000800 / ACK",
     },
     Damaged {
-        damage: Damage {
-            attempt: 1,
-            packet: 3,
-            harm: Harm::Lose,
-        },
+        damage: (1, 3, Harm::Lose),
         told: "none",
         line: "1 SETUP 0.0 / DATA0 8006000100000800 / ACK [lost]",
     },
     Damaged {
-        damage: Damage {
-            attempt: 1,
-            packet: 3,
-            harm: Harm::Flip(7),
-        },
+        damage: (1, 3, Harm::Flip(7)),
         told: "none",
         line: "1 SETUP 0.0 / DATA0 8006000100000800 / ACK [bit 7]",
     },
     Damaged {
-        damage: Damage {
-            attempt: 1,
-            packet: 3,
-            harm: Harm::Flip(8),
-        },
+        damage: (1, 3, Harm::Flip(8)),
         told: "ack",
         line: "1 SETUP 0.0 / DATA0 8006000100000800 / ACK",
     },
     Damaged {
-        damage: Damage {
-            attempt: 2,
-            packet: 1,
-            harm: Harm::Lose,
-        },
+        damage: (2, 1, Harm::Lose),
         told: "none",
         line: "2 IN 0.0 [lost] / none",
     },
     Damaged {
-        damage: Damage {
-            attempt: 2,
-            packet: 1,
-            harm: Harm::Flip(7),
-        },
+        damage: (2, 1, Harm::Flip(7)),
         told: "none",
         line: "2 IN 0.0 [bit 7] / none",
     },
     Damaged {
-        damage: Damage {
-            attempt: 2,
-            packet: 1,
-            harm: Harm::Flip(24),
-        },
+        damage: (2, 1, Harm::Flip(24)),
         told: "data",
         line: "2 IN 0.0 / DATA1 1201000200000040 / ACK",
     },
     Damaged {
-        damage: Damage {
-            attempt: 2,
-            packet: 2,
-            harm: Harm::Lose,
-        },
+        damage: (2, 2, Harm::Lose),
         told: "none",
         line: "2 IN 0.0 / DATA1 1201000200000040 [lost]",
     },
     Damaged {
-        damage: Damage {
-            attempt: 2,
-            packet: 2,
-            harm: Harm::Flip(7),
-        },
+        damage: (2, 2, Harm::Flip(7)),
         told: "none",
         line: "2 IN 0.0 / DATA1 1201000200000040 [bit 7]",
     },
     Damaged {
-        damage: Damage {
-            attempt: 2,
-            packet: 2,
-            harm: Harm::Flip(88),
-        },
+        damage: (2, 2, Harm::Flip(88)),
         told: "data",
         line: "2 IN 0.0 / DATA1 1201000200000040 / ACK",
     },
     Damaged {
-        damage: Damage {
-            attempt: 2,
-            packet: 3,
-            harm: Harm::Lose,
-        },
+        damage: (2, 3, Harm::Lose),
         told: "data",
         line: "2 IN 0.0 / DATA1 1201000200000040 / ACK [lost]",
     },
     Damaged {
-        damage: Damage {
-            attempt: 2,
-            packet: 3,
-            harm: Harm::Flip(7),
-        },
+        damage: (2, 3, Harm::Flip(7)),
         told: "data",
         line: "2 IN 0.0 / DATA1 1201000200000040 / ACK [bit 7]",
     },
     Damaged {
-        damage: Damage {
-            attempt: 2,
-            packet: 3,
-            harm: Harm::Flip(8),
-        },
+        damage: (2, 3, Harm::Flip(8)),
         told: "data",
         line: "2 IN 0.0 / DATA1 1201000200000040 / ACK",
     },
     Damaged {
-        damage: Damage {
-            attempt: 3,
-            packet: 1,
-            harm: Harm::Lose,
-        },
+        damage: (3, 1, Harm::Lose),
         told: "none",
         line: "3 OUT 0.0 [lost] / DATA1 - / none",
     },
     Damaged {
-        damage: Damage {
-            attempt: 3,
-            packet: 1,
-            harm: Harm::Flip(7),
-        },
+        damage: (3, 1, Harm::Flip(7)),
         told: "none",
         line: "3 OUT 0.0 [bit 7] / DATA1 - / none",
     },
     Damaged {
-        damage: Damage {
-            attempt: 3,
-            packet: 1,
-            harm: Harm::Flip(24),
-        },
+        damage: (3, 1, Harm::Flip(24)),
         told: "ack",
         line: "3 OUT 0.0 / DATA1 - / ACK",
     },
     Damaged {
-        damage: Damage {
-            attempt: 3,
-            packet: 2,
-            harm: Harm::Lose,
-        },
+        damage: (3, 2, Harm::Lose),
         told: "none",
         line: "3 OUT 0.0 / DATA1 - [lost] / none",
     },
     Damaged {
-        damage: Damage {
-            attempt: 3,
-            packet: 2,
-            harm: Harm::Flip(7),
-        },
+        damage: (3, 2, Harm::Flip(7)),
         told: "none",
         line: "3 OUT 0.0 / DATA1 - [bit 7] / none",
     },
     Damaged {
-        damage: Damage {
-            attempt: 3,
-            packet: 2,
-            harm: Harm::Flip(24),
-        },
+        damage: (3, 2, Harm::Flip(24)),
         told: "ack",
         line: "3 OUT 0.0 / DATA1 - / ACK",
     },
     Damaged {
-        damage: Damage {
-            attempt: 3,
-            packet: 3,
-            harm: Harm::Lose,
-        },
+        damage: (3, 3, Harm::Lose),
         told: "none",
         line: "3 OUT 0.0 / DATA1 - / ACK [lost]",
     },
     Damaged {
-        damage: Damage {
-            attempt: 3,
-            packet: 3,
-            harm: Harm::Flip(7),
-        },
+        damage: (3, 3, Harm::Flip(7)),
         told: "none",
         line: "3 OUT 0.0 / DATA1 - / ACK [bit 7]",
     },
     Damaged {
-        damage: Damage {
-            attempt: 3,
-            packet: 3,
-            harm: Harm::Flip(8),
-        },
+        damage: (3, 3, Harm::Flip(8)),
         told: "ack",
         line: "3 OUT 0.0 / DATA1 - / ACK",
     },
@@ -315,7 +214,7 @@ fn each_packet_is_damaged(rt: HostRuntime) -> Result<(), Fail> {
     for row in DAMAGES {
         let wanted = joined(alloc, &[row.told, ": ", row.line])?;
         assert_eq!(rt;
-            damaged_told(alloc, row.damage)?.as_str(),
+            damaged_told(alloc, damage_of(row.damage))?.as_str(),
             wanted.as_str(),
             "{}",
             row.line
@@ -327,9 +226,8 @@ fn each_packet_is_damaged(rt: HostRuntime) -> Result<(), Fail> {
 /// The damage to a packet of SET_ADDRESS, what its two attempts report, and what is counted and registered then.
 #[derive(Clone, Copy)]
 struct Lost {
-    damage: Damage,
-    setup: &'static str,
-    status: &'static str,
+    damage: Hit,
+    answers: (&'static str, &'static str),
     counts: &'static str,
     registers: &'static str,
 }
@@ -341,68 +239,38 @@ const ONCE: &str = "attempts 2, events 1 of 1, losses 1, worst 1";
 /// An address is lost only if the device gave the status stage and did not see the ACK.
 const LOSSES: &[Lost] = &[
     Lost {
-        damage: Damage {
-            attempt: 2,
-            packet: 3,
-            harm: Harm::Lose,
-        },
-        setup: "ack",
-        status: "data",
+        damage: (2, 3, Harm::Lose),
+        answers: ("ack", "data"),
         counts: ONCE,
         registers: "Some((0, 0))",
     },
     Lost {
-        damage: Damage {
-            attempt: 2,
-            packet: 3,
-            harm: Harm::Flip(0),
-        },
-        setup: "ack",
-        status: "data",
+        damage: (2, 3, Harm::Flip(0)),
+        answers: ("ack", "data"),
         counts: ONCE,
         registers: "Some((0, 0))",
     },
     Lost {
-        damage: Damage {
-            attempt: 2,
-            packet: 3,
-            harm: Harm::Flip(8),
-        },
-        setup: "ack",
-        status: "data",
+        damage: (2, 3, Harm::Flip(8)),
+        answers: ("ack", "data"),
         counts: NEVER,
         registers: "Some((5, 0))",
     },
     Lost {
-        damage: Damage {
-            attempt: 2,
-            packet: 2,
-            harm: Harm::Lose,
-        },
-        setup: "ack",
-        status: "none",
+        damage: (2, 2, Harm::Lose),
+        answers: ("ack", "none"),
         counts: NEVER,
         registers: "Some((0, 0))",
     },
     Lost {
-        damage: Damage {
-            attempt: 2,
-            packet: 1,
-            harm: Harm::Lose,
-        },
-        setup: "ack",
-        status: "none",
+        damage: (2, 1, Harm::Lose),
+        answers: ("ack", "none"),
         counts: NEVER,
         registers: "Some((0, 0))",
     },
     Lost {
-        damage: Damage {
-            attempt: 1,
-            packet: 3,
-            harm: Harm::Lose,
-        },
-        setup: "none",
-        status: "data",
+        damage: (1, 3, Harm::Lose),
+        answers: ("none", "data"),
         counts: NEVER,
         registers: "Some((5, 0))",
     },
@@ -410,11 +278,12 @@ const LOSSES: &[Lost] = &[
 
 /// What the attempts of a row reported otherwise than expected.
 fn lost_otherwise(alloc: Global, row: &Lost) -> Result<String, Fail> {
-    let text = plan_text(alloc, ONE_FUNCTION, &[row.damage])?;
+    let text = plan_text(alloc, ONE_FUNCTION, &[damage_of(row.damage)])?;
+    let (setup, status) = row.answers;
     let opening = [(Step::Event, "changed"), (Step::Reset(1), "")];
     let steps = [
-        (Step::Setup(Full, 0, SET_ADDRESS_5), row.setup),
-        (Step::In(Full, 0), row.status),
+        (Step::Setup(Full, 0, SET_ADDRESS_5), setup),
+        (Step::In(Full, 0), status),
         (Step::Counts, row.counts),
         (Step::Registers("1"), row.registers),
     ];

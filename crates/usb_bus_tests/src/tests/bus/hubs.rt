@@ -1,7 +1,7 @@
 //! Devices below a hub.
 
 use super::plans::{GET_DEVICE, HUB, SET_ADDRESS_1, SET_ADDRESS_5, SET_CONFIGURATION};
-use super::row::{Row, Told, joined, plan_text, row_went, went, went_otherwise};
+use super::row::{Row, Told, check, joined, plan_text, went, went_otherwise};
 use super::step::Step;
 use std::alloc::Global;
 use std::test::Fail;
@@ -228,24 +228,14 @@ unplug 1
 
 #[test]
 fn buses_of_a_hub(rt: HostRuntime) -> Result<(), Fail> {
-    let alloc = rt.alloc();
-    for row in ROWS {
-        let trace = joined(alloc, row.trace)?;
-        assert_eq!(rt;
-            row_went(alloc, row)?.as_str(),
-            trace.as_str(),
-            "{}",
-            row.about
-        );
-    }
-    Ok(())
+    check(&rt, rt.alloc(), ROWS)
 }
 
 /// What happens to the ACK at which a function below the hub is to take address 5, its part of the line, what is
 /// counted, and the address then.
 #[derive(Clone, Copy)]
 struct LostAck {
-    damage: Damage,
+    harm: Harm,
     ack: &'static str,
     counts: &'static str,
     registers: &'static str,
@@ -256,51 +246,31 @@ const SET_ADDRESS_TRACE: &str = "9 PRE SETUP 0.0 / PRE DATA0 0005050000000000 / 
 
 const LOST_ACKS: &[LostAck] = &[
     LostAck {
-        damage: Damage {
-            attempt: 10,
-            packet: 3,
-            harm: Harm::Lose,
-        },
+        harm: Harm::Lose,
         ack: "PRE ACK [lost]",
         counts: "attempts 10, events 2 of 4, losses 1, worst 1",
         registers: "Some((0, 0))",
     },
     LostAck {
-        damage: Damage {
-            attempt: 10,
-            packet: 3,
-            harm: Harm::Flip(0),
-        },
+        harm: Harm::Flip(0),
         ack: "PRE ACK [bit 0]",
         counts: "attempts 10, events 2 of 4, losses 1, worst 1",
         registers: "Some((0, 0))",
     },
     LostAck {
-        damage: Damage {
-            attempt: 10,
-            packet: 3,
-            harm: Harm::Flip(7),
-        },
+        harm: Harm::Flip(7),
         ack: "PRE ACK [bit 7]",
         counts: "attempts 10, events 2 of 4, losses 1, worst 1",
         registers: "Some((0, 0))",
     },
     LostAck {
-        damage: Damage {
-            attempt: 10,
-            packet: 3,
-            harm: Harm::LosePre,
-        },
+        harm: Harm::LosePre,
         ack: "PRE ACK [pre lost]",
         counts: "attempts 10, events 2 of 4, losses 1, worst 1",
         registers: "Some((0, 0))",
     },
     LostAck {
-        damage: Damage {
-            attempt: 10,
-            packet: 3,
-            harm: Harm::Flip(8),
-        },
+        harm: Harm::Flip(8),
         ack: "PRE ACK",
         counts: "attempts 10, events 2 of 4, losses 0, worst 0",
         registers: "Some((5, 0))",
@@ -314,7 +284,12 @@ fn lost_ack(alloc: Global, row: &LostAck) -> Result<String, Fail> {
         (Step::Counts, row.counts),
         (Step::Registers("1.1"), row.registers),
     ];
-    went(alloc, HUB, &[row.damage], OPENED, &steps)
+    let damage = Damage {
+        attempt: 10,
+        packet: 3,
+        harm: row.harm,
+    };
+    went(alloc, HUB, &[damage], OPENED, &steps)
 }
 
 #[test]

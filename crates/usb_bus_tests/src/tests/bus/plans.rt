@@ -1,19 +1,11 @@
 //! The tables of plans, and requests to what they plug.
+use crate::tests::devices::{FUNCTION, HUB2, LOW, PLUG_FUNCTION, PLUG_HUB2};
 
 /// So many attempts at most, and one root port.
 pub(super) const ONE_PORT: &str = "limit = 10000\nroots = 1\n";
 
 /// The same with two root ports.
 pub(super) const TWO_PORTS: &str = "limit = 16\nroots = 2\n";
-
-/// A full-speed function with one configuration.
-pub(super) const FUNCTION: &str = r#"
-[[device]]
-name = "fn"
-speed = "full"
-descriptor = "120100020000004034127856000100000001"
-configs = ["0902120001010080320904000000FF000000"]
-"#;
 
 /// A function whose bulk OUT endpoint is endpoint 2.
 pub(super) const BULK: &str = r#"
@@ -24,39 +16,9 @@ descriptor = "120100020000004034127856000100000001"
 configs = ["0902200001010080320904000002FF0000000705020208000007058202080000"]
 "#;
 
-/// A self-powered hub with two ports, and a low-speed function.
-pub(super) const HUB_AND_LOW: &str = r#"
-[[device]]
-name = "hub2"
-speed = "full"
-descriptor = "120100020900004001000200000100000001"
-configs = ["09021900010100C000090400000109000000070581030100FF"]
-ports = 2
-self_powered = true
-
-[[device]]
-name = "low"
-speed = "low"
-descriptor = "120110010000000834120100000100000001"
-configs = ["0902120001010080320904000000FF000000"]
-"#;
-
-/// The function is plugged at root port 1.
-pub(super) const PLUG: &str = r#"
-[[event]]
-do = "plug"
-path = "1"
-device = "fn"
-"#;
-
-/// The hub is plugged at the root port, and a low-speed function at its port 1. Much later a second one is plugged at
+/// A low-speed function is plugged at port 1 of the hub. Much later a second one is plugged at
 /// its port 2, and then the hub is unplugged.
 pub(super) const HUB_EVENTS: &str = r#"
-[[event]]
-do = "plug"
-path = "1"
-device = "hub2"
-
 [[event]]
 do = "plug"
 path = "1.1"
@@ -75,10 +37,10 @@ after = 1000
 "#;
 
 /// The function is plugged at root port 1, the only one.
-pub(super) const ONE_FUNCTION: &[&str] = &[ONE_PORT, FUNCTION, PLUG];
+pub(super) const ONE_FUNCTION: &[&str] = &[ONE_PORT, FUNCTION, PLUG_FUNCTION];
 
 /// The hub and the low-speed functions.
-pub(super) const HUB: &[&str] = &[ONE_PORT, HUB_AND_LOW, HUB_EVENTS];
+pub(super) const HUB: &[&str] = &[ONE_PORT, HUB2, LOW, PLUG_HUB2, HUB_EVENTS];
 
 /// The first 8 bytes of the device descriptor.
 pub(super) const GET_DEVICE: [u8; 8] = [0x80, 6, 0, 1, 0, 0, 8, 0];

@@ -1,11 +1,12 @@
 //! Functions at root ports.
 
 use super::plans::{
-    FUNCTION, GET_DEVICE, ONE_FUNCTION, ONE_PORT, PLUG, SET_ADDRESS_1, SET_CONFIGURATION, TWO_PORTS,
+    GET_DEVICE, ONE_FUNCTION, ONE_PORT, SET_ADDRESS_1, SET_CONFIGURATION, TWO_PORTS,
 };
-use super::row::{Row, Told, joined, row_went};
+use super::row::{Row, Told, check};
 use super::step::Step;
-use std::alloc::Global;
+use crate::tests::devices::{FUNCTION, PLUG_FUNCTION};
+use crate::tests::traces::{ADDRESSED, CONFIGURED, DESCRIBED, HEAD_ASKED, HEAD_GIVEN};
 use std::test::Fail;
 use usb_packet::Speed::{Full, LowBelowHub};
 use usb_sim::{Damage, Harm};
@@ -24,25 +25,14 @@ pub(super) const ENUMERATION: &[Told<'static>] = &[
 ];
 
 /// The trace of the enumeration.
-pub(super) const ENUMERATION_TRACE: &str = "plug 1 fn
-1 SETUP 0.0 / DATA0 8006000100000800 / ACK
-2 IN 0.0 / DATA1 1201000200000040 / ACK
-3 OUT 0.0 / DATA1 - / ACK
-4 SETUP 0.0 / DATA0 0005010000000000 / ACK
-5 IN 0.0 / DATA1 - / ACK
-6 SETUP 1.0 / DATA0 8006000100001200 / ACK
-7 IN 1.0 / DATA1 120100020000004034127856000100000001 / ACK
-8 OUT 1.0 / DATA1 - / ACK
-9 SETUP 1.0 / DATA0 8006000200000900 / ACK
-10 IN 1.0 / DATA1 090212000101008032 / ACK
-11 OUT 1.0 / DATA1 - / ACK
-12 SETUP 1.0 / DATA0 8006000200001200 / ACK
-13 IN 1.0 / DATA1 0902120001010080320904000000FF000000 / ACK
-14 OUT 1.0 / DATA1 - / ACK
-15 SETUP 1.0 / DATA0 0009010000000000 / ACK
-16 IN 1.0 / DATA1 - / ACK
-listing 1
-";
+pub(super) const ENUMERATION_TRACE: &[&str] = &[
+    HEAD_ASKED,
+    HEAD_GIVEN,
+    ADDRESSED,
+    DESCRIBED,
+    CONFIGURED,
+    "listing 1\n",
+];
 
 /// What the bus is once the function is enumerated.
 const ENUMERATED: &[Told<'static>] = &[
@@ -56,28 +46,17 @@ const ENUMERATED: &[Told<'static>] = &[
     (Step::Status(1), "[3, 1, 0, 0]"),
 ];
 
-/// The function is plugged at port 1 after two attempts, and at port 2 one attempt later.
-const PLUGS_LATER: &str = r#"
+/// The function is plugged at port 1 after two attempts.
+const PLUG_LATER: &str = r#"
 [[event]]
 do = "plug"
 path = "1"
 device = "fn"
 after = 2
-
-[[event]]
-do = "plug"
-path = "2"
-device = "fn"
-after = 1
 "#;
 
-/// The function is plugged at port 1 at once, and at port 2 one attempt later.
-const PLUGS: &str = r#"
-[[event]]
-do = "plug"
-path = "1"
-device = "fn"
-
+/// The function is plugged at port 2 one attempt after the last event.
+const PLUG_BESIDE: &str = r#"
 [[event]]
 do = "plug"
 path = "2"
@@ -129,7 +108,7 @@ const ROWS: &[Row] = &[
         damages: &[],
         opening: ENUMERATION,
         steps: ENUMERATED,
-        trace: &[ENUMERATION_TRACE],
+        trace: ENUMERATION_TRACE,
     },
     Row {
         about: "the limit stays",
@@ -150,7 +129,7 @@ const ROWS: &[Row] = &[
     },
     Row {
         about: "the second event waits for one attempt after the first one came",
-        plan: &[TWO_PORTS, FUNCTION, PLUGS_LATER],
+        plan: &[TWO_PORTS, FUNCTION, PLUG_LATER, PLUG_BESIDE],
         damages: &[],
         opening: &[],
         steps: &[
@@ -174,7 +153,7 @@ plug 2 fn
     },
     Row {
         about: "two devices at address 0 answer at once where both ports are enabled; too much data is no answer",
-        plan: &[TWO_PORTS, FUNCTION, PLUGS],
+        plan: &[TWO_PORTS, FUNCTION, PLUG_FUNCTION, PLUG_BESIDE],
         damages: &[],
         opening: &[],
         steps: &[
@@ -200,7 +179,7 @@ plug 2 fn
     },
     Row {
         about: "what the host is asked to do waits for it, and so does all that comes behind",
-        plan: &[ONE_PORT, FUNCTION, PLUG, ASKED],
+        plan: &[ONE_PORT, FUNCTION, PLUG_FUNCTION, ASKED],
         damages: &[],
         opening: &[],
         steps: &[
@@ -246,15 +225,5 @@ unplug 1
 
 #[test]
 fn buses_of_functions(rt: HostRuntime) -> Result<(), Fail> {
-    let alloc = rt.alloc();
-    for row in ROWS {
-        let trace = joined(alloc, row.trace)?;
-        assert_eq!(rt;
-            row_went(alloc, row)?.as_str(),
-            trace.as_str(),
-            "{}",
-            row.about
-        );
-    }
-    Ok(())
+    check(&rt, rt.alloc(), ROWS)
 }

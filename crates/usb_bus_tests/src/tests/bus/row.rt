@@ -2,6 +2,7 @@
 
 use super::step::{Step, told};
 use std::alloc::{AllocError, Global};
+use std::process::Abort;
 use std::str;
 use std::test::Fail;
 use usb_sim::{Damage, Harm, SimBus, Trace};
@@ -23,8 +24,22 @@ pub(super) struct Row {
     pub(super) trace: &'static [&'static str],
 }
 
+/// Compares what each row went like with its trace.
+pub(super) fn check(rt: &impl Abort, alloc: Global, rows: &[Row]) -> Result<(), Fail> {
+    for row in rows {
+        let trace = joined(alloc, row.trace)?;
+        assert_eq!(rt;
+            row_went(alloc, row)?.as_str(),
+            trace.as_str(),
+            "{}",
+            row.about
+        );
+    }
+    Ok(())
+}
+
 /// What the row went like, to be compared with its trace.
-pub(super) fn row_went(alloc: Global, row: &Row) -> Result<String, Fail> {
+fn row_went(alloc: Global, row: &Row) -> Result<String, Fail> {
     went(alloc, row.plan, row.damages, row.opening, row.steps)
 }
 

@@ -139,6 +139,7 @@ fn enumeration<T: Trace>(alloc: Global, bus: &mut SimBus<T>) -> Result<Course, A
 
 fn enumerated(alloc: Global, writes: u64) -> Result<Ended, Fail> {
     let text = joined(alloc, ONE_FUNCTION)?;
+    let trace = joined(alloc, ENUMERATION_TRACE)?;
     let mut bus = bus_on(alloc, text.as_str(), frail(alloc, writes))?;
     let course = enumeration(alloc, &mut bus);
     let writer = bus.into_writer();
@@ -150,7 +151,7 @@ fn enumerated(alloc: Global, writes: u64) -> Result<Ended, Fail> {
         is_cut: matches!(course, Course::Cut),
         is_marked,
         taken: taken.len(),
-        is_front: ENUMERATION_TRACE.as_bytes().starts_with(taken.as_slice()),
+        is_front: trace.as_bytes().starts_with(taken.as_slice()),
     })
 }
 
@@ -186,7 +187,8 @@ fn writes_of_enumeration(alloc: Global) -> Result<u64, Fail> {
 
 #[test]
 fn each_line_is_one_write(rt: HostRuntime) -> Result<(), Fail> {
-    let lines = ENUMERATION_TRACE.lines().count() as u64;
+    let trace = joined(rt.alloc(), ENUMERATION_TRACE)?;
+    let lines = trace.lines().count() as u64;
     assert_eq!(rt; writes_of_enumeration(rt.alloc())?, lines);
     Ok(())
 }

@@ -27,16 +27,43 @@ enum Call {
 
 use Call::{ClearIn, ClearInAnyway, ClearOut, Poll, Receive, Send};
 
-/// A device, what else its plan says of it, an endpoint and its maximum, the limit and the damaged packets; the calls
+/// A device, the number of an endpoint, and the most bytes of its packets.
+#[derive(Clone, Copy)]
+struct Place {
+    device: &'static [&'static str],
+    endpoint: u8,
+    most: u8,
+}
+
+/// The bulk endpoints with packets of 64 bytes.
+const WIDE: Place = Place {
+    device: BULK,
+    endpoint: 2,
+    most: 64,
+};
+
+/// Those with packets of 8 bytes.
+const NARROW: Place = Place {
+    device: SMALL_BULK,
+    endpoint: 2,
+    most: 8,
+};
+
+/// An endpoint that is not there.
+const ABSENT: Place = Place {
+    device: BULK,
+    endpoint: 3,
+    most: 64,
+};
+
+/// A place, what else the plan says of its device, the limit and the damaged packets; the calls
 /// with their answers, how many attempts are made in all, and the trace without its NAKs after the 16 attempts that
 /// made the device ready.
 #[derive(Clone, Copy)]
 struct Row {
     name: &'static str,
-    device: &'static str,
+    at: Place,
     quirk: &'static str,
-    endpoint: u8,
-    most: u8,
     limit: u64,
     hits: &'static [Hit],
     calls: &'static [Call],
@@ -48,10 +75,8 @@ struct Row {
 const ROWS: [Row; 18] = [
     Row {
         name: "130 bytes",
-        device: BULK,
+        at: WIDE,
         quirk: "",
-        endpoint: 2,
-        most: 64,
         limit: 10_000,
         hits: &[],
         calls: &[Send(130)],
@@ -64,10 +89,8 @@ const ROWS: [Row; 18] = [
     },
     Row {
         name: "two ACKs are lost",
-        device: BULK,
+        at: WIDE,
         quirk: "",
-        endpoint: 2,
-        most: 64,
         limit: 10_000,
         hits: &[Lost(17, 3), Lost(18, 3)],
         calls: &[Send(130)],
@@ -82,10 +105,8 @@ const ROWS: [Row; 18] = [
     },
     Row {
         name: "three ACKs are lost",
-        device: BULK,
+        at: WIDE,
         quirk: "",
-        endpoint: 2,
-        most: 64,
         limit: 10_000,
         hits: &[Lost(17, 3), Lost(18, 3), Lost(19, 3)],
         calls: &[Send(130), Send(130), ClearOut],
@@ -100,10 +121,8 @@ const ROWS: [Row; 18] = [
     },
     Row {
         name: "an endpoint that halts after two packets",
-        device: BULK,
+        at: WIDE,
         quirk: "halt_after = 2\n",
-        endpoint: 2,
-        most: 64,
         limit: 10_000,
         hits: &[],
         calls: &[Send(130), ClearOut, Send(2)],
@@ -119,10 +138,8 @@ const ROWS: [Row; 18] = [
     },
     Row {
         name: "the answers to clearing a halt are lost",
-        device: BULK,
+        at: WIDE,
         quirk: "halt_after = 1\n",
-        endpoint: 2,
-        most: 64,
         limit: 10_000,
         hits: &[Lost(20, 1), Lost(21, 1), Lost(22, 1)],
         calls: &[Send(65), ClearOut, Send(1), ClearOut, Send(1)],
@@ -141,10 +158,8 @@ const ROWS: [Row; 18] = [
     },
     Row {
         name: "no bytes",
-        device: BULK,
+        at: WIDE,
         quirk: "",
-        endpoint: 2,
-        most: 64,
         limit: 10_000,
         hits: &[],
         calls: &[Send(0)],
@@ -154,10 +169,8 @@ const ROWS: [Row; 18] = [
     },
     Row {
         name: "no bytes, and two whole packets",
-        device: SMALL_BULK,
+        at: NARROW,
         quirk: "",
-        endpoint: 2,
-        most: 8,
         limit: 10_000,
         hits: &[],
         calls: &[Send(0), Send(16)],
@@ -169,10 +182,8 @@ const ROWS: [Row; 18] = [
     },
     Row {
         name: "a stalled pipe is used again",
-        device: BULK,
+        at: WIDE,
         quirk: "halt_after = 1\n",
-        endpoint: 2,
-        most: 64,
         limit: 10_000,
         hits: &[],
         calls: &[Send(65), Send(1), Send(0), ClearOut, Send(1), ClearOut],
@@ -188,10 +199,8 @@ const ROWS: [Row; 18] = [
     },
     Row {
         name: "an endpoint that takes nothing",
-        device: BULK,
+        at: ABSENT,
         quirk: "",
-        endpoint: 3,
-        most: 64,
         limit: 10_000,
         hits: &[],
         calls: &[Send(1), ClearOut, Send(0)],
@@ -206,10 +215,8 @@ const ROWS: [Row; 18] = [
     },
     Row {
         name: "a pipe that was broken twice",
-        device: SMALL_BULK,
+        at: NARROW,
         quirk: "",
-        endpoint: 2,
-        most: 8,
         limit: 10_000,
         hits: &[
             Lost(18, 1),
@@ -247,10 +254,8 @@ const ROWS: [Row; 18] = [
     },
     Row {
         name: "a source with one packet",
-        device: BULK,
+        at: WIDE,
         quirk: "",
-        endpoint: 2,
-        most: 64,
         limit: 10_000,
         hits: &[],
         calls: &[Receive(4), Receive(1), Receive(1)],
@@ -261,10 +266,8 @@ const ROWS: [Row; 18] = [
     },
     Row {
         name: "no packets",
-        device: BULK,
+        at: WIDE,
         quirk: "",
-        endpoint: 2,
-        most: 64,
         limit: 10_000,
         hits: &[],
         calls: &[Receive(0)],
@@ -274,10 +277,8 @@ const ROWS: [Row; 18] = [
     },
     Row {
         name: "packets that are damaged and a short one",
-        device: SMALL_BULK,
+        at: NARROW,
         quirk: "",
-        endpoint: 2,
-        most: 8,
         limit: 10_000,
         hits: &[Lost(17, 3), Flipped(19, 2, 7)],
         calls: &[Receive(0), Receive(1), Receive(4), Receive(1)],
@@ -292,10 +293,8 @@ const ROWS: [Row; 18] = [
     },
     Row {
         name: "an endpoint that gives nothing",
-        device: BULK,
+        at: ABSENT,
         quirk: "",
-        endpoint: 3,
-        most: 64,
         limit: 10_000,
         hits: &[],
         calls: &[Receive(1), ClearIn, Receive(0)],
@@ -310,10 +309,8 @@ const ROWS: [Row; 18] = [
     },
     Row {
         name: "a pipe that is cleared twice",
-        device: BULK,
+        at: WIDE,
         quirk: "",
-        endpoint: 2,
-        most: 64,
         limit: 10_000,
         hits: &[],
         calls: &[Receive(1), Receive(1), ClearIn, Receive(0), ClearIn],
@@ -326,10 +323,8 @@ const ROWS: [Row; 18] = [
     },
     Row {
         name: "polls, whatever is lost, and a clear of a pipe that works",
-        device: SMALL_BULK,
+        at: NARROW,
         quirk: "",
-        endpoint: 2,
-        most: 8,
         limit: 10_000,
         hits: &[Lost(17, 3), Lost(20, 1), Lost(21, 1), Lost(22, 1)],
         calls: &[Poll, Poll, Poll, Poll, Poll, ClearInAnyway, Poll],
@@ -348,10 +343,8 @@ const ROWS: [Row; 18] = [
     },
     Row {
         name: "the limit ends a transfer that sends",
-        device: SMALL_BULK,
+        at: NARROW,
         quirk: "",
-        endpoint: 2,
-        most: 8,
         limit: 18,
         hits: &[],
         calls: &[Send(17), Send(1)],
@@ -363,10 +356,8 @@ const ROWS: [Row; 18] = [
     },
     Row {
         name: "the limit ends a transfer that receives",
-        device: SMALL_BULK,
+        at: NARROW,
         quirk: "",
-        endpoint: 2,
-        most: 8,
         limit: 18,
         hits: &[],
         calls: &[Receive(3)],
@@ -443,8 +434,8 @@ fn called<B: Bus>(
 /// The answers of a device that was made ready.
 fn answers<B: Bus>(alloc: Global, bus: &mut B, row: &Row) -> Result<String, Fail> {
     make_ready(alloc, bus, TARGET)?;
-    let mut sink = pipe_to(row.endpoint, row.most, false);
-    let mut source = pipe_to(row.endpoint, row.most, true);
+    let mut sink = pipe_to(row.at.endpoint, row.at.most, false);
+    let mut source = pipe_to(row.at.endpoint, row.at.most, true);
     let mut answers = String::new(alloc);
     'calls: for call in row.calls {
         let answer = called(alloc, bus, &mut sink, &mut source, *call);
@@ -454,7 +445,7 @@ fn answers<B: Bus>(alloc: Global, bus: &mut B, row: &Row) -> Result<String, Fail
 }
 
 fn moved(alloc: Global, row: &Row) -> Result<Told, Fail> {
-    let mut bus = bus_of(alloc, row.limit, row.device, row.quirk, row.hits)?;
+    let mut bus = bus_of(alloc, row.limit, row.at.device, row.quirk, row.hits)?;
     let answers = answers(alloc, &mut bus, row)?;
     told(alloc, answers, bus, 17)
 }

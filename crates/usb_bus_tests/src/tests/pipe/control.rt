@@ -5,6 +5,9 @@ use super::plans::{FUNCTION, Hit, LOW, bus_of};
 use super::ready::{
     LOW_TARGET, TARGET, Told, made_ready, make_ready, target_of, tell, tell_done, told,
 };
+use crate::tests::traces::{
+    ADDRESSED, CONFIGURED, DESCRIBED, HEAD_ASKED, HEAD_GIVEN, LOW_BEGUN, LOW_ENDED,
+};
 use std::alloc::Global;
 use std::test::Fail;
 use usb_pipe::{Bus, Setup, control_in, control_none};
@@ -14,13 +17,14 @@ use usb_pipe::{Bus, Setup, control_in, control_none};
 #[derive(Clone, Copy)]
 struct Row {
     name: &'static str,
-    device: &'static str,
+    device: &'static [&'static str],
     quirk: &'static str,
     low: bool,
     hits: &'static [Hit],
     answer: &'static str,
     attempts: u64,
-    trace: &'static str,
+    /// The parts of it.
+    trace: &'static [&'static str],
 }
 
 /// The device descriptor of the function.
@@ -29,34 +33,11 @@ const DEVICE: &str = "120100020000004034127856000100000001";
 /// The device descriptor of the function at low speed.
 const LOW_DEVICE: &str = "120110010000000834120100000100000001";
 
-const FUNCTION_TRACE: &str = "plug 1 fn
-1 SETUP 0.0 / DATA0 8006000100000800 / ACK
-2 IN 0.0 / DATA1 1201000200000040 / ACK
-3 OUT 0.0 / DATA1 - / ACK
-4 SETUP 0.0 / DATA0 0005010000000000 / ACK
-5 IN 0.0 / DATA1 - / ACK
-6 SETUP 1.0 / DATA0 8006000100001200 / ACK
-7 IN 1.0 / DATA1 120100020000004034127856000100000001 / ACK
-8 OUT 1.0 / DATA1 - / ACK
-9 SETUP 1.0 / DATA0 8006000200000900 / ACK
-10 IN 1.0 / DATA1 090212000101008032 / ACK
-11 OUT 1.0 / DATA1 - / ACK
-12 SETUP 1.0 / DATA0 8006000200001200 / ACK
-13 IN 1.0 / DATA1 0902120001010080320904000000FF000000 / ACK
-14 OUT 1.0 / DATA1 - / ACK
-15 SETUP 1.0 / DATA0 0009010000000000 / ACK
-16 IN 1.0 / DATA1 - / ACK
-";
+const FUNCTION_TRACE: &[&str] = &[HEAD_ASKED, HEAD_GIVEN, ADDRESSED, DESCRIBED, CONFIGURED];
 
-const LOW_ACK_LOST: &str = "plug 1 low
-1 SETUP 0.0 / DATA0 8006000100000800 / ACK
-2 IN 0.0 / DATA1 1201100100000008 / ACK
-3 OUT 0.0 / DATA1 - / ACK
-4 SETUP 0.0 / DATA0 0005010000000000 / ACK
-5 IN 0.0 / DATA1 - / ACK
-6 SETUP 1.0 / DATA0 8006000100001200 / ACK
-7 IN 1.0 / DATA1 1201100100000008 / ACK
-8 IN 1.0 / DATA0 3412010000010000 / ACK [lost]
+const LOW_ACK_LOST: &[&str] = &[
+    LOW_BEGUN,
+    "8 IN 1.0 / DATA0 3412010000010000 / ACK [lost]
 9 IN 1.0 / DATA0 3412010000010000 / ACK
 10 IN 1.0 / DATA1 0001 / ACK
 11 OUT 1.0 / DATA1 - / ACK
@@ -71,57 +52,23 @@ const LOW_ACK_LOST: &str = "plug 1 low
 20 OUT 1.0 / DATA1 - / ACK
 21 SETUP 1.0 / DATA0 0009010000000000 / ACK
 22 IN 1.0 / DATA1 - / ACK
-";
+",
+];
 
-const LOW_LAST_ACK_LOST: &str = "plug 1 low
-1 SETUP 0.0 / DATA0 8006000100000800 / ACK
-2 IN 0.0 / DATA1 1201100100000008 / ACK
-3 OUT 0.0 / DATA1 - / ACK
-4 SETUP 0.0 / DATA0 0005010000000000 / ACK
-5 IN 0.0 / DATA1 - / ACK
-6 SETUP 1.0 / DATA0 8006000100001200 / ACK
-7 IN 1.0 / DATA1 1201100100000008 / ACK
-8 IN 1.0 / DATA0 3412010000010000 / ACK
-9 IN 1.0 / DATA1 0001 / ACK [lost]
-10 OUT 1.0 / DATA1 - / ACK
-11 SETUP 1.0 / DATA0 8006000200000900 / ACK
-12 IN 1.0 / DATA1 0902120001010080 / ACK
-13 IN 1.0 / DATA0 32 / ACK
-14 OUT 1.0 / DATA1 - / ACK
-15 SETUP 1.0 / DATA0 8006000200001200 / ACK
-16 IN 1.0 / DATA1 0902120001010080 / ACK
-17 IN 1.0 / DATA0 320904000000FF00 / ACK
-18 IN 1.0 / DATA1 0000 / ACK
-19 OUT 1.0 / DATA1 - / ACK
-20 SETUP 1.0 / DATA0 0009010000000000 / ACK
-21 IN 1.0 / DATA1 - / ACK
-";
+const LOW_LAST_ACK_LOST: &[&str] = &[
+    LOW_BEGUN,
+    "8 IN 1.0 / DATA0 3412010000010000 / ACK\n9 IN 1.0 / DATA1 0001 / ACK [lost]\n",
+    LOW_ENDED,
+];
 
-const LOW_TRACE: &str = "plug 1 low
-1 SETUP 0.0 / DATA0 8006000100000800 / ACK
-2 IN 0.0 / DATA1 1201100100000008 / ACK
-3 OUT 0.0 / DATA1 - / ACK
-4 SETUP 0.0 / DATA0 0005010000000000 / ACK
-5 IN 0.0 / DATA1 - / ACK
-6 SETUP 1.0 / DATA0 8006000100001200 / ACK
-7 IN 1.0 / DATA1 1201100100000008 / ACK
-8 IN 1.0 / DATA0 3412010000010000 / ACK
-9 IN 1.0 / DATA1 0001 / ACK
-10 OUT 1.0 / DATA1 - / ACK
-11 SETUP 1.0 / DATA0 8006000200000900 / ACK
-12 IN 1.0 / DATA1 0902120001010080 / ACK
-13 IN 1.0 / DATA0 32 / ACK
-14 OUT 1.0 / DATA1 - / ACK
-15 SETUP 1.0 / DATA0 8006000200001200 / ACK
-16 IN 1.0 / DATA1 0902120001010080 / ACK
-17 IN 1.0 / DATA0 320904000000FF00 / ACK
-18 IN 1.0 / DATA1 0000 / ACK
-19 OUT 1.0 / DATA1 - / ACK
-20 SETUP 1.0 / DATA0 0009010000000000 / ACK
-21 IN 1.0 / DATA1 - / ACK
-";
+const LOW_TRACE: &[&str] = &[
+    LOW_BEGUN,
+    "8 IN 1.0 / DATA0 3412010000010000 / ACK\n9 IN 1.0 / DATA1 0001 / ACK\n",
+    LOW_ENDED,
+];
 
-const NAKS: &str = "plug 1 fn
+const NAKS: &[&str] = &[
+    "plug 1 fn
 1 SETUP 0.0 / DATA0 8006000100000800 / ACK
 202 IN 0.0 / DATA1 1201000200000040 / ACK
 203 OUT 0.0 / DATA1 - / ACK
@@ -138,19 +85,21 @@ const NAKS: &str = "plug 1 fn
 1014 OUT 1.0 / DATA1 - / ACK
 1015 SETUP 1.0 / DATA0 0009010000000000 / ACK
 1216 IN 1.0 / DATA1 - / ACK
-";
+",
+];
 
-const BUSY: &str = "plug 1 fn
-1 SETUP 0.0 / DATA0 8006000100000800 / ACK
-";
+const BUSY: &[&str] = &[HEAD_ASKED];
 
-const SILENT: &str = "plug 1 fn
+const SILENT: &[&str] = &[
+    "plug 1 fn
 1 SETUP 0.0 / DATA0 8006000100000800 / none
 2 SETUP 0.0 / DATA0 8006000100000800 / none
 3 SETUP 0.0 / DATA0 8006000100000800 / none
-";
+",
+];
 
-const FLIPPED: &str = "plug 1 fn
+const FLIPPED: &[&str] = &[
+    "plug 1 fn
 1 SETUP 0.0 / DATA0 8006000100000800 [bit 0] / none
 2 SETUP 0.0 / DATA0 8006000100000800 / ACK
 3 IN 0.0 / DATA1 1201000200000040 / ACK
@@ -168,52 +117,22 @@ const FLIPPED: &str = "plug 1 fn
 15 OUT 1.0 / DATA1 - / ACK
 16 SETUP 1.0 / DATA0 0009010000000000 / ACK
 17 IN 1.0 / DATA1 - / ACK
-";
+",
+];
 
-const STALLED_DEVICE: &str = "plug 1 fn
-1 SETUP 0.0 / DATA0 8006000100000800 / ACK
-2 IN 0.0 / STALL
-";
+const STALLED_DEVICE: &[&str] = &[HEAD_ASKED, "2 IN 0.0 / STALL\n"];
 
-const STALLED_ADDRESS: &str = "plug 1 fn
-1 SETUP 0.0 / DATA0 8006000100000800 / ACK
-2 IN 0.0 / DATA1 1201000200000040 / ACK
-3 OUT 0.0 / DATA1 - / ACK
-4 SETUP 0.0 / DATA0 0005010000000000 / ACK
-5 IN 0.0 / STALL
-";
+const STALLED_ADDRESS: &[&str] = &[HEAD_ASKED, HEAD_GIVEN, "5 IN 0.0 / STALL\n"];
 
-const STALLED_CONFIG: &str = "plug 1 fn
-1 SETUP 0.0 / DATA0 8006000100000800 / ACK
-2 IN 0.0 / DATA1 1201000200000040 / ACK
-3 OUT 0.0 / DATA1 - / ACK
-4 SETUP 0.0 / DATA0 0005010000000000 / ACK
-5 IN 0.0 / DATA1 - / ACK
-6 SETUP 1.0 / DATA0 8006000100001200 / ACK
-7 IN 1.0 / DATA1 120100020000004034127856000100000001 / ACK
-8 OUT 1.0 / DATA1 - / ACK
-9 SETUP 1.0 / DATA0 8006000200000900 / ACK
-10 IN 1.0 / STALL
-";
+const STALLED_CONFIG: &[&str] = &[HEAD_ASKED, HEAD_GIVEN, ADDRESSED, "10 IN 1.0 / STALL\n"];
 
-const STALLED_SET_CONFIG: &str = "plug 1 fn
-1 SETUP 0.0 / DATA0 8006000100000800 / ACK
-2 IN 0.0 / DATA1 1201000200000040 / ACK
-3 OUT 0.0 / DATA1 - / ACK
-4 SETUP 0.0 / DATA0 0005010000000000 / ACK
-5 IN 0.0 / DATA1 - / ACK
-6 SETUP 1.0 / DATA0 8006000100001200 / ACK
-7 IN 1.0 / DATA1 120100020000004034127856000100000001 / ACK
-8 OUT 1.0 / DATA1 - / ACK
-9 SETUP 1.0 / DATA0 8006000200000900 / ACK
-10 IN 1.0 / DATA1 090212000101008032 / ACK
-11 OUT 1.0 / DATA1 - / ACK
-12 SETUP 1.0 / DATA0 8006000200001200 / ACK
-13 IN 1.0 / DATA1 0902120001010080320904000000FF000000 / ACK
-14 OUT 1.0 / DATA1 - / ACK
-15 SETUP 1.0 / DATA0 0009010000000000 / ACK
-16 IN 1.0 / STALL
-";
+const STALLED_SET_CONFIG: &[&str] = &[
+    HEAD_ASKED,
+    HEAD_GIVEN,
+    ADDRESSED,
+    DESCRIBED,
+    "16 IN 1.0 / STALL\n",
+];
 
 const ROWS: [Row; 13] = [
     Row {
@@ -358,9 +277,10 @@ fn readied(alloc: Global, row: &Row) -> Result<Told, Fail> {
 fn a_device_is_made_ready(rt: HostRuntime) -> Result<(), Fail> {
     for row in &ROWS {
         let (answer, attempts, trace) = readied(rt.alloc(), row)?;
+        let wanted = row.trace.concat(rt.alloc())?;
         assert_eq!(rt;
             (answer.as_str(), attempts, trace.as_str()),
-            (row.answer, row.attempts, row.trace),
+            (row.answer, row.attempts, wanted.as_str()),
             "{}",
             row.name
         );
@@ -387,13 +307,14 @@ fn limited(alloc: Global, limit: u64) -> Result<Told, Fail> {
 
 #[test]
 fn the_limit_is_handed_on(rt: HostRuntime) -> Result<(), Fail> {
+    let whole = FUNCTION_TRACE.concat(rt.alloc())?;
     for limit in LIMITS {
         let (answers, attempts, trace) = limited(rt.alloc(), limit)?;
         assert_eq!(rt;
             (
                 answers.as_str(),
                 attempts,
-                FUNCTION_TRACE.starts_with(trace.as_str())
+                whole.as_str().starts_with(trace.as_str())
             ),
             ("limit reached, limit reached", limit, true),
             "{limit}"

@@ -1,88 +1,55 @@
 //! Plans with one device at the only root port, and the packets that are damaged.
 
+use crate::tests::devices;
+use crate::tests::devices::{HUB2, PLUG_BULK, PLUG_FUNCTION, PLUG_HUB2, PLUG_LOW};
 use std::alloc::{AllocError, Global};
 use std::test::Fail;
 use usb_sim::{SimBus, Tracer};
 use usb_testbus::{plan_text, plugged};
 
 /// A function with one interface and no endpoints.
-pub(super) const FUNCTION: &str = r#"
-[[event]]
-do = "plug"
-path = "1"
-device = "fn"
-
-[[device]]
-name = "fn"
-speed = "full"
-descriptor = "120100020000004034127856000100000001"
-configs = ["0902120001010080320904000000FF000000"]
-"#;
+pub(super) const FUNCTION: &[&str] = &[PLUG_FUNCTION, devices::FUNCTION];
 
 /// A function at low speed.
-pub(super) const LOW: &str = r#"
-[[event]]
-do = "plug"
-path = "1"
-device = "low"
-
-[[device]]
-name = "low"
-speed = "low"
-descriptor = "120110010000000834120100000100000001"
-configs = ["0902120001010080320904000000FF000000"]
-"#;
+pub(super) const LOW: &[&str] = &[PLUG_LOW, devices::LOW];
 
 /// Bulk OUT 2 and bulk IN 2 with packets of 64 bytes; IN gives AA, BB, CC.
-pub(super) const BULK: &str = r#"
-[[event]]
-do = "plug"
-path = "1"
-device = "bulk"
-
+pub(super) const BULK: &[&str] = &[
+    PLUG_BULK,
+    r#"
 [[device]]
 name = "bulk"
 speed = "full"
 descriptor = "120100020000004034127856000100000001"
 configs = ["0902200001010080320904000002FF0000000705020240000007058202400000"]
 source = "AABBCC"
-"#;
+"#,
+];
 
 /// Bulk OUT 2 and bulk IN 2 with packets of 8 bytes; IN gives the bytes 1 to 20.
-pub(super) const SMALL_BULK: &str = r#"
-[[event]]
-do = "plug"
-path = "1"
-device = "bulk"
-
+pub(super) const SMALL_BULK: &[&str] = &[
+    PLUG_BULK,
+    r#"
 [[device]]
 name = "bulk"
 speed = "full"
 descriptor = "120100020000004034127856000100000001"
 configs = ["0902200001010080320904000002FF0000000705020208000007058202080000"]
 source = "0102030405060708090A0B0C0D0E0F1011121314"
-"#;
+"#,
+];
 
 /// A hub with two ports and its own power, and such a hub at the hub's port 1.
-pub(super) const HUBS: &str = r#"
-[[event]]
-do = "plug"
-path = "1"
-device = "hub2"
-
+pub(super) const HUBS: &[&str] = &[
+    PLUG_HUB2,
+    r#"
 [[event]]
 do = "plug"
 path = "1.1"
 device = "hub2"
-
-[[device]]
-name = "hub2"
-speed = "full"
-descriptor = "120100020900004001000200000100000001"
-configs = ["09021900010100C000090400000109000000070581030100FF"]
-ports = 2
-self_powered = true
-"#;
+"#,
+    HUB2,
+];
 
 /// A damage: attempts are counted from 1, and the packets of one are 1 to 3.
 #[derive(Clone, Copy)]
@@ -99,12 +66,13 @@ pub(super) enum Hit {
 pub(super) fn bus_of(
     alloc: Global,
     limit: u64,
-    device: &str,
+    device: &[&str],
     quirk: &str,
     hits: &[Hit],
 ) -> Result<SimBus<Tracer<Vec<u8>>>, Fail> {
     let damages = damages(alloc, hits)?;
-    let text = plan_text(alloc, limit, &[device, quirk, damages.as_str()])?;
+    let tables = device.concat(alloc)?;
+    let text = plan_text(alloc, limit, &[tables.as_str(), quirk, damages.as_str()])?;
     Ok(plugged(alloc, text.as_str())?)
 }
 

@@ -10,7 +10,7 @@ use usb_pipe::{Bus, PipeFault, Setup, control_out};
 #[derive(Clone, Copy)]
 struct Row {
     name: &'static str,
-    device: &'static str,
+    device: &'static [&'static str],
     low: bool,
     hits: &'static [Hit],
     bytes: usize,

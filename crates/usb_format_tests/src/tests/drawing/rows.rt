@@ -14,17 +14,15 @@ pub(super) const A_FUNCTION: Row = Row {
     name: "a function",
     plan: r#"limit = 10000
 roots = 1
+event = [
+  { do = "plug", path = "1", device = "fn" },
+]
 
 [[device]]
 name = "fn"
 speed = "full"
 descriptor = "120100020000004034127856000100000001"
 configs = ["0902120001010080320904000000FF000000"]
-
-[[event]]
-do = "plug"
-path = "1"
-device = "fn"
 "#,
     lines: r#"listing 1
 └─ 1  address 1    full  1234:5678 vendor-specific  100 of 500 mA
@@ -38,6 +36,13 @@ pub(super) const A_TREE_OF_HUBS: Row = Row {
     name: "a tree of hubs",
     plan: r#"limit = 10000
 roots = 1
+event = [
+  { do = "plug", path = "1", device = "desk hub" },
+  { do = "plug", path = "1.1", device = "mouse" },
+  { do = "plug", path = "1.2", device = "keyboard hub" },
+  { do = "plug", path = "1.2.1", device = "scanner" },
+  { do = "plug", path = "1.2.2", device = "lamp" },
+]
 
 [[device]]
 name = "desk hub"
@@ -71,31 +76,6 @@ name = "lamp"
 speed = "full"
 descriptor = "12010002000000403412BC9A000100000001"
 configs = ["0902120001010080320904000000FF000000"]
-
-[[event]]
-do = "plug"
-path = "1"
-device = "desk hub"
-
-[[event]]
-do = "plug"
-path = "1.1"
-device = "mouse"
-
-[[event]]
-do = "plug"
-path = "1.2"
-device = "keyboard hub"
-
-[[event]]
-do = "plug"
-path = "1.2.1"
-device = "scanner"
-
-[[event]]
-do = "plug"
-path = "1.2.2"
-device = "lamp"
 "#,
     lines: r#"listing 1
 └─ 1            address 1    full  0001:0002 hub, 4 ports  0 of 500 mA
@@ -117,6 +97,12 @@ const A_HUB_BESIDE_A_FUNCTION: Row = Row {
     name: "a hub beside a function",
     plan: r#"limit = 10000
 roots = 2
+event = [
+  { do = "plug", path = "1", device = "hub" },
+  { do = "plug", path = "1.1", device = "fn", after = 0 },
+  { do = "plug", path = "1.2", device = "low", after = 0 },
+  { do = "plug", path = "2", device = "fn", after = 0 },
+]
 
 [[device]]
 name = "fn"
@@ -137,29 +123,6 @@ descriptor = "120100020900004001000200000100000001"
 configs = ["09021900010100C000090400000109000000070581030100FF"]
 ports = 2
 self_powered = true
-
-[[event]]
-do = "plug"
-path = "1"
-device = "hub"
-
-[[event]]
-do = "plug"
-path = "1.1"
-device = "fn"
-after = 0
-
-[[event]]
-do = "plug"
-path = "1.2"
-device = "low"
-after = 0
-
-[[event]]
-do = "plug"
-path = "2"
-device = "fn"
-after = 0
 "#,
     lines: r#"listing 1
 ├─ 1       address 1    full  0001:0002 hub, 2 ports  0 of 500 mA
@@ -179,6 +142,15 @@ const REFUSED_DEVICES: Row = Row {
     name: "refused devices",
     plan: r#"limit = 10000
 roots = 7
+event = [
+  { do = "plug", path = "1", device = "silent", after = 0 },
+  { do = "plug", path = "2", device = "no device", after = 0 },
+  { do = "plug", path = "3", device = "no address", after = 0 },
+  { do = "plug", path = "4", device = "no config", after = 0 },
+  { do = "plug", path = "5", device = "no set config", after = 0 },
+  { do = "plug", path = "6", device = "short", after = 0 },
+  { do = "plug", path = "7", device = "heater", after = 0 },
+]
 
 [[device]]
 name = "silent"
@@ -226,48 +198,6 @@ name = "heater"
 speed = "full"
 descriptor = "120100020000004034127856000100000001"
 configs = ["0902120001010080FF0904000000FF000000"]
-
-[[event]]
-do = "plug"
-path = "1"
-device = "silent"
-after = 0
-
-[[event]]
-do = "plug"
-path = "2"
-device = "no device"
-after = 0
-
-[[event]]
-do = "plug"
-path = "3"
-device = "no address"
-after = 0
-
-[[event]]
-do = "plug"
-path = "4"
-device = "no config"
-after = 0
-
-[[event]]
-do = "plug"
-path = "5"
-device = "no set config"
-after = 0
-
-[[event]]
-do = "plug"
-path = "6"
-device = "short"
-after = 0
-
-[[event]]
-do = "plug"
-path = "7"
-device = "heater"
-after = 0
 "#,
     lines: r#"listing 1
 ├─ 1  refused: gives no answer
@@ -293,6 +223,9 @@ const STRINGS: Row = Row {
     name: "strings",
     plan: r#"limit = 10000
 roots = 1
+event = [
+  { do = "plug", path = "1", device = "text" },
+]
 
 [[device]]
 name = "text"
@@ -300,11 +233,6 @@ speed = "full"
 descriptor = "120100020000004034127856000101020301"
 configs = ["0902120001010080320904000000FF000000"]
 strings = ["04030904", "08035A006F00EB00", "10034C0061006D00700020003DD8A1DC", "0E03410022000A003DD82E205C00"]
-
-[[event]]
-do = "plug"
-path = "1"
-device = "text"
 "#,
     lines: r#"listing 1
 └─ 1  address 1    full  1234:5678 vendor-specific "Lamp 💡" by "Zoë" serial "A\u0022\u000A\uD83D\u202E\u005C"  100 of 500 mA
@@ -318,6 +246,15 @@ const TRANSFERS: Row = Row {
     name: "transfers between listings",
     plan: r#"limit = 10000
 roots = 1
+event = [
+  { do = "plug", path = "1", device = "bulk" },
+  { do = "send", path = "1", bytes = "010203" },
+  { do = "show" },
+  { do = "receive", path = "1", packets = 1 },
+  { do = "clear", path = "1" },
+  { do = "unplug", path = "1" },
+  { do = "send", path = "1", bytes = "01" },
+]
 
 [[device]]
 name = "bulk"
@@ -325,37 +262,6 @@ speed = "full"
 descriptor = "120100020000004034127856000100000001"
 configs = ["0902200001010080320904000002FF0000000705020240000007058202400000"]
 source = "AABBCC"
-
-[[event]]
-do = "plug"
-path = "1"
-device = "bulk"
-
-[[event]]
-do = "send"
-path = "1"
-bytes = "010203"
-
-[[event]]
-do = "show"
-
-[[event]]
-do = "receive"
-path = "1"
-packets = 1
-
-[[event]]
-do = "clear"
-path = "1"
-
-[[event]]
-do = "unplug"
-path = "1"
-
-[[event]]
-do = "send"
-path = "1"
-bytes = "01"
 "#,
     lines: r#"send 1 done 3
 listing 1
@@ -379,6 +285,15 @@ const CLASSES: Row = Row {
     name: "classes",
     plan: r#"limit = 10000
 roots = 7
+event = [
+  { do = "plug", path = "1", device = "keyboard", after = 0 },
+  { do = "plug", path = "2", device = "pen", after = 0 },
+  { do = "plug", path = "3", device = "stick", after = 0 },
+  { do = "plug", path = "4", device = "speaker", after = 0 },
+  { do = "plug", path = "5", device = "camera", after = 0 },
+  { do = "plug", path = "6", device = "thing", after = 0 },
+  { do = "plug", path = "7", device = "modem", after = 0 },
+]
 
 [[device]]
 name = "keyboard"
@@ -421,48 +336,6 @@ name = "modem"
 speed = "full"
 descriptor = "120100020201004034127856000100000001"
 configs = ["0902120001010080000904000000FF000000"]
-
-[[event]]
-do = "plug"
-path = "1"
-device = "keyboard"
-after = 0
-
-[[event]]
-do = "plug"
-path = "2"
-device = "pen"
-after = 0
-
-[[event]]
-do = "plug"
-path = "3"
-device = "stick"
-after = 0
-
-[[event]]
-do = "plug"
-path = "4"
-device = "speaker"
-after = 0
-
-[[event]]
-do = "plug"
-path = "5"
-device = "camera"
-after = 0
-
-[[event]]
-do = "plug"
-path = "6"
-device = "thing"
-after = 0
-
-[[event]]
-do = "plug"
-path = "7"
-device = "modem"
-after = 0
 "#,
     lines: r#"listing 1
 ├─ 1  address 1    full  1234:5678 HID keyboard  100 of 500 mA

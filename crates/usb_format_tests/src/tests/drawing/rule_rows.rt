@@ -7,6 +7,15 @@ pub(super) const BROKEN_RULES: Row = Row {
     name: "broken rules",
     plan: r#"limit = 10000
 roots = 7
+event = [
+  { do = "plug", path = "1", device = "size", after = 0 },
+  { do = "plug", path = "2", device = "cut", after = 0 },
+  { do = "plug", path = "3", device = "twice", after = 0 },
+  { do = "plug", path = "4", device = "one of two", after = 0 },
+  { do = "plug", path = "5", device = "no ports", after = 0 },
+  { do = "plug", path = "6", device = "odd hub", after = 0 },
+  { do = "plug", path = "7", device = "mute hub", after = 0 },
+]
 
 [[device]]
 name = "size"
@@ -53,48 +62,6 @@ descriptor = "120100020900004001000200000100000001"
 configs = ["09021900010100C000090400000109000000070581030100FF"]
 ports = 2
 stalls = ["hub"]
-
-[[event]]
-do = "plug"
-path = "1"
-device = "size"
-after = 0
-
-[[event]]
-do = "plug"
-path = "2"
-device = "cut"
-after = 0
-
-[[event]]
-do = "plug"
-path = "3"
-device = "twice"
-after = 0
-
-[[event]]
-do = "plug"
-path = "4"
-device = "one of two"
-after = 0
-
-[[event]]
-do = "plug"
-path = "5"
-device = "no ports"
-after = 0
-
-[[event]]
-do = "plug"
-path = "6"
-device = "odd hub"
-after = 0
-
-[[event]]
-do = "plug"
-path = "7"
-device = "mute hub"
-after = 0
 "#,
     lines: r#"listing 1
 ├─ 1  refused: its device descriptor is malformed; descriptor, byte 7: bMaxPacketSize0 is 9, at full speed it is 8, 16, 32 or 64
@@ -121,6 +88,19 @@ pub(super) const RULES_OF_WHAT_IS_PLUGGED: Row = Row {
     name: "rules of what is plugged",
     plan: r#"limit = 10000
 roots = 1
+event = [
+  { do = "plug", path = "1", device = "hub", after = 0 },
+  { do = "plug", path = "1.1", device = "short", after = 0 },
+  { do = "plug", path = "1.2", device = "silent and short", after = 0 },
+  { do = "show" },
+  { do = "unplug", path = "1.1" },
+  { do = "plug", path = "1.1", device = "lamp", after = 0 },
+  { do = "unplug", path = "1.2" },
+  { do = "plug", path = "1.2", device = "size", after = 0 },
+  { do = "show" },
+  { do = "unplug", path = "1" },
+  { do = "plug", path = "1", device = "short", after = 0 },
+]
 
 [[device]]
 name = "hub"
@@ -154,60 +134,6 @@ name = "size"
 speed = "full"
 descriptor = "120100020000000934127856000100000001"
 configs = ["0902120001010080320904000000FF000000"]
-
-[[event]]
-do = "plug"
-path = "1"
-device = "hub"
-after = 0
-
-[[event]]
-do = "plug"
-path = "1.1"
-device = "short"
-after = 0
-
-[[event]]
-do = "plug"
-path = "1.2"
-device = "silent and short"
-after = 0
-
-[[event]]
-do = "show"
-
-[[event]]
-do = "unplug"
-path = "1.1"
-
-[[event]]
-do = "plug"
-path = "1.1"
-device = "lamp"
-after = 0
-
-[[event]]
-do = "unplug"
-path = "1.2"
-
-[[event]]
-do = "plug"
-path = "1.2"
-device = "size"
-after = 0
-
-[[event]]
-do = "show"
-
-[[event]]
-do = "unplug"
-path = "1"
-
-[[event]]
-do = "plug"
-path = "1"
-device = "short"
-after = 0
 "#,
     lines: r#"listing 1
 └─ 1       address 1    full  0001:0002 hub, 2 ports  0 of 500 mA

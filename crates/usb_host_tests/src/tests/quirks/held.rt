@@ -112,7 +112,8 @@ const ROWS: &[Row] = &[
 /// What is reported at rest, before the events and after each of them, and at the end; and how often the change was to
 /// be cleared.
 fn told(alloc: Global, row: &Row) -> Result<String, Fail> {
-    let plan = format!(in alloc; "limit = 100000\nroots = 2\n{PLAN}{}", row.events)?;
+    let tables = PLAN.concat(alloc)?;
+    let plan = format!(in alloc; "limit = 100000\nroots = 2\n{tables}{}", row.events)?;
     let mut bus = bus_of(alloc, plan.as_str())?;
     bus.apply_next_event()?;
     bus.apply_next_event()?;
