@@ -1,8 +1,8 @@
 -- What the lines of a run are made of, and how a text is read by it.
 use Rattle.std.specs.Prelude.{◌⊎◌, ◌≡◌, ◌≢◌, ℕ, ◌*◌, ◌+◌, ◌^◌, ◌<◌, zero, suc, ◌==◌, ◌&&◌, not}
-use Rattle.std.specs.Prelude.{nat_le, ◌≤◌, Bool, true, false, List, [], ◌∷◌, ◌++◌, length, map, Option, take}
-use Rattle.std.specs.Prelude.{Some, None, option_map, codes, decimal, if◌then◌else◌, drop, slice_index, position}
-use Rattle.std.specs.Prelude.{unwrap_or}
+use Rattle.std.specs.Prelude.{nat_le, ◌≤◌, Bool, true, false, List, [], ◌∷◌, ◌++◌, length, map}
+use Rattle.std.specs.Prelude.{Option, take, Some, None, option_map, codes, decimal, if◌then◌else◌}
+use Rattle.std.specs.Prelude.{drop, slice_index, position, unwrap_or}
 use Rattle.std.specs.Char.{is_ascii_digit}
 use Rattle.usb_pcap.specs.declared.item.Item.{Item}
 use Rattle.usb_pcap.specs.declared.item.Item.TheVariants.{Byte, Letter}

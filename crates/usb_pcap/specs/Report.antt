@@ -46,7 +46,8 @@ report_forms =
     [])
     ∷ (one_of (codes "receive " ∷ codes "interrupt " ∷ []) ∷ path ∷ word (codes " ") ∷ endpoint ∷
     word (codes " done ") ∷ bytes ∷ [])
-    ∷ (word (codes "interrupt ") ∷ path ∷ word (codes " ") ∷ endpoint ∷ word (codes " nothing") ∷ [])
+    ∷ (word (codes "interrupt ") ∷ path ∷ word (codes " ") ∷ endpoint
+    ∷ word (codes " nothing") ∷ [])
     ∷ (word (codes "clear ") ∷ path ∷ word (codes " ") ∷ endpoint ∷ word (codes " done") ∷ [])
     ∷ (one_of (codes "send " ∷ codes "receive " ∷ codes "interrupt " ∷ codes "clear " ∷ []) ∷ path ∷
     word (codes " ") ∷ endpoint ∷ word (codes " failed ") ∷ one_of failures ∷ [])
