@@ -61,7 +61,7 @@ only_read old new bytes reads trace writer = record {
       (Appends-nil old.played.trace.bytes);
   reads = reads.unmarked;
   writes = ap (λ w. w.failed) writer;
-  flushed = ap (λ w. w.pending) writer ∙ sym (and_true old.writer.pending);
+  flushed = ap (λ w. w.pending) writer ∙ sym (and-true old.writer.pending);
 }
 
 -- ---- the end, and what is told
@@ -232,7 +232,7 @@ gone_so asked old before mid w q RowFront.begun = record {
   written = Appends-nil before.bytes;
   trace = Appends-nil old.trace.bytes;
   unmarked = refl;
-  flushed = sym (and_true before.pending);
+  flushed = sym (and-true before.pending);
 }
 gone_so asked old before new now rest
     (RowFront.further {mid = mid} {w = w} {q = q} {lines = lines} front r e traced gone) =
@@ -507,7 +507,7 @@ served_none s = record {
     traced = Appends-nil s.played.trace.bytes;
     reads = refl;
     writes = refl;
-    flushed = sym (and_true s.writer.pending);
+    flushed = sym (and-true s.writer.pending);
   };
 }
 
