@@ -140,8 +140,10 @@ find_compiler() {
   [ -z "$missing" ]
 }
 
-# Links an object file of the program. False where that fails.
+# Links an object file of the program. False where that fails. Where the C library has archives it is linked statically:
+# a call starts sooner then.
 link() {
+  "$linker" -static-pie "$1" "${archives[@]}" -lm -o "$2" 2>/dev/null && return
   "$linker" "$1" "${archives[@]}" -lm -o "$2" 2>>"$room/notes" || {
     missing="'$linker' ended with status $?"
     return 1
