@@ -46,23 +46,20 @@ strip-some (c ∷ word) (d ∷ text) rest e =
 number_on-few : (value : ℕ) (text : List ℕ) (n : ℕ) → value < 2 ^ 64 → number_on value text ≡ Some n
     → n < 2 ^ 64
 unfolding number_on
-number_on-few value [] n few e = subst (λ m. m < 2 ^ 64) (same_Some value n e) few
+number_on-few value [] n few e = subst (λ m. m < 2 ^ 64) (same_Some _ _ e) few
 number_on-few value (c ∷ text) n few e =
-    if_either (is_ascii_digit c) (if nat_lt (value * 10 + (c - 48)) (2 ^ 64) then number_on
-    (value * 10 + (c - 48)) text else None) (Some value) n e
-    (λ digit more. if-some (nat_lt (value * 10 + (c - 48)) (2 ^ 64))
-    (number_on (value * 10 + (c - 48)) text) n more
+    if_either _ _ _ n e
+    (λ digit more. if-some _ _ n more
     (λ below rest. number_on-few (value * 10 + (c - 48)) text n
-    (ltb-true (value * 10 + (c - 48)) (2 ^ 64) below) rest))
+    (ltb-true _ _ below) rest))
     (λ other end. subst (λ m. m < 2 ^ 64) (same_Some value n end) few)
 
 pub decimal_in-some : (text : List ℕ) (r : ℕ × List ℕ) → decimal_in text ≡ Some r
     → (text ≡ decimal r.0 ++ r.1) × (r.0 < 2 ^ 64)
 unfolding decimal_in
 decimal_in-some text r e =
-    option_and_then_some (λ n. option_map (λ rest. (n, rest)) (strip (decimal n) text))
-    (number_on 0 text) r e
-    (λ n h more. map_some (λ rest. (n, rest)) (strip (decimal n) text) r more
+    option_and_then_some _ _ r e
+    (λ n h more. map_some _ _ r more
     (λ rest found is. subst (λ (s : ℕ × List ℕ). (text ≡ decimal s.0 ++ s.1) × (s.0 < 2 ^ 64)) is
     (strip-some (decimal n) text rest found, number_on-few 0 text n (omega arith) h)))
 
@@ -78,7 +75,7 @@ all_stand_there (suc n) = stands_at_value n && all_stand_there n
 all_stand-at : (n c : ℕ) → all_stand_there n ≡ true → c < n → stands_at_value c ≡ true
 all_stand-at zero c h lt = absurd (omega arith)
 all_stand-at (suc n) c h lt =
-    let parts = and_parts (stands_at_value n) (all_stand_there n) h in
+    let parts = and_parts _ _ h in
     elim (cases_lt c n) [
       | inl below ↦ all_stand-at n c parts.1 below
       | inr top ↦
@@ -131,8 +128,7 @@ all_spelled-at (suc n) v h lt =
 pub digit_spelled : (v : ℕ) → v < 16 → (is_digit (slice_index upper_digits v) ≡ true)
     × (value_of (slice_index upper_digits v) ≡ v)
 digit_spelled v few =
-    let both = and_parts (is_digit (slice_index upper_digits v))
-    (value_of (slice_index upper_digits v) == v) (all_spelled-at 16 v refl few) in
+    let both = and_parts _ _ (all_spelled-at 16 v refl few) in
     (both.0, eqb-true _ v both.1)
 
 pub encode_step : (b : ℕ) (bytes : List ℕ) → encode_upper (b ∷ bytes) ≡ slice_index upper_digits
