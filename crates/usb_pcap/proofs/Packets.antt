@@ -35,7 +35,7 @@ token_in-some kind text r e =
     (strip (codes ".") addr.1) r behind (λ rest dot more.
     option_and_then_some (fitting_token kind addr.0) (decimal_in rest) r more
     (λ ep second fits_form.
-    if-some (nat_lt addr.0 128 && nat_lt ep.0 16) (Some (Token kind addr.0 ep.0, ep.1)) r fits_form
+    if-some fits_form
     (λ both is.
     let tests = and_parts (nat_lt addr.0 128) (nat_lt ep.0 16) both in
     let one = decimal_in-some text addr first in
@@ -51,12 +51,9 @@ token_in-some kind text r e =
 data_of-some : (toggle : Toggle) (text : List ℕ) (b r : _) → data_of toggle b ≡ Some r
     → text ≡ encode_upper b.0 ++ b.1 → (length b.0 ≤ 64) × IsBytes b.0
     → BeginsAs (data_name toggle ++ text) r
-data_of-some toggle text ([], rest) r is e fits_form = absurd (cc)
+data_of-some _ _ ([], rest) r is e fits_form = absurd (cc)
 data_of-some toggle text (byte ∷ bytes, rest) r is e fits_form =
-    begins_as_same (data_name toggle ++ text) (
-      Payload toggle (record { items = byte ∷ bytes }),
-      rest,
-    ) r (
+    begins_as_same (data_name toggle ++ text) _ r (
       ap (λ l. data_name toggle ++ l) e
           ∙ sym (append_assoc (data_name toggle) (encode_upper (byte ∷ bytes)) rest),
       tt,
@@ -102,7 +99,7 @@ handshake_in-some text r e =
       tt,
       tt,
     ) is) (λ no_nak.
-    map_some (λ rest. (Stall, rest)) (strip (codes "STALL") text) r no_nak
+    map_some no_nak
     (λ rest stall is. subst (BeginsAs text) is (
       strip-some (codes "STALL") text rest stall,
       tt,
@@ -112,7 +109,7 @@ handshake_in-some text r e =
 -- a word, and what is read behind it
 worded : (word text rest : List ℕ) (r : Packet × List ℕ) → strip word text ≡ Some rest
     → BeginsAs (word ++ rest) r → BeginsAs text r
-worded word text rest r found h = subst (λ t. BeginsAs t r) (sym (strip-some word text rest found))
+worded _ _ _ r found h = subst (λ t. BeginsAs t r) (sym (strip-some _ _ _ found))
     h
 
 pub packet_in-some : (text : List ℕ) (r : Packet × List ℕ) → packet_in text ≡ Some r
@@ -120,19 +117,19 @@ pub packet_in-some : (text : List ℕ) (r : Packet × List ℕ) → packet_in te
 unfolding packet_in
 packet_in-some text r e =
     found_some (strip (codes "SETUP ") text) (token_in SetupTok) _ r e
-    (λ rest found h. worded (codes "SETUP ") text rest r found
-    (token_in-some SetupTok rest r h)) (λ e.
+    (λ rest found h. worded _ _ _ r found
+    (token_in-some _ _ r h)) (λ e.
     found_some (strip (codes "IN ") text) (token_in InTok) _ r e
-    (λ rest found h. worded (codes "IN ") text rest r found (token_in-some InTok rest r h))
+    (λ rest found h. worded _ _ _ r found (token_in-some _ _ r h))
     (λ e.
     found_some (strip (codes "OUT ") text) (token_in OutTok) _ r e
-    (λ rest found h. worded (codes "OUT ") text rest r found (token_in-some OutTok rest r h))
+    (λ rest found h. worded _ _ _ r found (token_in-some _ _ r h))
     (λ e.
     found_some (strip (codes "DATA0 ") text) (data_in Zero) _ r e
-    (λ rest found h. worded (codes "DATA0 ") text rest r found (data_in-some Zero rest r h))
+    (λ rest found h. worded _ _ _ r found (data_in-some _ _ r h))
     (λ e.
     found_some (strip (codes "DATA1 ") text) (data_in One) _ r e
-    (λ rest found h. worded (codes "DATA1 ") text rest r found (data_in-some One rest r h))
+    (λ rest found h. worded _ _ _ r found (data_in-some _ _ r h))
     (handshake_in-some text r)))))
 
 -- a text is that of a mark with this behind it
@@ -141,8 +138,8 @@ MarkedAs text r = text ≡ mark_text r.0 ++ r.1
 
 marked_by : (word text rest : List ℕ) (m : Mark) (r : Mark × List ℕ) → mark_text m ≡ word
     → strip word text ≡ Some rest → Some (m, rest) ≡ Some r → MarkedAs text r
-marked_by word text rest m r e found is =
-    subst (MarkedAs text) (same_Some (m, rest) r is) (strip-some word text rest found
+marked_by _ text rest m r e found is =
+    subst (MarkedAs text) (same_Some _ r is) (strip-some _ _ _ found
     ∙ ap (λ w. w ++ rest) (sym e))
 
 bit_in-some : (text : List ℕ) (r : Mark × List ℕ) → bit_in text ≡ Some r
@@ -152,9 +149,8 @@ bit_in-some text r e =
     option_and_then_some (λ bit. if nat_lt bit.0 65536 then option_map
     (λ rest. (Flipped bit.0, rest)) (strip (codes "]") bit.1) else None) (decimal_in text) r e
     (λ bit number more.
-    if-some (nat_lt bit.0 65536) (option_map (λ rest. (Flipped bit.0, rest))
-    (strip (codes "]") bit.1)) r more (λ few end.
-    map_some (λ rest. (Flipped bit.0, rest)) (strip (codes "]") bit.1) r end (λ rest found is.
+    if-some more (λ few end.
+    map_some end (λ rest found is.
     let spelled : codes " [bit " ++ text ≡ (codes " [bit " ++ decimal bit.0 ++ codes "]") ++ rest =
     ap (λ l. codes " [bit " ++ l) ((decimal_in-some text bit number).0
     ∙ ap (λ l. decimal bit.0 ++ l) (strip-some (codes "]") bit.1 rest found))

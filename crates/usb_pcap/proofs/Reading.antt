@@ -13,33 +13,33 @@ use Rattle.hex.specs.Hex.{encode_upper, encode_with, upper_digits}
 use Rattle.usb_pcap.specs.{bytes_on, decimal_in, if_found, is_digit, number_on, strip, value_of}
 
 -- a test was met, and what it led to
-pub if-some : {A P : Type 0} (b : Bool) (o : Option A) (y : A) → (if b then o else None) ≡ Some y
+pub if-some : {A P : Type 0} {b : Bool} {o : Option A} {y : A} → (if b then o else None) ≡ Some y
     → (b ≡ true → o ≡ Some y → P) → P
-if-some true o y e k = k refl e
-if-some false o y e k = absurd (cc)
+if-some {b = true} e k = k refl e
+if-some {b = false} e k = absurd (cc)
 
-pub if_either : {A P : Type 0} (b : Bool) (o p : Option A) (y : A) → (if b then o else p) ≡ Some y
+pub if_either : {A P : Type 0} {b : Bool} {o p : Option A} {y : A} → (if b then o else p) ≡ Some y
     → (b ≡ true → o ≡ Some y → P) → (b ≡ false → p ≡ Some y → P) → P
-if_either true o p y e k l = k refl e
-if_either false o p y e k l = l refl e
+if_either {b = true} e k l = k refl e
+if_either {b = false} e k l = l refl e
 
-pub map_some : {A B P : Type 0} (f : A → B) (o : Option A) (y : B) → option_map f o ≡ Some y
+pub map_some : {A B P : Type 0} {f : A → B} {o : Option A} {y : B} → option_map f o ≡ Some y
     → ((x : A) → o ≡ Some x → f x ≡ y → P) → P
-map_some f (Some x) y e k = k x refl (same_Some (f x) y e)
-map_some f None y e k = absurd (cc)
+map_some {o = Some x} e k = k x refl (same_Some _ _ e)
+map_some {o = None} e k = absurd (cc)
 
 pub found_some : {A B P : Type 0} (o : Option A) (read : A → Option B) (other : Option B) (y : B)
     → if_found o read other ≡ Some y
     → ((x : A) → o ≡ Some x → read x ≡ Some y → P) → (other ≡ Some y → P) → P
-found_some (Some x) read other y e k l = k x refl e
-found_some None read other y e k l = l e
+found_some (Some x) _ _ y e k l = k x refl e
+found_some None _ _ y e k l = l e
 
 pub strip-some : (word text rest : List ℕ) → strip word text ≡ Some rest → text ≡ word ++ rest
 unfolding strip
 strip-some [] text rest e = same_Some text rest e
 strip-some (c ∷ word) [] rest e = absurd (cc)
 strip-some (c ∷ word) (d ∷ text) rest e =
-    if-some (d == c) (strip word text) rest e
+    if-some e
     (λ same more. ap₂ (λ (x : ℕ) (l : List ℕ). x ∷ l) (eqb-true d c same)
     (strip-some word text rest more))
 
@@ -48,8 +48,8 @@ number_on-few : (value : ℕ) (text : List ℕ) (n : ℕ) → value < 2 ^ 64 →
 unfolding number_on
 number_on-few value [] n few e = subst (λ m. m < 2 ^ 64) (same_Some _ _ e) few
 number_on-few value (c ∷ text) n few e =
-    if_either _ _ _ n e
-    (λ digit more. if-some _ _ n more
+    if_either e
+    (λ digit more. if-some more
     (λ below rest. number_on-few (value * 10 + (c - 48)) text n
     (ltb-true _ _ below) rest))
     (λ other end. subst (λ m. m < 2 ^ 64) (same_Some value n end) few)
@@ -59,7 +59,7 @@ pub decimal_in-some : (text : List ℕ) (r : ℕ × List ℕ) → decimal_in tex
 unfolding decimal_in
 decimal_in-some text r e =
     option_and_then_some _ _ r e
-    (λ n h more. map_some _ _ r more
+    (λ n h more. map_some more
     (λ rest found is. subst (λ (s : ℕ × List ℕ). (text ≡ decimal s.0 ++ s.1) × (s.0 < 2 ^ 64)) is
     (strip-some (decimal n) text rest found, number_on-few 0 text n (omega arith) h)))
 
@@ -90,9 +90,9 @@ pub digit_there : (c : ℕ) → is_digit c ≡ true → (slice_index upper_digit
     × (value_of c < 16)
 digit_there c h =
     let all = all_stand-at 71 c refl (is_digit-few c h) in
-    let parts = and_parts (slice_index upper_digits (value_of c) == c) (nat_lt (value_of c) 16)
+    let parts = and_parts _ _
     (rw h at all) in
-    (eqb-true _ c parts.0, ltb-true (value_of c) 16 parts.1)
+    (eqb-true _ c parts.0, ltb-true _ 16 parts.1)
 
 pub encode_upper-pair : (h l : ℕ) → is_digit h ≡ true → is_digit l ≡ true
     → encode_upper ((value_of h * 16 + value_of l) ∷ []) ≡ h ∷ l ∷ []
@@ -117,7 +117,7 @@ all_spelled (suc n) = spelled_there n && all_spelled n
 all_spelled-at : (n v : ℕ) → all_spelled n ≡ true → v < n → spelled_there v ≡ true
 all_spelled-at zero v h lt = absurd (omega arith)
 all_spelled-at (suc n) v h lt =
-    let parts = and_parts (spelled_there n) (all_spelled n) h in
+    let parts = and_parts _ _ h in
     elim (cases_lt v n) [
       | inl below ↦ all_spelled-at n v parts.1 below
       | inr top ↦
@@ -134,7 +134,7 @@ digit_spelled v few =
 pub encode_step : (b : ℕ) (bytes : List ℕ) → encode_upper (b ∷ bytes) ≡ slice_index upper_digits
     (b / 16) ∷ slice_index upper_digits (b % 16) ∷ encode_upper bytes
 unfolding encode_with
-encode_step b bytes = refl
+encode_step b _ = refl
 
 pub bytes_on-some : (bytes text : List ℕ) (r : List ℕ × List ℕ) → bytes_on bytes text ≡ Some r
     → encode_upper bytes ++ text ≡ encode_upper r.0 ++ r.1
@@ -145,9 +145,8 @@ bytes_on-some bytes (h ∷ []) r e = ap (λ (s : List ℕ × List ℕ). encode_u
     (same_Some (bytes, h ∷ []) r e)
 bytes_on-some bytes (h ∷ l ∷ text) r e =
     let byte : ℕ = value_of h * 16 + value_of l in
-    if_either (is_digit h && is_digit l) (if nat_lt (length bytes) 64 then bytes_on
-    (bytes ++ byte ∷ []) text else None) (Some (bytes, h ∷ l ∷ text)) r e
-    (λ digits more. if-some (nat_lt (length bytes) 64) (bytes_on (bytes ++ byte ∷ []) text) r more
+    if_either e
+    (λ digits more. if-some more
     (λ room rest.
     let both = and_parts (is_digit h) (is_digit l) digits in
     let pair = encode_upper-pair h l both.0 both.1 in
@@ -162,7 +161,7 @@ push_small : (xs : List ℕ) (b : ℕ) → IsBytes xs → b < 256 → (i : ℕ)
     → slice_index (xs ++ b ∷ []) i < 256
 push_small [] b h few zero = few
 push_small [] b h few (suc i) = omega arith
-push_small (x ∷ xs) b h few zero = h zero
+push_small (x ∷ xs) b h _ zero = h zero
 push_small (x ∷ xs) b h few (suc i) = push_small xs b (λ j. h (suc j)) few i
 
 pub bytes_on-data : (bytes text : List ℕ) (r : List ℕ × List ℕ) → length bytes ≤ 64 → IsBytes bytes
@@ -174,9 +173,8 @@ bytes_on-data bytes (h ∷ []) r few small e = subst (λ (s : List ℕ × List �
     × IsBytes s.0) (same_Some (bytes, h ∷ []) r e) (few, small)
 bytes_on-data bytes (h ∷ l ∷ text) r few small e =
     let byte : ℕ = value_of h * 16 + value_of l in
-    if_either (is_digit h && is_digit l) (if nat_lt (length bytes) 64 then bytes_on
-    (bytes ++ byte ∷ []) text else None) (Some (bytes, h ∷ l ∷ text)) r e
-    (λ digits more. if-some (nat_lt (length bytes) 64) (bytes_on (bytes ++ byte ∷ []) text) r more
+    if_either e
+    (λ digits more. if-some more
     (λ room rest.
     let both = and_parts (is_digit h) (is_digit l) digits in
     let high = (digit_there h both.0).1 in
