@@ -21,8 +21,8 @@ use Rattle.usb_pcap.proofs.Packets.{packet_in-some, packet_mark_in-some}
 
 behind_pre-some : (pre : Bool) (text rest : List ℕ) → behind_pre pre text ≡ Some rest
     → text ≡ pre_text pre ++ rest
-behind_pre-some false _ _ e = same_Some _ _ e
-behind_pre-some true _ _ e = strip-some _ _ _ e
+behind_pre-some false text rest e = same_Some text rest e
+behind_pre-some true text rest e = strip-some (codes "PRE ") text rest e
 
 -- a text is that of a packet of the host with this behind it
 abbrev SentAs : Bool → List ℕ → Outgoing × List ℕ → Type 0
@@ -32,17 +32,21 @@ host_in-some : (pre : Bool) (text : List ℕ) (r : Outgoing × List ℕ) → hos
     → SentAs pre text r
 unfolding host_in
 host_in-some pre text r e =
-    option_and_then_some _ _ r e (λ rest first e.
-    option_and_then_some _ _ r e (λ packet second e.
-    option_and_then_some _ _ r e (λ mark third e.
-    if-some e (λ fits_form is.
-    let own = packet_in-some _ _ second in
+    option_and_then_some (λ rest. option_and_then
+    (λ packet. option_and_then (outgoing_of pre packet.0) (packet_mark_in packet.1))
+    (packet_in rest)) (behind_pre pre text) r e (λ rest first e.
+    option_and_then_some (λ packet. option_and_then (outgoing_of pre packet.0)
+    (packet_mark_in packet.1)) (packet_in rest) r e (λ packet second e.
+    option_and_then_some (outgoing_of pre packet.0) (packet_mark_in packet.1) r e (λ mark third e.
+    if-some (may_be_marked pre mark.0 packet.0)
+    (Some (record { packet = packet.0; mark = mark.0 }, mark.1)) r e (λ fits_form is.
+    let own = packet_in-some rest packet second in
     let s : Outgoing = record { packet = packet.0; mark = mark.0 } in
     let spelled : text ≡ host_text pre s ++ mark.1 =
-    behind_pre-some _ _ _ first ∙ ap (λ l. pre_text pre ++ l) (own.0
-    ∙ ap (λ l. text_of packet.0 ++ l) (packet_mark_in-some _ _ third))
+    behind_pre-some pre text rest first ∙ ap (λ l. pre_text pre ++ l) (own.0
+    ∙ ap (λ l. text_of packet.0 ++ l) (packet_mark_in-some packet.1 mark third))
     ∙ simp append_assoc in
-    subst (SentAs pre text) (same_Some _ r is) (spelled, (own.1, own.2, fits_form))))))
+    subst (SentAs pre text) (same_Some (s, mark.1) r is) (spelled, (own.1, own.2, fits_form))))))
 
 -- the same behind a stroke
 abbrev NextAs : Bool → List ℕ → Outgoing × List ℕ → Type 0
@@ -51,10 +55,10 @@ NextAs pre text r = (text ≡ next_text pre (Some r.0) ++ r.1) × IsSent pre r.0
 next_in-some : (pre : Bool) (text : List ℕ) (r : Outgoing × List ℕ) → next_in pre text ≡ Some r
     → NextAs pre text r
 unfolding next_in
-next_in-some pre _ r e =
-    option_and_then_some _ _ r e (λ rest stroke e.
-    let own = host_in-some _ _ r e in (
-      strip-some _ _ _ stroke ∙ ap (λ l. codes " / " ++ l) own.0
+next_in-some pre text r e =
+    option_and_then_some (host_in pre) (strip (codes " / ") text) r e (λ rest stroke e.
+    let own = host_in-some pre rest r e in (
+      strip-some (codes " / ") text rest stroke ∙ ap (λ l. codes " / " ++ l) own.0
           ∙ sym (append_assoc (codes " / ") (host_text pre r.0) r.1),
       own.1,
     ))
@@ -62,24 +66,24 @@ next_in-some pre _ r e =
 kept_where-some : (fits_form : Packet → Bool) (s r : Outgoing × List ℕ)
     → kept_where fits_form s ≡ Some r → (s ≡ r) × (fits_form r.0.packet ≡ true)
 kept_where-some fits_form s r e =
-    if-some e (λ h is. let same = same_Some s r is in
+    if-some (fits_form s.0.packet) (Some s) r e (λ h is. let same = same_Some s r is in
     (same, subst (λ (q : Outgoing × List ℕ). fits_form q.0.packet ≡ true) same h))
 
 host_data_in-some : (pre : Bool) (text : List ℕ) (r : Outgoing × List ℕ)
     → host_data_in pre text ≡ Some r → NextAs pre text r × (is_data_packet r.0.packet ≡ true)
 unfolding host_data_in
 host_data_in-some pre text r e =
-    option_and_then_some _ _ r e (λ s first e.
-    let kept = kept_where-some _ s r e in
-    (subst (NextAs pre text) kept.0 (next_in-some _ _ s first), kept.1))
+    option_and_then_some (kept_where is_data_packet) (next_in pre text) r e (λ s first e.
+    let kept = kept_where-some is_data_packet s r e in
+    (subst (NextAs pre text) kept.0 (next_in-some pre text s first), kept.1))
 
 host_ack_in-some : (pre : Bool) (text : List ℕ) (r : Outgoing × List ℕ)
     → host_ack_in pre text ≡ Some r → NextAs pre text r × (is_ack_packet r.0.packet ≡ true)
 unfolding host_ack_in
 host_ack_in-some pre text r e =
-    option_and_then_some _ _ r e (λ s first e.
-    let kept = kept_where-some _ s r e in
-    (subst (NextAs pre text) kept.0 (next_in-some _ _ s first), kept.1))
+    option_and_then_some (kept_where is_ack_packet) (next_in pre text) r e (λ s first e.
+    let kept = kept_where-some is_ack_packet s r e in
+    (subst (NextAs pre text) kept.0 (next_in-some pre text s first), kept.1))
 
 -- a text is that of an answer and its mark with this behind it
 abbrev AnsweredAs : List ℕ → (ExchangeAnswer × Mark) × List ℕ → Type 0
@@ -91,15 +95,15 @@ answer_in-some : (text : List ℕ) (r : (ExchangeAnswer × Mark) × List ℕ) �
 unfolding answer_in
 answer_in-some text r e =
     found_some (strip (codes " / none") text) (λ rest. Some ((Nothing, Whole), rest)) _ r e
-    (λ rest found is. subst (AnsweredAs text) (same_Some _ r is)
-    (strip-some _ _ _ found, refl)) (λ e.
+    (λ rest found is. subst (AnsweredAs text) (same_Some ((Nothing, Whole), rest) r is)
+    (strip-some (codes " / none") text rest found, refl)) (λ e.
     found_some (strip (codes " / collision") text) (λ rest. Some ((Collision, Whole), rest)) _ r e
-    (λ rest found is. subst (AnsweredAs text) (same_Some _ r is)
-    (strip-some _ _ _ found, refl)) (λ e.
-    option_and_then_some _ _ r e (λ s first e.
-    if-some e (λ fits_form is.
-    let own = next_in-some _ _ s first in
-    subst (AnsweredAs text) (same_Some _ r is) (
+    (λ rest found is. subst (AnsweredAs text) (same_Some ((Collision, Whole), rest) r is)
+    (strip-some (codes " / collision") text rest found, refl)) (λ e.
+    option_and_then_some one_answer (next_in false text) r e (λ s first e.
+    if-some (is_answer s.0.packet) (Some ((One s.0.packet, s.0.mark), s.1)) r e (λ fits_form is.
+    let own = next_in-some false text s first in
+    subst (AnsweredAs text) (same_Some ((One s.0.packet, s.0.mark), s.1) r is) (
       own.0 ∙ simp append_assoc,
       (fits_form, own.1),
     )))))
@@ -110,10 +114,10 @@ payload_if-some : (sends pre : Bool) (text : List ℕ) (r : Option Outgoing × L
 payload_if-some false pre text r e =
     subst (λ (r : Option Outgoing × List ℕ). (text ≡ next_text pre r.0 ++ r.1)
     × (is_some r.0 ≡ false) × IfSome r.0 (λ s. IsSent pre s
-    × (is_data_packet s.packet ≡ true))) (same_Some _ r e) (refl, refl, tt)
+    × (is_data_packet s.packet ≡ true))) (same_Some (None, text) r e) (refl, refl, tt)
 payload_if-some true pre text r e =
-    map_some e (λ s found is.
-    let own = host_data_in-some _ _ s found in
+    map_some (λ (s : Outgoing × List ℕ). (Some s.0, s.1)) (host_data_in pre text) r e (λ s found is.
+    let own = host_data_in-some pre text s found in
     subst (λ (r : Option Outgoing × List ℕ). (text ≡ next_text pre r.0 ++ r.1)
     × (is_some r.0 ≡ true) × IfSome r.0 (λ s. IsSent pre s
     × (is_data_packet s.packet ≡ true))) is (own.0.0, refl, (own.0.1, own.1)))
@@ -124,11 +128,11 @@ reply_if-some : (pre : Bool) (text : List ℕ) (r : Option Outgoing × List ℕ)
 reply_if-some pre [] r e =
     subst (λ (r : Option Outgoing × List ℕ). ([] ≡ next_text pre r.0 ++ r.1)
     × IfSome r.0 (λ s. IsSent pre s × (is_ack_packet s.packet ≡ true)))
-    (same_Some _ r e) (refl, tt)
+    (same_Some (None, []) r e) (refl, tt)
 reply_if-some pre (c ∷ text) r e =
-    map_some e
+    map_some (λ (s : Outgoing × List ℕ). (Some s.0, s.1)) (host_ack_in pre (c ∷ text)) r e
     (λ s found is.
-    let own = host_ack_in-some _ _ s found in
+    let own = host_ack_in-some pre (c ∷ text) s found in
     subst (λ (r : Option Outgoing × List ℕ). (c ∷ text ≡ next_text pre r.0 ++ r.1)
     × IfSome r.0 (λ s. IsSent pre s × (is_ack_packet s.packet ≡ true))) is
     (own.0.0, (own.0.1, own.1)))
@@ -141,17 +145,19 @@ attempt_begun-some : (number : ℕ) (text : List ℕ) (r : TracedAttempt × List
     → attempt_begun number text ≡ Some r → TracedAs (decimal number ++ codes " " ++ text) r
 attempt_begun-some number text r few e =
     let pre : Bool = is_some (strip (codes "PRE ") text) in
-    option_and_then_some _ _ r e (λ token first e.
-    option_and_then_some _ _ r e (λ sends kind e.
-    option_and_then_some _ _ r e
+    option_and_then_some (sent number pre) (host_in pre text) r e (λ token first e.
+    option_and_then_some (λ sends. option_and_then (attempt_answered number pre token.0)
+    (payload_if sends pre token.1)) (data_follow token.0.packet) r e (λ sends kind e.
+    option_and_then_some (attempt_answered number pre token.0) (payload_if sends pre token.1) r e
     (λ payload second e.
-    option_and_then_some _ _ r e (λ answer third e.
-    map_some e
+    option_and_then_some (λ answer. option_map (traced number pre token.0 payload.0 answer.0)
+    (reply_if pre answer.1)) (answer_in payload.1) r e (λ answer third e.
+    map_some (traced number pre token.0 payload.0 answer.0) (reply_if pre answer.1) r e
     (λ reply fourth is.
-    let host = host_in-some _ _ _ first in
-    let more = payload_if-some _ _ _ _ second in
-    let heard = answer_in-some _ _ third in
-    let end = reply_if-some _ _ _ fourth in
+    let host = host_in-some pre text token first in
+    let more = payload_if-some sends pre token.1 payload second in
+    let heard = answer_in-some payload.1 answer third in
+    let end = reply_if-some pre answer.1 reply fourth in
     let a : TracedAttempt = (traced number pre token.0 payload.0 answer.0 reply).0 in
     let spelled : decimal number ++ codes " " ++ text ≡ attempt_line a.number a.pre a.exchange ++
     reply.1 =
@@ -176,26 +182,27 @@ attempt_in-some : (text : List ℕ) (r : TracedAttempt × List ℕ) → attempt_
     → TracedAs text r
 unfolding attempt_in
 attempt_in-some text r e =
-    option_and_then_some _
-    _ r e (λ n first e.
-    if-some e
+    option_and_then_some (λ n. if nat_lt n.0 no_time then option_and_then (attempt_begun n.0)
+    (strip (codes " ") n.1) else None)
+    (decimal_in text) r e (λ n first e.
+    if-some (nat_lt n.0 no_time) (option_and_then (attempt_begun n.0) (strip (codes " ") n.1)) r e
     (λ few e.
-    option_and_then_some _ _ r e (λ rest blank e.
-    let front : text ≡ decimal n.0 ++ codes " " ++ rest = (decimal_in-some _ n first).0
-    ∙ ap (λ l. decimal n.0 ++ l) (strip-some _ _ _ blank) ∙ simp append_assoc in
-    subst (λ t. TracedAs t r) (sym front) (attempt_begun-some _ _ r (ltb-true _ _ few)
+    option_and_then_some (attempt_begun n.0) (strip (codes " ") n.1) r e (λ rest blank e.
+    let front : text ≡ decimal n.0 ++ codes " " ++ rest = (decimal_in-some text n first).0
+    ∙ ap (λ l. decimal n.0 ++ l) (strip-some (codes " ") n.1 rest blank) ∙ simp append_assoc in
+    subst (λ t. TracedAs t r) (sym front) (attempt_begun-some n.0 rest r (ltb-true n.0 no_time few)
     e))))
 
 whole_line-some : (line : List ℕ) (r : TracedAttempt × List ℕ) (a : TracedAttempt) → TracedAs line r
     → whole_line r ≡ Some a → IsAttemptLine line a
 whole_line-some line (b, []) a h e = subst (IsAttemptLine line) (same_Some b a e)
     (record { traced = h.1; printed = h.0 ∙ append-nil _ })
-whole_line-some _ (b, c ∷ text) a h e = absurd (cc)
+whole_line-some line (b, c ∷ text) a h e = absurd (cc)
 
 pub read_attempt-some : (line : List ℕ) (o : Option TracedAttempt) → o ≡ read_attempt line
     → IfSome o (λ a. IsAttemptLine line a)
 unfolding read_attempt
-read_attempt-some _ None e = tt
-read_attempt-some _ (Some a) e =
-    option_and_then_some _ _ a (sym e)
-    (λ r first e. whole_line-some _ r a (attempt_in-some _ r first) e)
+read_attempt-some line None e = tt
+read_attempt-some line (Some a) e =
+    option_and_then_some whole_line (attempt_in line) a (sym e)
+    (λ r first e. whole_line-some line r a (attempt_in-some line r first) e)

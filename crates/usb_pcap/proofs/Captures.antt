@@ -39,7 +39,7 @@ not_more k a h = grind (arith, nat_tests)
 taken_more : (k : ℕ) (line front : List ℕ) (b : ℕ) → front ≡ take k line → length front < k
     → (front ++ b ∷ [] ≡ take k (line ++ b ∷ []))
     × (nat_lt k (length line) ≡ nat_lt k (length (line ++ b ∷ [])))
-taken_more k line _ b e room =
+taken_more k line front b e room =
     let few = few_taken k line (subst (λ l. length l < k) e room) in
     let long = length-append line (b ∷ []) in (
       ap (λ l. l ++ b ∷ []) (e ∙ take_all k line (omega arith))
@@ -50,7 +50,7 @@ taken_more k line _ b e room =
 -- the same where there is non room
 taken_long : (k : ℕ) (line front : List ℕ) (b : ℕ) → front ≡ take k line → length front ≡ k
     → (front ≡ take k (line ++ b ∷ [])) × (nat_lt k (length (line ++ b ∷ [])) ≡ true)
-taken_long k line _ b e full =
+taken_long k line front b e full =
     let many = many_taken k line (subst (λ l. length l ≡ k) e full) in
     let long = length-append line (b ∷ []) in (
       e ∙ sym (take-append-le k line (b ∷ []) many),
@@ -60,7 +60,7 @@ taken_long k line _ b e full =
 pub stands_first : (w now : Option (List ℕ)) (s : OpenLine) → Appends w now header → s.number ≡ 1
     → s.front.items ≡ [] → s.is_long ≡ false → s.begun.items ≡ [] → s.has_packets ≡ false
     → StandsBehind w now [] s
-stands_first w _ s h number front long shown none = record {
+stands_first w now s h number front long shown none = record {
   n = 0;
   front = [];
   line = [];
@@ -88,7 +88,7 @@ stands_on : (w now : Option (List ℕ)) (text : List ℕ) (b : ℕ) (s t : OpenL
     → t.is_long ≡ nat_lt longest (length (h.line ++ b ∷ []))
     → TakesShown s b t → t.has_packets ≡ s.has_packets
     → StandsBehind w now (text ++ b ∷ []) t
-stands_on w _ _ b s t other h number begins long shown same = record {
+stands_on w now text b s t other h number begins long shown same = record {
   n = h.n;
   front = h.front;
   line = h.line ++ b ∷ [];
@@ -140,7 +140,7 @@ Refuses s = (line : List ℕ) → s.front.items ≡ take longest line
 capture_closed : (w now : Option (List ℕ)) (text records : List ℕ) (s : OpenLine)
     (h : StandsBehind w now text s) → TellsRecords s records
     → IsCapture (h.n + 1) (text ++ 10 ∷ []) (h.file ++ records)
-capture_closed w _ _ records s h tells =
+capture_closed w now text records s h tells =
     subst (λ t. IsCapture (h.n + 1) (t ++ 10 ∷ []) (h.file ++ records)) (sym h.split)
     (IsCapture.line h.line records h.one (tells h.line h.begins h.long h.shown) h.captured)
 
@@ -153,7 +153,7 @@ more_packets : (had now : Bool) (file records : List ℕ)
     → now ≡ (had || not (length records == 0))
     → (had ≡ true → length header < length file) → (had ≡ false → file ≡ header)
     → (now ≡ true → length header < length (file ++ records)) × (now ≡ false → file ++ records ≡ header)
-more_packets true _ file records e some none = (
+more_packets true now file records e some none = (
   λ _. let long = length-append file records in let more = some refl in omega (arith, long, more),
   λ bare. let apart : true ≡ false = sym e ∙ bare in absurd (cc),
 )
@@ -161,7 +161,7 @@ more_packets false now file [] e some none = (
   λ is. let apart : false ≡ true = sym e ∙ is in absurd (cc),
   λ _. append-nil file ∙ none refl,
 )
-more_packets false _ file (c ∷ records) e some none = (
+more_packets false now file (c ∷ records) e some none = (
   λ _. let long = length-append file (c ∷ records) in let same = ap (λ l. length l) (none refl) in
       omega (arith, long, same),
   λ bare. let more : (length (c ∷ records) == 0) ≡ false = grind (arith, nat_tests) in
@@ -210,7 +210,7 @@ went_front w mid now text records s h tells gone = (
 pub went_refused : (w now : Option (List ℕ)) (text : List ℕ) (s : OpenLine)
     → StandsBehind w now text s → Refuses s
     → (n : ℕ) × (s.number ≡ next_number n) × RefusedLine w now (text ++ 10 ∷ []) n
-went_refused w _ _ s h none = (
+went_refused w now text s h none = (
   h.n,
   h.number,
   record {
@@ -229,7 +229,7 @@ went_refused w _ _ s h none = (
 -- a fault stays what it is, whatever the text goes on with
 refused_more : (w now : Option (List ℕ)) (text rest : List ℕ) (n : ℕ) → RefusedLine w now text n
     → RefusedLine w now (text ++ rest) n
-refused_more w _ _ rest n h = record {
+refused_more w now text rest n h = record {
   front = h.front;
   line = h.line;
   rest = h.rest ++ rest;
@@ -243,7 +243,7 @@ refused_more w _ _ rest n h = record {
 
 front_more : (w now : Option (List ℕ)) (text rest : List ℕ) (n : ℕ) → WroteFront w now text n
     → WroteFront w now (text ++ rest) n
-front_more w _ _ rest n h = record {
+front_more w now text rest n h = record {
   front = h.front;
   rest = h.rest ++ rest;
   file = h.file;
@@ -254,34 +254,29 @@ front_more w _ _ rest n h = record {
 
 pub comes_more : (w now : Option (List ℕ)) (text rest : List ℕ) (f : PcapFault) (s t : OpenLine)
     → ComesOf w now text (Err f) s → ComesOf w now (text ++ rest) (Err f) t
-comes_more w _ _ rest (BadLine number) s t (n, e, h) = (n, e, refused_more w _ _ rest n h)
-comes_more w _ _ rest Write s t (n, h) = (n, front_more w _ _ rest n h)
-comes_more w _ _ _ _ s t h = absurd h
+comes_more w now text rest (BadLine number) s t (n, e, h) = (n, e, refused_more w _ _ rest n h)
+comes_more w now text rest Write s t (n, h) = (n, front_more w _ _ rest n h)
+comes_more w now text rest _ s t h = absurd h
 
 pub comes_captures : (w now : Option (List ℕ)) (text : List ℕ) (f : PcapFault) (s : OpenLine)
     → ComesOf w now text (Err f) s → Captures w now text (Err f)
-comes_captures w _ _ (BadLine number) s (n, e, h) = (n, e, inl h)
-comes_captures w _ _ Write s h = h
-comes_captures w _ _ _ s h = absurd h
-
--- what was read is a front of the text
--- so is each text that goes on with what was read
-consumed : (P : List ℕ → Type 0) (a b : Option (List ℕ)) (done : List ℕ) → Consumes a b done
-    → ((rest : List ℕ) → b ≡ Some rest → P (done ++ rest)) → IfSome a P
-consumed P None b done e h = tt
-consumed P (Some text) None done e h = absurd e
-consumed P (Some text) (Some rest) done e h = subst P (sym e) (h rest refl)
+comes_captures w now text (BadLine number) s (n, e, h) = (n, e, inl h)
+comes_captures w now text Write s h = h
+comes_captures w now text _ s h = absurd h
 
 -- what was read is a front of the text
 pub comes_front : (a b w now : Option (List ℕ)) (done : List ℕ) (f : PcapFault) (s : OpenLine)
     → Consumes a b done → ComesOf w now done (Err f) s
     → IfSome a (λ text. Captures w now text (Err f))
-comes_front a b w now done f s e h = consumed _ a b done e
-    (λ rest _. comes_captures w now _ f s (comes_more w now done rest f s s h))
+comes_front None b w now done f s e h = tt
+comes_front (Some text) None w now done f s e h = absurd e
+comes_front (Some text) (Some rest) w now done f s e h =
+    subst (λ t. Captures w now t (Err f)) (sym e)
+    (comes_captures w _ _ f s (comes_more w _ _ rest f s s h))
 
 stopped : (w now : Option (List ℕ)) (text rest : List ℕ) (s : OpenLine) → StandsBehind w now text s
     → (n : ℕ) × WroteLines w now (text ++ rest) n
-stopped w _ _ rest s h = (
+stopped w now text rest s h = (
   h.n,
   record {
     front = h.front;
@@ -295,26 +290,34 @@ stopped w _ _ rest s h = (
 
 pub read_failed : (a b w now : Option (List ℕ)) (done : List ℕ) (s : OpenLine) → Consumes a b done
     → StandsBehind w now done s → IfSome a (λ text. Captures w now text (Err Read))
-read_failed a b w now done s e h = consumed _ a b done e (λ rest _. stopped w now done rest s h)
+read_failed None b w now done s e h = tt
+read_failed (Some text) None w now done s e h = absurd e
+read_failed (Some text) (Some rest) w now done s e h =
+    subst (λ t. Captures w now t (Err Read)) (sym e) (stopped w _ _ rest s h)
 
 pub read_on : (a b w now : Option (List ℕ)) (done : List ℕ) (s : OpenLine) → Consumes a b done
     → StandsBehind w now done s → 2 ^ 64 - 1 ≤ length done
     → IfSome a (λ text. Captures w now text (Err TooLong))
-read_on a b w now done s e h long = consumed _ a b done e
-    (λ rest _. let (n, wrote) = stopped w now done rest s h in
-    let both = length-append done rest in (n, wrote, omega (arith, both, long)))
+read_on None b w now done s e h long = tt
+read_on (Some text) None w now done s e h long = absurd e
+read_on (Some text) (Some rest) w now done s e h long =
+    let (n, wrote) = stopped w _ _ rest s h in
+    let both = length-append done rest in
+    subst (λ t. Captures w now t (Err TooLong)) (sym e) (n, wrote, omega (arith, both, long))
 
 -- all of the text was read
 pub captures_all : (a b w now : Option (List ℕ)) (done : List ℕ) (r : Result (Unit {0}) PcapFault)
     → Consumes a b done → IsAtEnd b → Captures w now done r
     → IfSome a (λ text. Captures w now text r)
-captures_all a b w now done r e end h = consumed _ a b done e (λ rest is.
-    subst (λ t. Captures w now t r) (sym (ap (λ l. done ++ l) (rw is at end) ∙ append-nil done)) h)
+captures_all None b w now done r e end h = tt
+captures_all (Some text) None w now done r e end h = absurd e
+captures_all (Some text) (Some rest) w now done r e end h =
+    subst (λ t. Captures w now t r) (sym (e ∙ ap (λ l. done ++ l) end ∙ append-nil done)) h
 
 -- no line has begun: all of the text was captured
 whole_text : (w now : Option (List ℕ)) (text : List ℕ) (s : OpenLine) → s.front.items ≡ []
     → (h : StandsBehind w now text s) → IsCapture h.n text h.file
-whole_text w _ _ s empty h =
+whole_text w now text s empty h =
     let few = few_taken longest h.line (subst (λ l. length l < longest) (sym empty ∙ h.begins)
     (omega arith)) in
     let none : h.line ≡ [] = sym (take_all longest h.line (omega arith)) ∙ sym h.begins ∙ empty in
@@ -347,7 +350,7 @@ some_items l e is = let none : (length {A = ℕ} [] == 0) ≡ false =
 
 pub ended_early : (w now : Option (List ℕ)) (text : List ℕ) (s : OpenLine) → s.front.items ≢ []
     → StandsBehind w now text s → Captures w now text (Err (BadLine s.number))
-ended_early w _ _ s begun h = (
+ended_early w now text s begun h = (
   h.n,
   h.number,
   inr (record {
@@ -366,53 +369,53 @@ ended_early w _ _ s begun h = (
 
 short_whole : (front line : List ℕ) → front ≡ take longest line → length line ≤ longest
     → front ≡ line
-short_whole _ line e few = e ∙ take_all longest line few
+short_whole front line e few = e ∙ take_all longest line few
 
 pub told_records : (front line : List ℕ) (records : ArrayVec ℕ) → records.items ≡ [] → IsTold line
     → RecordsOf line (Some records)
-told_records _ line _ none told =
+told_records front line records none told =
     subst (λ l. LineRecords line l) (sym none) (LineRecords.told told)
 
 pub plug_records : (front line : List ℕ) (shown : Bool) (records : ArrayVec ℕ)
     → front ≡ take longest line
     → Decides shown (IsShownText line) → (shown && fits_form plug_form front) ≡ true
     → records.items ≡ [] → RecordsOf line (Some records)
-plug_records front _ _ _ e decides fits none =
+plug_records front line shown records e decides fits none =
     let both = and_parts _ _ fits in
     told_records front _ _ none (inl (plug_taken _ _ e both.1, decides.0 both.0))
 
 pub report_records : (front line : List ℕ) (is_long : Bool) (records : ArrayVec ℕ)
     → front ≡ take longest line → is_long ≡ nat_lt longest (length line) → is_long ≡ false
     → has_form report_forms front ≡ true → records.items ≡ [] → RecordsOf line (Some records)
-report_records front line _ _ e long short fit none =
-    let few : length line ≤ longest = not_more _ _ (sym long ∙ short) in
-    told_records front _ _ none
-    (inr (few, subst IsReport (short_whole _ _ e few) (is_report-sound _ fit)))
+report_records front line is_long records e long short fit none =
+    let few : length line ≤ longest = not_more longest (length line) (sym long ∙ short) in
+    told_records front line records none
+    (inr (few, subst IsReport (short_whole front line e few) (is_report-sound front fit)))
 
 -- no line of a plug, by its first bytes, or one that a run does not show
 no_shown_plug : (front line : List ℕ) (shown : Bool) → front ≡ take longest line
     → Decides shown (IsShownText line) → (shown && fits_form plug_form front) ≡ false
     → IsPlug line → IsShownText line → ⊥
-no_shown_plug front _ _ e decides none plug is =
-    no_plug _ _ e (ap (λ s. s && fits_form plug_form front) (sym (decides.1 is)) ∙ none) plug
+no_shown_plug front line shown e decides none plug is =
+    no_plug front line e (ap (λ s. s && fits_form plug_form front) (sym (decides.1 is)) ∙ none) plug
 
 pub long_refused : (front line : List ℕ) (shown is_long : Bool) → front ≡ take longest line
     → is_long ≡ nat_lt longest (length line) → is_long ≡ true
     → Decides shown (IsShownText line) → (shown && fits_form plug_form front) ≡ false
     → IsRunLine line → ⊥
-long_refused _ _ _ _ e _ _ decides none (inl (inl (plug, is))) =
-    no_shown_plug _ _ _ e decides none plug is
-long_refused _ _ _ _ e long fit decides none (inl (inr (few, report))) = let over =
-    ltb-true _ _ (sym long ∙ fit) in absurd (omega arith)
-long_refused _ _ _ _ e long fit decides none (inr (a, (few, of))) = let over =
-    ltb-true _ _ (sym long ∙ fit) in absurd (omega arith)
+long_refused front line shown is_long e long fit decides none (inl (inl (plug, is))) =
+    no_shown_plug front line shown e decides none plug is
+long_refused front line shown is_long e long fit decides none (inl (inr (few, report))) = let over =
+    ltb-true longest (length line) (sym long ∙ fit) in absurd (omega arith)
+long_refused front line shown is_long e long fit decides none (inr (a, (few, of))) = let over =
+    ltb-true longest (length line) (sym long ∙ fit) in absurd (omega arith)
 
 pub attempt_records : (front line : List ℕ) (is_long : Bool) (a : TracedAttempt)
     (records : ArrayVec ℕ) → front ≡ take longest line → is_long ≡ nat_lt longest (length line)
     → is_long ≡ false → IsAttemptLine front a
     → AreRecords a.number (attempt_packets a.pre a.exchange) records.items
     → RecordsOf line (Some records)
-attempt_records _ line _ a records e long short of made =
+attempt_records front line is_long a records e long short of made =
     let few : length line ≤ longest = not_more _ _ (sym long ∙ short) in
     LineRecords.attempt a records.items (
       few,
@@ -424,20 +427,20 @@ pub none_refused : (front line : List ℕ) (shown is_long : Bool) → front ≡ 
     → Decides shown (IsShownText line) → (shown && fits_form plug_form front) ≡ false
     → has_form report_forms front ≡ false
     → ((a : TracedAttempt) → IsAttemptLine front a → None ≡ Some a) → IsRunLine line → ⊥
-none_refused _ _ _ _ e _ _ decides no_p _ _ (inl (inl (plug, is))) =
-    no_shown_plug _ _ _ e decides no_p plug is
-none_refused _ _ _ _ e long short decides no_p no_r no_a
+none_refused front line shown is_long e long short decides no_p no_r no_a (inl (inl (plug, is))) =
+    no_shown_plug front line shown e decides no_p plug is
+none_refused front line shown is_long e long short decides no_p no_r no_a
     (inl (inr (few, report))) =
-    let fit = is_report-complete _ (subst IsReport (sym (short_whole _ _ e few)) report)
+    let fit = is_report-complete front (subst IsReport (sym (short_whole front line e few)) report)
     in absurd (cc)
-none_refused _ _ _ _ e long short decides no_p no_r no_a (inr (a, (few, of))) =
-    let found = no_a a (subst (λ l. IsAttemptLine l a) (sym (short_whole _ _ e few)) of) in
+none_refused front line shown is_long e long short decides no_p no_r no_a (inr (a, (few, of))) =
+    let found = no_a a (subst (λ l. IsAttemptLine l a) (sym (short_whole front line e few)) of) in
     absurd (cc)
 
 pub torn_header : (a w now : Option (List ℕ)) → AppendsFront w now header
     → IfSome a (λ text. Captures w now text (Err Write))
-torn_header None w _ h = tt
-torn_header (Some text) w _ h = (
+torn_header None w now h = tt
+torn_header (Some text) w now h = (
   0,
   record {
     front = [];
@@ -487,19 +490,11 @@ not_err (Err x) e h = absurd (cc)
 
 pub never_read : {P : Type 0} (w now : Option (List ℕ)) (text : List ℕ) (f : PcapFault)
     (s : OpenLine) → ComesOf w now text (Err f) s → IsErrOf {T = Unit {0}} (Err f) Read → P
-never_read w _ _ Read s h is = absurd h
-never_read w _ _ TooLong s h is = absurd h
-never_read w _ _ NoAttempt s h is = absurd h
-never_read w _ _ (BadLine number) s h is = absurd (cc)
-never_read w _ _ Write s h is = absurd (cc)
-
--- a read that gave nothing
-pub read_none : (a b new : Option (List ℕ)) (done buf : List ℕ) (n : ℕ) → Consumes a b done → n ≡ 0
-    → Consumes b new (take n buf) → Consumes a new done
-read_none a b new done buf n h e k = subst (Consumes a new) (append-nil done)
-    (Consumes-trans a b new done [] h (subst (λ m. Consumes b new (take m buf)) e k))never_read w now text (BadLine number) s h is = absurd (cc)
+never_read w now text Read s h is = absurd h
+never_read w now text TooLong s h is = absurd h
+never_read w now text NoAttempt s h is = absurd h
+never_read w now text (BadLine number) s h is = absurd (cc)
 never_read w now text Write s h is = absurd (cc)
-never_read w now text _ s h is = absurd h
 
 -- a read that gave nothing
 pub read_none : (a b new : Option (List ℕ)) (done buf : List ℕ) (n : ℕ) → Consumes a b done → n ≡ 0

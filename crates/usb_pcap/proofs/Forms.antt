@@ -129,17 +129,17 @@ has_form-sound (form ∷ forms) line e = or_cases (fits_form form line) (has_for
 has_form-complete : (forms : List (List Piece)) (line : List ℕ) → all_parted forms ≡ true
     → HasForm forms line → has_form forms line ≡ true
 has_form-complete [] line h is = absurd is
-has_form-complete (form ∷ forms) _ h (inl is) =
-    rw (fits_form-complete _ _ (and_parts _ _ h).0 is) refl
+has_form-complete (form ∷ forms) line h (inl is) =
+    rw (fits_form-complete form line (and_parts (has_pieces form) (all_parted forms) h).0 is) refl
 has_form-complete (form ∷ forms) line h (inr is) =
-    rw (has_form-complete forms line (and_parts _ _ h).1 is)
+    rw (has_form-complete forms line (and_parts (has_pieces form) (all_parted forms) h).1 is)
     (or-true (fits_form form line))
 
 pub is_report-sound : (line : List ℕ) → has_form report_forms line ≡ true → IsReport line
 is_report-sound line e = has_form-sound report_forms line e
 
 pub is_report-complete : (line : List ℕ) → IsReport line → has_form report_forms line ≡ true
-is_report-complete _ is = has_form-complete _ _ refl is
+is_report-complete line is = has_form-complete report_forms line refl is
 
 -- ---- plugs, by their first bytes
 
@@ -219,6 +219,6 @@ plug_front line (
 
 pub no_plug : (front line : List ℕ) → front ≡ take longest line → fits_form plug_form front ≡ false
     → IsPlug line → ⊥
-no_plug _ _ e non is =
-    let fit = fits_form-complete _ _ refl (subst IsPlug (sym e) (plug_front _ is)) in
+no_plug front line e non is =
+    let fit = fits_form-complete plug_form front refl (subst IsPlug (sym e) (plug_front line is)) in
     absurd (cc)

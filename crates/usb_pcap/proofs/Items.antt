@@ -118,7 +118,7 @@ strip_any-sound (w ∷ ws) text rest e =
 escape-sound : (s : ℕ) (text rest : List ℕ) → s ≡ 92 → behind_escape text ≡ Some rest
     → (item : List ℕ) × IsUnit Letter item × (s ∷ text ≡ item ++ rest)
 escape-sound s (u ∷ a ∷ b ∷ c ∷ d ∷ text) rest back e =
-    if-some e (λ fit is.
+    if-some _ _ _ e (λ fit is.
     let both = and_parts (u == 117) (is_escape a b c d) fit in
     let small = eqb-true u 117 both.0 in
     let same = same_Some text rest is in
@@ -131,13 +131,13 @@ unfolding behind_item
 item-sound Byte [] rest e = absurd (cc)
 item-sound Byte (h ∷ []) _ e = absurd (cc)
 item-sound Byte (h ∷ l ∷ text) _ e =
-    if-some e
+    if-some _ _ _ e
     (λ fit is. (h ∷ l ∷ [], (h, l, fit, refl), ap (λ t. h ∷ l ∷ t) (same_Some _ _ is)))
 item-sound Letter [] rest e = absurd (cc)
 item-sound Letter (c ∷ text) _ e =
-    if_either e
+    if_either _ _ _ _ e
     (λ fit is. (c ∷ [], inl (c, fit, refl), ap (λ t. c ∷ t) (same_Some _ _ is)))
-    (λ non more. if-some more
+    (λ non more. if-some _ _ _ more
     (λ back is. escape-sound c _ _ (eqb-true c 92 back) is))
 
 item-complete : (kind : Item) (item rest : List ℕ) → IsUnit kind item
@@ -369,7 +369,7 @@ piece_bytes-sound text rest e =
       inl refl,
       strip-some (codes "-") text r found ∙ ap (λ l. codes "-" ++ l) (same_Some r rest is),
     ))
-    (λ more. map_some more
+    (λ more. map_some _ _ _ more
     (λ after found is.
     let (first, item, split) = item-sound Byte text after found in
     let (items, are, whole) = items-sound Byte (length after) after in (
@@ -384,7 +384,7 @@ piece_endpoint-sound : (text rest : List ℕ) → behind_endpoint text ≡ Some 
 piece_endpoint-sound [] rest e = absurd (cc)
 piece_endpoint-sound (h ∷ []) _ e = absurd (cc)
 piece_endpoint-sound (h ∷ l ∷ text) _ e =
-    if-some e (λ fit is.
+    if-some _ _ _ e (λ fit is.
     let a = value_of h * 16 + value_of l in
     let both = and_parts _ _ fit in
     let digits = and_parts _ _ both.0 in (
@@ -484,7 +484,7 @@ piece_path-sound : (text rest : List ℕ) → behind_path text ≡ Some rest →
 piece_path-sound text _ e =
     let end = path_end text in
     let front : List ℕ = take end text in
-    if-some e (λ fit is.
+    if-some _ _ _ e (λ fit is.
     let (p, found, root) = path_found _ fit in
     let own = some_if (Some p) front (sym found) in (
       front,
@@ -522,7 +522,7 @@ piece-sound (Piece.one_of words) _ _ e = strip_any-sound _ _ _ e
 piece-sound Piece.path _ _ e = piece_path-sound _ _ e
 piece-sound Piece.endpoint _ _ e = piece_endpoint-sound _ _ e
 piece-sound Piece.number _ _ e =
-    map_some e (λ n found is.
+    map_some _ _ _ e (λ n found is.
     let own = decimal_in-some _ n found in
     (decimal n.0, (n.0, own.1, refl), own.0 ∙ ap (λ l. decimal n.0 ++ l) is))
 piece-sound Piece.bytes _ _ e = piece_bytes-sound _ _ e
@@ -589,19 +589,19 @@ distinct _ = true
 pub piece-complete : (piece : Piece) (text rest : List ℕ) → distinct piece ≡ true
     → IsPiece piece text → StopsAt piece rest → behind_piece piece (text ++ rest) ≡ Some rest
 unfolding behind_piece
-piece-complete (Piece.word w) _ rest h is _ =
+piece-complete (Piece.word w) text rest h is stop =
     subst (λ t. strip w (t ++ rest) ≡ Some rest) (sym is) (strip-append w rest)
-piece-complete (Piece.one_of words) _ rest h is _ = strip_any-complete _ _ rest h is
-piece-complete Piece.path _ _ h is stop = piece_path-complete _ _ is stop
-piece-complete Piece.endpoint _ rest h is _ = piece_endpoint-complete _ rest is
-piece-complete Piece.number _ _ h (n, few, e) stop =
-    rw (e, decimal_in-complete n _ few stop) refl
-piece-complete Piece.bytes _ _ h is stop = piece_bytes-complete _ _ is stop
+piece-complete (Piece.one_of words) text rest h is stop = strip_any-complete words text rest h is
+piece-complete Piece.path text rest h is stop = piece_path-complete text rest is stop
+piece-complete Piece.endpoint text rest h is stop = piece_endpoint-complete text rest is
+piece-complete Piece.number text rest h (n, few, e) stop =
+    rw (e, decimal_in-complete n rest few stop) refl
+piece-complete Piece.bytes text rest h is stop = piece_bytes-complete text rest is stop
 piece-complete Piece.string text rest h (n, are) stop =
     let long = length-append text rest in
-    ap Some (items-complete _ (length text) (length (text ++ rest)) text _
-    (omega (arith, long)) (items_fewer _ n (length text) _ (omega arith) are)
-    (letter_end _ stop))
+    ap Some (items-complete Letter (length text) (length (text ++ rest)) text rest
+    (omega (arith, long)) (items_fewer Letter n (length text) text (omega arith) are)
+    (letter_end rest stop))
 piece-complete Piece.name [] rest h is stop = absurd (is refl)
 piece-complete Piece.name (c ∷ text) [] h is stop = refl
 piece-complete Piece.name (c ∷ text) (d ∷ rest) h is stop = absurd (cc)

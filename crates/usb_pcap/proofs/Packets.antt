@@ -35,7 +35,7 @@ token_in-some kind text r e =
     (strip (codes ".") addr.1) r behind (λ rest dot more.
     option_and_then_some (fitting_token kind addr.0) (decimal_in rest) r more
     (λ ep second fits_form.
-    if-some fits_form
+    if-some _ _ _ fits_form
     (λ both is.
     let tests = and_parts (nat_lt addr.0 128) (nat_lt ep.0 16) both in
     let one = decimal_in-some text addr first in
@@ -99,7 +99,7 @@ handshake_in-some text r e =
       tt,
       tt,
     ) is) (λ no_nak.
-    map_some no_nak
+    map_some _ _ _ no_nak
     (λ rest stall is. subst (BeginsAs text) is (
       strip-some (codes "STALL") text rest stall,
       tt,
@@ -117,19 +117,19 @@ pub packet_in-some : (text : List ℕ) (r : Packet × List ℕ) → packet_in te
 unfolding packet_in
 packet_in-some text r e =
     found_some (strip (codes "SETUP ") text) (token_in SetupTok) _ r e
-    (λ rest found h. worded _ _ _ r found
-    (token_in-some _ _ r h)) (λ e.
+    (λ rest found h. worded (codes "SETUP ") text rest r found
+    (token_in-some SetupTok rest r h)) (λ e.
     found_some (strip (codes "IN ") text) (token_in InTok) _ r e
-    (λ rest found h. worded _ _ _ r found (token_in-some _ _ r h))
+    (λ rest found h. worded (codes "IN ") text rest r found (token_in-some InTok rest r h))
     (λ e.
     found_some (strip (codes "OUT ") text) (token_in OutTok) _ r e
-    (λ rest found h. worded _ _ _ r found (token_in-some _ _ r h))
+    (λ rest found h. worded (codes "OUT ") text rest r found (token_in-some OutTok rest r h))
     (λ e.
     found_some (strip (codes "DATA0 ") text) (data_in Zero) _ r e
-    (λ rest found h. worded _ _ _ r found (data_in-some _ _ r h))
+    (λ rest found h. worded (codes "DATA0 ") text rest r found (data_in-some Zero rest r h))
     (λ e.
     found_some (strip (codes "DATA1 ") text) (data_in One) _ r e
-    (λ rest found h. worded _ _ _ r found (data_in-some _ _ r h))
+    (λ rest found h. worded (codes "DATA1 ") text rest r found (data_in-some One rest r h))
     (handshake_in-some text r)))))
 
 -- a text is that of a mark with this behind it
@@ -149,8 +149,9 @@ bit_in-some text r e =
     option_and_then_some (λ bit. if nat_lt bit.0 65536 then option_map
     (λ rest. (Flipped bit.0, rest)) (strip (codes "]") bit.1) else None) (decimal_in text) r e
     (λ bit number more.
-    if-some more (λ few end.
-    map_some end (λ rest found is.
+    if-some (nat_lt bit.0 65536) (option_map (λ rest. (Flipped bit.0, rest))
+    (strip (codes "]") bit.1)) r more (λ few end.
+    map_some (λ rest. (Flipped bit.0, rest)) (strip (codes "]") bit.1) r end (λ rest found is.
     let spelled : codes " [bit " ++ text ≡ (codes " [bit " ++ decimal bit.0 ++ codes "]") ++ rest =
     ap (λ l. codes " [bit " ++ l) ((decimal_in-some text bit number).0
     ∙ ap (λ l. decimal bit.0 ++ l) (strip-some (codes "]") bit.1 rest found))

@@ -197,9 +197,9 @@ host_in-complete pre s rest sends spoken end =
     let whole : host_text pre s ++ rest ≡ pre_text pre ++
     (text_of s.packet ++ (mark_text s.mark ++ rest)) = simp append_assoc in
     let one = pre_behind pre (text_of s.packet ++ (mark_text s.mark ++ rest)) in
-    let two = packet_in-complete _ _ spoken sends.0 sends.1
-    (mark_blank s.mark _ end) in
-    let three = mark-complete _ _ (mark_small _ _ _ sends.1 sends.2) end in
+    let two = packet_in-complete s.packet (mark_text s.mark ++ rest) spoken sends.0 sends.1
+    (mark_blank s.mark rest end) in
+    let three = mark-complete s.mark rest (mark_small pre s.mark s.packet sends.1 sends.2) end in
     let four = sends.2 in
     subst (λ t. host_in pre t ≡ Some (s, rest)) (sym whole) (rw (one, two, three, four) refl)
 
@@ -222,9 +222,9 @@ host_data-complete : (pre : Bool) (s : Outgoing) (rest : List ℕ) → IsSent pr
     → is_data_packet s.packet ≡ true → EndsWord rest
     → host_data_in pre (next_text pre (Some s) ++ rest) ≡ Some (s, rest)
 unfolding host_data_in
-host_data-complete _ s _ sends is end =
+host_data-complete pre s rest sends is end =
     rw (
-      next_in-complete _ s _ sends (speaks _ (λ _. refl) refl _ is) end,
+      next_in-complete pre s rest sends (speaks is_data_packet (λ _. refl) refl s.packet is) end,
       is,
     ) refl
 
@@ -232,9 +232,9 @@ host_ack-complete : (pre : Bool) (s : Outgoing) (rest : List ℕ) → IsSent pre
     → is_ack_packet s.packet ≡ true → EndsWord rest
     → host_ack_in pre (next_text pre (Some s) ++ rest) ≡ Some (s, rest)
 unfolding host_ack_in
-host_ack-complete _ s _ sends is end =
+host_ack-complete pre s rest sends is end =
     rw (
-      next_in-complete _ s _ sends (speaks _ (λ _. refl) refl _ is) end,
+      next_in-complete pre s rest sends (speaks is_ack_packet (λ _. refl) refl s.packet is) end,
       is,
     ) refl
 
@@ -260,20 +260,33 @@ unfolding answer_in
 answer_behind _ _ p m none found is = let one = none.0 in let two = none.1 in
     rw (one, two, found, is) refl
 
+nothing_read : (rest : List ℕ) → answer_in (codes " / " ++ (codes "none" ++ rest))
+    ≡ Some ((answer.Nothing, Whole), rest)
+unfolding answer_in strip
+nothing_read rest = refl
+
+collision_read : (rest : List ℕ) → answer_in (codes " / " ++ (codes "collision" ++ rest))
+    ≡ Some ((answer.Collision, Whole), rest)
+unfolding answer_in strip
+collision_read rest = refl
+
 answer_in-complete : (a : ExchangeAnswer) (m : Mark) (rest : List ℕ) → IsMarkedAnswer a m
     → EndsWord rest → answer_in (codes " / " ++ (answer_text a ++ (mark_text m ++ rest)))
     ≡ Some ((a, m), rest)
-unfolding answer_in strip
-answer_in-complete answer.Nothing m rest e end = rw e refl
-answer_in-complete answer.Collision m rest e end = rw e refl
+answer_in-complete answer.Nothing m rest e end =
+    subst (λ (n : Mark). answer_in (codes " / " ++ (codes "none" ++ (mark_text n ++ rest)))
+    ≡ Some ((answer.Nothing, n), rest)) (sym e) (nothing_read rest)
+answer_in-complete answer.Collision m rest e end =
+    subst (λ (n : Mark). answer_in (codes " / " ++ (codes "collision" ++ (mark_text n ++ rest)))
+    ≡ Some ((answer.Collision, n), rest)) (sym e) (collision_read rest)
 answer_in-complete (answer.One p) m rest (is, sends) end =
     let s : Outgoing = record { packet = p; mark = m } in
     let own : next_text false (Some s) ++ rest
     ≡ codes " / " ++ (text_of p ++ (mark_text m ++ rest)) = simp append_assoc in
-    answer_behind _ rest p m
+    answer_behind (codes " / " ++ (text_of p ++ (mark_text m ++ rest))) rest p m
     (no_word p (mark_text m ++ rest) is)
     (subst (λ t. next_in false t ≡ Some (s, rest)) own
-    (next_in-complete _ s _ sends (speaks _ (λ _. refl) refl p is) end)) is
+    (next_in-complete false s rest sends (speaks is_answer (λ _. refl) refl p is) end)) is
 
 -- ---- whole lines
 
@@ -335,23 +348,29 @@ answered-complete : (a : TracedAttempt) → IsTraced a
     → attempt_answered a.number a.pre a.exchange.token (a.exchange.payload, answer_on a)
     ≡ Some (a, [])
 answered-complete a h =
-    let one = answer_in-complete _ _
-    _ h.answer (reply_end a.pre a.exchange.reply) in
-    let two = reply_if-complete _ _ h.reply in
+    let one = answer_in-complete a.exchange.answer a.exchange.answer_mark
+    (next_text a.pre a.exchange.reply) h.answer (reply_end a.pre a.exchange.reply) in
+    let two = reply_if-complete a.pre a.exchange.reply h.reply in
     rw (one, two) (ap (λ (b : TracedAttempt). Some (b, [])) (as_told a h))
 
 begun-complete : (a : TracedAttempt) → IsTraced a → attempt_begun a.number (token_on a)
     ≡ Some (a, [])
 begun-complete a h =
     let one : is_some (strip (codes "PRE ") (token_on a)) ≡ a.pre =
-    pre_read a.pre _ a.exchange.token.mark _ (payload_on a) h.sends in
-    let two = host_in-complete _ _ _ h.token
-    (speaks _ (λ _. refl) refl _
+    pre_read a.pre a.exchange.token.packet a.exchange.token.mark _ (payload_on a) h.sends in
+    let two = host_in-complete a.pre a.exchange.token (payload_on a) h.token
+    (speaks (λ p. is_some (data_follow p)) (λ _. refl) refl a.exchange.token.packet
     (ap is_some h.sends))
-    (payload_end _ _ _) in
+    (payload_end a.pre a.exchange.payload
+    (answer_text a.exchange.answer ++ (mark_text a.exchange.answer_mark ++ next_text a.pre
+    a.exchange.reply))) in
     let three = h.sends in
-    let four = payload_if-complete _ _ _ h.payload
-    (inr (_, refl)) in
+    let four = payload_if-complete a.pre a.exchange.payload (answer_on a) h.payload
+    (inr (
+      answer_text a.exchange.answer ++
+          (mark_text a.exchange.answer_mark ++ next_text a.pre a.exchange.reply),
+      refl,
+    )) in
     rw (one, two, three, four) (answered-complete a h)
 
 attempt_in-complete : (a : TracedAttempt) → IsTraced a
@@ -360,12 +379,12 @@ unfolding attempt_in strip
 attempt_in-complete a h =
     let timed = h.timed in
     let one = decimal_in-complete a.number (codes " " ++ token_on a) (omega (arith, timed)) refl in
-    rw (one, lt-ltb _ _ timed) (begun-complete a h)
+    rw (one, lt-ltb a.number no_time timed) (begun-complete a h)
 
 pub read_attempt-each : (line : List ℕ) (a : TracedAttempt) → IsAttemptLine line a
     → read_attempt line ≡ Some a
 unfolding read_attempt
-read_attempt-each _ a h =
+read_attempt-each line a h =
     let whole : attempt_line a.number a.pre a.exchange
     ≡ decimal a.number ++ (codes " " ++ (host_text a.pre a.exchange.token ++
     (next_text a.pre a.exchange.payload

@@ -13,20 +13,20 @@ use Rattle.hex.specs.Hex.{encode_upper, encode_with, upper_digits}
 use Rattle.usb_pcap.specs.{bytes_on, decimal_in, if_found, is_digit, number_on, strip, value_of}
 
 -- a test was met, and what it led to
-pub if-some : {A P : Type 0} {b : Bool} {o : Option A} {y : A} → (if b then o else None) ≡ Some y
+pub if-some : {A P : Type 0} (b : Bool) (o : Option A) (y : A) → (if b then o else None) ≡ Some y
     → (b ≡ true → o ≡ Some y → P) → P
-if-some {b = true} e k = k refl e
-if-some {b = false} e k = absurd (cc)
+if-some true o y e k = k refl e
+if-some false o y e k = absurd (cc)
 
-pub if_either : {A P : Type 0} {b : Bool} {o p : Option A} {y : A} → (if b then o else p) ≡ Some y
+pub if_either : {A P : Type 0} (b : Bool) (o p : Option A) (y : A) → (if b then o else p) ≡ Some y
     → (b ≡ true → o ≡ Some y → P) → (b ≡ false → p ≡ Some y → P) → P
-if_either {b = true} e k l = k refl e
-if_either {b = false} e k l = l refl e
+if_either true o p y e k l = k refl e
+if_either false o p y e k l = l refl e
 
-pub map_some : {A B P : Type 0} {f : A → B} {o : Option A} {y : B} → option_map f o ≡ Some y
+pub map_some : {A B P : Type 0} (f : A → B) (o : Option A) (y : B) → option_map f o ≡ Some y
     → ((x : A) → o ≡ Some x → f x ≡ y → P) → P
-map_some {o = Some x} e k = k x refl (same_Some _ _ e)
-map_some {o = None} e k = absurd (cc)
+map_some f (Some x) y e k = k x refl (same_Some (f x) y e)
+map_some f None y e k = absurd (cc)
 
 pub found_some : {A B P : Type 0} (o : Option A) (read : A → Option B) (other : Option B) (y : B)
     → if_found o read other ≡ Some y
@@ -39,7 +39,7 @@ unfolding strip
 strip-some [] text rest e = same_Some text rest e
 strip-some (c ∷ word) [] rest e = absurd (cc)
 strip-some (c ∷ word) (d ∷ text) rest e =
-    if-some e
+    if-some _ _ _ e
     (λ same more. ap₂ (λ (x : ℕ) (l : List ℕ). x ∷ l) (eqb-true d c same)
     (strip-some word text rest more))
 
@@ -48,8 +48,8 @@ number_on-few : (value : ℕ) (text : List ℕ) (n : ℕ) → value < 2 ^ 64 →
 unfolding number_on
 number_on-few value [] n few e = subst (λ m. m < 2 ^ 64) (same_Some _ _ e) few
 number_on-few value (c ∷ text) n few e =
-    if_either e
-    (λ digit more. if-some more
+    if_either _ _ _ _ e
+    (λ digit more. if-some _ _ _ more
     (λ below rest. number_on-few (value * 10 + (c - 48)) text n
     (ltb-true _ _ below) rest))
     (λ other end. subst (λ m. m < 2 ^ 64) (same_Some value n end) few)
@@ -59,7 +59,7 @@ pub decimal_in-some : (text : List ℕ) (r : ℕ × List ℕ) → decimal_in tex
 unfolding decimal_in
 decimal_in-some text r e =
     option_and_then_some _ _ r e
-    (λ n h more. map_some more
+    (λ n h more. map_some _ _ _ more
     (λ rest found is. subst (λ (s : ℕ × List ℕ). (text ≡ decimal s.0 ++ s.1) × (s.0 < 2 ^ 64)) is
     (strip-some (decimal n) text rest found, number_on-few 0 text n (omega arith) h)))
 
@@ -145,8 +145,8 @@ bytes_on-some bytes (h ∷ []) r e = ap (λ (s : List ℕ × List ℕ). encode_u
     (same_Some (bytes, h ∷ []) r e)
 bytes_on-some bytes (h ∷ l ∷ text) r e =
     let byte : ℕ = value_of h * 16 + value_of l in
-    if_either e
-    (λ digits more. if-some more
+    if_either _ _ _ _ e
+    (λ digits more. if-some _ _ _ more
     (λ room rest.
     let both = and_parts (is_digit h) (is_digit l) digits in
     let pair = encode_upper-pair h l both.0 both.1 in
@@ -173,8 +173,8 @@ bytes_on-data bytes (h ∷ []) r few small e = subst (λ (s : List ℕ × List �
     × IsBytes s.0) (same_Some (bytes, h ∷ []) r e) (few, small)
 bytes_on-data bytes (h ∷ l ∷ text) r few small e =
     let byte : ℕ = value_of h * 16 + value_of l in
-    if_either e
-    (λ digits more. if-some more
+    if_either _ _ _ _ e
+    (λ digits more. if-some _ _ _ more
     (λ room rest.
     let both = and_parts (is_digit h) (is_digit l) digits in
     let high = (digit_there h both.0).1 in

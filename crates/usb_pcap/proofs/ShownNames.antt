@@ -264,7 +264,7 @@ escaped_fits c e = grind (arith, nat_tests)
 pair_of_digits : (h l n : ℕ) → pair_value h l ≡ Some n
     → (encode_upper (n ∷ []) ≡ h ∷ l ∷ []) × (n < 256)
 pair_of_digits h l n e =
-    if-some e
+    if-some _ _ _ e
     (λ fit is. let both = and_parts _ _ fit in
     let same = same_Some _ n is in
     let high = digit_there h both.0 in

@@ -12,17 +12,17 @@ use Rattle.usb_pcap.proofs.ShownNames.{shown_decided}
 pub plug_formed : (line : List ℕ) (fits shown : Bool) → fits ≡ fits_form plug_form line
     → fits ≡ true → Decides shown (IsShownText line)
     → Decides shown (IsPlug line × IsShownText line)
-plug_formed _ _ _ e holds d = (
-  λ is. (fits_form-sound _ _ (sym e ∙ holds), d.0 is),
+plug_formed line fits shown e holds d = (
+  λ is. (fits_form-sound plug_form line (sym e ∙ holds), d.0 is),
   λ h. d.1 h.1,
 )
 
 -- a line in another form is none
 pub plug_unformed : (line : List ℕ) (fits : Bool) → fits ≡ fits_form plug_form line
     → fits ≡ false → Decides fits (IsPlug line × IsShownText line)
-plug_unformed _ _ e fails = (
+plug_unformed line fits e fails = (
   λ holds. absurd (cc),
-  λ h. e ∙ fits_form-complete _ _ refl h.0,
+  λ h. e ∙ fits_form-complete plug_form line refl h.0,
 )
 
 -- the second of two decides where the first does not hold
@@ -37,9 +37,9 @@ else_decides {P} {Q} a b p fails q = (λ holds. inr (q.0 holds), known)
 -- a short line is decided by its form
 pub report_decides : (line : List ℕ) (fits : Bool) → length line ≤ longest
     → fits ≡ has_form report_forms line → Decides fits ((length line ≤ longest) × IsReport line)
-report_decides _ _ few e = (
-  λ holds. (few, is_report-sound _ (sym e ∙ holds)),
-  λ h. e ∙ is_report-complete _ h.1,
+report_decides line fits few e = (
+  λ holds. (few, is_report-sound line (sym e ∙ holds)),
+  λ h. e ∙ is_report-complete line h.1,
 )
 
 -- a byte more of a name
@@ -51,5 +51,5 @@ shown_more line begun i b below is h = subst (λ l. Begins l begun)
 -- all of it
 pub shown_all : (line begun : List ℕ) (i : ℕ) (shown : Bool) → length line ≤ i
     → Begins (take i line) begun → shown ≡ (length begun == 0) → Decides shown (IsShownText line)
-shown_all line begun i _ over h is =
-    shown_decided line _ _ is (subst (λ l. Begins l begun) (take_all i line over) h)
+shown_all line begun i shown over h is =
+    shown_decided line begun shown is (subst (λ l. Begins l begun) (take_all i line over) h)
