@@ -14,7 +14,7 @@ use Rattle.std.specs.Option.{option_and_then}
 use Rattle.usb_pcap.specs.{Item, Byte, Letter, decimal_in, if_found, is_digit, number_on}
 use Rattle.usb_pcap.specs.{strip, strip_any, with_digit, AreUnits, IsUnit, IsOneOf, IsPiece, Piece}
 use Rattle.usb_pcap.specs.{behind_bytes, behind_escape, behind_item, behind_items, behind_piece}
-use Rattle.usb_pcap.specs.{behind_endpoint, is_endpoint, is_escape, is_plain, value_of}
+use Rattle.usb_pcap.specs.{behind_endpoint, is_escape, is_plain, value_of}
 use Rattle.usb_request.specs.{is_endpoint_address}
 use Rattle.hex.specs.Hex.{encode_with}
 use Rattle.usb_port.specs.{IsPortNumber, number_text, path_of, path_text}

@@ -7,7 +7,7 @@ use Rattle.std.proofs.lemmas.Bool.{and_parts, ltb-true}
 use Rattle.std.specs.Option.{option_and_then}
 use Rattle.hex.specs.Hex.{encode_upper, encode_with}
 use Rattle.usb_packet.specs.{TokenKind, OutTok, InTok, SetupTok, Toggle, Zero, One, Packet, Token}
-use Rattle.usb_packet.specs.{Payload, Ack, Nak, Stall, HasData, HasFields, IsBytes, data_name}
+use Rattle.usb_packet.specs.{Payload, Ack, Nak, HasData, HasFields, IsBytes, data_name}
 use Rattle.usb_packet.specs.{text_of, token_name}
 use Rattle.usb_world.specs.{Mark, Whole, Lost, PreLost, Flipped}
 use Rattle.usb_bus.specs.{mark_text}

@@ -6,7 +6,6 @@ use Rattle.std.proofs.Common.{refl, sym, ap, ap₂, subst, ◌∙◌, arith, app
 use Rattle.std.proofs.lemmas.Option.{option_and_then_some, same_Some}
 use Rattle.std.proofs.lemmas.Bool.{and_parts, cases_lt, eqb-true, ltb-true}
 use Rattle.std.proofs.lemmas.Bool.Decides.{nat_tests}
-use Rattle.std.specs.Char.{is_ascii_digit}
 use Rattle.usb_packet.specs.{IsBytes}
 use Rattle.usb_packet.proofs.Interface.{encode_upper-append}
 use Rattle.hex.specs.Hex.{encode_upper, encode_with, upper_digits}

@@ -1,5 +1,4 @@
 use Rattle.std.proofs.Common.{◌/◌, ◌%◌}
-use Rattle.std.specs.Int.{to_le_bytes, w32}
 use Rattle.usb_pcap.proofs.Records.{four_parts}
 use Rattle.usb_pcap.proofs.record.push_head.Goals as goal
 
