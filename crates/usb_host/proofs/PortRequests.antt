@@ -320,7 +320,7 @@ module _ {asked : Bool} {port : HubPort} {feature : ℕ} {a b : HostState} where
   where_tidies tidy is x =
       where_cases (λ r h. Tidies port a.world r h.world) x
       (λ y. subst (λ r. Tidies port a.world r b.world) (sym y.is)
-      (call_tidies _ _ tidy is _ _ _ y.calls y.keeps))
+      (call_tidies port feature tidy is a.world y.answer b.world y.calls y.keeps))
       (tidies_none port a.world)
 
   where_done : (call : PortCall) → clear_call feature ≡ Some call → (is_reset call ≡ true → ⊥)
@@ -343,7 +343,7 @@ module _ {port : HubPort} (status : PortStatus) {a b : HostState} where
   tidied_fails x = record {
     requested = requested-wider (where_requested x) (omega arith);
     tidies = where_tidies enable clears_enable_change x;
-    clears = record { reset = tt; calm = λ off _. x.not off; clears = λ f p _ _. tt };
+    clears = record { reset = tt; calm = λ off none. x.not off; clears = λ f p at owned. tt };
     order = first_failed _ x refl;
   }
 
@@ -358,8 +358,8 @@ module _ {port : HubPort} (status : PortStatus) {a b : HostState} where
     reset_by : (result : Result (Unit {0}) EnumFault)
         → ClearsWhere status.reset_changed port C_PORT_RESET b result c
         → OnOk result (status.reset_changed ≡ true → ClearsReset port a.world c.world)
-    reset_by (Ok tt) y = λ told. resets_done _ first_tidies (feature_calls b c (y.so told))
-    reset_by (Err _) y = tt
+    reset_by (Ok tt) y = λ told. resets_done b.world first_tidies (feature_calls b c (y.so told))
+    reset_by (Err fault) y = tt
 
     clears_told_by : (result : Result (Unit {0}) EnumFault)
         → ClearsWhere status.reset_changed port C_PORT_RESET b result c
@@ -371,7 +371,7 @@ module _ {port : HubPort} (status : PortStatus) {a b : HostState} where
       reset = where_done ClearResetChange refl
           (λ resets. absurd (cc resets)) y f p at (first_tidies.addresses.kept f owned);
     }
-    clears_told_by (Err _) y f p _ _ = tt
+    clears_told_by (Err fault) y f p at owned = tt
 
     pub tidied : {result : Result (Unit {0}) EnumFault}
         → ClearsWhere status.reset_changed port C_PORT_RESET b result c

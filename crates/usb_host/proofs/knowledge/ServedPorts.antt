@@ -79,14 +79,14 @@ module _ {n : ℕ} {path : List ℕ} {port : KnownPort} {a b : HostState} (s : S
       known : PortsListed b.world a.entries
       known x listed =
           let here = rw went.spends.roots at listed in
-          let was = i.known (went_sound n _ _ went still) x here in
+          let was = i.known (went_sound n a.world b.world went still) x here in
           pick was (decided (is_way path x))
         where
           pick : IsKnownAs a.world x (finding_at x a.entries) → (is_way path x ≡ true)
               ⊎ (is_way path x ≡ false) → IsKnownAs b.world x (finding_at x a.entries)
           pick was (inl way) = (t.stays (claims a.entries) path (stands_at-claim s) i.owned refl x
               way).known (finding_at x a.entries) was
-          pick was (inr away) = known_stays x (finding_at x a.entries) _ _
+          pick was (inr away) = known_stays x (finding_at x a.entries) a.world b.world
               (t.others (claims a.entries) path (stands_at-claim s) i.owned tt x away)
               was
 
@@ -120,7 +120,7 @@ module _ {n : ℕ} {path : List ℕ} {port : KnownPort} {a b : HostState} (s : S
       → IfErr result (λ fault. FaultAllowedAt port.port fault b.world) → HostInvariant a
       → InvariantAfterPort path result b
   tidied_port (Ok done) t told i = tidied_sound t i
-  tidied_port (Err fault) t told i = tidied_lost _ t told i
+  tidied_port (Err fault) t told i = tidied_lost fault t told i
 
   -- a status was told, or was not
   pub watched_sound : {status : PortStatus} → Watches port.port a.world (Ok status) b.world
@@ -182,7 +182,7 @@ module _ {n : ℕ} {path : List ℕ} {port : KnownPort} {a b c : HostState} {sta
   left = f.rest ∙ ap (λ (h : HostState). without path h.entries) r
 
   stays : StaysOwned a c
-  stays = stays_bare _ a b c s r went.spends.roots x.bares f.others f.rest
+  stays = stays_bare path a b c s r went.spends.roots x.bares f.others f.rest
 
   still_before : c.world.fault ≡ None → a.world.fault ≡ None
   still_before still = went_sound n _ _ went (ap (λ (w : World). w.fault) (sym world_is)
