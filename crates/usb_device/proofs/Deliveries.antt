@@ -137,4 +137,4 @@ pub ruleset delivering = (
   answer_of-after,
 )
 
-pub ruleset strays = (with_answer-none, taken-stray)
+pub ruleset strays = (with_answer-none, taken-stray, asks-stray)

@@ -133,10 +133,7 @@ impl Device {
                 side.effect = Effect::Leaves;
                 Ok(())
             }
-            Some(sent) => {
-                side.effect = self.effect(sent, deep);
-                self.take_sent(sent, deep, heard)
-            }
+            Some(sent) => self.take_sent(sent, deep, heard, &mut side.effect),
         }
     }
 

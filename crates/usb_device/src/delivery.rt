@@ -7,10 +7,12 @@ ghost use Rattle.usb_device.specs.Rows.{sink_grows};
 ghost use Rattle.usb_device.specs.ReceivedBytes.{received_by};
 ghost use Rattle.usb_device.specs.Places.{ports_kept, stood};
 ghost use Rattle.usb_device.specs.StoppedPackets.{Stopped, StoppedDevice, StoppedPlace, IsRefused, IsRefusedContent};
-ghost use Rattle.usb_device.specs.Delivery.{Carries, is_heard, heard_joined, with_answer, delivered, taken_content, taken_sent, delivered_device, delivered_place, figure, figure_in, figure_of};
+ghost use Rattle.usb_device.specs.Effects.{asks};
+ghost use Rattle.usb_device.specs.Delivery.{Carries, asked_by, effect_of, is_heard, heard_joined, with_answer, delivered, taken_content, taken_sent, delivered_device, delivered_place, figure, figure_in, figure_of};
 
 use crate::answer::Answer;
 use crate::device::Device;
+use crate::effect::Effect;
 use crate::hearing::{HeardPid, Hearing};
 use crate::lent_packet::LentPacket;
 use crate::ports::{Place, Ports};
@@ -198,24 +200,30 @@ impl Device {
         ensures stopped { OnErr result (StoppedDevice sent.now deep self.old self.new) }
     {
         self.ports.pass(sent, true, heard)?;
-        self.take_sent(sent, deep, heard)
+        let mut effect = Effect::Leaves;
+        self.take_sent(sent, deep, heard, &mut effect)
     }
 
+    /// A packet at the device itself, if it hears it; what it asks of its ports is put into `effect`.
+    #[inline(always)]
     #[tactic(auto, unfolding(crate::specs::Delivery::answer_of, crate::specs::Delivery::effect_of), using(crate::proofs::Deliveries::strays))]
     pub(crate) fn take_sent(
         &mut self,
         sent: &LentPacket<'_>,
         deep: bool,
         heard: &mut Hearing,
+        effect: &mut Effect,
     ) -> Result<(), AllocError>
         ensures ok { OnOk result ((heard.new, self.new)
             ≡ with_answer heard.old (taken_sent sent.now deep self.old)) }
+        ensures asked { effect.new ≡ effect_of sent.now deep self.old.own }
         ensures err { OnErr result (self.new ≡ self.old) }
         ensures refused { OnErr result (IsRefused sent.now deep self.old.own) }
     {
         if is_heard(sent, deep, self.is_low()) {
-            self.take_read(sent.packet(), heard)
+            self.take_read(sent.packet(), heard, effect)
         } else {
+            *effect = Effect::Leaves;
             Ok(())
         }
     }
@@ -223,16 +231,24 @@ impl Device {
     /// A packet that is for another device, and one that cannot be read, only end what the device
     /// remembers.
     #[tactic(auto, using(crate::proofs::Deliveries::strays))]
-    fn take_read(&mut self, packet: Option<&Packet>, heard: &mut Hearing) -> Result<(), AllocError>
+    fn take_read(
+        &mut self,
+        packet: Option<&Packet>,
+        heard: &mut Hearing,
+        effect: &mut Effect,
+    ) -> Result<(), AllocError>
         ensures ok { OnOk result ((heard.new, self.new) ≡ with_answer heard.old
             (taken_content (content_of (option_copied packet.entry)) self.old)) }
+        ensures asked { effect.new
+            ≡ asked_by (content_of (option_copied packet.entry)) self.old.own }
         ensures err { OnErr result (self.new ≡ self.old) }
         ensures refused { OnErr result
             (IsRefusedContent (content_of (option_copied packet.entry)) self.old.own) }
     {
         match packet {
-            Some(packet) if self.own.is_for(packet) => self.join(packet, heard),
+            Some(packet) if self.own.is_for(packet) => self.join(packet, heard, effect),
             _ => {
+                *effect = Effect::Leaves;
                 self.own.unread();
                 Ok(())
             }
@@ -241,21 +257,27 @@ impl Device {
 
     /// A packet at the device itself, whose answer joins what was heard before it. The bytes of a
     /// second answer, which nobody reads, are put aside.
-    fn join(&mut self, packet: &Packet, heard: &mut Hearing) -> Result<(), AllocError>
+    fn join(
+        &mut self,
+        packet: &Packet,
+        heard: &mut Hearing,
+        effect: &mut Effect,
+    ) -> Result<(), AllocError>
         ensures ok { OnOk result ((heard.new, self.new)
             ≡ with_answer heard.old (received_by self.old packet.now)) }
+        ensures asked { effect.new ≡ asks self.old.own packet.now }
         ensures err { OnErr result (self.new ≡ self.old) }
         ensures grows { OnErr result (sink_grows self.old.own packet.now ≡ true) }
     {
         match heard.pid {
             HeardPid::Nothing => {
-                if let Some(pid) = self.take(packet, &mut heard.room)? {
+                if let Some(pid) = self.take(packet, &mut heard.room, effect)? {
                     heard.pid = HeardPid::One(pid);
                 }
             }
             HeardPid::One(_) | HeardPid::Collision => {
                 let mut aside = ArrayVec::new();
-                if self.take(packet, &mut aside)?.is_some() {
+                if self.take(packet, &mut aside, effect)?.is_some() {
                     heard.pid = HeardPid::Collision;
                 }
             }

@@ -5,6 +5,7 @@ ghost use Rattle.usb_port.specs.PortStates.{status_of};
 ghost use Rattle.usb_device.specs.Rows.{sink_grows, awaits_address, ends_with_address, is_busy, out_end};
 ghost use Rattle.usb_device.specs.Tree.{new_device, first_ports, reset_whole, row_of, numbered, acted, child_of, with_child, without_child};
 ghost use Rattle.usb_device.specs.AnswerPids.{answer_with};
+ghost use Rattle.usb_device.specs.Effects.{asks};
 ghost use Rattle.usb_device.specs.ReceivedBytes.{AnswersPacket, GrowsBy, received_by};
 
 use crate::answer::{AnswerPid, spelled};
@@ -152,7 +153,8 @@ impl Device {
         match decode(bytes) {
             Ok(packet) => {
                 let mut room = ArrayVec::new();
-                let pid = self.take(&packet, &mut room)?;
+                let mut effect = Effect::Leaves;
+                let pid = self.take(&packet, &mut room, &mut effect)?;
                 Ok(spelled(pid, room))
             }
             Err(_) => {
@@ -162,20 +164,22 @@ impl Device {
         }
     }
 
-    /// A packet at the device itself; the bytes of its answer are put into `room`.
+    /// A packet at the device itself; the bytes of its answer are put into `room`, and what it asks
+    /// of its ports into `effect`.
     pub(crate) fn take(
         &mut self,
         packet: &Packet,
         room: &mut ArrayVec<u8, 64>,
+        effect: &mut Effect,
     ) -> Result<Option<AnswerPid>, AllocError>
         ensures answer { IfOk result (λ pid.
             (answer_with pid room.new, self.new) ≡ received_by self.old packet.now) }
+        ensures asked { effect.new ≡ asks self.old.own packet.now }
         ensures refused { OnErr result (self.new ≡ self.old) }
         ensures grows { OnErr result (sink_grows self.old.own packet.now ≡ true) }
     {
-        let mut effect = Effect::Leaves;
-        let pid = self.own.received(&self.ports, packet, room, &mut effect)?;
-        self.act(effect);
+        let pid = self.own.received(&self.ports, packet, room, effect)?;
+        self.act(*effect);
         Ok(pid)
     }
 

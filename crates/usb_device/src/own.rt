@@ -513,6 +513,7 @@ impl FunctionState {
     }
 
     /// A token, which is for this device where it has its address.
+    #[inline(always)]
     fn token(
         &mut self,
         ports: &Ports,
@@ -614,6 +615,7 @@ impl FunctionState {
     }
 
     /// The host's ACK.
+    #[inline(always)]
     fn acknowledged(&mut self)
         ensures { self.new ≡ after_memory (forgotten self.old) self.old.memory }
     {
@@ -634,6 +636,7 @@ impl FunctionState {
         }
     }
 
+    #[inline(always)]
     fn give_unless_busy(&mut self, room: &mut ArrayVec<u8, 64>) -> Option<AnswerPid>
         ensures { (answer_with result room.new, self.new)
             ≡ unless_busy self.old (in_row self.old self.old.stage) }
@@ -891,6 +894,7 @@ impl FunctionState {
     }
 
     /// IN 0 of a device that is not busy.
+    #[inline(never)]
     fn give(&mut self, room: &mut ArrayVec<u8, 64>) -> Option<AnswerPid>
         ensures { (answer_with result room.new, self.new) ≡ in_row self.old self.old.stage }
     {

@@ -93,7 +93,10 @@ impl Place {
         match &mut self.device {
             None => Ok(()),
             Some(device) => match path {
-                [] => device.take_sent(sent, deep, heard),
+                [] => {
+                    let mut effect = Effect::Leaves;
+                    device.take_sent(sent, deep, heard, &mut effect)
+                }
                 [_, ..] => device.ports.deliver_at(path, sent, deep, heard),
             },
         }

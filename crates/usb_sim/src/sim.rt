@@ -30,7 +30,7 @@ use std::alloc::{AllocError, Global};
 use std::collections::VecDeque;
 use std::io::Write;
 use usb_bus::Watched;
-use usb_device::{EndpointNumber, Holders, Ports};
+use usb_device::{EndpointNumber, Hearing, Holders, Ports};
 use usb_packet::Packet;
 use usb_port::PortPath;
 use usb_world::{BusFault, Exchange, ExchangeAnswer, Losses, event_copies};
@@ -65,6 +65,8 @@ pub struct SimBus<T: Trace> {
     holders: Holders,
     /// The packets of the last attempt.
     exchange: Exchange,
+    /// Room for what is heard in an attempt.
+    heard: Hearing,
     ghost some_root: { 1 ≤ length (row_of roots) },
     ghost few_roots: { length (row_of roots) ≤ 7 },
     ghost settled: { IsSettled roots },
@@ -180,6 +182,7 @@ impl<T: Trace> SimBus<T> {
                 tracer,
                 holders: stage.holders,
                 exchange: Exchange::blank(),
+                heard: Hearing::nothing(),
             }),
         }
     }

@@ -2,7 +2,7 @@
 -- (8.5).
 use Rattle.std.specs.Prelude.{ℕ, ◌+◌, Bool, false, not, ◌&&◌, List, [], ◌∷◌, ◌++◌, length, nat_le}
 use Rattle.std.specs.Prelude.{if◌then◌else◌, Option, Some, None}
-use Rattle.usb_packet.specs.{Packet, Token, Ack, Sof, Nak, Stall, Pre}
+use Rattle.usb_packet.specs.{Packet, Token, Ack, Nak, Stall, Pre}
 use Rattle.usb_packet.specs.declared.Packet.TheVariants as packet
 use Rattle.usb_device.specs.{Answer, Sent, packet_of, Ports, has_loss, clears_change}
 use Rattle.usb_device.specs.declared.delivery.Content.TheVariants as content

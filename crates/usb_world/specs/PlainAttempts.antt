@@ -1,5 +1,5 @@
 -- An attempt as plain data: what the world, its steps and their lemmas speak of.
-use Rattle.std.specs.Prelude.{ℕ, Bool, List, Option, None, Some}
+use Rattle.std.specs.Prelude.{ℕ, Bool, Option, None, Some}
 use Rattle.arrayvec.specs.ArrayVec.{ArrayVec}
 use Rattle.usb_packet.specs.{Toggle, Zero, TokenKind, OutTok, InTok, SetupTok, speed_has_pre}
 use Rattle.usb_packet.specs.{speed_is_low}

@@ -27,6 +27,7 @@ use crate::wire::{Mark, Outgoing, flipped, harm_to, mark_of, marked};
 use crate::{Attempt, Destination, Outcome};
 use arrayvec::ArrayVec;
 use std::alloc::AllocError;
+use std::mem;
 use usb_device::{AnswerPid, Content, DeviceSide, HeardPid, Hearing, HostSide, LentPacket, Ports};
 use usb_packet::{Packet, Speed, Toggle, encode, one_flipped_bit};
 
@@ -41,10 +42,10 @@ pub enum ExchangeAnswer {
     Collision,
 }
 
-/// What was heard of the devices, as packets.
+/// What was heard of the devices, as packets. Bytes of data are moved out of what was heard.
 #[tactic(auto, unfolding(crate::specs::HeardAnswers::heard_above))]
-fn put_answer(heard: Hearing, answer: &mut ExchangeAnswer)
-    ensures { answer.new ≡ heard_above heard }
+fn put_answer(heard: &mut Hearing, answer: &mut ExchangeAnswer)
+    ensures { answer.new ≡ heard_above heard.old }
 {
     match heard.pid() {
         HeardPid::Nothing => *answer = ExchangeAnswer::Nothing,
@@ -53,7 +54,7 @@ fn put_answer(heard: Hearing, answer: &mut ExchangeAnswer)
         HeardPid::One(AnswerPid::Nak) => *answer = ExchangeAnswer::One(Packet::Nak),
         HeardPid::One(AnswerPid::Stall) => *answer = ExchangeAnswer::One(Packet::Stall),
         HeardPid::One(AnswerPid::Data(toggle)) => {
-            let bytes = heard.into_bytes();
+            let bytes = mem::replace(heard, Hearing::nothing()).into_bytes();
             *answer = ExchangeAnswer::One(Packet::Payload { toggle, bytes });
         }
     }
@@ -101,6 +102,7 @@ impl Exchange {
 /// Makes an attempt: the token, then the data, one of them; then what the host says to the answer. After it no device
 /// remembers a packet, also if memory was refused. Returns whether the devices that are reached, and all their
 /// addresses, are known to be as they were. Those on a port of the device, by its number, and below it are excepted.
+/// `heard` is room for what is heard; what is in it does not count.
 ///
 /// It goes straight to the device at a path, if no other reachable device holds the address. The others have nothing of
 /// it, so it costs the same in a large tree as in a small one. The empty path stands for the whole tree.
@@ -108,12 +110,14 @@ impl Exchange {
 /// # Errors
 ///
 /// Memory is refused for the host's data: no sink grows at a token or at an ACK.
+#[inline(always)]
 pub(crate) fn exchange_along(
     roots: &mut Ports,
     path: &[u8],
     port: u8,
     attempt: &Attempt,
     damage: &Option<Damage>,
+    heard: &mut Hearing,
     exchange: &mut Exchange,
 ) -> Result<bool, AllocError>
     requires attempt { IsAttempt (attempt_data attempt.now) }
@@ -127,18 +131,20 @@ pub(crate) fn exchange_along(
         → KeptAt (attempt_data attempt.now).addr port roots.old roots.new path.now) }
 {
     match damage {
-        None if !is_whole(path) => exchange_whole(roots, path, port, attempt, exchange),
+        None if !is_whole(path) => exchange_whole(roots, path, port, attempt, heard, exchange),
         _ => exchange_by_packets(roots, path, port, attempt, *damage, exchange),
     }
 }
 
 /// The same of an attempt of which nothing is damaged, at the device at a path: all its packets on
 /// one way down the tree.
+#[inline(never)]
 fn exchange_whole(
     roots: &mut Ports,
     path: &[u8],
     port: u8,
     attempt: &Attempt,
+    heard: &mut Hearing,
     exchange: &mut Exchange,
 ) -> Result<bool, AllocError>
     requires attempt { IsAttempt (attempt_data attempt.now) }
@@ -154,11 +160,10 @@ fn exchange_whole(
 {
     put_whole_token(attempt, &mut exchange.token);
     put_whole_payload(attempt, &mut exchange.payload);
-    let mut heard = Hearing::nothing();
     let host = host_side(attempt);
     let data = some_goes_out(attempt, &exchange.payload);
     let mut side = DeviceSide::nobody();
-    roots.attempt_at(path, &host, &data, is_deep(path), &mut heard, &mut side)?;
+    roots.attempt_at(path, &host, &data, is_deep(path), heard, &mut side)?;
     put_answer(heard, &mut exchange.answer);
     exchange.answer_mark = Mark::Whole;
     let place = answer_place(&exchange.payload) + 1;
@@ -192,6 +197,7 @@ fn host_side(attempt: &Attempt) -> HostSide
 }
 
 /// The same of any attempt, one packet after the other.
+#[inline(never)]
 #[tactic(auto, using(crate::proofs::attempts::Exchanges::over_settled, crate::proofs::attempts::Refusals::over_cut))]
 fn exchange_by_packets(
     roots: &mut Ports,
@@ -278,7 +284,7 @@ fn send_packets(
     let data = some_goes_out(attempt, &exchange.payload);
     exchange.change_cleared = clears_change(roots, path, port, &data, quiet);
     send(roots, path, &data, &mut heard)?;
-    put_answer(heard, &mut exchange.answer);
+    put_answer(&mut heard, &mut exchange.answer);
     let place = answer_place(&exchange.payload);
     exchange.answer_mark = answer_mark(harm_to(damage, place), &exchange.answer);
     let acknowledged = is_acknowledged(&exchange.answer, exchange.answer_mark, attempt);

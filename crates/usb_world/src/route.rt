@@ -14,7 +14,7 @@ use crate::damage::Damage;
 use crate::exchange::{Exchange, exchange_along, is_whole, make_silence};
 use arrayvec::ArrayVec;
 use std::alloc::AllocError;
-use usb_device::{Device, Holder, Holders, Ports, keeps_enable};
+use usb_device::{Device, Hearing, Holder, Holders, Ports, keeps_enable};
 use usb_port::PortCall;
 use usb_request::Setup;
 use usb_request::request_code::{CLEAR_FEATURE, SET_CONFIGURATION, SET_FEATURE};
@@ -31,12 +31,14 @@ use usb_request::request_type::{DEVICE_OUT, PORT_OUT};
 /// # Errors
 ///
 /// Memory was refused for the host's data.
+#[inline(always)]
 #[tactic(auto, using(crate::proofs::attempts::Silence::stays_plugged_refl))]
 pub fn make_exchange_by(
     roots: &mut Ports,
     holders: &mut Holders,
     attempt: &Attempt,
     damage: &Option<Damage>,
+    heard: &mut Hearing,
     exchange: &mut Exchange,
 ) -> Result<(), AllocError>
     requires attempt { IsAttempt (attempt_data attempt.now) }
@@ -56,14 +58,22 @@ pub fn make_exchange_by(
     let way = way(holders, attempt);
     match change_of(attempt, roots, way) {
         Change::Nothing => {
-            let made = exchange_along(roots, way, 0, attempt, damage, exchange);
+            let made = exchange_along(roots, way, 0, attempt, damage, heard, exchange);
             renew_unless_kept(&made, roots, holders);
             let _ = made?;
             Ok(())
         }
         Change::AtDevice => {
             let path = copied(way);
-            exchange_at(roots, holders, path.as_slice(), attempt, damage, exchange)
+            exchange_at(
+                roots,
+                holders,
+                path.as_slice(),
+                attempt,
+                damage,
+                heard,
+                exchange,
+            )
         }
         Change::AtPort(port) => {
             let path = copied(way);
@@ -74,6 +84,7 @@ pub fn make_exchange_by(
                 port,
                 attempt,
                 damage,
+                heard,
                 exchange,
             )
         }
@@ -93,12 +104,14 @@ fn renew_unless_kept(made: &Result<bool, AllocError>, roots: &Ports, holders: &m
 
 /// Makes an attempt at the device at a path that alone holds the address; who is reached there and
 /// below may change.
+#[inline(never)]
 fn exchange_at(
     roots: &mut Ports,
     holders: &mut Holders,
     path: &[u8],
     attempt: &Attempt,
     damage: &Option<Damage>,
+    heard: &mut Hearing,
     exchange: &mut Exchange,
 ) -> Result<(), AllocError>
     requires attempt { IsAttempt (attempt_data attempt.now) }
@@ -113,7 +126,7 @@ fn exchange_at(
     ensures index { IsIndexOf holders.new roots.new }
 {
     let forgotten = holders.forget(roots, path);
-    match exchange_along(roots, path, 0, attempt, damage, exchange) {
+    match exchange_along(roots, path, 0, attempt, damage, heard, exchange) {
         Ok(_) => {
             if forgotten && !is_whole(path) {
                 holders.note(roots, path);
@@ -131,6 +144,7 @@ fn exchange_at(
 
 /// Makes an attempt at the device at a path that alone holds the address; who is reached on its
 /// port of a number, and below, may change.
+#[inline(never)]
 fn exchange_at_port(
     roots: &mut Ports,
     holders: &mut Holders,
@@ -138,6 +152,7 @@ fn exchange_at_port(
     port: u8,
     attempt: &Attempt,
     damage: &Option<Damage>,
+    heard: &mut Hearing,
     exchange: &mut Exchange,
 ) -> Result<(), AllocError>
     requires attempt { IsAttempt (attempt_data attempt.now) }
@@ -155,7 +170,7 @@ fn exchange_at_port(
     let below = below(path, port);
     let place = below.as_slice();
     let forgotten = holders.forget(roots, place);
-    match exchange_along(roots, path, port, attempt, damage, exchange) {
+    match exchange_along(roots, path, port, attempt, damage, heard, exchange) {
         Ok(kept) => {
             if forgotten && kept {
                 holders.note(roots, place);
@@ -184,6 +199,7 @@ enum Change {
 
 /// An IN of endpoint 0 at address 0 may end SET_ADDRESS (9.4.6), and SET_CONFIGURATION resets all
 /// ports off (9.4.7).
+#[inline(always)]
 fn change_of(attempt: &Attempt, roots: &Ports, way: &[u8]) -> Change {
     match attempt {
         Attempt::In { to } if to.address == 0 && to.number == 0 => {
@@ -194,6 +210,7 @@ fn change_of(attempt: &Attempt, roots: &Ports, way: &[u8]) -> Change {
     }
 }
 
+#[inline(always)]
 fn change_of_status(device: Option<&Device>) -> Change {
     match device {
         Some(device) if device.ends_with_address() => Change::AtDevice,
@@ -201,6 +218,7 @@ fn change_of_status(device: Option<&Device>) -> Change {
     }
 }
 
+#[inline(always)]
 fn change_of_request(setup: &Setup) -> Change {
     match (setup.request_type, setup.request) {
         (DEVICE_OUT, SET_CONFIGURATION) => Change::AtDevice,

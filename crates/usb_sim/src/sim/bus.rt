@@ -142,6 +142,7 @@ impl<T: Trace> SimBus<T> {
             &mut self.holders,
             attempt,
             &damage,
+            &mut self.heard,
             &mut self.exchange,
         )?;
         // All went: only the line can fail.

@@ -2,7 +2,6 @@
 -- with it as the one device says that holds the address.
 use Rattle.std.proofs.Common.{◌≡◌, ◌&&◌, not, Bool, true, false, List, Option, None, Some}
 use Rattle.std.proofs.Common.{option_map, is_some, ap, sym, subst, ◌∙◌, arith}
-use Rattle.usb_packet.specs.declared.Packet.TheVariants as packet
 use Rattle.usb_port.specs.{PortState}
 use Rattle.usb_device.specs.{Content, Sent, State, Reply, awaits_address, is_whole, through, Ports}
 use Rattle.usb_device.specs.{full, row_of, place_at, has_loss}

@@ -1,12 +1,12 @@
 -- Which courses keep each device at its own address, and set no mark.
-use Rattle.std.proofs.Common.{arith, ◌≡◌, ℕ, zero, suc, ◌+◌, ◌==◌, ◌&&◌, ◌||◌, if◌then◌else◌, ◌⊎◌, inl}
+use Rattle.std.proofs.Common.{arith, ◌≡◌, ℕ, zero, suc, ◌==◌, ◌&&◌, ◌||◌, if◌then◌else◌, ◌⊎◌, inl}
 use Rattle.std.proofs.Common.{inr, Bool, true, false, List, [], ◌∷◌, ◌++◌, Option, None, Some}
 use Rattle.std.proofs.Common.{option_map, refl, ap, sym, ◌∙◌}
 use Rattle.usb_packet.specs.{Packet, Token, Payload, Toggle, Zero, TokenKind, SetupTok}
 use Rattle.arrayvec.specs.ArrayVec.{ArrayVec}
 use Rattle.usb_port.specs.{PortState, PortCall}
 use Rattle.usb_device.specs.{Answer, Content, Whole, Broken, Sent, is_ack, State, Reply, received}
-use Rattle.usb_device.specs.{unread, refused, Ports, ended, vacant, taken, called, changed, reach}
+use Rattle.usb_device.specs.{unread, Ports, ended, vacant, taken, called, changed, reach}
 use Rattle.usb_device.specs.{state_at, path_to, state_on, reply_to, answer_of, listed}
 use Rattle.usb_device.specs.{held_addresses, repeats, state_there, Place, answers}
 use Rattle.usb_device.specs.{Stage, Write, WriteData, data_row, is_busy, judged}
@@ -21,7 +21,6 @@ use Rattle.usb_world.specs.{heard_all, ports_in, World, after_event, at_attempt,
 use Rattle.usb_world.specs.{with_attempt, event_taken, Step, attempt, root_call, event, after}
 use Rattle.usb_world.specs.{is_made, made_resets, root_resets, resets, address_at, HoldsMapped}
 use Rattle.usb_world.specs.{Injective, is_quiet, QuietStep, quiet_data}
-use Rattle.usb_world.specs.declared.wire.Mark.TheVariants as mark
 use Rattle.usb_tree.specs.{address_of, Two, call_resets, after_sent, answers_to, after_attempt}
 use Rattle.usb_tree.specs.{sent_resets, attempt_resets}
 use Rattle.usb_tree.proofs.Interface.{false_true, both, and_of, decided, neither_of, twice_two}

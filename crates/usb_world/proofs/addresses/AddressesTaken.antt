@@ -7,7 +7,6 @@ use Rattle.usb_device.specs.{ending, State, Reply, is_busy, ends_with_address, W
 use Rattle.usb_device.specs.{in_law, in_stage_law, in_other_law, in_end_law, source_law, held_law}
 use Rattle.usb_device.specs.{changes_law, heard, in_max, status_number, tells_changes}
 use Rattle.usb_device.specs.{Ports, row_of, reach_at, state_at}
-use Rattle.usb_device.specs.declared.transfer.InEndpoint.TheVariants as by
 use Rattle.usb_world.specs.{Attempt, World, at_attempt, damage_in, with_attempt, attempt, after}
 use Rattle.usb_world.specs.{HoldsMapped, token_way, answer_way, reply_way, IsIn, HolderIn, is_setup}
 use Rattle.usb_world.specs.{after_taking, ends_status}

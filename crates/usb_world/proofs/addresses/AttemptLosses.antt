@@ -10,7 +10,6 @@ use Rattle.usb_port.specs.{PortState}
 use Rattle.usb_device.specs.{Effect, Is, ending, State, Reply, received, unread, forgotten, is_busy}
 use Rattle.usb_device.specs.{ack_row, awaits_address, ends_with_address, Way, is_whole, through}
 use Rattle.usb_device.specs.{in_stage_law, in_law, Sent, Ports, row_of, state_on, asks_clearing}
-use Rattle.usb_device.specs.declared.answer.Answer.TheVariants as answer
 use Rattle.usb_world.specs.{Damage, Attempt, Outcome, marked_some, token_of, reply_in, clears_at}
 use Rattle.usb_world.specs.{lost_in, cleared_in, TookOrLost, counted, after_clearing, got}
 use Rattle.usb_world.specs.{token_way, answer_way, reply_way, IsMade, IsOut, IsIn, HolderIn}

@@ -7,7 +7,7 @@ use Rattle.std.proofs.lemmas.Bool.Decides.{nat_tests}
 use Rattle.std.proofs.lemmas.Bool.{ltb-true, eq-eqb}
 use Rattle.usb_check.specs.{low_bits, bits_of_bytes, generator5, generator16}
 use Rattle.usb_check.proofs.Interface.{length-bits_of_bytes, length-low_bits}
-use Rattle.usb_packet.specs.{Packet, Token, Sof, Payload, Ack, Nak, Stall, Pre, Spells, Follows}
+use Rattle.usb_packet.specs.{Packet, Token, Sof, Payload, Spells, Follows}
 use Rattle.usb_world.specs.{Damage, Attempt, IsAttempt, lost_in, AreOfDamages, no_losses, counted}
 use Rattle.usb_world.specs.{one_more, after_clearing, damage_of, damages_until, bit_count}
 use Rattle.usb_world.specs.declared.losses.Losses.{Losses}

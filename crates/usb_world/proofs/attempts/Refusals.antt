@@ -2,15 +2,12 @@
 use Rattle.std.proofs.Common.{arith, ◌≡◌, ℕ, Bool, true, false, not, Option, None, Some, Result}
 use Rattle.std.proofs.Common.{OnErr, sym, subst, ap, ◌∙◌}
 use Rattle.usb_packet.specs.{Packet}
-use Rattle.usb_packet.specs.declared.Packet.TheVariants as packet
 use Rattle.usb_device.specs.{Content, Sent, State, sink_grows, Ports, all_forgotten, Stopped}
 use Rattle.usb_device.specs.{behind_empty, behind, below, here}
 use Rattle.usb_device.specs.declared.delivery.Content.TheVariants as content
 use Rattle.usb_world.specs.{Damage, ExchangeAnswer, Attempt, Mark, Outgoing, marked, marked_some}
 use Rattle.usb_world.specs.{token_of, reply_of, sent_as, goes_out, token_out, payload_out}
 use Rattle.usb_world.specs.{IsStopped, IsCut}
-use Rattle.usb_world.specs.declared.exchange.ExchangeAnswer.TheVariants as heard
-use Rattle.usb_world.specs.declared.wire.Mark.TheVariants as mark
 use Rattle.usb_tree.specs.{after_sent}
 use Rattle.usb_tree.proofs.Interface.{false_true, and_false}
 

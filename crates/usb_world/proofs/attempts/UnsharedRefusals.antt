@@ -11,7 +11,7 @@ use Rattle.usb_device.specs.{Stopped, behind_empty, behind, below, here}
 use Rattle.usb_device.specs.declared.delivery.Content.TheVariants as content
 use Rattle.usb_device.specs.declared.delivery.Heard.TheVariants.{NoAnswer}
 use Rattle.usb_device.specs.declared.transfer.RememberedPacket.TheVariants.{Nothing}
-use Rattle.usb_world.specs.{Damage, Attempt, Mark, Whole, Lost, Flipped, marked, token_of, sent_as}
+use Rattle.usb_world.specs.{Damage, Attempt, Mark, Lost, Flipped, marked, token_of, sent_as}
 use Rattle.usb_world.specs.{token_out, IsAttempt, IsCut}
 use Rattle.usb_tree.specs.{address_of, IfOut, IsTokenFor, IsDataOut, IsSettled, after_sent}
 use Rattle.usb_tree.specs.{calls_on}

@@ -13,7 +13,6 @@ use Rattle.usb_tree.proofs.Interface.{false_true}
 use Rattle.usb_world.specs.{World, roots_of, root_row, to_come, change_of, AttemptsWithin}
 use Rattle.usb_world.specs.{IsRootPort, changes, root_port_at, hub_ports, Action, after_change}
 use Rattle.usb_world.specs.{SetsRoot, ClearsRoot, root_call, after}
-use Rattle.usb_device.specs.declared.effect.Effect.TheVariants as effect
 
 pub spends_none : (w : World) → AttemptsWithin 0 w w
 spends_none w = grind arith

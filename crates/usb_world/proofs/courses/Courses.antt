@@ -5,12 +5,11 @@ use Rattle.std.proofs.Common.{append_assoc, Bool}
 use Rattle.usb_port.specs.{PortCall}
 use Rattle.usb_device.specs.{Whole, Spec, Ports, called, changed, reach, place}
 use Rattle.usb_packet.specs.{Packet}
-use Rattle.usb_packet.specs.declared.Packet.TheVariants as packet
 use Rattle.usb_world.specs.{Damage, Event, Action, ExchangeAnswer, Attempt, Mark, marked}
 use Rattle.usb_world.specs.{marked_some, token_of, payload_of, reply_of, goes_out, token_out}
 use Rattle.usb_world.specs.{payload_out, reply_out, heard_in, mark_in, place_of_answer, ports_in}
 use Rattle.usb_world.specs.{World, after_change, names_path, after_event, at_attempt, damage_in}
-use Rattle.usb_world.specs.{with_attempt, Step, attempt, root_call, event, after, Course, here}
+use Rattle.usb_world.specs.{with_attempt, Step, attempt, root_call, after, Course, here}
 use Rattle.usb_world.specs.{step, NoneNames, Undisturbed, made_resets, made_keeps_pending}
 use Rattle.usb_world.specs.{root_resets, root_keeps_pending, resets, step_keeps_pending, Reached}
 use Rattle.usb_world.specs.{UndisturbedOrPends, NoReset, KeepsPendingAt}

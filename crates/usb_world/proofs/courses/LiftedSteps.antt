@@ -6,7 +6,7 @@ use Rattle.usb_device.specs.{Spec, Ports, called, replaced, changed}
 use Rattle.usb_world.specs.{Action, Plug, Unplug, Event, Attempt, BusFault, Limit, is_made}
 use Rattle.usb_world.specs.{after_clearing, with_plugged, after_change, way_of, names_path, is_due}
 use Rattle.usb_world.specs.{after_event, after_first_event, after_due_events, at_attempt}
-use Rattle.usb_world.specs.{with_attempt, event_taken, Step, attempt, root_call, event, after}
+use Rattle.usb_world.specs.{with_attempt, event_taken, Step, attempt, root_call, after}
 use Rattle.usb_world.specs.{Course, here, step, Coming, nothing_yet, next_came, World}
 use Rattle.usb_world.specs.declared.event.Action.TheVariants.{Change, Ask}
 

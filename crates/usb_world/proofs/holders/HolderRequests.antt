@@ -3,7 +3,7 @@
 use Rattle.std.proofs.Common.{arith, ◌≡◌, ℕ, zero, suc, ◌&&◌, not, ◌⊎◌, inl, inr, Bool, true, false}
 use Rattle.std.proofs.Common.{List, [], ◌∷◌, ◌++◌, Option, None, Some, refl, ap, ap₂, sym, subst}
 use Rattle.std.proofs.Common.{◌∙◌}
-use Rattle.usb_request.specs.{PORT_RESET, PORT_OUT, Setup, setup_of}
+use Rattle.usb_request.specs.{PORT_OUT, Setup, setup_of}
 use Rattle.usb_device.specs.{Sent, Effect, Leaves, Calls, State, Ports, state_at, path_to}
 use Rattle.usb_device.specs.{effect_of, after_packet}
 use Rattle.usb_device.specs.declared.transfer.RememberedPacket.TheVariants.{Nothing}

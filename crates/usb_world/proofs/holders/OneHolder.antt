@@ -13,7 +13,6 @@ use Rattle.usb_device.specs.{Ports, full, acted, row_of, state_at, place_at, sta
 use Rattle.usb_device.specs.{effect_of, after_packet, listed, held_addresses, repeats}
 use Rattle.usb_device.specs.{forgotten_place}
 use Rattle.usb_device.specs.declared.answer.Answer.TheVariants as answer
-use Rattle.usb_device.specs.declared.delivery.Content.TheVariants as content
 use Rattle.usb_device.specs.declared.transfer.RememberedPacket.TheVariants as memory
 use Rattle.usb_request.specs.{setup_of}
 use Rattle.usb_device.specs.Attempt.{whole}
@@ -26,7 +25,6 @@ use Rattle.usb_world.specs.{token_way, payload_way, answer_way, reply_way, out_a
 use Rattle.usb_world.specs.{IsSetup, IsOut, IsIn}
 use Rattle.usb_world.specs.declared.types.Outcome.TheVariants as outcome
 use Rattle.usb_world.specs.declared.exchange.ExchangeAnswer.TheVariants.{Nothing}
-use Rattle.usb_world.specs.declared.wire.Mark.TheVariants as mark
 use Rattle.usb_tree.specs.{address_of, after_sent, answers_to, heard_by, deep_at, IsSettled}
 use Rattle.usb_tree.specs.{NobodyHolds, OneHolds, Found}
 use Rattle.usb_world.proofs.packets.AttemptPackets.{CalmOut, token_out as token_calm}

@@ -1,5 +1,5 @@
 -- A silent holder, attempts without damage, and the attempts of a world.
-use Rattle.std.proofs.Common.{arith, ◌≡◌, ℕ, suc, ◌+◌, ◌&&◌, not, if◌then◌else◌, Bool, true, false}
+use Rattle.std.proofs.Common.{arith, ◌≡◌, ℕ, suc, ◌+◌, ◌&&◌, if◌then◌else◌, Bool, true, false}
 use Rattle.std.proofs.Common.{List, [], ◌∷◌, ◌++◌, Option, None, Some, is_some, refl, ap, ap₂, sym}
 use Rattle.std.proofs.Common.{subst, ◌∙◌}
 use Rattle.usb_packet.specs.{Packet, Token, Toggle, InTok}
@@ -10,7 +10,6 @@ use Rattle.usb_device.specs.declared.answer.Answer.TheVariants as answer
 use Rattle.usb_device.specs.{Content, Sent, State, Reply, forgotten, accepted, data_row, Way, lost}
 use Rattle.usb_device.specs.{through, heard, is_good, acked, setup_law, out_law, in_law, Ports}
 use Rattle.usb_device.specs.{row_of, state_at, state_on, reply_to, listed, held_addresses, repeats}
-use Rattle.usb_device.specs.declared.delivery.Content.TheVariants as content
 use Rattle.usb_device.specs.Attempt.{whole}
 use Rattle.usb_device.proofs.Interface.{silent-stays, silent-unread}
 use Rattle.usb_world.specs.{Attempt, Limit, Damage, ExchangeAnswer, mark_of, harm_to, marked}
@@ -21,7 +20,6 @@ use Rattle.usb_world.specs.{damage_in, with_attempt, outcome_in, attempt, after,
 use Rattle.usb_world.specs.{answer_way, reply_way, out_alone, in_alone, IsSetup, IsOut, IsIn}
 use Rattle.usb_world.specs.{hears_attempt, IsMade, HolderIn, payload_way, got}
 use Rattle.usb_world.specs.declared.types.Outcome.TheVariants as outcome
-use Rattle.usb_world.specs.declared.exchange.ExchangeAnswer.TheVariants.{Nothing}
 use Rattle.usb_world.specs.declared.wire.Mark.TheVariants as mark
 use Rattle.usb_tree.specs.{same_number, same_path, reset_if, heard_by, deep_at, attempt_resets}
 use Rattle.usb_tree.specs.{IsSettled, NobodyHolds}

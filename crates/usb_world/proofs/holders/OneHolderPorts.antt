@@ -14,7 +14,6 @@ use Rattle.usb_device.specs.{forgotten, asks, asked_by_setup, Way, lost, is_whol
 use Rattle.usb_device.specs.{Ports, ended, vacant, taken, full, acted, all_off, row_of, reach_at}
 use Rattle.usb_device.specs.{state_at, place_at, effect_of, after_packet, all_forgotten}
 use Rattle.usb_device.specs.{forgotten_place, Place}
-use Rattle.usb_device.specs.declared.delivery.Content.TheVariants as content
 use Rattle.usb_device.specs.declared.transfer.RememberedPacket.TheVariants as memory
 use Rattle.usb_device.specs.Attempt.{whole, broken}
 use Rattle.usb_world.specs.{Attempt, Damage, ExchangeAnswer, Mark, mark_of, harm_to, marked}
@@ -23,8 +22,6 @@ use Rattle.usb_world.specs.{token_out, payload_out, reply_out, heard_in, mark_in
 use Rattle.usb_world.specs.{ports_in, World, at_attempt, damage_in, with_attempt, attempt, after}
 use Rattle.usb_world.specs.{way_to, token_way, payload_way, IsSetup, IsOut, IsIn, HolderIn}
 use Rattle.usb_world.specs.{out_alone, in_alone, setup_asked}
-use Rattle.usb_world.specs.declared.exchange.ExchangeAnswer.TheVariants as heard
-use Rattle.usb_world.specs.declared.wire.Mark.TheVariants as mark
 use Rattle.usb_tree.specs.{address_of, deep_at, IsSettled, NobodyHolds, OneHolds}
 use Rattle.usb_tree.proofs.Interface.{false_true, both, and_of, decided, is_twice-one_path}
 use Rattle.usb_tree.proofs.Interface.{equal_same}

@@ -9,7 +9,6 @@ use Rattle.usb_device.specs.{port_at, place_at, reply_to, answer_of, asked_by, e
 use Rattle.usb_device.specs.{after_packet, all_forgotten, forgotten_place}
 use Rattle.usb_device.specs.declared.transfer.RememberedPacket.TheVariants.{Nothing}
 use Rattle.usb_world.specs.{Mark, sent_as, Consistent}
-use Rattle.usb_world.specs.declared.wire.Mark.TheVariants as mark
 use Rattle.usb_tree.specs.{has_power_at, pending_at, IsNew, after_sent, after_attempt, calls_on}
 use Rattle.usb_tree.specs.{IsTokenFor, IsAckOut, IfOut, IsAttemptAt, sent_resets}
 use Rattle.usb_tree.specs.{sent_keeps_pending, attempt_resets, attempt_keeps_pending, IsSettled}

@@ -8,9 +8,8 @@ use Rattle.usb_device.specs.{Content, Whole, Broken, Sent, Effect, Leaves, Calls
 use Rattle.usb_device.specs.{RememberedPacket, Outcome, State, Reply, received, unread, answered}
 use Rattle.usb_device.specs.{forgotten, reset_state, begun, payload_row, data_row, in_other_row}
 use Rattle.usb_device.specs.{after_memory, awaits_control, ends_with_address, awaits_address, Ports}
-use Rattle.usb_device.specs.{ended, vacant, taken, before, all_off, acted, called, changed_at}
+use Rattle.usb_device.specs.{ended, vacant, taken, all_off, acted, called, changed_at}
 use Rattle.usb_device.specs.{row_of, hears, reply_to, answer_of, effect_of, after_packet, has_loss}
-use Rattle.usb_device.specs.declared.answer.Answer.TheVariants as answer
 use Rattle.usb_tree.specs.{after_sent, IfOut, IsDataOut, IsAckOut}
 use Rattle.usb_world.proofs.courses.StepInvariants.{Rests}
 use Rattle.usb_world.proofs.packets.AttemptPackets.{token_out as token_rests}

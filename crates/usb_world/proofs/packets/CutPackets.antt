@@ -10,7 +10,7 @@ use Rattle.usb_device.specs.{Sent, Effect, Leaves, RememberedPacket, State, Port
 use Rattle.usb_device.specs.{taken, full, before, acted, answer_of, effect_of, after_packet}
 use Rattle.usb_device.specs.{delivered_device, on_port, Stopped, behind_empty, behind, below, here}
 use Rattle.usb_device.specs.declared.transfer.RememberedPacket.TheVariants.{Nothing}
-use Rattle.usb_world.specs.{Damage, Attempt, Mark, Whole, marked, marked_some, token_of, payload_of}
+use Rattle.usb_world.specs.{Damage, Attempt, Mark, marked, marked_some, token_of, payload_of}
 use Rattle.usb_world.specs.{sent_as, token_out, payload_out, IsAttempt, sends_data, IsCut}
 use Rattle.usb_tree.specs.{IfOut, IsDataOut, IsSettled, after_sent}
 use Rattle.usb_tree.proofs.Interface.{false_true}

@@ -1,8 +1,7 @@
 -- Setup data whose request is not PORT_RESET reset no device, whoever hears them.
 use Rattle.std.proofs.Common.{arith, ◌≡◌, ℕ, ◌==◌, ◌&&◌, not, nat_le, if◌then◌else◌, Bool, true}
-use Rattle.std.proofs.Common.{false, List, [], ◌∷◌, length, Option, None, Some, refl, ◌∙◌}
+use Rattle.std.proofs.Common.{false, List, [], ◌∷◌, Option, None, Some, refl, ◌∙◌}
 use Rattle.usb_packet.specs.{Payload, Toggle}
-use Rattle.usb_packet.specs.declared.Packet.TheVariants as packet
 use Rattle.usb_request.specs.{GET_STATUS, CLEAR_FEATURE, SET_FEATURE, SET_ADDRESS, GET_DESCRIPTOR}
 use Rattle.usb_request.specs.{GET_CONFIGURATION, SET_CONFIGURATION, GET_INTERFACE, SET_INTERFACE}
 use Rattle.usb_request.specs.{DEVICE_IN, DEVICE_OUT, INTERFACE_IN, INTERFACE_OUT, ENDPOINT_IN}
@@ -10,7 +9,7 @@ use Rattle.usb_request.specs.{ENDPOINT_OUT, HUB_IN, PORT_IN, PORT_OUT, PORT_RESE
 use Rattle.usb_request.specs.{Setup, setup_of}
 use Rattle.usb_device.specs.{ServedEndpoint, Content, Whole, Broken, Sent, Effect, Calls, Registers}
 use Rattle.usb_device.specs.{RememberedPacket, Spec, Hub, Outcome, stalled, takes_address}
-use Rattle.usb_device.specs.{takes_configuration, halts, unhalts, tells_port, calls_port, Is}
+use Rattle.usb_device.specs.{takes_configuration, halts, unhalts, calls_port, Is}
 use Rattle.usb_device.specs.{unless, asked_descriptor, asked_status, asked_address}
 use Rattle.usb_device.specs.{asked_configuration, endpoint_of, on_endpoint, asked_hub_descriptor}
 use Rattle.usb_device.specs.{port_named, told_port, called_at, asked_port_status, port_feature}

@@ -8,7 +8,7 @@ use Rattle.usb_device.specs.{full, reach_at, state_at, place_at, acted, empty, a
 use Rattle.usb_device.specs.{after_packet, Sent, Place}
 use Rattle.usb_tree.specs.{has_power_at, pending_at, IsNew, takes_reset, effect_resets, resets_at}
 use Rattle.usb_tree.specs.{reset_if, effect_keeps_pending, packet_keeps_pending, deep_at}
-use Rattle.usb_tree.proofs.Interface.{both, and_kept, or-rises, either_of, neither, false_true}
+use Rattle.usb_tree.proofs.Interface.{and_kept, or-rises, either_of, neither, false_true}
 use Rattle.usb_tree.proofs.Interface.{reset_if-false}
 use Rattle.usb_world.proofs.ports.PortCalls.{off_way, ResetIf, same_reset, call_way, KeepsPending}
 use Rattle.usb_world.proofs.ports.PortCalls.{pending_kept, call_kept}

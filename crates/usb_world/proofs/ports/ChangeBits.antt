@@ -1,9 +1,9 @@
 -- A port of which nothing is asked keeps its change bits and its power, where the device above it
 -- is still reached.
-use Rattle.std.proofs.Common.{arith, ◌≡◌, ℕ, zero, suc, ◌&&◌, not, Bool, true, false, List, [], ◌∷◌}
+use Rattle.std.proofs.Common.{arith, ◌≡◌, ℕ, zero, suc, ◌&&◌, Bool, true, false, List, [], ◌∷◌}
 use Rattle.std.proofs.Common.{◌++◌, Option, None, Some, refl, ap, sym, subst, ◌∙◌, inl, inr}
-use Rattle.usb_port.specs.{PortState, plugged, unplugged, PortCall}
-use Rattle.usb_device.specs.{Sent, Effect, fresh, Spec, Ports, ended, vacant, taken, empty, full}
+use Rattle.usb_port.specs.{PortState, PortCall}
+use Rattle.usb_device.specs.{Sent, Effect, fresh, Spec, Ports, vacant, taken, empty, full}
 use Rattle.usb_device.specs.{before, port_of, called, replaced, changed, changed_at, port_at}
 use Rattle.usb_device.specs.{port_there, Place}
 use Rattle.usb_world.specs.{Action, Attempt, token_out, payload_out, reply_out, ports_in, World}

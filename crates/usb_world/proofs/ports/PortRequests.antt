@@ -2,8 +2,7 @@
 use Rattle.std.proofs.Common.{◌≡◌, ℕ, suc, ◌==◌, ◌&&◌, not, nat_le, if◌then◌else◌, Bool, true}
 use Rattle.std.proofs.Common.{false, List, [], ◌∷◌, length, Option, None, Some, arith}
 use Rattle.arrayvec.specs.ArrayVec.{ArrayVec}
-use Rattle.usb_packet.specs.{Payload, Toggle, Zero, One}
-use Rattle.usb_packet.specs.declared.Packet.TheVariants as packet
+use Rattle.usb_packet.specs.{Payload, Toggle, Zero}
 use Rattle.usb_request.specs.{GET_STATUS, CLEAR_FEATURE, SET_FEATURE, SET_ADDRESS, GET_DESCRIPTOR}
 use Rattle.usb_request.specs.{GET_CONFIGURATION, SET_CONFIGURATION, GET_INTERFACE, SET_INTERFACE}
 use Rattle.usb_request.specs.{DEVICE_IN, DEVICE_OUT, INTERFACE_IN, INTERFACE_OUT, ENDPOINT_IN}
@@ -19,8 +18,7 @@ use Rattle.usb_device.specs.{called_at, asked_port_status, port_feature, outcome
 use Rattle.usb_device.specs.{asks, asked_by_data, asked_by_setup, effect_of_request, asked_by}
 use Rattle.usb_device.specs.{effect_of}
 use Rattle.usb_port.specs.{PortCall, set_call, clear_call}
-use Rattle.usb_device.specs.declared.transfer.RememberedPacket.TheVariants.{Nothing, SetupSeen}
-use Rattle.usb_device.specs.declared.transfer.RememberedPacket.TheVariants.{OutSeen, AckAwaited}
+use Rattle.usb_device.specs.declared.transfer.RememberedPacket.TheVariants.{SetupSeen}
 use Rattle.usb_device.specs.Request.{answers}
 use Rattle.usb_device.proofs.Interface.{asked_own-any}
 use Rattle.usb_world.specs.{Damage, Attempt, marked, marked_some, payload_of, payload_out}

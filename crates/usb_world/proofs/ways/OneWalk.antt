@@ -6,7 +6,6 @@ use Rattle.std.proofs.Common.{ap₂, sym, subst, ◌∙◌}
 use Rattle.std.specs.Option.{option_eq}
 use Rattle.std.proofs.lemmas.Option.{same_Some}
 use Rattle.usb_port.specs.{PortState}
-use Rattle.usb_device.specs.declared.answer.Answer.TheVariants as answer
 use Rattle.usb_device.specs.{HostSide, DeviceSide, Heard, Sent, Ports, vacant, taken, Plugged}
 use Rattle.usb_device.specs.{empty, full, before, changed_at, changed, plugged_at, device_there}
 use Rattle.usb_device.specs.{place_at, taken_sent, all_forgotten, heard_of, heard_from, both}
@@ -15,7 +14,6 @@ use Rattle.usb_device.specs.{forgotten_in, address_by, token_sent, ack_sent, aft
 use Rattle.usb_device.specs.{answer_from, asked_from, RefusedFrom, takes_data, after_token}
 use Rattle.usb_device.specs.{after_data, heard_of_both, acknowledges, after_reply, side_of}
 use Rattle.usb_device.specs.{heard_at, side_at, RefusedAt, left_in, cut_in, Place}
-use Rattle.usb_device.specs.declared.delivery.Heard.TheVariants as below
 use Rattle.usb_device.proofs.Interface.{changed_at-twice, heard_of-append, figure-after}
 use Rattle.usb_device.proofs.Interface.{row_of-after}
 use Rattle.usb_world.specs.{Attempt, Exchange, ExchangeAnswer, Whole, Outgoing, harm_to, mark_of}
