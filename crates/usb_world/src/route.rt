@@ -26,7 +26,8 @@ use usb_request::request_type::{DEVICE_OUT, PORT_OUT};
 /// `holders` is the index of the tree, before the attempt and after it. It goes straight to the
 /// device that holds its address, or to none; if some address is held twice, through the whole
 /// tree. If it is foreseen that the device takes another address, or changes who is reached below
-/// it, the index is written there alone. Else it is made anew if it may have changed.
+/// it, the index is written there alone. Else it is made anew if it may have changed. `heard` is room
+/// for what is heard on the way: what is in it does not count.
 ///
 /// # Errors
 ///
