@@ -121,12 +121,14 @@ impl<'a> Entry<'a> {
         })
     }
 
+    /// Where the entry stands in the plan.
     pub(crate) fn place(&self) -> Place
         ensures { result ≡ self.now.place }
     {
         self.place
     }
 
+    /// The table of the entry.
     pub(crate) fn table(&self) -> &'a Table
         ensures { result.now ≡ self.now.table.now }
     {
@@ -143,6 +145,7 @@ impl<'a> Entry<'a> {
         self.devices
     }
 
+    /// The whole plan.
     pub(crate) fn document(&self) -> &'a Table {
         self.document
     }

@@ -22,6 +22,7 @@ fn is_number_in(value: &Value, low: u64, high: u64) -> bool {
     }
 }
 
+/// Whether a word is one of these.
 fn is_one_of(word: &str, words: &[&str]) -> bool {
     words.iter().any(|other| word == *other)
 }

@@ -66,6 +66,7 @@ fn has_name(key: PlanKey, name: &str) -> bool
     name == key.name()
 }
 
+/// Whether one of the keys has this name.
 fn some_has_name(keys: &[PlanKey], name: &str) -> bool
     ensures { result ≡ list_any (λ k. bytes_eq name.now (key_name k)) keys.now }
 {

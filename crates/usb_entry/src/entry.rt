@@ -93,6 +93,7 @@ impl<'a> Model for Entry<'a> {
 impl<'a> Entry<'a> {
     ghost use Rattle.std.specs.Prelude.{◌≡◌};
 
+    /// The entry of a device descriptor and its configurations.
     pub(crate) fn new(device: Descriptor<'a>, configs: Vec<Configuration<'a>>) -> Self
         ensures { result ≡ record { device = device.entry; configs = configs.entry.items } }
     {

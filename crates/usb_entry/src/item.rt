@@ -39,12 +39,14 @@ fn push_interface(
     push_text(out, "\n")
 }
 
+/// The direction of an endpoint, in words.
 fn direction_word(is_in: bool) -> &'static str
     ensures { result.now ≡ direction_word is_in }
 {
     if is_in { " in: " } else { " out: " }
 }
 
+/// The type of an endpoint's transfers, in a word (9.6.6).
 fn transfer_word(transfer: TransferType) -> &'static str
     ensures { result.now ≡ transfer_word transfer }
 {

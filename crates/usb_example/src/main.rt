@@ -29,6 +29,7 @@ path = "1"
 device = "stick"
 "#;
 
+/// Enumerates one device of a plan, and prints what it is.
 fn main(rt: HostRuntime) -> Result<()> {
     let mut bus = SimBus::untraced(rt.alloc(), &read_plan(rt.alloc(), WORLD)?)?;
     // The first event of the plan: the device is plugged.

@@ -131,6 +131,7 @@ fn all_printable(line: &[u8]) -> bool
     line.iter().all(|byte| is_printable(*byte))
 }
 
+/// Whether a byte is a printable ASCII character.
 fn is_printable(byte: u8) -> bool
     ensures { result ≡ is_printable byte }
 {
@@ -169,6 +170,7 @@ fn is_report(line: &[u8]) -> bool
         || begins_with(line, b"look ")
 }
 
+/// Whether a line begins with a word.
 fn begins_with(line: &[u8], word: &[u8]) -> bool
     ensures { result ≡ begins_with line.now word.now }
 {

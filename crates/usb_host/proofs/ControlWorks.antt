@@ -18,41 +18,41 @@ use Rattle.usb_host.proofs.WorkingBuses.{table_works}
 
 works_without : {A : Type 0} (answer : Result A PipeFault) (old new : World)
     → WorksAfter (without_bytes answer) old new → WorksAfter answer old new
-works_without (Ok bytes) old new works = works
-works_without (Err why) old new works = works
+works_without (Ok _) _ _ works = works
+works_without (Err _) _ _ works = works
 
 read_works : (none : Bool) (request : Setup) (t : Target) (old : World)
     (answer : Result (Vec ℕ) PipeFault) (new : World) → ReadIf none request t old answer new
     → WorksAfter answer old new
-read_works true request t old answer new x =
+read_works true _ t old answer new x =
     works_without answer old new (made_works 2 1 (without_bytes answer) old new x.0.ends)
-read_works false request t old answer new x = made_works 3 1 answer old new x.ends
+read_works false _ t old answer new x = made_works 3 1 answer old new x.ends
 
 transfer_works : {A : Type 0} (Is : TransferIs A) (Leaves : TransferLeaves A)
     → ((t : Target) (old : World) (answer : Result A PipeFault) (new : World) → Is t old answer new
     → WorksAfter answer old new) → (path : List ℕ) (tab : Table)
     (target : Result Target TransferFault) (old : World) (result : Result A TableFault)
     (new : World) → TransferIf Is Leaves path tab target old result new → TableWorks old result new
-transfer_works Is Leaves each path tab (Ok target) old result new x =
-    table_works result x.answer old new x.told (each target old x.answer new x.is)
-transfer_works Is Leaves each path tab (Err fault) old result new x =
-    rw x.0 (λ sound. same_works old new x.1)
+transfer_works Is Leaves each _ _ (Ok target) old _ new x =
+    table_works _ x.answer old new x.told (each target old x.answer new x.is)
+transfer_works Is Leaves _ _ _ (Err _) _ _ _ x =
+    rw x.0 (λ _. same_works _ _ x.1)
 
 pub read_told_works : (request : Setup) (path : List ℕ) (tab : Table)
     (target : Result Target TransferFault) (old new : World) (answer : Result (Vec ℕ) TableFault)
     (result : Result (Vec ℕ) HostFault) → result ≡ host_told answer
     → TransferIf (ReadMade request) (ReadLeft request) path tab target old answer new
     → ToldWorks old result new
-read_told_works request path tab target old new answer result is did =
-    host_works result answer old new is (transfer_works (ReadMade request) (ReadLeft request)
+read_told_works request path tab target old new answer _ is did =
+    host_works _ answer old new is (transfer_works (ReadMade request) (ReadLeft request)
     (read_works (request.length == 0) request) path tab target old answer new did)
 
 write_works : (none : Bool) (request : Setup) (bytes : List ℕ) (t : Target) (old : World)
     (answer : Result (Unit {0}) PipeFault) (new : World)
     → WriteIf none request bytes t old answer new
     → WorksAfter answer old new
-write_works true request bytes t old answer new x = made_works 2 1 answer old new x.ends
-write_works false request bytes t old answer new x =
+write_works true _ _ t old answer new x = made_works 2 1 answer old new x.ends
+write_works false _ bytes t old answer new x =
     made_works (div_ceil (length bytes) t.max + 2) 1 answer old new x.ends
 
 pub write_told_works : (request : Setup) (bytes path : List ℕ) (tab : Table)
@@ -60,8 +60,8 @@ pub write_told_works : (request : Setup) (bytes path : List ℕ) (tab : Table)
     (result : Result (Unit {0}) HostFault) → result ≡ host_told answer
     → TransferIf (WriteMade request bytes) (WriteLeft request bytes) path tab target old answer new
     → ToldWorks old result new
-write_told_works request bytes path tab target old new answer result is did =
-    host_works result answer old new is (transfer_works (WriteMade request bytes)
+write_told_works request bytes path tab target old new answer _ is did =
+    host_works _ answer old new is (transfer_works (WriteMade request bytes)
     (WriteLeft request bytes) (write_works (request.length == 0) request bytes) path tab target old
     answer new did)
 

@@ -23,14 +23,14 @@ waiting_is _ h = absurd (cc h)
 other_by : (path : List ℕ) (c : HostState) {d : HostState} (e : EntersOne path c d)
     → (IsFull c.addresses → ⊥) → (b : Bool) → is_waiting e.finding ≡ b
     → waiting d.entries ≤ waiting c.entries
-other_by path c e free true h = absurd (free (e.waits (waiting_is e.finding h)))
+other_by _ c e free true h = absurd (free (e.waits (waiting_is e.finding h)))
 other_by path c e free false h =
     omega (arith, ap waiting e.entries, waiting-entered_other path e.finding c.entries h)
 
 -- where an address is free, what is entered does not wait
 pub enters_other : (path : List ℕ) (c d : HostState) → EntersOne path c d → (IsFull c.addresses → ⊥)
     → waiting d.entries ≤ waiting c.entries
-enters_other path c d e free = other_by path c e free (is_waiting e.finding) refl
+enters_other path c d e free = other_by _ c e free _ refl
 
 pub enters_few : (path : List ℕ) (c d : HostState) → EntersOne path c d
     → waiting d.entries ≤ waiting c.entries + 1
@@ -88,15 +88,15 @@ module _ (path : List ℕ) (m : ℕ) {n : ℕ} (a b : HostState) {c d : HostStat
 
 pub served_any : (result : Result (Unit {0}) EnumFault) (a d : HostState) → HostProgress a d
     → ProgressOrLost result a d
-served_any (Err (Bus fault)) a d on = tt
-served_any (Err Memory) a d on = tt
+served_any (Err (Bus _)) a d _ = tt
+served_any (Err Memory) a d _ = tt
 served_any _ a d on = on
 
 pub served_on : (served : Result (Unit {0}) EnumFault) (done : Unit {0}) (a b : HostState)
     → EndsAs served (Ok done) → ProgressOrLost served a b → HostProgress a b
 served_on (Err (Bus fault)) done a b ends s = absurd (cc ends)
 served_on (Err Memory) done a b ends s = absurd (cc ends)
-served_on _ done a b ends s = s
+served_on _ _ a b _ s = s
 
 -- a port was served, and the rest of its handling took nothing back
 pub handled : {Due : Type 0} (result : Result (Unit {0}) HostFault)

@@ -27,3 +27,4 @@ pub mod HubPolls
 pub mod WorkingBuses
 pub mod ControlWorks
 pub mod Refusals
+pub mod TransferCalls

@@ -25,7 +25,7 @@ pub root_alone : (path : List ℕ) → 1 ≤ length path → parent_of path ≡ 
     → path ≡ port_on_hub path ∷ []
 unfolding parent_of port_on_hub
 root_alone [] some none = absurd (omega arith)
-root_alone (n ∷ []) some none = refl
+root_alone (n ∷ []) _ _ = refl
 root_alone (n ∷ m ∷ rest) some none =
     let long : nat_lt 1 (length (n ∷ m ∷ rest)) ≡ true =
     lt-ltb 1 (length (n ∷ m ∷ rest)) (omega arith) in
@@ -38,7 +38,7 @@ at_found : (f : AddressMap) (hub path : List ℕ) (n : ℕ) → IsPath hub → p
     → (port : KnownPort) → IsAskable port.port → (found : Option Finding) (below_hub : Bool)
     → f hub ≡ address_in found → port_found found below_hub n ≡ Some port → IsAt f port.port path
 at_found f hub path n is joined port askable found below_hub held e =
-    let x : FoundPort found below_hub n port = port_found-some found below_hub n port e in
+    let x : FoundPort found below_hub n port = port_found-some found below_hub n _ e in
     let asked = rw x.is at askable in
     subst (λ (p : KnownPort). IsAt f p.port path) (sym x.is)
     (record {
@@ -55,15 +55,15 @@ at_known : (path : List ℕ) (es : Entries) (port : KnownPort) → IsPath path �
 at_known path es port is askable None above e =
     let same : root_port (port_on_hub path) ≡ port = cc e in
     subst (λ (p : KnownPort). IsAt (claims es) p.port path) same (root_alone path is.0 above)
-at_known path es port is askable (Some hub) above e =
-    at_found (claims es) hub path (port_on_hub path) (is_path path hub is above)
-    (rejoined path hub above) port askable (lookup (is_at (path_cmp hub)) es) (is_below_hub hub)
+at_known path es _ is askable (Some hub) above e =
+    at_found (claims es) hub _ (port_on_hub path) (is_path path _ is above)
+    (rejoined path _ above) _ askable (lookup (is_at (path_cmp hub)) es) (is_below_hub hub)
     refl e
 
 pub stands_at-claim : {path : List ℕ} {port : KnownPort} {h : HostState} → StandsAt path port h
     → IsAt (claims h.entries) port.port path
-stands_at-claim {path = path} {port = port} {h = h} s = at_known path h.entries port s.is s.askable
-    (parent_of path) refl
+stands_at-claim {path = path} {h = h} s = at_known path h.entries _ s.is s.askable
+    _ refl
     s.known
 
 -- a port that is known stands where the bus does what its world does
@@ -72,7 +72,7 @@ pub placed : {modelled : Bool} {path : List ℕ} {port : KnownPort} {h : HostSta
 placed {modelled} {path} {port} {h} known s = record {
   is = s.is;
   known = s.known;
-  there = asked_port modelled h.world port.port known s.asked;
+  there = asked_port _ h.world port.port known s.asked;
   askable = s.askable;
   agrees = s.agrees;
 }
@@ -101,16 +101,16 @@ lost_above path es w lost (Some hub) above e = refl
 
 pub broke : {path : List ℕ} {port : KnownPort} (h : HostState) (fault : EnumFault) (w : World)
     → StandsAt path port h → FaultAllowedAt port.port fault w → Broke path fault w
-broke {path = path} h ParentLost w s told = lost_above path h.entries w told (parent_of path) refl
+broke {path = path} h ParentLost w s told = lost_above path h.entries w told _ refl
     s.known
-broke h (Bus fault) w s told = told
+broke h (Bus _) w s told = told
 broke h Memory w s told = told
 
 pub breaks : {path : List ℕ} {port : KnownPort} {h : HostState}
     (served : Result (Unit {0}) EnumFault) (w : World) → StandsAt path port h
     → IfErr served (λ fault. FaultAllowedAt port.port fault w)
     → IfErr served (λ fault. Broke path fault w)
-breaks (Ok done) w s told = tt
+breaks (Ok _) w s _ = tt
 breaks {h = h} (Err fault) w s told = broke h fault w s told
 
 -- No device is at a port that the root has not

@@ -55,8 +55,8 @@ requested-none x = record { goes = host_goes_none; told = tt; works = λ none. n
 
 works_on : {A : Type 0} (result : Result A EnumFault) (old mid new : World) → StillWorks old mid
     → EnumWorks result mid new → EnumWorks result old new
-works_on (Ok x) old mid new first next = λ none. next (first none)
-works_on (Err why) old mid new first next = λ sound none. next sound (first none)
+works_on (Ok x) _ _ _ first next = λ none. next (first none)
+works_on (Err _) _ _ _ first next = λ sound none. next sound (first none)
 
 pub requested-then : {A B : Type 0} {port : HubPort} {k m n : ℕ} {a b c : HostState} {x : A}
     {result : Result B EnumFault} → Requested port m a (Ok x) b → Requested port n b result c
@@ -88,9 +88,9 @@ bus_told answer old new x f is = rw is at x
 port_fault : (port : HubPort) (fault : PipeFault) (new : World) → CanFail port
     → ((f : BusFault) → fault ≡ pipe.Bus f → HasFault f new)
     → FaultAllowedAt port (fault_at_port fault) new
-port_fault port (pipe.Bus f) new can told = told f refl
-port_fault port pipe.Memory new can told = tt
-port_fault port _ new can told = can
+port_fault _ (pipe.Bus f) _ _ told = told f refl
+port_fault _ pipe.Memory _ _ _ = tt
+port_fault _ _ _ can _ = can
 
 -- a root port is a register, and never fails
 requested_told : {A : Type 0} (port : HubPort) (answer : Result A PipeFault) (new : World)
@@ -109,13 +109,13 @@ requested_by : {A : Type 0} {port : HubPort} {n : ℕ} {a : HostState} (b : Host
 requested_by {port = port} {a = a} b answer {result} goes can told works is = record {
   goes = goes;
   told = rw is (requested_told port answer b.world can told);
-  works = at_port_works result answer a.world b.world is works;
+  works = at_port_works _ answer a.world b.world is works;
 }
 
 read_can : (port : HubPort) (old : World) (answer : Result PortStatus PipeFault) (new : World)
     → PortRead port old answer new → CanFail port ⊎ IsOk answer
-read_can (Root number) old answer new x = inr (rw x.status refl)
-read_can (External hub number) old answer new x = inl tt
+read_can (Root _) _ _ _ x = inr (rw x.status refl)
+read_can (External _ _) _ _ _ x = inl tt
 
 pub shows : (port : HubPort) (a b : HostState) {answer : Result PortStatus PipeFault}
     {result : Result PortStatus EnumFault} → IsAskable port → HostSteps (status_bound port) a b
@@ -125,7 +125,7 @@ pub shows : (port : HubPort) (a b : HostState) {answer : Result PortStatus PipeF
     → KeepsAsked port a.world answer b.world → result ≡ at_port answer → ShowsPort port a result b
 shows port a b {answer = answer} askable went same width fault read tells keeps is = record {
   requested = requested_by b answer (status_read_goes port a b askable went same width)
-      (read_can port a.world answer b.world read) (bus_told answer a.world b.world fault)
+      (read_can port a.world answer b.world read) (bus_told _ a.world b.world fault)
       (read_works port answer a.world b.world read) is;
   answer = answer;
   is = is;
@@ -136,8 +136,8 @@ shows port a b {answer = answer} askable went same width fault read tells keeps 
 
 cleared_can : (port : HubPort) (feature : ℕ) (old : World) (answer : Result (Unit {0}) PipeFault)
     (new : World) → PortCleared port feature old answer new → CanFail port ⊎ IsOk answer
-cleared_can (Root number) feature old answer new x = inr x.done
-cleared_can (External hub number) feature old answer new x = inl tt
+cleared_can (Root _) _ _ _ _ x = inr x.done
+cleared_can (External _ _) _ _ _ _ x = inl tt
 
 pub clears_by : (port : HubPort) (feature : ℕ) (a b : HostState)
     {answer : Result (Unit {0}) PipeFault} {result : Result (Unit {0}) EnumFault}
@@ -151,7 +151,7 @@ clears_by port feature a b {answer = answer} went same width fault effect keeps 
   requested = requested_by b answer (goes_by {k = write_bound} a b went (order_most port) same
       width)
       (cleared_can port feature a.world answer b.world effect)
-      (bus_told answer a.world b.world fault)
+      (bus_told _ a.world b.world fault)
       (clear_works port feature answer a.world b.world effect) is;
   answer = answer;
   is = is;
@@ -162,8 +162,8 @@ clears_by port feature a b {answer = answer} went same width fault effect keeps 
 
 other_can : (port : HubPort) (feature : ℕ) (old : World) (answer : Result (Unit {0}) PipeFault)
     (new : World) → ClearsOfPort port feature old answer new → CanFail port ⊎ IsOk answer
-other_can (Root number) feature old answer new x = inr (rw x.0 refl)
-other_can (External hub number) feature old answer new x = inl tt
+other_can (Root _) _ _ _ _ x = inr (rw x.0 refl)
+other_can (External _ _) _ _ _ _ x = inl tt
 
 pub others_by : {asked : Bool} (port : HubPort) (feature : ℕ) (a b : HostState)
     (answer : Result (Unit {0}) PipeFault) {result : Result (Unit {0}) EnumFault} → asked ≡ true
@@ -175,11 +175,11 @@ pub others_by : {asked : Bool} (port : HubPort) (feature : ℕ) (a b : HostState
 others_by port feature a b answer asks went same width fault effect addresses devices is = record {
   requested = requested_by b answer (goes_by {k = write_bound} a b went (order_most port) same
       width)
-      (other_can port feature a.world answer b.world effect) (bus_told answer a.world b.world fault)
+      (other_can port feature a.world answer b.world effect) (bus_told _ a.world b.world fault)
       (port_change_works port feature answer a.world b.world effect) is;
   keeps = record { addresses = addresses; devices = devices };
   clears = record {
-    so = λ so. record { answer = answer; is = is; cleared = effect };
+    so = λ _. record { answer = answer; is = is; cleared = effect };
     not = λ e. absurd (cc (e, asks));
   };
 }
@@ -190,9 +190,9 @@ pub own_by : (target : Target) (number : ℕ) (a b : HostState)
     HasFault f b.world)
     → KeepsAddresses a.world b.world → ClearsOfHub target a.world answer b.world
     → result ≡ at_port answer → ClearsOwn (External target number) a result b
-own_by target number a b answer goes fault addresses cleared is = record {
+own_by _ _ a b answer goes fault addresses cleared is = record {
   requested = requested_by b answer goes (inl tt) fault
-      (hub_change_works target answer a.world b.world cleared) is;
+      (hub_change_works _ _ _ _ cleared) is;
   addresses = addresses;
   clears = record { answer = answer; is = is; cleared = cleared };
 }
@@ -213,7 +213,7 @@ module _ {port : HubPort} (status : PortStatus) (k : ℕ) {m : ℕ} {a b : HostS
   others_fail {fault = fault} x le = record {
     requested = requested-wider x.requested le;
     keeps = x.keeps;
-    clears = first_failed fault x.clears refl;
+    clears = first_failed _ x.clears refl;
   }
 
   pub others_then : {n : ℕ} {c : HostState} {result : Result (Unit {0}) EnumFault}
@@ -237,17 +237,17 @@ made_by A _ old new x goes = omega (arith, x.least)
 attempt_made : {A : Type 0} (least : ℕ) (answer : Result A PipeFault) (old new : World) → 1 ≤ least
     → EndsAfter least old answer new → LetsGoOn (at_port answer) → old.attempts + 1 ≤ new.attempts
 attempt_made least (Ok x) old new le ends goes = omega (arith, ends.least)
-attempt_made {A = A} least (Err fault) old new le ends goes = made_by A fault old new ends goes
+attempt_made {A = A} _ (Err fault) old new _ ends goes = made_by A fault old new ends goes
 
 gains_by : {A : Type 0} (result : Result A EnumFault) (old new : World)
     → (LetsGoOn result → Gained old new) → ProgressOnOk result old new
-gains_by (Err (Bus fault)) old new g = tt
-gains_by (Err Memory) old new g = tt
-gains_by _ old new g = g tt
+gains_by (Err (Bus _)) _ _ g = tt
+gains_by (Err Memory) _ _ g = tt
+gains_by _ _ _ g = g tt
 
 pub goes_as : (A B : Type 0) (fault : EnumFault) → LetsGoOn {A = A} (Err fault)
     → LetsGoOn {A = B} (Err fault)
-goes_as A B ParentLost goes = tt
+goes_as A B ParentLost _ = tt
 goes_as A B _ goes = absurd goes
 
 -- a hub was asked
@@ -284,10 +284,10 @@ shown_by (External hub number) old answer new s x =
 module _ {port : HubPort} {a b : HostState} {result : Result PortStatus EnumFault}
     (x : ShowsPort port a result b) where
   pub shows_shown : Shown port result a.world b.world
-  shows_shown = rw x.is (shown_by port a.world x.answer b.world x.requested.goes.went.spends x.read)
+  shows_shown = rw x.is (shown_by port _ x.answer _ x.requested.goes.went.spends x.read)
 
   pub shows_watches : Watches port a.world result b.world
-  shows_watches = rw x.is (watched port a.world x.answer b.world x.read x.tells x.keeps)
+  shows_watches = rw x.is (watched _ _ _ _ x.read x.tells x.keeps)
 
 -- A clearing, where it is asked for
 
@@ -331,7 +331,7 @@ module _ {asked : Bool} {port : HubPort} {feature : ℕ} {a b : HostState} where
         let calls = rw is at (feature_calls a b (x.so e)) in
         subst (λ (x : Bool). DoneWhere x p call a.world b.world) (sym e)
         (call_done other calls f p at owned)
-    | inr e ↦ done_not p call a.world b.world e (ap (λ (h : HostState). h.world) (x.not e).1)
+    | inr e ↦ done_not p call _ _ e (ap (λ (h : HostState). h.world) (x.not e).1)
   ]
 
 -- The changes of enable and of reset
@@ -397,7 +397,7 @@ pub settled_fails : {port : HubPort} {status : PortStatus} {a b : HostState} {fa
 settled_fails x = record {
   requested = requested-wider x.requested (omega arith);
   keeps = record { addresses = x.tidies.addresses; devices = x.tidies.devices };
-  tidies = λ plain. x;
+  tidies = λ _. x;
   order = first_failed _ x refl;
 }
 
@@ -424,14 +424,14 @@ status_after status (Err fault) = Err fault
 
 disabled_as : (status : PortStatus) (answer : Result (Unit {0}) PipeFault)
     → disabled_so status answer ≡ status_after status (at_port answer)
-disabled_as status (Ok done) = refl
-disabled_as status (Err fault) = refl
+disabled_as _ (Ok _) = refl
+disabled_as _ (Err _) = refl
 
 after_told : {port : HubPort} {n : ℕ} (status : PortStatus) {a b : HostState}
     (result : Result (Unit {0}) EnumFault) → Requested port n a result b
     → Requested port n a (status_after status result) b
-after_told status (Ok done) x = record { goes = x.goes; told = tt; works = x.works }
-after_told status (Err fault) x = record { goes = x.goes; told = x.told; works = x.works }
+after_told _ (Ok _) x = record { goes = x.goes; told = tt; works = x.works }
+after_told _ (Err _) x = record { goes = x.goes; told = x.told; works = x.works }
 
 change_failed : (port : HubPort) (old : World) (answer : Result (Unit {0}) PipeFault) (new : World)
     (fault : EnumFault) → Err fault ≡ at_port answer
@@ -440,7 +440,7 @@ change_failed : (port : HubPort) (old : World) (answer : Result (Unit {0}) PipeF
 change_failed port old (Ok done) new fault is calls keeps = absurd (cc is)
 change_failed port old (Err why) new fault is calls keeps =
     let same : fault ≡ fault_at_port why = cc is in
-    rw same (clears_failed why calls keeps)
+    rw same (clears_failed _ calls keeps)
 
 -- a change that was cleared is not told again
 
@@ -450,8 +450,8 @@ stuck_can (External hub number) status stuck = tt
 
 stuck_by : (port : HubPort) (status : PortStatus) → CanFail port → is_stuck port status ≡ true
     → (status.enabled ≡ true → status.connection_changed ≡ false) → ⊥
-stuck_by (Root number) status can stuck steady = can
-stuck_by (External hub number) status can stuck steady =
+stuck_by (Root _) _ can _ _ = can
+stuck_by (External _ _) status _ stuck steady =
     let told = both status.enabled status.connection_changed stuck in
     false_true (sym (steady told.0) ∙ told.1)
 
@@ -465,10 +465,10 @@ module _ {port : HubPort} {a b : HostState} where
         gains_by {A = PortStatus} (Err fault) a.world b.world
         (λ goes. change_gains port x.answer due x.requested.goes.went.spends x.effect
         (subst LetsGoOn x.is (goes_as PortStatus (Unit {0}) fault goes)));
-    keeps = change_failed port a.world x.answer b.world fault x.is x.calls x.keeps;
+    keeps = change_failed _ _ _ _ _ x.is x.calls x.keeps;
     paid = tt;
-    reads = λ f p at owned. tt;
-    order = first_failed fault x refl;
+    reads = λ f p _ _. tt;
+    order = first_failed _ x refl;
   }
 
   module _ (x : ClearsFeature port C_PORT_CONNECTION a (Ok tt) b) where
@@ -477,15 +477,15 @@ module _ {port : HubPort} {a b : HostState} where
 
     change_after : {n : ℕ} (c : HostState) {result : Result PortStatus EnumFault} → HostSteps n b c
         → ClearsChange port b.world result c.world → ClearsChange port a.world result c.world
-    change_after c {result = result} went y =
-        clears_after x.requested.goes.went went result
+    change_after c went y =
+        clears_after x.requested.goes.went went _
         change_calls x.keeps.keeps x.keeps.devices y
 
     change_on : {n : ℕ} (c : HostState) (result : Result PortStatus EnumFault) → HostSteps n b c
         → IsDue a.world port → ProgressOnOk result a.world c.world
     change_on c result went due =
         gains_by result a.world c.world
-        (λ goes. gained_then a.world (change_gains port x.answer due x.requested.goes.went.spends
+        (λ _. gained_then a.world (change_gains port x.answer due x.requested.goes.went.spends
         x.effect (rw (← x.is) tt)) went.spends)
 
     -- the status was not told
@@ -496,8 +496,8 @@ module _ {port : HubPort} {a b : HostState} where
       gains = change_on c (Err fault) y.requested.goes.went;
       keeps = change_after c y.requested.goes.went (clears_untold (shows_watches y));
       paid = tt;
-      reads = λ f p at owned. tt;
-      order = next_done tt b x (first_failed fault y refl);
+      reads = λ f p _ _. tt;
+      order = next_done tt b x (first_failed _ y refl);
     }
 
     module _ {c : HostState} (d : HostState) {status : PortStatus}
@@ -520,13 +520,13 @@ module _ {port : HubPort} {a b : HostState} where
         disabled_change : ClearsChange port b.world (status_after status result) d.world
         disabled_change =
             rw (disabled_as status z.answer ∙ ap (status_after status) (sym z.is)) at
-            (clears_disabled y.requested.goes.went z.requested.goes.went status z.answer told_read
+            (clears_disabled y.requested.goes.went z.requested.goes.went _ _ told_read
             told_tells told_asks z.calls z.keeps)
 
         disabled_kept : ClearsChange port a.world (status_after status result) d.world
         disabled_kept =
             change_after d
-            (went_then (read_bound 4) write_bound y.requested.goes.went z.requested.goes.went)
+            (went_then _ _ y.requested.goes.went z.requested.goes.went)
             disabled_change
 
       paid_so : (result : Result (Unit {0}) EnumFault) → ClearsFeature port PORT_ENABLE c result d
@@ -534,7 +534,7 @@ module _ {port : HubPort} {a b : HostState} where
       paid_so (Ok tt) z =
           changes_disabled change_calls x.keeps.keeps
           told_tells told_asks.keeps (feature_calls c d z)
-      paid_so (Err fault) z = tt
+      paid_so (Err _) z = tt
 
       reads_by : (result : Result (Unit {0}) EnumFault)
           → ClearsWhere status.enabled port PORT_ENABLE c result d → (f : AddressMap) (p : List ℕ)
@@ -550,13 +550,13 @@ module _ {port : HubPort} {a b : HostState} where
             disabled = where_done ClearEnable refl
                 (λ resets. absurd (cc resets)) z f p at (told_asks.keeps.kept f kept);
           }
-      reads_by (Err fault) z f p at owned = tt
+      reads_by (Err _) z f p _ _ = tt
 
       -- or it tells the change again, as no port of a world does
       stuck_never : is_stuck port status ≡ true → (f : AddressMap) (p : List ℕ) → IsAt f port p
           → WhileBusWorks (MapHolds f) a.world → ⊥
       stuck_never stuck f p at owned = stuck_by port status (stuck_can port status stuck)
-          stuck (cleared_steady p status (call_done (λ resets. absurd (cc resets)) change_calls f p
+          stuck (cleared_steady p _ (call_done (λ resets. absurd (cc resets)) change_calls f p
           at owned) (told_tells.tells f p at (x.keeps.keeps.kept f owned) status refl))
 
       pub change_stays : is_stuck port status ≡ true → ClearsPort port a (Err ParentLost) c
@@ -567,25 +567,25 @@ module _ {port : HubPort} {a b : HostState} where
             requested = record {
               goes = goes_wider went (omega arith);
               told = stuck_can port status stuck;
-              works = λ sound none. y.requested.works (x.requested.works none);
+              works = λ _ none. y.requested.works (x.requested.works none);
             };
             gains = change_on c (Err ParentLost) y.requested.goes.went;
             keeps = record {
               bares = keeps_then a.world b.world c.world x.keeps.keeps told_asks.keeps;
               devices = devices_then (read_bound 4) a.world b.world c.world x.keeps.devices
                   y.requested.goes.went told_asks.devices;
-              others = λ f p at owned goes. rest_elsewhere_then p a.world b.world c.world
+              others = λ f p at owned _. rest_elsewhere_then p a.world b.world c.world
                   (change_calls.rests f p ClearConnectionChange (connection_call at owned) tt)
-                  (λ z away. port_read_rests port b.world (Ok status) c.world told_read tt z);
-              decides = λ f p at owned way order still. tt;
+                  (λ z _. port_read_rests port b.world (Ok status) c.world told_read tt z);
+              decides = λ f p _ _ _ _ _. tt;
               backlog = λ f p at owned goes. all_then
                   (call_all (λ g. absurd (cc g)) (λ g. absurd (cc g)) (change_calls.backlog f p
                   ClearConnectionChange (connection_call at owned) tt))
                   (port_read_backlog port b.world (Ok status) c.world told_read tt);
-              lost = λ f p at owned way few still alone e. absurd (stuck_never stuck f p at owned);
+              lost = λ f p at owned _ _ _ _ e. absurd (stuck_never stuck f p at owned);
             };
             paid = tt;
-            reads = λ f p at owned. tt;
+            reads = λ f p _ _. tt;
             order = next_done tt b x (next_done status c y (record {
               stuck = λ e. (refl, refl);
               steady = λ calm. absurd (cc (stuck, calm));
@@ -597,11 +597,11 @@ module _ {port : HubPort} {a b : HostState} where
           → DisablesAfter port status c (status_after status result) d
       last_asked (Ok tt) calm z = record {
         stuck = λ stuck. absurd (cc (stuck, calm));
-        steady = λ steady. next_done tt d z (refl, refl);
+        steady = λ _. next_done tt d z (refl, refl);
       }
       last_asked (Err fault) calm z = record {
         stuck = λ stuck. absurd (cc (stuck, calm));
-        steady = λ steady. first_failed fault z refl;
+        steady = λ _. first_failed _ z refl;
       }
 
       pub change_cleared : is_stuck port status ≡ false → {result : Result (Unit {0}) EnumFault}
@@ -651,7 +651,7 @@ module _ {port : HubPort} {a b : HostState} where
         (λ goes. order_gains port C_PORT_ENABLE x.answer can x.requested.goes.went.spends x.effect
         (subst LetsGoOn x.is (goes_as PortStatus (Unit {0}) fault goes)));
     bares = x.keeps.keeps;
-    order = first_failed fault x refl;
+    order = first_failed _ x refl;
   }
 
   module _ (x : ClearsFeature port C_PORT_ENABLE a (Ok tt) b) where
@@ -659,7 +659,7 @@ module _ {port : HubPort} {a b : HostState} where
         → CanFail port → ProgressOnOk result a.world c.world
     error_on c result goes can =
         gains_by result a.world c.world
-        (λ end. gained_then a.world
+        (λ _. gained_then a.world
         (order_gains port C_PORT_ENABLE x.answer can x.requested.goes.went.spends x.effect
         (rw (← x.is) tt)) goes.went.spends)
 
@@ -669,19 +669,19 @@ module _ {port : HubPort} {a b : HostState} where
       requested = requested-fails PortStatus (requested-then {k = 2 * write_bound} x.requested
           y.requested (omega arith)) (omega arith);
       gains = error_on c (Err fault) y.requested.goes;
-      bares = keeps_then a.world b.world c.world x.keeps.keeps y.keeps.keeps;
-      order = next_done tt b x (first_failed fault y refl);
+      bares = keeps_then _ _ _ x.keeps.keeps y.keeps.keeps;
+      order = next_done tt b x (first_failed _ y refl);
     }
 
     module _ {c : HostState} (d : HostState) (y : ClearsFeature port PORT_ENABLE b (Ok tt) c) where
       bares_by : (result : Result PortStatus EnumFault) → KeepsAddresses c.world d.world
           → BaresPort port a.world result d.world
-      bares_by (Ok status) k =
+      bares_by (Ok _) k =
           let bare = y.keeps.bare refl (ok_at_port y.answer (sym y.is)) in
           bares_kept (bares_after x.keeps.keeps bare) k
-      bares_by (Err fault) k =
-          keeps_then a.world c.world d.world
-          (keeps_then a.world b.world c.world x.keeps.keeps y.keeps.keeps) k
+      bares_by (Err _) k =
+          keeps_then _ _ _
+          (keeps_then _ _ _ x.keeps.keeps y.keeps.keeps) k
 
       pub error_cleared : {result : Result PortStatus EnumFault} → ShowsPort port c result d
           → ClearsError port a result d

@@ -16,7 +16,7 @@ use Rattle.usb_host.specs.declared.fault.HostFault.TheVariants as host
 -- where the pipes at the path of a call stay, all do
 pipes_stay : (path : List ℕ) (old new : Table) → GoesThrough path old new
     → pipes_at path new ≡ pipes_at path old → (x : List ℕ) → pipes_at x new ≡ pipes_at x old
-pipes_stay path old new goes same x = pick (is_at (path_cmp path) x) refl
+pipes_stay path old new goes same x = pick _ refl
   where
     pick : (tied : Bool) → is_at (path_cmp path) x ≡ tied → pipes_at x new ≡ pipes_at x old
     pick true tie = rw (path_tied path x tie) at same
@@ -37,7 +37,7 @@ module _ {A W : Type 0} (path : List ℕ) (base : W → HostState) (bus after : 
   pub moves_or_refuses : (asked : Result PipeState TransferFault)
       → MovedOrRefused asked (pipes_at path old) bus answer (pipes_at path new) after
       → MovesOrRefuses asked (host_of base bus old before) result (host_of base after new ends)
-  moves_or_refuses (Ok pipe) x = (x.0, is ∙ ap host_told x.1)
+  moves_or_refuses (Ok _) x = (x.0, is ∙ ap host_told x.1)
   moves_or_refuses (Err fault) x =
       let same : result ≡ Err (host.Transfer fault) = is ∙ ap host_told x.0 in (
         same,
@@ -70,7 +70,7 @@ pub sets_or_refuses : {W : Type 0} (path : List ℕ) (base : W → HostState) (b
 sets_or_refuses path base bus after goes answer is going final interface setting (Ok target) x =
     (x.0, is ∙ ap host_told x.1, x.2)
 sets_or_refuses path base bus after goes answer is going final interface setting (Err fault) x =
-    moves_or_refuses path base bus after goes answer is going final (Err fault) x
+    moves_or_refuses _ base bus after goes answer is going final (Err fault) x
 
 -- a packet that came is no longer than the maximum of its pipe
 pub fits_told : (pipe : Option PipeState) (answer : Result (Option (ArrayVec ℕ)) TableFault)

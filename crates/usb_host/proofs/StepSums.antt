@@ -11,7 +11,7 @@ host_goes_none {n = n} =
 pub host_goes_then : {k m n : ℕ} {a b c : HostState} → HostRuns m a b → HostRuns n b c → m + n ≤ k
     → HostRuns k a c
 host_goes_then {k = k} {m = m} {n = n} p q le = record {
-  went = went_wider (m + n) k (went_then m n p.went q.went) le;
+  went = went_wider _ k (went_then m n p.went q.went) le;
   going = q.going ∙ p.going;
   options = q.options ∙ p.options;
 }

@@ -36,6 +36,7 @@ packet = 3
 how = "lose"
 "#;
 
+/// Enumerates the device over the bus that counts, and prints the counts.
 fn main(rt: HostRuntime) -> Result<()> {
     let mut bus = SimBus::untraced(rt.alloc(), &read_plan(rt.alloc(), WORLD)?)?;
     bus.apply_next_event()?;

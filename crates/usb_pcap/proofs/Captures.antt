@@ -54,7 +54,7 @@ taken_long k line front b e full =
     let many = many_taken k line (subst (λ l. length l ≡ k) e full) in
     let long = length-append line (b ∷ []) in (
       e ∙ sym (take-append-le k line (b ∷ []) many),
-      lt-ltb k (length (line ++ b ∷ [])) (omega (arith, long)),
+      lt-ltb k _ (omega (arith, long)),
     )
 
 pub stands_first : (w now : Option (List ℕ)) (s : OpenLine) → Appends w now header → s.number ≡ 1
@@ -111,7 +111,7 @@ pub stands_more : (w now : Option (List ℕ)) (text : List ℕ) (b : ℕ) (s t :
     → t.is_long ≡ s.is_long → TakesShown s b t → t.has_packets ≡ s.has_packets
     → StandsBehind w now (text ++ b ∷ []) t
 stands_more w now text b s t other h number room front long shown same =
-    let more = taken_more longest h.line s.front.items b h.begins room in
+    let more = taken_more _ _ _ b h.begins room in
     stands_on w now text b s t other h number (front ∙ more.0) (long ∙ h.long ∙ more.1) shown
     same
 
@@ -121,7 +121,7 @@ pub stands_long : (w now : Option (List ℕ)) (text : List ℕ) (b : ℕ) (s t :
     → TakesShown s b t → t.has_packets ≡ s.has_packets
     → StandsBehind w now (text ++ b ∷ []) t
 stands_long w now text b s t other h number full front long shown same =
-    let more = taken_long longest h.line s.front.items b h.begins full in
+    let more = taken_long _ _ _ b h.begins full in
     stands_on w now text b s t other h number (front ∙ more.0) (long ∙ sym more.1) shown
     same
 
@@ -181,15 +181,15 @@ stands_closed w mid now text records s t h tells gone number front long shown pa
   line = [];
   file = h.file ++ records;
   split = sym (append-nil (text ++ 10 ∷ []));
-  captured = capture_closed w mid text records s h tells;
+  captured = capture_closed w mid text _ s h tells;
   gone = Appends-trans w mid now h.file records h.gone gone;
   one = All-nil _;
   begins = front;
   long = long;
   shown = subst (Begins []) (sym shown) begins_none;
-  number = next_number-next h.n s.number t.number h.number number;
-  packets = (more_packets s.has_packets t.has_packets h.file records packets h.packets h.bare).0;
-  bare = (more_packets s.has_packets t.has_packets h.file records packets h.packets h.bare).1;
+  number = next_number-next _ _ _ h.number number;
+  packets = (more_packets _ _ h.file _ packets h.packets h.bare).0;
+  bare = (more_packets _ _ h.file _ packets h.packets h.bare).1;
 }
 
 pub went_front : (w mid now : Option (List ℕ)) (text records : List ℕ) (s : OpenLine)
@@ -202,7 +202,7 @@ went_front w mid now text records s h tells gone = (
     rest = [];
     file = h.file ++ records;
     split = sym (append-nil (text ++ 10 ∷ []));
-    captured = capture_closed w mid text records s h tells;
+    captured = capture_closed w mid text _ s h tells;
     gone = front_after_first w mid now h.file records h.gone gone;
   },
 )
@@ -255,8 +255,8 @@ front_more w now text rest n h = record {
 
 pub comes_more : (w now : Option (List ℕ)) (text rest : List ℕ) (f : PcapFault) (s t : OpenLine)
     → ComesOf w now text (Err f) s → ComesOf w now (text ++ rest) (Err f) t
-comes_more w now text rest (BadLine number) s t (n, e, h) = (n, e, refused_more w now text rest n h)
-comes_more w now text rest Write s t (n, h) = (n, front_more w now text rest n h)
+comes_more w now text rest (BadLine number) s t (n, e, h) = (n, e, refused_more w _ _ rest n h)
+comes_more w now text rest Write s t (n, h) = (n, front_more w _ _ rest n h)
 comes_more w now text rest _ s t h = absurd h
 
 pub comes_captures : (w now : Option (List ℕ)) (text : List ℕ) (f : PcapFault) (s : OpenLine)
@@ -273,7 +273,7 @@ comes_front None b w now done f s e h = tt
 comes_front (Some text) None w now done f s e h = absurd e
 comes_front (Some text) (Some rest) w now done f s e h =
     subst (λ t. Captures w now t (Err f)) (sym e)
-    (comes_captures w now (done ++ rest) f s (comes_more w now done rest f s s h))
+    (comes_captures w _ _ f s (comes_more w _ _ rest f s s h))
 
 stopped : (w now : Option (List ℕ)) (text rest : List ℕ) (s : OpenLine) → StandsBehind w now text s
     → (n : ℕ) × WroteLines w now (text ++ rest) n
@@ -294,7 +294,7 @@ pub read_failed : (a b w now : Option (List ℕ)) (done : List ℕ) (s : OpenLin
 read_failed None b w now done s e h = tt
 read_failed (Some text) None w now done s e h = absurd e
 read_failed (Some text) (Some rest) w now done s e h =
-    subst (λ t. Captures w now t (Err Read)) (sym e) (stopped w now done rest s h)
+    subst (λ t. Captures w now t (Err Read)) (sym e) (stopped w _ _ rest s h)
 
 pub read_on : (a b w now : Option (List ℕ)) (done : List ℕ) (s : OpenLine) → Consumes a b done
     → StandsBehind w now done s → 2 ^ 64 - 1 ≤ length done
@@ -302,7 +302,7 @@ pub read_on : (a b w now : Option (List ℕ)) (done : List ℕ) (s : OpenLine) �
 read_on None b w now done s e h long = tt
 read_on (Some text) None w now done s e h long = absurd e
 read_on (Some text) (Some rest) w now done s e h long =
-    let (n, wrote) = stopped w now done rest s h in
+    let (n, wrote) = stopped w _ _ rest s h in
     let both = length-append done rest in
     subst (λ t. Captures w now t (Err TooLong)) (sym e) (n, wrote, omega (arith, both, long))
 
@@ -331,7 +331,7 @@ longer_differs file more same = let equal = ap (λ l. length l) same in absurd (
 pub ended_well : (w now : Option (List ℕ)) (text : List ℕ) (s : OpenLine) → s.front.items ≡ []
     → s.has_packets ≡ true → StandsBehind w now text s → Captures w now text (Ok tt)
 ended_well w now text s empty some h =
-    (h.n, h.file, whole_text w now text s empty h, h.gone, longer_differs h.file (h.packets some))
+    (h.n, h.file, whole_text w now text s empty h, h.gone, longer_differs _ (h.packets some))
 
 pub ended_bare : (w now : Option (List ℕ)) (text : List ℕ) (s : OpenLine) → s.front.items ≡ []
     → s.has_packets ≡ false → StandsBehind w now text s → Captures w now text (Err NoAttempt)
@@ -343,7 +343,7 @@ ended_bare w now text s empty none h = (
 
 pub no_items : (l : List ℕ) → (length l == 0) ≡ true → l ≡ []
 no_items [] e = refl
-no_items (c ∷ l) e = let none = eqb-true (length (c ∷ l)) 0 e in absurd (omega (arith, none))
+no_items (c ∷ l) e = let none = eqb-true _ 0 e in absurd (omega (arith, none))
 
 pub some_items : (l : List ℕ) → (length l == 0) ≡ false → l ≢ []
 some_items l e is = let none : (length {A = ℕ} [] == 0) ≡ false =
@@ -382,8 +382,8 @@ pub plug_records : (front line : List ℕ) (shown : Bool) (records : ArrayVec �
     → Decides shown (IsShownText line) → (shown && fits_form plug_form front) ≡ true
     → records.items ≡ [] → RecordsOf line (Some records)
 plug_records front line shown records e decides fits none =
-    let both = and_parts shown (fits_form plug_form front) fits in
-    told_records front line records none (inl (plug_taken front line e both.1, decides.0 both.0))
+    let both = and_parts _ _ fits in
+    told_records front _ _ none (inl (plug_taken _ _ e both.1, decides.0 both.0))
 
 pub report_records : (front line : List ℕ) (is_long : Bool) (records : ArrayVec ℕ)
     → front ≡ take longest line → is_long ≡ nat_lt longest (length line) → is_long ≡ false
@@ -417,10 +417,10 @@ pub attempt_records : (front line : List ℕ) (is_long : Bool) (a : TracedAttemp
     → AreRecords a.number (attempt_packets a.pre a.exchange) records.items
     → RecordsOf line (Some records)
 attempt_records front line is_long a records e long short of made =
-    let few : length line ≤ longest = not_more longest (length line) (sym long ∙ short) in
+    let few : length line ≤ longest = not_more _ _ (sym long ∙ short) in
     LineRecords.attempt a records.items (
       few,
-      subst (λ l. IsAttemptLine l a) (short_whole front line e few) of,
+      subst (λ l. IsAttemptLine l a) (short_whole _ _ e few) of,
     ) made
 
 pub none_refused : (front line : List ℕ) (shown is_long : Bool) → front ≡ take longest line
@@ -483,7 +483,7 @@ piece_failed w now text piece i b f s t below is h =
     ∙ ap (λ l. text ++ l) (sym more)) ∙ append_assoc text (take (i + 1) piece)
     (drop (i + 1) piece) ∙ ap (λ l. text ++ l) (take-append-drop (i + 1) piece) in
     subst (λ u. ComesOf w now u (Err f) t) whole
-    (comes_more w now ((text ++ take i piece) ++ b ∷ []) (drop (i + 1) piece) f s t h)
+    (comes_more w _ _ (drop (i + 1) piece) f s t h)
 
 pub not_err : {A E : Type 0} {P : Type 0} (r : Result A E) → is_err r ≡ false → OnOk r P → P
 not_err (Ok x) e h = h

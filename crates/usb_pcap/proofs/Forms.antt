@@ -49,23 +49,23 @@ free_stops _ (c ∷ rest) h = absurd (cc)
 word_stops : (p : Piece) (w more rest : List ℕ) → first_stops p w ≡ true → rest ≡ w ++ more
     → StopsAt p rest
 word_stops p [] more rest h e = absurd (cc)
-word_stops p (c ∷ w) more rest h e = subst (StopsAt p) (sym e) h
+word_stops p (c ∷ w) _ _ h e = subst (StopsAt p) (sym e) h
 
 one_stops : (p : Piece) (ws : List (List ℕ)) (first more rest : List ℕ) → all_stop p ws ≡ true
     → IsOneOf ws first → rest ≡ first ++ more → StopsAt p rest
 one_stops p [] first more rest h is e = absurd is
-one_stops p (w ∷ ws) first more rest h (inl same) e =
-    word_stops p w more rest (and_parts (first_stops p w) (all_stop p ws) h).0 (e
+one_stops p (w ∷ ws) _ more rest h (inl same) e =
+    word_stops p w more rest (and_parts _ _ h).0 (e
     ∙ ap (λ l. l ++ more) same)
 one_stops p (w ∷ ws) first more rest h (inr is) e =
-    one_stops p ws first more rest (and_parts (first_stops p w) (all_stop p ws) h).1 is e
+    one_stops p ws first more rest (and_parts _ _ h).1 is e
 
 next_stops : (p q : Piece) (first more rest : List ℕ) → stops_before p q ≡ true → IsPiece q first
     → rest ≡ first ++ more → StopsAt p rest
-next_stops p (Piece.word w) first more rest h is e =
+next_stops p (Piece.word w) _ more rest h is e =
     word_stops p w more rest h (e ∙ ap (λ l. l ++ more) is)
-next_stops p (Piece.one_of words) first more rest h is e = one_stops p words first more rest h is e
-next_stops p _ first more rest h is e = absurd (cc)
+next_stops p (Piece.one_of words) _ _ _ h is e = one_stops p _ _ _ _ h is e
+next_stops p _ _ _ _ h is e = absurd (cc)
 
 or_cases : {P : Type 0} (a b : Bool) → (a || b) ≡ true → (a ≡ true → P) → (b ≡ true → P) → P
 or_cases true b h k l = k refl
@@ -75,8 +75,8 @@ ends : (p : Piece) (form : List Piece) (rest : List ℕ) → stopped_by p form �
     → StopsAt p rest
 ends p [] rest h e = subst (StopsAt p) (sym e) tt
 ends p (q ∷ form) rest h (first, more, is, of, e) =
-    or_cases (is_free p) (stops_before p q) h (free_stops p rest)
-    (λ stops. next_stops p q first more rest stops is e)
+    or_cases _ _ h (free_stops p rest)
+    (λ stops. next_stops p q _ _ _ stops is e)
 
 -- ---- fitting
 
@@ -99,21 +99,21 @@ fits_form-sound (p ∷ form) text e =
 fits_more : (p : Piece) (form : List Piece) (text rest : List ℕ) → behind_piece p text ≡ Some rest
     → fits_form (p ∷ form) text ≡ fits_form form rest
 unfolding fits_form
-fits_more p form text rest e = rw (fits_form, e) refl
+fits_more p _ _ _ e = rw (fits_form, e) refl
 
 fits_none : (text : List ℕ) → text ≡ [] → fits_form [] text ≡ true
 unfolding fits_form
-fits_none text e = rw e refl
+fits_none _ e = rw e refl
 
 pub fits_form-complete : (form : List Piece) (text : List ℕ) → has_pieces form ≡ true
     → IsForm form text → fits_form form text ≡ true
-fits_form-complete [] text h e = fits_none text e
-fits_form-complete (p ∷ form) text h (first, more, is, of, e) =
-    let one = and_parts (distinct p && stopped_by p form) (has_pieces form) h in
-    let two = and_parts (distinct p) (stopped_by p form) one.0 in
+fits_form-complete [] text h e = fits_none _ e
+fits_form-complete (p ∷ form) _ h (first, more, is, of, e) =
+    let one = and_parts _ _ h in
+    let two = and_parts _ _ one.0 in
     subst (λ t. fits_form (p ∷ form) t ≡ true) (sym e)
-    (fits_more p form (first ++ more) more
-    (piece-complete p first more two.0 is (ends p form more two.1 of))
+    (fits_more p form _ _
+    (piece-complete p _ _ two.0 is (ends p _ _ two.1 of))
     ∙ fits_form-complete form more one.1 of)
 
 abbrev all_parted : List (List Piece) → Bool
@@ -147,42 +147,30 @@ some_more : (name tail : List ℕ) → name ≢ [] → name ++ tail ≢ []
 some_more [] tail some e = some refl
 some_more (c ∷ name) tail some e = absurd (cc)
 
-plug_more : (line tail : List ℕ) → IsPlug line → IsPlug (line ++ tail)
-plug_more line tail (
-  a,
-  after,
-  is_a,
-  (p, behind, is_p, (b, last, is_b, (name, none, some, over, e4), e3), e2),
-  e1,
-) =
-    let four : last ++ tail ≡ (name ++ tail) ++ [] =
-    ap (λ l. l ++ tail) (e4 ∙ ap (λ l. name ++ l) over ∙ append-nil name)
-    ∙ sym (append-nil (name ++ tail)) in
-    let three : behind ++ tail ≡ b ++ (last ++ tail) = ap (λ l. l ++ tail) e3
-    ∙ append_assoc b last tail in
-    let two : after ++ tail ≡ p ++ (behind ++ tail) = ap (λ l. l ++ tail) e2
-    ∙ append_assoc p behind tail in
-    let one : line ++ tail ≡ a ++ (after ++ tail) = ap (λ l. l ++ tail) e1
-    ∙ append_assoc a after tail in (
-      a,
-      after ++ tail,
-      is_a,
-      (
-        p,
-        behind ++ tail,
-        is_p,
-        (b, last ++ tail, is_b, (name ++ tail, [], some_more name tail some, refl, four), three),
-        two,
-      ),
-      one,
-    )
+-- a text that ends in a name goes on with any more
+form_more : (form : List Piece) (text tail : List ℕ) → IsForm (form ++ Piece.name ∷ []) text
+    → IsForm (form ++ Piece.name ∷ []) (text ++ tail)
+form_more [] text tail (name, none, some, over, e) = (
+  name ++ tail,
+  [],
+  some_more name tail some,
+  refl,
+  ap (λ l. l ++ tail) (e ∙ ap (λ l. name ++ l) over) ∙ simp append-nil,
+)
+form_more (p ∷ form) text tail (first, more, is, of, e) = (
+  first,
+  more ++ tail,
+  is,
+  form_more form more tail of,
+  ap (λ l. l ++ tail) e ∙ append_assoc first more tail,
+)
 
 pub plug_taken : (front line : List ℕ) → front ≡ take longest line
     → fits_form plug_form front ≡ true → IsPlug line
 plug_taken front line e fit =
     let whole : front ++ drop longest line ≡ line = ap (λ l. l ++ drop longest line) e
     ∙ take-append-drop longest line in
-    subst IsPlug whole (plug_more front (drop longest line) (fits_form-sound plug_form front fit))
+    subst IsPlug whole (form_more (take 3 plug_form) _ (drop longest line) (fits_form-sound _ _ fit))
 
 take_past : (n : ℕ) (xs ys : List ℕ) → length xs ≤ n
     → take n (xs ++ ys) ≡ xs ++ take (n - length xs) ys
@@ -223,33 +211,11 @@ plug_front line (
     ∙ simp append_assoc in
     let cut : take longest line ≡ head ++ rest = ap (take longest) whole
     ∙ take_past longest head name (omega (arith, long, long_p, long_a, long_b)) in
+    let has = take_some (longest - length head) name (omega (arith, long, long_p, long_a, long_b))
+    some in
     let again : take longest line ≡ a ++ (p ++ (b ++ (rest ++ []))) = cut
-    ∙ simp (append_assoc, append-nil) in (
-      a,
-      p ++ (b ++ (rest ++ [])),
-      is_a,
-      (
-        p,
-        b ++ (rest ++ []),
-        is_p,
-        (
-          b,
-          rest ++ [],
-          is_b,
-          (
-            rest,
-            [],
-            take_some (longest - length head) name
-                (omega (arith, long, long_p, long_a, long_b)) some,
-            refl,
-            refl,
-          ),
-          refl,
-        ),
-        refl,
-      ),
-      again,
-    )
+    ∙ simp (append_assoc, append-nil) in
+    (a, _, is_a, (p, _, is_p, (b, _, is_b, (rest, [], has, refl, refl), refl), refl), again)
 
 pub no_plug : (front line : List ℕ) → front ≡ take longest line → fits_form plug_form front ≡ false
     → IsPlug line → ⊥

@@ -14,7 +14,7 @@ use Rattle.std.specs.Option.{option_and_then}
 use Rattle.usb_pcap.specs.{Item, Byte, Letter, decimal_in, if_found, is_digit, number_on}
 use Rattle.usb_pcap.specs.{strip, strip_any, with_digit, AreUnits, IsUnit, IsOneOf, IsPiece, Piece}
 use Rattle.usb_pcap.specs.{behind_bytes, behind_escape, behind_item, behind_items, behind_piece}
-use Rattle.usb_pcap.specs.{behind_endpoint, is_endpoint, is_escape, is_plain, value_of}
+use Rattle.usb_pcap.specs.{behind_endpoint, is_escape, is_plain, value_of}
 use Rattle.usb_request.specs.{is_endpoint_address}
 use Rattle.hex.specs.Hex.{encode_with}
 use Rattle.usb_port.specs.{IsPortNumber, number_text, path_of, path_text}
@@ -58,7 +58,7 @@ apart-strip : (w v rest : List ℕ) → differ_at_key w v ≡ true → strip w (
 unfolding strip
 apart-strip [] v rest e = absurd (cc)
 apart-strip (c ∷ w) [] rest e = absurd (cc)
-apart-strip (c ∷ w) (d ∷ v) rest e = if_none_or (d == c) (differ_at_key w v) (strip w (v ++ rest)) e
+apart-strip (c ∷ w) (d ∷ v) rest e = if_none_or _ _ (strip w (v ++ rest)) e
     (apart-strip w v rest)
 
 abbrev pub all_apart : List ℕ → List (List ℕ) → Bool
@@ -72,21 +72,21 @@ distinct_words (w ∷ ws) = all_apart w ws && distinct_words ws
 apart_each : (w : List ℕ) (ws : List (List ℕ)) (text rest : List ℕ) → all_apart w ws ≡ true
     → IsOneOf ws text → strip w (text ++ rest) ≡ None
 apart_each w [] text rest e is = absurd is
-apart_each w (v ∷ vs) text rest e (inl same) = let both =
-    and_parts (differ_at_key w v) (all_apart w vs) e in
+apart_each w (v ∷ vs) _ rest e (inl same) = let both =
+    and_parts _ _ e in
     subst (λ t. strip w (t ++ rest) ≡ None) (sym same) (apart-strip w v rest both.0)
 apart_each w (v ∷ vs) text rest e (inr is) = let both =
-    and_parts (differ_at_key w v) (all_apart w vs) e in apart_each w vs text rest both.1 is
+    and_parts _ _ e in apart_each w vs text rest both.1 is
 
 if_found-none : {A B : Type 0} (o : Option A) (read : A → Option B) (other : Option B) → o ≡ None
     → if_found o read other ≡ other
-if_found-none None read other e = refl
-if_found-none (Some x) read other e = absurd (cc)
+if_found-none None _ _ e = refl
+if_found-none (Some x) _ _ e = absurd (cc)
 
 if_found-some : {A B : Type 0} (o : Option A) (x : A) (read : A → Option B) (other : Option B)
     → o ≡ Some x → if_found o read other ≡ read x
-if_found-some None x read other e = absurd (cc)
-if_found-some (Some y) x read other e = ap read (same_Some y x e)
+if_found-some None x _ _ e = absurd (cc)
+if_found-some (Some y) x read _ e = ap read (same_Some y x e)
 
 strip_any-complete : (ws : List (List ℕ)) (text rest : List ℕ) → distinct_words ws ≡ true
     → IsOneOf ws text → strip_any ws (text ++ rest) ≡ Some rest
@@ -96,9 +96,9 @@ strip_any-complete (w ∷ ws) text rest e (inl same) =
     if_found-some (strip w (text ++ rest)) rest Some (strip_any ws (text ++ rest))
     (subst (λ t. strip w (t ++ rest) ≡ Some rest) (sym same) (strip-append w rest))
 strip_any-complete (w ∷ ws) text rest e (inr is) =
-    let both = and_parts (all_apart w ws) (distinct_words ws) e in
-    if_found-none (strip w (text ++ rest)) Some (strip_any ws (text ++ rest))
-    (apart_each w ws text rest both.0 is) ∙ strip_any-complete ws text rest both.1 is
+    let both = and_parts _ _ e in
+    if_found-none _ Some (strip_any ws (text ++ rest))
+    (apart_each w ws _ rest both.0 is) ∙ strip_any-complete ws text rest both.1 is
 
 strip_any-sound : (ws : List (List ℕ)) (text rest : List ℕ) → strip_any ws text ≡ Some rest
     → (first : List ℕ) × IsOneOf ws first × (text ≡ first ++ rest)
@@ -109,7 +109,7 @@ strip_any-sound (w ∷ ws) text rest e =
     (λ r found is. (
       w,
       inl refl,
-      strip-some w text r found ∙ ap (λ l. w ++ l) (same_Some r rest is),
+      strip-some w _ r found ∙ ap (λ l. w ++ l) (same_Some r _ is),
     ))
     (λ more. let (first, one, split) = strip_any-sound ws text rest more in (first, inr one, split))
 
@@ -118,7 +118,7 @@ strip_any-sound (w ∷ ws) text rest e =
 escape-sound : (s : ℕ) (text rest : List ℕ) → s ≡ 92 → behind_escape text ≡ Some rest
     → (item : List ℕ) × IsUnit Letter item × (s ∷ text ≡ item ++ rest)
 escape-sound s (u ∷ a ∷ b ∷ c ∷ d ∷ text) rest back e =
-    if-some (u == 117 && is_escape a b c d) (Some text) rest e (λ fit is.
+    if-some _ _ _ e (λ fit is.
     let both = and_parts (u == 117) (is_escape a b c d) fit in
     let small = eqb-true u 117 both.0 in
     let same = same_Some text rest is in
@@ -129,36 +129,36 @@ item-sound : (kind : Item) (text rest : List ℕ) → behind_item kind text ≡ 
     → (item : List ℕ) × IsUnit kind item × (text ≡ item ++ rest)
 unfolding behind_item
 item-sound Byte [] rest e = absurd (cc)
-item-sound Byte (h ∷ []) rest e = absurd (cc)
-item-sound Byte (h ∷ l ∷ text) rest e =
-    if-some (is_digit h && is_digit l) (Some text) rest e
-    (λ fit is. (h ∷ l ∷ [], (h, l, fit, refl), ap (λ t. h ∷ l ∷ t) (same_Some text rest is)))
+item-sound Byte (h ∷ []) _ e = absurd (cc)
+item-sound Byte (h ∷ l ∷ text) _ e =
+    if-some _ _ _ e
+    (λ fit is. (h ∷ l ∷ [], (h, l, fit, refl), ap (λ t. h ∷ l ∷ t) (same_Some _ _ is)))
 item-sound Letter [] rest e = absurd (cc)
-item-sound Letter (c ∷ text) rest e =
-    if_either (is_plain c) (Some text) (if c == 92 then behind_escape text else None) rest e
-    (λ fit is. (c ∷ [], inl (c, fit, refl), ap (λ t. c ∷ t) (same_Some text rest is)))
-    (λ non more. if-some (c == 92) (behind_escape text) rest more
-    (λ back is. escape-sound c text rest (eqb-true c 92 back) is))
+item-sound Letter (c ∷ text) _ e =
+    if_either _ _ _ _ e
+    (λ fit is. (c ∷ [], inl (c, fit, refl), ap (λ t. c ∷ t) (same_Some _ _ is)))
+    (λ non more. if-some _ _ _ more
+    (λ back is. escape-sound c _ _ (eqb-true c 92 back) is))
 
 item-complete : (kind : Item) (item rest : List ℕ) → IsUnit kind item
     → behind_item kind (item ++ rest) ≡ Some rest
 unfolding behind_item
-item-complete Byte item rest (h, l, fit, e) = rw (e, fit) refl
-item-complete Letter item rest (inl (c, fit, e)) = rw (e, fit) refl
-item-complete Letter item rest (inr (a, b, c, d, fit, e)) = rw (e, fit) refl
+item-complete Byte _ _ (h, l, fit, e) = rw (e, fit) refl
+item-complete Letter _ _ (inl (c, fit, e)) = rw (e, fit) refl
+item-complete Letter _ _ (inr (a, b, c, d, fit, e)) = rw (e, fit) refl
 
 item-some : (kind : Item) (item : List ℕ) → IsUnit kind item → 1 ≤ length item
-item-some Byte item (h, l, fit, e) = rw e (omega arith)
-item-some Letter item (inl (c, fit, e)) = rw e (omega arith)
-item-some Letter item (inr (a, b, c, d, fit, e)) = rw e (omega arith)
+item-some Byte _ (h, l, fit, e) = rw e (omega arith)
+item-some Letter _ (inl (c, fit, e)) = rw e (omega arith)
+item-some Letter _ (inr (a, b, c, d, fit, e)) = rw e (omega arith)
 
 items_step : (kind : Item) (n : ℕ) (text : List ℕ) (found : Option (List ℕ))
     → behind_item kind text ≡ found → ((t : List ℕ) → (items : List ℕ) × AreUnits kind n items
     × (t ≡ items ++ behind_items kind n t)) → (items : List ℕ) × AreUnits kind (suc n) items
     × (text ≡ items ++ elim found [ None ↦ text | Some rest ↦ behind_items kind n rest ])
-items_step kind n text None e more = ([], inl refl, refl)
-items_step kind n text (Some rest) e more =
-    let (item, is, split) = item-sound kind text rest e in
+items_step _ n _ None e _ = ([], inl refl, refl)
+items_step kind n _ (Some rest) e more =
+    let (item, is, split) = item-sound _ _ _ e in
     let (items, are, whole) = more rest in (
       item ++ items,
       inr (item, items, is, are, refl),
@@ -168,14 +168,14 @@ items_step kind n text (Some rest) e more =
 pub items-sound : (kind : Item) (n : ℕ) (text : List ℕ) → (items : List ℕ) × AreUnits kind n items
     × (text ≡ items ++ behind_items kind n text)
 unfolding behind_items
-items-sound kind zero text = ([], refl, refl)
+items-sound _ zero _ = ([], refl, refl)
 items-sound kind (suc n) text = items_step kind n text (behind_item kind text) refl
     (λ t. items-sound kind n t)
 
 behind_more : (kind : Item) (m : ℕ) (text rest : List ℕ) → behind_item kind text ≡ Some rest
     → behind_items kind (suc m) text ≡ behind_items kind m rest
 unfolding behind_items
-behind_more kind m text rest e = rw (behind_items, e) refl
+behind_more _ m _ _ e = rw (behind_items, e) refl
 
 -- one item more is behind
 pub items_goes : (kind : Item) (n i : ℕ) (start text : List ℕ) (found : Option (Bor (List ℕ)))
@@ -183,32 +183,32 @@ pub items_goes : (kind : Item) (n i : ℕ) (start text : List ℕ) (found : Opti
     → behind_items kind n start ≡ behind_items kind (n - i) text → option_map (λ r. r.now) found
     ≡ behind_item kind text → found ≡ Some more
     → behind_items kind n start ≡ behind_items kind (n - (i + 1)) more.now
-items_goes kind n i start text found more below before e is =
+items_goes kind n i _ text _ more below before e is =
     let own : behind_item kind text ≡ Some more.now = sym e
     ∙ ap (option_map (λ (r : Bor (List ℕ)). r.now)) is in
     let left : n - i ≡ suc (n - (i + 1)) = omega arith in
     before ∙ ap (λ k. behind_items kind k text) left
-    ∙ behind_more kind (n - (i + 1)) text more.now own
+    ∙ behind_more _ (n - (i + 1)) _ _ own
 
 behind_end : (kind : Item) (m : ℕ) (text : List ℕ) → behind_item kind text ≡ None
     → behind_items kind m text ≡ text
 unfolding behind_items
-behind_end kind zero text e = refl
-behind_end kind (suc m) text e = rw (behind_items, e) refl
+behind_end _ zero _ e = refl
+behind_end _ (suc m) _ e = rw (behind_items, e) refl
 
 pub items-complete : (kind : Item) (n m : ℕ) (items rest : List ℕ) → n ≤ m → AreUnits kind n items
     → behind_item kind rest ≡ None → behind_items kind m (items ++ rest) ≡ rest
-items-complete kind zero m items rest le are end =
-    subst (λ l. behind_items kind m (l ++ rest) ≡ rest) (sym are) (behind_end kind m rest end)
-items-complete kind (suc n) zero items rest le are end = absurd (omega arith)
-items-complete kind (suc n) (suc m) items rest le (inl none) end =
+items-complete kind zero m _ rest le are end =
+    subst (λ l. behind_items kind m (l ++ rest) ≡ rest) (sym are) (behind_end _ m _ end)
+items-complete _ (suc n) zero _ _ le are end = absurd (omega arith)
+items-complete kind (suc n) (suc m) _ rest le (inl none) end =
     subst (λ l. behind_items kind (suc m) (l ++ rest) ≡ rest) (sym none)
-    (behind_end kind (suc m) rest end)
-items-complete kind (suc n) (suc m) items rest le (inr (item, more, is, are, e)) end =
+    (behind_end _ (suc m) _ end)
+items-complete kind (suc n) (suc m) _ rest le (inr (item, more, is, are, e)) end =
     subst (λ l. behind_items kind (suc m) l ≡ rest)
     (sym (ap (λ l. l ++ rest) e ∙ append_assoc item more rest))
-    (behind_more kind m (item ++ (more ++ rest)) (more ++ rest)
-    (item-complete kind item (more ++ rest) is)
+    (behind_more _ m _ _
+    (item-complete _ _ (more ++ rest) is)
     ∙ items-complete kind n m more rest (omega arith) are end)
 
 pub no_length : (l : List ℕ) → length l ≤ 0 → l ≡ []
@@ -218,12 +218,12 @@ no_length (c ∷ l) few = absurd (omega arith)
 -- there are non more items than characters
 pub items_fewer : (kind : Item) (n m : ℕ) (items : List ℕ) → length items ≤ m
     → AreUnits kind n items → AreUnits kind m items
-items_fewer kind zero zero items few are = are
-items_fewer kind zero (suc m) items few are = inl are
-items_fewer kind (suc n) zero items few are = no_length items few
-items_fewer kind (suc n) (suc m) items few (inl none) = inl none
-items_fewer kind (suc n) (suc m) items few (inr (item, more, is, are, e)) =
-    let some = item-some kind item is in
+items_fewer _ zero zero _ _ are = are
+items_fewer _ zero (suc m) _ _ are = inl are
+items_fewer _ (suc n) zero _ few _ = no_length _ few
+items_fewer _ (suc n) (suc m) _ _ (inl none) = inl none
+items_fewer kind (suc n) (suc m) _ few (inr (item, more, is, are, e)) =
+    let some = item-some _ _ is in
     let both = ap length e ∙ length-append item more in
     inr (item, more, is, items_fewer kind n m more (omega (arith, some, both)) are, e)
 
@@ -248,7 +248,7 @@ byte_end : (rest : List ℕ) → StopsAt Piece.bytes rest → behind_item Byte r
 unfolding behind_item
 byte_end [] h = refl
 byte_end (c ∷ []) h = refl
-byte_end (c ∷ d ∷ rest) h = let non = not-true (is_digit c) h in rw non refl
+byte_end (c ∷ d ∷ rest) h = let non = not-true _ h in rw non refl
 
 letter_end : (rest : List ℕ) → StopsAt Piece.string rest → behind_item Letter rest ≡ None
 unfolding behind_item
@@ -264,10 +264,10 @@ letter_end (c ∷ rest) h =
 number_digit : (value d : ℕ) (rest : List ℕ) → d < 10 → value * 10 + d < 2 ^ 64
     → number_on value ((48 + d) ∷ rest) ≡ number_on (value * 10 + d) rest
 unfolding number_on
-number_digit value d rest small few =
+number_digit _ d _ small few =
     let digit : is_ascii_digit (48 + d) ≡ true = grind (arith, nat_tests) in
     let own : (48 + d) - 48 ≡ d = omega arith in
-    rw (digit, own, lt-ltb (value * 10 + d) (2 ^ 64) few) refl
+    rw (digit, own, lt-ltb _ _ few) refl
 
 abbrev ReadsAs : ℕ → List ℕ → Type 0
 ReadsAs n ds = n < 2 ^ 64 → (rest : List ℕ) → number_on 0 (ds ++ rest) ≡ number_on n rest
@@ -283,7 +283,7 @@ reads_more n ds many before few rest =
     let whole : n / 10 * 10 + n % 10 ≡ n = omega arith in
     ap (number_on 0) (append_assoc ds ((48 + n % 10) ∷ []) rest)
     ∙ before (omega arith) ((48 + n % 10) ∷ rest)
-    ∙ number_digit (n / 10) (n % 10) rest small (omega (arith, whole))
+    ∙ number_digit (n / 10) _ rest small (omega (arith, whole))
     ∙ ap (λ m. number_on m rest) whole
 
 -- ---- digit after digit
@@ -294,19 +294,19 @@ digits_over i text below = rw (add-one, drop-cons text i 0)
 
 number_at : (value i : ℕ) (text : List ℕ) → i < length text → number_on value (drop i text)
     ≡ number_on value (get_or text i 0 ∷ drop (i + 1) text)
-number_at value i text below = ap (number_on value) (digits_over i text below)
+number_at value i _ below = ap (number_on value) (digits_over i _ below)
 
 other_next : (value c : ℕ) (rest : List ℕ) → is_ascii_digit c ≡ false
     → number_on value (c ∷ rest) ≡ Some value
 unfolding number_on
-other_next value c rest other = rw other refl
+other_next _ c _ other = rw other refl
 
 pub number_halts : (value i : ℕ) (text : List ℕ) → i < length text
     → number_on 0 text ≡ number_on value (drop i text) → is_ascii_digit (get_or text i 0) ≡ false
     → Some value ≡ number_on 0 text
 number_halts value i text below before other =
-    sym (before ∙ number_at value i text below
-    ∙ other_next value (get_or text i 0) (drop (i + 1) text) other)
+    sym (before ∙ number_at value i _ below
+    ∙ other_next value _ (drop (i + 1) text) other)
 
 pub number_on-end : (value i : ℕ) (text : List ℕ) → length text ≤ i
     → number_on 0 text ≡ number_on value (drop i text) → Some value ≡ number_on 0 text
@@ -316,8 +316,8 @@ number_on-end value i text over before =
 
 by_room : (b : Bool) (n : ℕ) (rest : List ℕ) → (if b then number_on n rest else None)
     ≡ option_and_then (λ more. number_on more rest) (if b then Some n else None)
-by_room true n rest = refl
-by_room false n rest = refl
+by_room true n _ = refl
+by_room false n _ = refl
 
 digit_next : (value c : ℕ) (rest : List ℕ) → is_ascii_digit c ≡ true
     → number_on value (c ∷ rest) ≡ option_and_then (λ more. number_on more rest)
@@ -330,8 +330,8 @@ pub number_goes : (value i more : ℕ) (text : List ℕ) (found : Option ℕ) �
     → number_on 0 text ≡ number_on value (drop i text)
     → is_ascii_digit (get_or text i 0) ≡ true → found ≡ with_digit value (get_or text i 0)
     → found ≡ Some more → number_on 0 text ≡ number_on more (drop (i + 1) text)
-number_goes value i more text found below before digit e is =
-    before ∙ number_at value i text below ∙ digit_next value (get_or text i 0) (drop (i + 1) text)
+number_goes value i _ text _ below before digit e is =
+    before ∙ number_at value i _ below ∙ digit_next value _ (drop (i + 1) text)
     digit
     ∙ ap (option_and_then (λ m. number_on m (drop (i + 1) text))) (sym e ∙ is)
 
@@ -339,15 +339,15 @@ pub number_over : (value i : ℕ) (text : List ℕ) (found : Option ℕ) → i <
     → number_on 0 text ≡ number_on value (drop i text)
     → is_ascii_digit (get_or text i 0) ≡ true → found ≡ with_digit value (get_or text i 0)
     → found ≡ None → None ≡ number_on 0 text
-number_over value i text found below before digit e is =
-    sym (before ∙ number_at value i text below
-    ∙ digit_next value (get_or text i 0) (drop (i + 1) text) digit
+number_over value i text _ below before digit e is =
+    sym (before ∙ number_at value i _ below
+    ∙ digit_next value _ (drop (i + 1) text) digit
     ∙ ap (option_and_then (λ m. number_on m (drop (i + 1) text))) (sym e ∙ is))
 
 number_stop : (n : ℕ) (rest : List ℕ) → StopsAt Piece.number rest → number_on n rest ≡ Some n
 unfolding number_on
 number_stop n [] h = refl
-number_stop n (c ∷ rest) h = let non = not-true (is_ascii_digit c) h in rw non refl
+number_stop n (c ∷ rest) h = let non = not-true _ h in rw non refl
 
 pub decimal_in-complete : (n : ℕ) (rest : List ℕ) → n < 2 ^ 64 → StopsAt Piece.number rest
     → decimal_in (decimal n ++ rest) ≡ Some (n, rest)
@@ -369,7 +369,7 @@ piece_bytes-sound text rest e =
       inl refl,
       strip-some (codes "-") text r found ∙ ap (λ l. codes "-" ++ l) (same_Some r rest is),
     ))
-    (λ more. map_some (λ r. behind_items Byte (length r) r) (behind_item Byte text) rest more
+    (λ more. map_some _ _ _ more
     (λ after found is.
     let (first, item, split) = item-sound Byte text after found in
     let (items, are, whole) = items-sound Byte (length after) after in (
@@ -382,15 +382,15 @@ piece_bytes-sound text rest e =
 piece_endpoint-sound : (text rest : List ℕ) → behind_endpoint text ≡ Some rest → (first : List ℕ)
     × IsPiece Piece.endpoint first × (text ≡ first ++ rest)
 piece_endpoint-sound [] rest e = absurd (cc)
-piece_endpoint-sound (h ∷ []) rest e = absurd (cc)
-piece_endpoint-sound (h ∷ l ∷ text) rest e =
-    if-some (is_endpoint h l) (Some text) rest e (λ fit is.
+piece_endpoint-sound (h ∷ []) _ e = absurd (cc)
+piece_endpoint-sound (h ∷ l ∷ text) _ e =
+    if-some _ _ _ e (λ fit is.
     let a = value_of h * 16 + value_of l in
-    let both = and_parts (is_digit h && is_digit l) (is_endpoint_address a) fit in
-    let digits = and_parts (is_digit h) (is_digit l) both.0 in (
+    let both = and_parts _ _ fit in
+    let digits = and_parts _ _ both.0 in (
       h ∷ l ∷ [],
       (a, both.1, sym (encode_upper-pair h l digits.0 digits.1)),
-      ap (λ t. h ∷ l ∷ t) (same_Some text rest is),
+      ap (λ t. h ∷ l ∷ t) (same_Some _ _ is),
     ))
 
 -- each byte of a path's text is a digit or a dot
@@ -403,7 +403,7 @@ digit_in_path d low high = grind (arith, nat_tests)
 
 number_in_path : (n : ℕ) (text : List ℕ) → IsPortNumber n → all_in_path text ≡ true
     → all_in_path (number_text n ++ text) ≡ true
-number_in_path n text is rest = elim (cases_lt n 10) [
+number_in_path n _ is rest = elim (cases_lt n 10) [
   | inl below ↦ rw (
     number_text-below n below,
     digit_in_path (48 + n) (omega arith) (omega arith),
@@ -440,7 +440,7 @@ first_end (c ∷ text) rest h stop =
 -- it is the first other byte, or the end of the text
 end_if : (few : Bool) (end all : ℕ) → nat_lt end all ≡ few → end ≤ all
     → unwrap_or (cond few (Some end) None) all ≡ end
-end_if true end all e le = refl
+end_if true _ _ e le = refl
 end_if false end all e le = let over = ltb-false end all e in omega (arith, over, le)
 
 path_end-is : (text : List ℕ) → path_end text ≡ position_or_len ends_path text
@@ -456,7 +456,7 @@ cut_at_end : (text rest p : List ℕ) (end : ℕ) → end ≡ length text → pa
     → slice_index p 0 ≤ 7
     → (if is_from_root (path_of (take end (text ++ rest))) then Some (drop end (text ++ rest))
     else None) ≡ Some rest
-cut_at_end text rest p end e found root = rw (
+cut_at_end text rest p _ e found root = rw (
   e,
   take-append_seam text rest,
   drop-append_seam text rest,
@@ -470,26 +470,26 @@ piece_path-complete text rest (p, is, root, e) stop =
     let inside : all_in_path text ≡ true = subst (λ t. all_in_path t ≡ true) (sym e)
     (text_in_path p is.2) in
     let end : path_end (text ++ rest) ≡ length text = path_end-is (text ++ rest)
-    ∙ first_end text rest inside stop in
+    ∙ first_end _ _ inside stop in
     let found : path_of text ≡ Some p = ap path_of e ∙ reads_back p is in
-    cut_at_end text rest p (path_end (text ++ rest)) end found root
+    cut_at_end _ rest p _ end found root
 
 path_found : (o : Option (List ℕ)) → is_from_root o ≡ true → (p : List ℕ) × (o ≡ Some p)
     × (slice_index p 0 ≤ 7)
 path_found None h = absurd (cc)
-path_found (Some p) h = (p, refl, leb-true (slice_index p 0) 7 h)
+path_found (Some p) h = (p, refl, leb-true _ 7 h)
 
 piece_path-sound : (text rest : List ℕ) → behind_path text ≡ Some rest → (first : List ℕ)
     × IsPiece Piece.path first × (text ≡ first ++ rest)
-piece_path-sound text rest e =
+piece_path-sound text _ e =
     let end = path_end text in
     let front : List ℕ = take end text in
-    if-some (is_from_root (path_of front)) (Some (drop end text)) rest e (λ fit is.
-    let (p, found, root) = path_found (path_of front) fit in
+    if-some _ _ _ e (λ fit is.
+    let (p, found, root) = path_found _ fit in
     let own = some_if (Some p) front (sym found) in (
       front,
       (p, own.0, root, sym own.1),
-      sym (take-append-drop end text) ∙ ap (λ l. front ++ l) (same_Some (drop end text) rest is),
+      sym (take-append-drop end text) ∙ ap (λ l. front ++ l) (same_Some _ _ is),
     ))
 
 -- a text that is no UTF-8 is of no path
@@ -504,12 +504,12 @@ ascii_in_path (c ∷ text) h =
 
 path_by : (o : Option (List ℕ)) (text : List ℕ) → o ≡ path_of text → (IsUtf8 text → ⊥)
     → is_from_root o ≡ false
-path_by None text e other = refl
+path_by None _ e _ = refl
 path_by (Some p) text e other =
     let own = some_if (Some p) text e in
     let inside : all_in_path text ≡ true = subst (λ t. all_in_path t ≡ true) own.1
     (text_in_path p own.0.2) in
-    absurd (other (IsUtf8-from_ascii text (ascii_in_path text inside)))
+    absurd (other (IsUtf8-from_ascii text (ascii_in_path _ inside)))
 
 pub no_path : (text : List ℕ) → (IsUtf8 text → ⊥) → is_from_root (path_of text) ≡ false
 no_path text other = path_by (path_of text) text refl other
@@ -517,20 +517,20 @@ no_path text other = path_by (path_of text) text refl other
 pub piece-sound : (piece : Piece) (text rest : List ℕ) → behind_piece piece text ≡ Some rest
     → (first : List ℕ) × IsPiece piece first × (text ≡ first ++ rest)
 unfolding behind_piece
-piece-sound (Piece.word w) text rest e = (w, refl, strip-some w text rest e)
-piece-sound (Piece.one_of words) text rest e = strip_any-sound words text rest e
-piece-sound Piece.path text rest e = piece_path-sound text rest e
-piece-sound Piece.endpoint text rest e = piece_endpoint-sound text rest e
-piece-sound Piece.number text rest e =
-    map_some (λ (n : ℕ × List ℕ). n.1) (decimal_in text) rest e (λ n found is.
-    let own = decimal_in-some text n found in
+piece-sound (Piece.word w) _ _ e = (w, refl, strip-some w _ _ e)
+piece-sound (Piece.one_of words) _ _ e = strip_any-sound _ _ _ e
+piece-sound Piece.path _ _ e = piece_path-sound _ _ e
+piece-sound Piece.endpoint _ _ e = piece_endpoint-sound _ _ e
+piece-sound Piece.number _ _ e =
+    map_some _ _ _ e (λ n found is.
+    let own = decimal_in-some _ n found in
     (decimal n.0, (n.0, own.1, refl), own.0 ∙ ap (λ l. decimal n.0 ++ l) is))
-piece-sound Piece.bytes text rest e = piece_bytes-sound text rest e
-piece-sound Piece.string text rest e =
+piece-sound Piece.bytes _ _ e = piece_bytes-sound _ _ e
+piece-sound Piece.string text _ e =
     let (items, are, whole) = items-sound Letter (length text) text in (
       items,
       (length text, are),
-      whole ∙ ap (λ l. items ++ l) (same_Some (behind_items Letter (length text) text) rest e),
+      whole ∙ ap (λ l. items ++ l) (same_Some _ _ e),
     )
 piece-sound Piece.name [] rest e = absurd (cc)
 piece-sound Piece.name (c ∷ text) rest e = (
@@ -544,8 +544,8 @@ dash_apart h digit = grind (arith, nat_tests)
 
 no_dash : (first rest : List ℕ) → IsUnit Byte first → strip (codes "-") (first ++ rest) ≡ None
 unfolding strip
-no_dash first rest (h, l, fit, e) =
-    let other = dash_apart h (and_parts (is_digit h) (is_digit l) fit).0 in rw (e, other) refl
+no_dash _ _ (h, l, fit, e) =
+    let other = dash_apart h (and_parts _ _ fit).0 in rw (e, other) refl
 
 piece_bytes-complete : (text rest : List ℕ) → IsPiece Piece.bytes text → StopsAt Piece.bytes rest
     → behind_bytes (text ++ rest) ≡ Some rest
@@ -574,7 +574,7 @@ address_few a h = grind (arith, nat_tests)
 piece_endpoint-complete : (text rest : List ℕ) → IsPiece Piece.endpoint text
     → behind_endpoint (text ++ rest) ≡ Some rest
 unfolding encode_with
-piece_endpoint-complete text rest (a, named, e) =
+piece_endpoint-complete _ rest (a, named, e) =
     let few = address_few a named in
     let high = digit_spelled (a / 16) (omega (arith, few)) in
     let low = digit_spelled (a % 16) (omega arith) in

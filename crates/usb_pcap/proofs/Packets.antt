@@ -7,7 +7,7 @@ use Rattle.std.proofs.lemmas.Bool.{and_parts, ltb-true}
 use Rattle.std.specs.Option.{option_and_then}
 use Rattle.hex.specs.Hex.{encode_upper, encode_with}
 use Rattle.usb_packet.specs.{TokenKind, OutTok, InTok, SetupTok, Toggle, Zero, One, Packet, Token}
-use Rattle.usb_packet.specs.{Payload, Ack, Nak, Stall, HasData, HasFields, IsBytes, data_name}
+use Rattle.usb_packet.specs.{Payload, Ack, Nak, HasData, HasFields, IsBytes, data_name}
 use Rattle.usb_packet.specs.{text_of, token_name}
 use Rattle.usb_world.specs.{Mark, Whole, Lost, PreLost, Flipped}
 use Rattle.usb_bus.specs.{mark_text}
@@ -35,7 +35,7 @@ token_in-some kind text r e =
     (strip (codes ".") addr.1) r behind (λ rest dot more.
     option_and_then_some (fitting_token kind addr.0) (decimal_in rest) r more
     (λ ep second fits_form.
-    if-some (nat_lt addr.0 128 && nat_lt ep.0 16) (Some (Token kind addr.0 ep.0, ep.1)) r fits_form
+    if-some _ _ _ fits_form
     (λ both is.
     let tests = and_parts (nat_lt addr.0 128) (nat_lt ep.0 16) both in
     let one = decimal_in-some text addr first in
@@ -51,12 +51,9 @@ token_in-some kind text r e =
 data_of-some : (toggle : Toggle) (text : List ℕ) (b r : _) → data_of toggle b ≡ Some r
     → text ≡ encode_upper b.0 ++ b.1 → (length b.0 ≤ 64) × IsBytes b.0
     → BeginsAs (data_name toggle ++ text) r
-data_of-some toggle text ([], rest) r is e fits_form = absurd (cc)
+data_of-some _ _ ([], rest) r is e fits_form = absurd (cc)
 data_of-some toggle text (byte ∷ bytes, rest) r is e fits_form =
-    begins_as_same (data_name toggle ++ text) (
-      Payload toggle (record { items = byte ∷ bytes }),
-      rest,
-    ) r (
+    begins_as_same (data_name toggle ++ text) _ r (
       ap (λ l. data_name toggle ++ l) e
           ∙ sym (append_assoc (data_name toggle) (encode_upper (byte ∷ bytes)) rest),
       tt,
@@ -102,7 +99,7 @@ handshake_in-some text r e =
       tt,
       tt,
     ) is) (λ no_nak.
-    map_some (λ rest. (Stall, rest)) (strip (codes "STALL") text) r no_nak
+    map_some _ _ _ no_nak
     (λ rest stall is. subst (BeginsAs text) is (
       strip-some (codes "STALL") text rest stall,
       tt,
@@ -112,7 +109,7 @@ handshake_in-some text r e =
 -- a word, and what is read behind it
 worded : (word text rest : List ℕ) (r : Packet × List ℕ) → strip word text ≡ Some rest
     → BeginsAs (word ++ rest) r → BeginsAs text r
-worded word text rest r found h = subst (λ t. BeginsAs t r) (sym (strip-some word text rest found))
+worded _ _ _ r found h = subst (λ t. BeginsAs t r) (sym (strip-some _ _ _ found))
     h
 
 pub packet_in-some : (text : List ℕ) (r : Packet × List ℕ) → packet_in text ≡ Some r
@@ -141,8 +138,8 @@ MarkedAs text r = text ≡ mark_text r.0 ++ r.1
 
 marked_by : (word text rest : List ℕ) (m : Mark) (r : Mark × List ℕ) → mark_text m ≡ word
     → strip word text ≡ Some rest → Some (m, rest) ≡ Some r → MarkedAs text r
-marked_by word text rest m r e found is =
-    subst (MarkedAs text) (same_Some (m, rest) r is) (strip-some word text rest found
+marked_by _ text rest m r e found is =
+    subst (MarkedAs text) (same_Some _ r is) (strip-some _ _ _ found
     ∙ ap (λ w. w ++ rest) (sym e))
 
 bit_in-some : (text : List ℕ) (r : Mark × List ℕ) → bit_in text ≡ Some r

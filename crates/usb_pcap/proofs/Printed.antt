@@ -33,19 +33,19 @@ Blank (c ∷ rest) = c ≡ 32
 bytes_over : (done rest : List ℕ) → Blank rest → bytes_on done rest ≡ Some (done, rest)
 unfolding bytes_on
 bytes_over done [] h = refl
-bytes_over done (c ∷ []) h = refl
-bytes_over done (c ∷ d ∷ rest) h = rw h refl
+bytes_over _ (c ∷ []) h = refl
+bytes_over _ (c ∷ d ∷ rest) h = rw h refl
 
 bytes_pair : (h l : ℕ) (done text : List ℕ) → is_digit h ≡ true → is_digit l ≡ true
     → length done < 64 → bytes_on done (h ∷ l ∷ text)
     ≡ bytes_on (done ++ (value_of h * 16 + value_of l) ∷ []) text
 unfolding bytes_on
-bytes_pair h l done text high low room = rw (high, low, lt-ltb (length done) 64 room) refl
+bytes_pair h l _ _ high low room = rw (high, low, lt-ltb _ 64 room) refl
 
 bytes_on-complete : (bytes done rest : List ℕ) → IsBytes bytes → length done + length bytes ≤ 64
     → Blank rest → bytes_on done (encode_upper bytes ++ rest) ≡ Some (done ++ bytes, rest)
 unfolding encode_with
-bytes_on-complete [] done rest small few end = bytes_over done rest end
+bytes_on-complete [] done rest small few end = bytes_over done _ end
     ∙ ap (λ (l : List ℕ). Some (l, rest)) (sym (append-nil done))
 bytes_on-complete (b ∷ bytes) done rest small few end =
     let byte : b < 256 = small 0 in
@@ -71,30 +71,26 @@ token_in-complete : (kind : TokenKind) (addr ep : ℕ) (rest : List ℕ) → add
     → Blank rest → token_in kind (decimal addr ++ (codes "." ++ (decimal ep ++ rest)))
     ≡ Some (Token kind addr ep, rest)
 unfolding token_in strip
-token_in-complete kind addr ep rest few low end =
+token_in-complete _ addr ep rest few low end =
     let first = decimal_in-complete addr (codes "." ++ (decimal ep ++ rest)) (omega arith) refl in
-    let second = decimal_in-complete ep rest (omega arith) (blank_number rest end) in
-    rw (first, second, lt-ltb addr 128 few, lt-ltb ep 16 low) refl
+    let second = decimal_in-complete ep _ (omega arith) (blank_number _ end) in
+    rw (first, second, lt-ltb _ _ few, lt-ltb ep 16 low) refl
 
 strip-dash : (h : ℕ) (text : List ℕ) → (h == 45) ≡ false → strip (codes "-") (h ∷ text) ≡ None
 unfolding strip
-strip-dash h text other = rw other refl
+strip-dash h _ other = rw other refl
 
 data_behind : (toggle : Toggle) (b : ℕ) (bytes text rest : List ℕ) → strip (codes "-") text ≡ None
     → bytes_on [] text ≡ Some (b ∷ bytes, rest)
     → data_in toggle text ≡ Some (Payload toggle (record { items = b ∷ bytes }), rest)
 unfolding data_in
-data_behind toggle b bytes text rest none found = rw (none, found) refl
-
-dash_read : (toggle : Toggle) (rest : List ℕ) → data_in toggle (codes "-" ++ rest)
-    ≡ Some (Payload toggle (record { items = [] }), rest)
-unfolding data_in strip
-dash_read toggle rest = refl
+data_behind _ b _ _ _ none found = rw (none, found) refl
 
 data_in-complete : (toggle : Toggle) (items rest : List ℕ) → IsBytes items → length items ≤ 64
     → Blank rest → data_in toggle (hex_text items ++ rest)
     ≡ Some (Payload toggle (record { items = items }), rest)
-data_in-complete toggle [] rest small few end = dash_read toggle rest
+unfolding data_in strip
+data_in-complete toggle [] rest small few end = refl
 data_in-complete toggle (b ∷ bytes) rest small few end =
     let byte : b < 256 = small 0 in
     let high = digit_spelled (b / 16) (omega arith) in
@@ -114,44 +110,33 @@ is_spoken _ = true
 token_begun : (kind : TokenKind) (text : List ℕ) → packet_in (token_name kind ++ text)
     ≡ token_in kind text
 unfolding packet_in strip
-token_begun OutTok text = refl
-token_begun InTok text = refl
-token_begun SetupTok text = refl
+token_begun OutTok _ = refl
+token_begun InTok _ = refl
+token_begun SetupTok _ = refl
 
 data_begun : (toggle : Toggle) (text : List ℕ) → packet_in (data_name toggle ++ text)
     ≡ data_in toggle text
 unfolding packet_in strip
-data_begun Zero text = refl
-data_begun One text = refl
-
-ack_read : (rest : List ℕ) → packet_in (codes "ACK" ++ rest) ≡ Some (Ack, rest)
-unfolding packet_in handshake_in strip
-ack_read rest = refl
-
-nak_read : (rest : List ℕ) → packet_in (codes "NAK" ++ rest) ≡ Some (Nak, rest)
-unfolding packet_in handshake_in strip
-nak_read rest = refl
-
-stall_read : (rest : List ℕ) → packet_in (codes "STALL" ++ rest) ≡ Some (Stall, rest)
-unfolding packet_in handshake_in strip
-stall_read rest = refl
+data_begun Zero _ = refl
+data_begun One _ = refl
 
 packet_in-complete : (p : Packet) (rest : List ℕ) → is_spoken p ≡ true → HasFields p → HasData p
     → Blank rest → packet_in (text_of p ++ rest) ≡ Some (p, rest)
+unfolding packet_in handshake_in strip
 packet_in-complete (Token kind addr ep) rest h fields data_fits end =
     let own : text_of (Token kind addr ep) ++ rest ≡ token_name kind ++
     (decimal addr ++ (codes "." ++ (decimal ep ++ rest))) = simp append_assoc in
     ap packet_in own ∙ token_begun kind (decimal addr ++ (codes "." ++ (decimal ep ++ rest)))
-    ∙ token_in-complete kind addr ep rest fields.0 fields.1 end
-packet_in-complete (Sof frame) rest h fields data_fits end = absurd (cc)
-packet_in-complete (Payload toggle bytes) rest h fields data_fits end =
+    ∙ token_in-complete kind _ ep _ fields.0 fields.1 end
+packet_in-complete (Sof frame) _ h fields data_fits end = absurd (cc)
+packet_in-complete (Payload toggle bytes) rest h _ data_fits end =
     ap packet_in (append_assoc (data_name toggle) (hex_text bytes.items) rest)
     ∙ data_begun toggle (hex_text bytes.items ++ rest)
-    ∙ data_in-complete toggle bytes.items rest data_fits.1 data_fits.0 end
-packet_in-complete Ack rest h fields data_fits end = ack_read rest
-packet_in-complete Nak rest h fields data_fits end = nak_read rest
-packet_in-complete Stall rest h fields data_fits end = stall_read rest
-packet_in-complete Pre rest h fields data_fits end = absurd (cc)
+    ∙ data_in-complete toggle _ _ data_fits.1 data_fits.0 end
+packet_in-complete Ack rest h _ _ _ = refl
+packet_in-complete Nak rest h _ _ _ = refl
+packet_in-complete Stall rest h _ _ _ = refl
+packet_in-complete Pre _ h fields data_fits end = absurd (cc)
 
 -- ---- marks
 
@@ -168,39 +153,23 @@ bit_in-complete : (bit : ℕ) (rest : List ℕ) → bit < 65536
 unfolding bit_in strip
 bit_in-complete bit rest few = rw (
   decimal_in-complete bit (codes "]" ++ rest) (omega arith) refl,
-  lt-ltb bit 65536 few,
+  lt-ltb _ _ few,
 ) refl
-
-whole_read : (rest : List ℕ) → EndsWord rest → packet_mark_in rest ≡ Some (Whole, rest)
-unfolding packet_mark_in strip
-whole_read rest (inl e) = subst (λ t. packet_mark_in t ≡ Some (Whole, t)) (sym e) refl
-whole_read rest (inr (more, e)) = subst (λ t. packet_mark_in t ≡ Some (Whole, t)) (sym e) refl
-
-flip_begun : (text : List ℕ) → packet_mark_in (codes " [bit " ++ text) ≡ bit_in text
-unfolding packet_mark_in strip
-flip_begun text = refl
-
-lost_read : (rest : List ℕ) → packet_mark_in (codes " [lost]" ++ rest) ≡ Some (Lost, rest)
-unfolding packet_mark_in strip
-lost_read rest = refl
-
-pre_lost_read : (rest : List ℕ) → packet_mark_in (codes " [pre lost]" ++ rest)
-    ≡ Some (PreLost, rest)
-unfolding packet_mark_in strip
-pre_lost_read rest = refl
 
 mark-complete : (m : Mark) (rest : List ℕ) → IsSmallMark m → EndsWord rest
     → packet_mark_in (mark_text m ++ rest) ≡ Some (m, rest)
-mark-complete Whole rest small end = whole_read rest end
-mark-complete Lost rest small end = lost_read rest
-mark-complete PreLost rest small end = pre_lost_read rest
-mark-complete (Flipped bit) rest small end = flip_begun ((decimal bit ++ codes "]") ++ rest)
-    ∙ ap bit_in (append_assoc (decimal bit) (codes "]") rest) ∙ bit_in-complete bit rest small
+unfolding packet_mark_in strip
+mark-complete Whole rest small (inl e) = rw e refl
+mark-complete Whole rest small (inr (more, e)) = rw e refl
+mark-complete Lost rest small end = refl
+mark-complete PreLost rest small end = refl
+mark-complete (Flipped bit) rest small end =
+    ap bit_in (append_assoc (decimal bit) (codes "]") rest) ∙ bit_in-complete bit rest small
 
 mark_blank : (m : Mark) (rest : List ℕ) → EndsWord rest → Blank (mark_text m ++ rest)
-mark_blank Whole rest (inl e) = subst Blank (sym e) tt
-mark_blank Whole rest (inr (more, e)) = subst Blank (sym e) refl
-mark_blank _ rest end = refl
+mark_blank Whole _ (inl e) = subst Blank (sym e) tt
+mark_blank Whole _ (inr (more, e)) = subst Blank (sym e) refl
+mark_blank _ _ _ = refl
 
 few_bits : (p : Packet) → HasData p → bit_count p ≤ 536
 unfolding bit_count
@@ -209,16 +178,16 @@ few_bits _ fits_form = omega arith
 
 mark_small : (pre : Bool) (m : Mark) (p : Packet) → HasData p → may_be_marked pre m p ≡ true
     → IsSmallMark m
-mark_small pre (Flipped bit) p fits_form h = let few = few_bits p fits_form in let below =
-    ltb-true bit (bit_count p) h in omega (arith, few, below)
-mark_small pre _ p fits_form h = tt
+mark_small _ (Flipped bit) p fits_form h = let few = few_bits p fits_form in let below =
+    ltb-true _ _ h in omega (arith, few, below)
+mark_small _ _ p _ h = tt
 
 -- ---- packets of the host
 
 pre_behind : (pre : Bool) (text : List ℕ) → behind_pre pre (pre_text pre ++ text) ≡ Some text
 unfolding strip
-pre_behind false text = refl
-pre_behind true text = refl
+pre_behind false _ = refl
+pre_behind true _ = refl
 
 host_in-complete : (pre : Bool) (s : Outgoing) (rest : List ℕ) → IsSent pre s
     → is_spoken s.packet ≡ true → EndsWord rest → host_in pre (host_text pre s ++ rest)
@@ -234,23 +203,20 @@ host_in-complete pre s rest sends spoken end =
     let four = sends.2 in
     subst (λ t. host_in pre t ≡ Some (s, rest)) (sym whole) (rw (one, two, three, four) refl)
 
-next_begun : (pre : Bool) (text : List ℕ) → next_in pre (codes " / " ++ text) ≡ host_in pre text
-unfolding next_in strip
-next_begun pre text = refl
-
 next_in-complete : (pre : Bool) (s : Outgoing) (rest : List ℕ) → IsSent pre s
     → is_spoken s.packet ≡ true → EndsWord rest → next_in pre (next_text pre (Some s) ++ rest)
     ≡ Some (s, rest)
+unfolding next_in strip
 next_in-complete pre s rest sends spoken end =
     ap (next_in pre) (append_assoc (codes " / ") (host_text pre s) rest)
-    ∙ next_begun pre (host_text pre s ++ rest) ∙ host_in-complete pre s rest sends spoken end
+    ∙ host_in-complete pre s rest sends spoken end
 
 -- neither a start of frame nor a PRE alone
 speaks : (f : Packet → Bool) → ((frame : ℕ) → f (Sof frame) ≡ false) → f Pre ≡ false → (p : Packet)
     → f p ≡ true → is_spoken p ≡ true
 speaks f sof pre (Sof frame) h = cc (sym (sof frame) ∙ h)
 speaks f sof pre Pre h = cc (sym pre ∙ h)
-speaks f sof pre _ h = refl
+speaks f _ _ _ h = refl
 
 host_data-complete : (pre : Bool) (s : Outgoing) (rest : List ℕ) → IsSent pre s
     → is_data_packet s.packet ≡ true → EndsWord rest
@@ -280,18 +246,18 @@ HasNoWord text = (strip (codes " / none") text ≡ None) × (strip (codes " / co
 no_word : (p : Packet) (text : List ℕ) → is_answer p ≡ true
     → HasNoWord (codes " / " ++ (text_of p ++ text))
 unfolding strip
-no_word (Payload Zero bytes) text h = (refl, refl)
-no_word (Payload One bytes) text h = (refl, refl)
-no_word Ack text h = (refl, refl)
-no_word Nak text h = (refl, refl)
-no_word Stall text h = (refl, refl)
-no_word _ text h = absurd (cc)
+no_word (Payload Zero bytes) _ h = (refl, refl)
+no_word (Payload One bytes) _ h = (refl, refl)
+no_word Ack _ h = (refl, refl)
+no_word Nak _ h = (refl, refl)
+no_word Stall _ h = (refl, refl)
+no_word _ _ h = absurd (cc)
 
 answer_behind : (text rest : List ℕ) (p : Packet) (m : Mark) → HasNoWord text
     → next_in false text ≡ Some (record { packet = p; mark = m }, rest) → is_answer p ≡ true
     → answer_in text ≡ Some ((answer.One p, m), rest)
 unfolding answer_in
-answer_behind text rest p m none found is = let one = none.0 in let two = none.1 in
+answer_behind _ _ p m none found is = let one = none.0 in let two = none.1 in
     rw (one, two, found, is) refl
 
 nothing_read : (rest : List ℕ) → answer_in (codes " / " ++ (codes "none" ++ rest))
@@ -327,17 +293,17 @@ answer_in-complete (answer.One p) m rest (is, sends) end =
 payload_if-complete : (pre : Bool) (payload : Option Outgoing) (rest : List ℕ)
     → IfSome payload (λ s. IsSent pre s × (is_data_packet s.packet ≡ true)) → EndsWord rest
     → payload_if (is_some payload) pre (next_text pre payload ++ rest) ≡ Some (payload, rest)
-payload_if-complete pre None rest h end = refl
-payload_if-complete pre (Some s) rest h end = rw (host_data-complete pre s rest h.0 h.1 end) refl
+payload_if-complete _ None _ h _ = refl
+payload_if-complete _ (Some s) _ h end = rw (host_data-complete _ s _ h.0 h.1 end) refl
 
 reply_end : (pre : Bool) (reply : Option Outgoing) → EndsWord (next_text pre reply)
-reply_end pre None = inl refl
+reply_end _ None = inl refl
 reply_end pre (Some s) = inr (host_text pre s, refl)
 
 reply_if-complete : (pre : Bool) (reply : Option Outgoing)
     → IfSome reply (λ s. IsSent pre s × (is_ack_packet s.packet ≡ true))
     → reply_if pre (next_text pre reply) ≡ Some (reply, [])
-reply_if-complete pre None h = refl
+reply_if-complete _ None h = refl
 reply_if-complete pre (Some s) h =
     let own : host_ack_in pre (next_text pre (Some s)) ≡ Some (s, []) =
     subst (λ t. host_ack_in pre t ≡ Some (s, [])) (append-nil (next_text pre (Some s)))
@@ -347,11 +313,11 @@ reply_if-complete pre (Some s) h =
 pre_read : (pre : Bool) (p : Packet) (m : Mark) (b : Bool) (text : List ℕ) → data_follow p ≡ Some b
     → is_some (strip (codes "PRE ") (host_text pre (record { packet = p; mark = m }) ++ text)) ≡ pre
 unfolding strip
-pre_read true p m b text h = refl
-pre_read false (Token OutTok addr ep) m b text h = refl
-pre_read false (Token InTok addr ep) m b text h = refl
-pre_read false (Token SetupTok addr ep) m b text h = refl
-pre_read false _ m b text h = absurd (cc)
+pre_read true p m b _ h = refl
+pre_read false (Token OutTok addr ep) m b _ h = refl
+pre_read false (Token InTok addr ep) m b _ h = refl
+pre_read false (Token SetupTok addr ep) m b _ h = refl
+pre_read false _ m b _ h = absurd (cc)
 
 -- from the answer, from the host's data and from the token on
 abbrev answer_on : TracedAttempt → List ℕ
@@ -366,7 +332,7 @@ token_on a = host_text a.pre a.exchange.token ++ payload_on a
 
 payload_end : (pre : Bool) (payload : Option Outgoing) (more : List ℕ)
     → EndsWord (next_text pre payload ++ (codes " / " ++ more))
-payload_end pre None more = inr (more, refl)
+payload_end _ None more = inr (more, refl)
 payload_end pre (Some s) more = inr (host_text pre s ++ (codes " / " ++ more), refl)
 
 as_told : (a : TracedAttempt) → IsTraced a

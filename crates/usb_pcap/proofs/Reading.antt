@@ -6,7 +6,6 @@ use Rattle.std.proofs.Common.{refl, sym, ap, ap₂, subst, ◌∙◌, arith, app
 use Rattle.std.proofs.lemmas.Option.{option_and_then_some, same_Some}
 use Rattle.std.proofs.lemmas.Bool.{and_parts, cases_lt, eqb-true, ltb-true}
 use Rattle.std.proofs.lemmas.Bool.Decides.{nat_tests}
-use Rattle.std.specs.Char.{is_ascii_digit}
 use Rattle.usb_packet.specs.{IsBytes}
 use Rattle.usb_packet.proofs.Interface.{encode_upper-append}
 use Rattle.hex.specs.Hex.{encode_upper, encode_with, upper_digits}
@@ -31,38 +30,35 @@ map_some f None y e k = absurd (cc)
 pub found_some : {A B P : Type 0} (o : Option A) (read : A → Option B) (other : Option B) (y : B)
     → if_found o read other ≡ Some y
     → ((x : A) → o ≡ Some x → read x ≡ Some y → P) → (other ≡ Some y → P) → P
-found_some (Some x) read other y e k l = k x refl e
-found_some None read other y e k l = l e
+found_some (Some x) _ _ y e k l = k x refl e
+found_some None _ _ y e k l = l e
 
 pub strip-some : (word text rest : List ℕ) → strip word text ≡ Some rest → text ≡ word ++ rest
 unfolding strip
 strip-some [] text rest e = same_Some text rest e
 strip-some (c ∷ word) [] rest e = absurd (cc)
 strip-some (c ∷ word) (d ∷ text) rest e =
-    if-some (d == c) (strip word text) rest e
+    if-some _ _ _ e
     (λ same more. ap₂ (λ (x : ℕ) (l : List ℕ). x ∷ l) (eqb-true d c same)
     (strip-some word text rest more))
 
 number_on-few : (value : ℕ) (text : List ℕ) (n : ℕ) → value < 2 ^ 64 → number_on value text ≡ Some n
     → n < 2 ^ 64
 unfolding number_on
-number_on-few value [] n few e = subst (λ m. m < 2 ^ 64) (same_Some value n e) few
+number_on-few value [] n few e = subst (λ m. m < 2 ^ 64) (same_Some _ _ e) few
 number_on-few value (c ∷ text) n few e =
-    if_either (is_ascii_digit c) (if nat_lt (value * 10 + (c - 48)) (2 ^ 64) then number_on
-    (value * 10 + (c - 48)) text else None) (Some value) n e
-    (λ digit more. if-some (nat_lt (value * 10 + (c - 48)) (2 ^ 64))
-    (number_on (value * 10 + (c - 48)) text) n more
+    if_either _ _ _ _ e
+    (λ digit more. if-some _ _ _ more
     (λ below rest. number_on-few (value * 10 + (c - 48)) text n
-    (ltb-true (value * 10 + (c - 48)) (2 ^ 64) below) rest))
+    (ltb-true _ _ below) rest))
     (λ other end. subst (λ m. m < 2 ^ 64) (same_Some value n end) few)
 
 pub decimal_in-some : (text : List ℕ) (r : ℕ × List ℕ) → decimal_in text ≡ Some r
     → (text ≡ decimal r.0 ++ r.1) × (r.0 < 2 ^ 64)
 unfolding decimal_in
 decimal_in-some text r e =
-    option_and_then_some (λ n. option_map (λ rest. (n, rest)) (strip (decimal n) text))
-    (number_on 0 text) r e
-    (λ n h more. map_some (λ rest. (n, rest)) (strip (decimal n) text) r more
+    option_and_then_some _ _ r e
+    (λ n h more. map_some _ _ _ more
     (λ rest found is. subst (λ (s : ℕ × List ℕ). (text ≡ decimal s.0 ++ s.1) × (s.0 < 2 ^ 64)) is
     (strip-some (decimal n) text rest found, number_on-few 0 text n (omega arith) h)))
 
@@ -78,7 +74,7 @@ all_stand_there (suc n) = stands_at_value n && all_stand_there n
 all_stand-at : (n c : ℕ) → all_stand_there n ≡ true → c < n → stands_at_value c ≡ true
 all_stand-at zero c h lt = absurd (omega arith)
 all_stand-at (suc n) c h lt =
-    let parts = and_parts (stands_at_value n) (all_stand_there n) h in
+    let parts = and_parts _ _ h in
     elim (cases_lt c n) [
       | inl below ↦ all_stand-at n c parts.1 below
       | inr top ↦
@@ -93,9 +89,9 @@ pub digit_there : (c : ℕ) → is_digit c ≡ true → (slice_index upper_digit
     × (value_of c < 16)
 digit_there c h =
     let all = all_stand-at 71 c refl (is_digit-few c h) in
-    let parts = and_parts (slice_index upper_digits (value_of c) == c) (nat_lt (value_of c) 16)
+    let parts = and_parts _ _
     (rw h at all) in
-    (eqb-true _ c parts.0, ltb-true (value_of c) 16 parts.1)
+    (eqb-true _ c parts.0, ltb-true _ 16 parts.1)
 
 pub encode_upper-pair : (h l : ℕ) → is_digit h ≡ true → is_digit l ≡ true
     → encode_upper ((value_of h * 16 + value_of l) ∷ []) ≡ h ∷ l ∷ []
@@ -120,7 +116,7 @@ all_spelled (suc n) = spelled_there n && all_spelled n
 all_spelled-at : (n v : ℕ) → all_spelled n ≡ true → v < n → spelled_there v ≡ true
 all_spelled-at zero v h lt = absurd (omega arith)
 all_spelled-at (suc n) v h lt =
-    let parts = and_parts (spelled_there n) (all_spelled n) h in
+    let parts = and_parts _ _ h in
     elim (cases_lt v n) [
       | inl below ↦ all_spelled-at n v parts.1 below
       | inr top ↦
@@ -131,14 +127,13 @@ all_spelled-at (suc n) v h lt =
 pub digit_spelled : (v : ℕ) → v < 16 → (is_digit (slice_index upper_digits v) ≡ true)
     × (value_of (slice_index upper_digits v) ≡ v)
 digit_spelled v few =
-    let both = and_parts (is_digit (slice_index upper_digits v))
-    (value_of (slice_index upper_digits v) == v) (all_spelled-at 16 v refl few) in
+    let both = and_parts _ _ (all_spelled-at 16 v refl few) in
     (both.0, eqb-true _ v both.1)
 
 pub encode_step : (b : ℕ) (bytes : List ℕ) → encode_upper (b ∷ bytes) ≡ slice_index upper_digits
     (b / 16) ∷ slice_index upper_digits (b % 16) ∷ encode_upper bytes
 unfolding encode_with
-encode_step b bytes = refl
+encode_step b _ = refl
 
 pub bytes_on-some : (bytes text : List ℕ) (r : List ℕ × List ℕ) → bytes_on bytes text ≡ Some r
     → encode_upper bytes ++ text ≡ encode_upper r.0 ++ r.1
@@ -149,9 +144,8 @@ bytes_on-some bytes (h ∷ []) r e = ap (λ (s : List ℕ × List ℕ). encode_u
     (same_Some (bytes, h ∷ []) r e)
 bytes_on-some bytes (h ∷ l ∷ text) r e =
     let byte : ℕ = value_of h * 16 + value_of l in
-    if_either (is_digit h && is_digit l) (if nat_lt (length bytes) 64 then bytes_on
-    (bytes ++ byte ∷ []) text else None) (Some (bytes, h ∷ l ∷ text)) r e
-    (λ digits more. if-some (nat_lt (length bytes) 64) (bytes_on (bytes ++ byte ∷ []) text) r more
+    if_either _ _ _ _ e
+    (λ digits more. if-some _ _ _ more
     (λ room rest.
     let both = and_parts (is_digit h) (is_digit l) digits in
     let pair = encode_upper-pair h l both.0 both.1 in
@@ -166,7 +160,7 @@ push_small : (xs : List ℕ) (b : ℕ) → IsBytes xs → b < 256 → (i : ℕ)
     → slice_index (xs ++ b ∷ []) i < 256
 push_small [] b h few zero = few
 push_small [] b h few (suc i) = omega arith
-push_small (x ∷ xs) b h few zero = h zero
+push_small (x ∷ xs) b h _ zero = h zero
 push_small (x ∷ xs) b h few (suc i) = push_small xs b (λ j. h (suc j)) few i
 
 pub bytes_on-data : (bytes text : List ℕ) (r : List ℕ × List ℕ) → length bytes ≤ 64 → IsBytes bytes
@@ -178,9 +172,8 @@ bytes_on-data bytes (h ∷ []) r few small e = subst (λ (s : List ℕ × List �
     × IsBytes s.0) (same_Some (bytes, h ∷ []) r e) (few, small)
 bytes_on-data bytes (h ∷ l ∷ text) r few small e =
     let byte : ℕ = value_of h * 16 + value_of l in
-    if_either (is_digit h && is_digit l) (if nat_lt (length bytes) 64 then bytes_on
-    (bytes ++ byte ∷ []) text else None) (Some (bytes, h ∷ l ∷ text)) r e
-    (λ digits more. if-some (nat_lt (length bytes) 64) (bytes_on (bytes ++ byte ∷ []) text) r more
+    if_either _ _ _ _ e
+    (λ digits more. if-some _ _ _ more
     (λ room rest.
     let both = and_parts (is_digit h) (is_digit l) digits in
     let high = (digit_there h both.0).1 in

@@ -18,7 +18,7 @@ pub one_record : (number : ℕ) (packet : Packet) (mark : Mark)
     → HasBit mark spelling → written ≡ damaged mark spelling → size ≡ length spelling
     → middle ≡ before ++ record_head number size → after ≡ middle ++ written
     → AppendsRecords number ((packet, mark) ∷ []) before after
-one_record number packet mark before middle after spelling written size spells bit is long head
+one_record number packet mark before middle _ spelling written _ spells bit is long head
     tail =
     let bytes : List ℕ = record_head number (length spelling) ++ damaged mark spelling in
     let one : IsRecord number (packet, mark) bytes = record {
@@ -50,23 +50,23 @@ are_append number (p ∷ ps) qs xs ys (first, rest, one, more, e) h = (
 pub then_records : (number : ℕ) (ps qs : List (Packet × Mark)) (a b c : List ℕ)
     → AppendsRecords number ps a b → AppendsRecords number qs b c
     → AppendsRecords number (ps ++ qs) a c
-then_records number ps qs a b c h k = record {
+then_records _ ps qs a b c h k = record {
   bytes = h.bytes ++ k.bytes;
-  records = are_append number ps qs h.bytes k.bytes h.records k.records;
+  records = are_append _ ps qs _ _ h.records k.records;
   appended = k.appended ∙ ap (λ l. l ++ k.bytes) h.appended ∙ append_assoc a h.bytes k.bytes;
 }
 
 -- a packet's own mark is one that it may have, as is that of the PRE before it
 pub own_may : (pre : Bool) (m : Mark) (p : Packet) → may_be_marked pre m p ≡ true
     → may_be_marked true (own_mark m) p ≡ true
-own_may pre (Flipped bit) p h = h
-own_may pre _ p h = refl
+own_may _ (Flipped bit) p h = h
+own_may _ _ p h = refl
 
 -- a flipped bit of a packet is one of its bytes
 pub may-bit : (m : Mark) (p : Packet) (bytes : List ℕ) → may_be_marked true m p ≡ true
     → Spells bytes p → HasBit m bytes
 may-bit (Flipped bit) p bytes h spelled = bit_within bytes p bit spelled h
-may-bit _ p bytes h spelled = tt
+may-bit _ p _ h _ = tt
 
 pub from_nothing : (number : ℕ) (ps : List (Packet × Mark)) (a b : List ℕ) → a ≡ []
     → AppendsRecords number ps a b → AreRecords number ps b

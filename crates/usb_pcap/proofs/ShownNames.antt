@@ -14,8 +14,8 @@ use Rattle.std.proofs.lemmas.Str.{encodes-IsAscii}
 use Rattle.std.proofs.lemmas.Str.{IsUtf8-encode, char_from_byte, cons_from_encodes, length-encode}
 use Rattle.std.specs.Char.{IsScalar, len_utf8}
 use Rattle.usb_bus.specs.{escaped, is_escaped, shown_char}
-use Rattle.usb_pcap.specs.{Begins, IsPlainChar, IsShownChar, IsShownText, is_digit, is_escape_of}
-use Rattle.usb_pcap.specs.{is_escaped_pair, pair_value, value_of}
+use Rattle.usb_pcap.specs.{Begins, IsPlainChar, IsShownChar, IsShownText, is_escape_of}
+use Rattle.usb_pcap.specs.{is_escaped_pair, pair_value}
 use Rattle.hex.specs.Hex.{encode_upper, encode_with, upper_digits}
 use Rattle.std.proofs.lemmas.Option.{same_Some}
 use Rattle.usb_pcap.proofs.Reading.{digit_spelled, digit_there, encode_step, encode_upper-pair}
@@ -28,7 +28,7 @@ use lib.Utf8.{low_scalar, scalar, scalars}
 by_escape : {P : Type 0} (c : ℕ) (text : List ℕ) → text ≡ shown_char c
     → (is_escaped c ≡ true → text ≡ escaped c → P)
     → (is_escaped c ≡ false → text ≡ encode_utf8 c → P) → P
-by_escape {P} c text is marked plain = go (is_escaped c) refl
+by_escape {P} c _ is marked plain = go (is_escaped c) refl
   where
     go : (b : Bool) → is_escaped c ≡ b → P
     go true e = marked e (is ∙ rw e refl)
@@ -48,7 +48,7 @@ unfolding encode_with
 escaped_length c = refl
 
 shown_length : (text : List ℕ) → IsShownChar text → (1 ≤ length text) × (length text ≤ 6)
-shown_length text (c, scalar, is) = by_escape c text is
+shown_length _ (c, scalar, is) = by_escape c _ is
     (λ marked e. let six = escaped_length c in rw e (omega (arith, six), omega (arith, six)))
     (λ plain e. let few = few_bytes c in let all = length-encode c in rw e (
       omega (arith, few.0, all),
@@ -66,7 +66,7 @@ backslash d plain e =
 shown_alone : (p q text : List ℕ) → IsShownChar p → IsShownChar text → text ≡ p ++ q → q ≡ []
 shown_alone p q text (c, cs, cis) (d, ds, dis) split =
     by_escape c p cis
-    (λ cm ce. by_escape d text dis
+    (λ cm ce. by_escape d _ dis
     (λ dm de. let whole : escaped d ≡ escaped c ++ q = sym de ∙ split ∙ ap (λ l. l ++ q) ce in
     let long : length (escaped d) ≡ length (escaped c) + length q =
     ap length whole ∙ length-append (escaped c) q in
@@ -75,7 +75,7 @@ shown_alone p q text (c, cs, cis) (d, ds, dis) split =
     ∙ sym (append-nil (encode_utf8 d)))
     (rw (split, ce) (omega arith)) (rw (split, ce) (omega arith))
     ∙ rw (split, ce) refl))))
-    (λ cp ce. by_escape d text dis
+    (λ cp ce. by_escape d _ dis
     (λ dm de. absurd (backslash c cp (char_from_byte text q c (split ∙ ap (λ l. l ++ q) ce)
     (rw de (omega arith)) (rw de (omega arith)) ∙ rw de refl)))
     (λ dp de. let whole : encode_utf8 d ++ [] ≡ encode_utf8 c ++ q =
@@ -115,14 +115,14 @@ shown_behind : (ls ms rest : List ℕ) → All IsScalar ls → All IsScalar ms
     → flat_map shown_char ms ≡ flat_map shown_char ls ++ rest → IsShownText rest
 shown_behind [] ms rest las mas e = (ms, mas, sym e)
 shown_behind (l ∷ ls) [] rest las mas e =
-    let some = shown_length (shown_char l) (l, All-head IsScalar l ls las, refl) in
+    let some = shown_length _ (l, All-head IsScalar l ls las, refl) in
     let all : 0 ≡ length (shown_char l) + length (flat_map shown_char ls ++ rest) =
     ap length (e ∙ append_assoc (shown_char l) (flat_map shown_char ls) rest)
     ∙ length-append (shown_char l) (flat_map shown_char ls ++ rest) in
     absurd (omega (arith, some.0, all))
 shown_behind (l ∷ ls) (m ∷ ms) rest las mas e =
-    let (first, more) = same_first (shown_char m) (shown_char l) (flat_map shown_char ms)
-    (flat_map shown_char ls ++ rest) (m, All-head IsScalar m ms mas, refl)
+    let (first, more) = same_first _ _ _
+    _ (m, All-head IsScalar m ms mas, refl)
     (l, All-head IsScalar l ls las, refl)
     (e ∙ append_assoc (shown_char l) (flat_map shown_char ls) rest) in
     shown_behind ls ms rest (All-tail IsScalar l ls las) (All-tail IsScalar m ms mas) more
@@ -135,22 +135,22 @@ begins_none = record {
   more = [];
   scalar = All-nil IsScalar;
   split = refl;
-  none = λ first rest is e. let some = shown_length first is in
+  none = λ first rest is e. let some = shown_length _ is in
       let all : 0 ≡ length first + length rest = ap length e ∙ length-append first rest in
       absurd (omega (arith, some.0, all));
   stuck = inl refl;
 }
 
 pub is_stuck : (begun : List ℕ) → (length begun == 6) ≡ true → length begun ≡ 6
-is_stuck begun e = eqb-true (length begun) 6 e
+is_stuck _ e = eqb-true _ 6 e
 
 pub has_room : (begun : List ℕ) → (length begun == 6) ≡ false → length begun ≤ 6 → length begun < 6
-has_room begun e fits = grind (arith, nat_tests)
+has_room _ e fits = grind (arith, nat_tests)
 
 -- behind six bytes that are none it goes on in any way
 pub begins_stuck : (line begun : List ℕ) (b : ℕ) → length begun ≡ 6 → Begins line begun
     → Begins (line ++ b ∷ []) begun
-begins_stuck line begun b full h = record {
+begins_stuck _ begun b full h = record {
   letters = h.letters;
   more = h.more ++ b ∷ [];
   scalar = h.scalar;
@@ -162,14 +162,14 @@ begins_stuck line begun b full h = record {
 }
 
 no_more : (begun more : List ℕ) → (more ≡ []) ⊎ (length begun ≡ 6) → length begun < 6 → more ≡ []
-no_more begun more (inl none) room = none
-no_more begun more (inr full) room = absurd (omega (arith, full, room))
+no_more _ _ (inl none) _ = none
+no_more _ _ (inr full) room = absurd (omega (arith, full, room))
 
 -- the line ends with what has begun
 line_on : (line begun : List ℕ) (b : ℕ) (h : Begins line begun) → length begun < 6
     → line ++ b ∷ [] ≡ flat_map shown_char h.letters ++ (begun ++ b ∷ [])
 line_on line begun b h room =
-    let none = no_more begun h.more h.stuck room in
+    let none = no_more _ _ h.stuck room in
     let short : line ≡ flat_map shown_char h.letters ++ begun =
     h.split ∙ ap (λ l. flat_map shown_char h.letters ++ l) (ap (λ l. begun ++ l) none
     ∙ append-nil begun) in
@@ -178,11 +178,11 @@ line_on line begun b h room =
 -- a character has ended
 pub begins_anew : (line begun : List ℕ) (b : ℕ) → length begun < 6 → IsShownChar (begun ++ b ∷ [])
     → Begins line begun → Begins (line ++ b ∷ []) []
-begins_anew line begun b room (c, scalar, is) h = record {
+begins_anew line _ b room (c, scalar, is) h = record {
   letters = h.letters ++ c ∷ [];
   more = [];
   scalar = All-push IsScalar h.letters c h.scalar scalar;
-  split = line_on line begun b h room ∙ ap (λ l. flat_map shown_char h.letters ++ l)
+  split = line_on line _ b h room ∙ ap (λ l. flat_map shown_char h.letters ++ l)
       (is ∙ sym (append-nil (shown_char c)))
       ∙ sym (flat_map-append shown_char h.letters (c ∷ []))
       ∙ sym (append-nil (flat_map shown_char (h.letters ++ c ∷ [])));
@@ -198,7 +198,7 @@ begins_more line begun b room other h = record {
   letters = h.letters;
   more = [];
   scalar = h.scalar;
-  split = line_on line begun b h room
+  split = line_on line _ b h room
       ∙ ap (λ l. flat_map shown_char h.letters ++ l) (sym (append-nil (begun ++ b ∷ [])));
   none = λ first rest is e. elim (cases_lt (length begun) (length first)) [
     | inl longer ↦
@@ -207,7 +207,7 @@ begins_more line begun b room other h = record {
         let end : rest ≡ [] = nil_from_length rest (omega (arith, all, longer)) in
         other (subst IsShownChar (sym (e ∙ ap (λ l. first ++ l) end ∙ append-nil first)) is)
     | inr most ↦
-        let (m, split, more) = front_split first rest begun (b ∷ []) (sym e) most in
+        let (m, split, more) = front_split _ _ _ _ (sym e) most in
         h.none first m is split
   ];
   stuck = inl refl;
@@ -216,26 +216,26 @@ begins_more line begun b room other h = record {
 -- ---- the end of a line
 
 pub shown_whole : (line begun : List ℕ) → begun ≡ [] → Begins line begun → IsShownText line
-shown_whole line begun empty h =
-    let none = no_more begun h.more h.stuck (rw empty (omega arith)) in
+shown_whole _ _ empty h =
+    let none = no_more _ _ h.stuck (rw empty (omega arith)) in
     (h.letters, h.scalar, h.split ∙ rw (none, empty) (append-nil (flat_map shown_char h.letters)))
 
 first_begun : (begun more first rest : List ℕ) → begun ≢ [] → (more ≡ []) ⊎ (length begun ≡ 6)
     → begun ++ more ≡ first ++ rest → IsShownChar first
     → ((first rest : List ℕ) → IsShownChar first → begun ≢ first ++ rest) → ⊥
-first_begun begun more first rest some stuck e is none =
-    let few = shown_length first is in
+first_begun begun _ first rest some stuck e is none =
+    let few = shown_length _ is in
     elim stuck [
       | inl end ↦ none first rest is (sym (append-nil begun) ∙ ap (λ l. begun ++ l) (sym end) ∙ e)
       | inr full ↦
-          let (m, split, behind) = front_split first rest begun more (sym e)
+          let (m, split, behind) = front_split _ _ _ _ (sym e)
           (omega (arith, full, few.1)) in
           none first m is split
     ]
 
 pub not_whole : (line begun : List ℕ) → begun ≢ [] → Begins line begun → IsShownText line → ⊥
-not_whole line begun some h (ms, mas, is) =
-    let (ns, nas, e) = shown_behind h.letters ms (begun ++ h.more) h.scalar mas
+not_whole _ begun some h (ms, mas, is) =
+    let (ns, nas, e) = shown_behind _ ms _ h.scalar mas
     (sym is ∙ h.split) in
     go ns nas e
   where
@@ -243,15 +243,15 @@ not_whole line begun some h (ms, mas, is) =
     go [] nas e = let all : length begun + length h.more ≡ 0 =
         sym (length-append begun h.more) ∙ ap length e in
         some (nil_from_length begun (omega (arith, all)))
-    go (n ∷ ns) nas e = first_begun begun h.more (shown_char n) (flat_map shown_char ns) some
+    go (n ∷ ns) nas e = first_begun _ _ _ _ some
         h.stuck e (n, All-head IsScalar n ns nas, refl) h.none
 
 pub shown_decided : (line begun : List ℕ) (shown : Bool) → shown ≡ (length begun == 0)
     → Begins line begun → Decides shown (IsShownText line)
 shown_decided line [] shown is h = (λ _. shown_whole line [] refl h, λ _. is)
-shown_decided line (b ∷ begun) shown is h = (
-  λ e. let none = eqb-true (length (b ∷ begun)) 0 (sym is ∙ e) in absurd (omega (arith, none)),
-  λ text. absurd (not_whole line (b ∷ begun) (λ none. let long : length (b ∷ begun) ≡ 0 =
+shown_decided _ (b ∷ begun) _ is h = (
+  λ e. let none = eqb-true _ 0 (sym is ∙ e) in absurd (omega (arith, none)),
+  λ text. absurd (not_whole _ _ (λ none. let long : length (b ∷ begun) ≡ 0 =
       ap length none in omega (arith, long)) h text),
 )
 
@@ -264,9 +264,9 @@ escaped_fits c e = grind (arith, nat_tests)
 pair_of_digits : (h l n : ℕ) → pair_value h l ≡ Some n
     → (encode_upper (n ∷ []) ≡ h ∷ l ∷ []) × (n < 256)
 pair_of_digits h l n e =
-    if-some (is_digit h && is_digit l) (Some (value_of h * 16 + value_of l)) n e
-    (λ fit is. let both = and_parts (is_digit h) (is_digit l) fit in
-    let same = same_Some (value_of h * 16 + value_of l) n is in
+    if-some _ _ _ e
+    (λ fit is. let both = and_parts _ _ fit in
+    let same = same_Some _ n is in
     let high = digit_there h both.0 in
     let low = digit_there l both.1 in
     let few = high.1 in
@@ -297,17 +297,17 @@ escaped_pair_some : (high low : Option ℕ) → is_escaped_pair high low ≡ tru
     → (h : ℕ) × (l : ℕ) × (high ≡ Some h) × (low ≡ Some l) × (is_escaped (h * 256 + l) ≡ true)
 escaped_pair_some (Some h) (Some l) e = (h, l, refl, refl, e)
 escaped_pair_some (Some h) None e = absurd (cc)
-escaped_pair_some None low e = absurd (cc)
+escaped_pair_some None _ e = absurd (cc)
 
 escape_sound : (text : List ℕ) → is_escape_of text ≡ true → IsShownChar text
 unfolding is_escape_of
 escape_sound (s ∷ u ∷ a ∷ b ∷ c ∷ d ∷ []) e =
-    let two = and_parts (s == 92 && u == 117) (is_escaped_pair (pair_value a b) (pair_value c d)) e
+    let two = and_parts _ _ e
     in
-    let one = and_parts (s == 92) (u == 117) two.0 in
+    let one = and_parts _ _ two.0 in
     let slash = eqb-true s 92 one.0 in
-    let letter = eqb-true u 117 one.1 in
-    let (h, l, high, low, marked) = escaped_pair_some (pair_value a b) (pair_value c d) two.1 in
+    let letter = eqb-true u _ one.1 in
+    let (h, l, high, low, marked) = escaped_pair_some _ _ two.1 in
     let first = pair_of_digits a b h high in
     let second = pair_of_digits c d l low in
     let few = second.1 in
@@ -337,19 +337,19 @@ escape_complete c e =
     let whole : c / 256 * 256 + c % 256 ≡ c = omega arith in
     let spelled : escaped c ≡ 92 ∷ 117 ∷ a ∷ b ∷ d ∷ f ∷ [] =
     ap₂ (λ x y. codes "\\u" ++ x ++ y) first second in
-    ap is_escape_of spelled ∙ escape_fits a b d f (c / 256) (c % 256) high low
+    ap is_escape_of spelled ∙ escape_fits a b d f _ _ high low
     (subst (λ n. is_escaped n ≡ true) (sym whole) e)
 
 pub shown_char_decides : (text : List ℕ) (plain escape : Bool) → Decides plain (IsPlainChar text)
     → escape ≡ is_escape_of text → Decides (plain || escape) (IsShownChar text)
-shown_char_decides text true escape (of, to) is = (
+shown_char_decides _ true _ (of, to) is = (
   λ _. let (c, scalar, plain, e) = of refl in
       (c, scalar, e ∙ sym (shown_plain c plain)),
   λ _. refl,
 )
-shown_char_decides text false escape (of, to) is = (
-  λ e. escape_sound text (sym is ∙ e),
-  λ shown. let (c, scalar, e) = shown in by_escape c text e
+shown_char_decides _ false _ (of, to) is = (
+  λ e. escape_sound _ (sym is ∙ e),
+  λ shown. let (c, scalar, e) = shown in by_escape c _ e
       (λ marked same. is ∙ ap is_escape_of same ∙ escape_complete c marked)
       (λ plain same. let bad = to (c, scalar, plain, same) in cc),
 )
@@ -367,22 +367,22 @@ one_char d c e =
     cons_heads d c es same = cc
 
 one_scalar : (text : List ℕ) (c : ℕ) → IsUtf8 text → text ≡ encode_utf8 c → IsScalar c
-one_scalar text c (cs, (are, spell)) e =
+one_scalar _ c (cs, (are, spell)) e =
     let (es, one, rest) = cons_from_encodes cs [] c (spell ∙ e ∙ sym (append-nil (encode_utf8 c)))
     in
-    (and_parts (scalar c) (scalars es) (subst (λ (l : List ℕ). scalars l ≡ true) one are)).0
+    (and_parts _ _ (subst (λ (l : List ℕ). scalars l ≡ true) one are)).0
 
 pub plain_decides : (text : List ℕ) (c : ℕ) (marked : Bool) → IsUtf8 text → text ≡ encode_utf8 c
     → marked ≡ is_escaped c → Decides (not marked) (IsPlainChar text)
-plain_decides text c marked utf is same = (
-  λ e. (c, one_scalar text c utf is, sym same ∙ not-true marked e, is),
+plain_decides _ c _ utf is same = (
+  λ e. (c, one_scalar _ c utf is, sym same ∙ not-true _ e, is),
   λ plain. let (d, scalar, free, spelled) = plain in
       let one = one_char d c (sym spelled ∙ is) in
       ap not (same ∙ ap is_escaped (sym one) ∙ free),
 )
 
 pub no_text : (text : List ℕ) → (IsUtf8 text → ⊥) → IsPlainChar text → ⊥
-no_text text none (c, scalar, free, is) =
+no_text _ none (c, scalar, free, is) =
     none (subst IsUtf8 (sym is) (IsUtf8-encode c scalar))
 
 one_ascii : (b : ℕ) → b < 128 → IsAscii (b ∷ [])
@@ -396,5 +396,5 @@ begins_plain line [] b none few free h =
     ∙ encodes-IsAscii (b ∷ []) (one_ascii b few) in
     begins_anew line [] b (omega arith)
     (b, low_scalar b (omega (arith, few)), sym alone ∙ sym (shown_plain b free)) h
-begins_plain line (x ∷ begun) b none few free h =
-    let empty = eqb-true (length (x ∷ begun)) 0 none in absurd (omega (arith, empty))
+begins_plain _ (x ∷ begun) b none few free h =
+    let empty = eqb-true _ 0 none in absurd (omega (arith, empty))

@@ -11,8 +11,8 @@ use Rattle.usb_pcap.specs.{bytes_on, is_digit, strip, value_of}
 strip_step : {A : Type 0} (same equal : Bool) (r : Option A) (x : A)
     → r ≡ (if equal then Some x else None) → (if same then r else None)
     ≡ (if same && equal then Some x else None)
-strip_step true equal r x e = e
-strip_step false equal r x e = refl
+strip_step true _ r x e = e
+strip_step false _ r x e = refl
 
 -- what `strip_prefix` tests
 pub strip_by : (word text : List ℕ) → strip word text
@@ -21,25 +21,29 @@ pub strip_by : (word text : List ℕ) → strip word text
 unfolding strip
 strip_by [] text = refl
 strip_by (c ∷ word) [] = refl
-strip_by (c ∷ word) (d ∷ text) = strip_step (d == c) _ (strip word text) _ (strip_by word text)
+strip_by (c ∷ word) (d ∷ text) = strip_step (d == c) _ _ _ (strip_by word text)
 
 pub strip_found : (word text rest : List ℕ)
     → pointwise (λ a b. a == b) (take (length word) text) word ≡ true
     → rest ≡ drop (length word) text → strip word text ≡ Some rest
-strip_found word text rest same e = (rw same at (strip_by word text)) ∙ ap Some (sym e)
+strip_found word text _ same e = (rw same at (strip_by word text)) ∙ ap Some (sym e)
 
 pub strip_none : (word text : List ℕ) → pointwise (λ a b. a == b) (take (length word) text) word
     ≡ false → strip word text ≡ None
 strip_none word text other = rw other at (strip_by word text)
 
--- what `strip_prefix` tells of whether it found the word
-pub is_some-strip : (word text : List ℕ) (found : Option (Bor (List ℕ)))
-    → MatchOption found (pointwise (λ a b. a == b) (take (length word) text) word ≡ false)
+-- what `strip_prefix` tells of what it found
+abbrev Stripped : List ℕ → List ℕ → Option (Bor (List ℕ)) → Type 0
+Stripped word text found = MatchOption found (pointwise (λ a b. a == b) (take (length word) text) word ≡ false)
     (λ x. (pointwise (λ a b. a == b) (take (length word) text) word ≡ true)
     × (x.now ≡ drop (length word) text) × (length x.now + length word ≡ length text))
+
+-- whether it found the word
+pub is_some-strip : (word text : List ℕ) (found : Option (Bor (List ℕ)))
+    → Stripped word text found
     → is_some found ≡ is_some (strip word text)
-is_some-strip word text None h = ap is_some (sym (strip_none word text h))
-is_some-strip word text (Some x) h = ap is_some (sym (strip_found word text x.now h.0 h.1))
+is_some-strip _ _ None h = ap is_some (sym (strip_none _ _ h))
+is_some-strip _ _ (Some x) h = ap is_some (sym (strip_found _ _ _ h.0 h.1))
 
 -- one pair of digits is read
 pub bytes_on-pair : (bytes text : List ℕ) → 2 ≤ length text → is_digit (get_or text 0 0) ≡ true
@@ -49,17 +53,15 @@ pub bytes_on-pair : (bytes text : List ℕ) → 2 ≤ length text → is_digit (
     (take (length text - 2) (drop 2 text))
 unfolding bytes_on
 bytes_on-pair bytes [] two high low room = absurd (omega arith)
-bytes_on-pair bytes (h ∷ []) two high low room = absurd (omega arith)
-bytes_on-pair bytes (h ∷ l ∷ rest) two high low room =
+bytes_on-pair _ (h ∷ []) two high low room = absurd (omega arith)
+bytes_on-pair _ (h ∷ l ∷ rest) two high low room =
     let all : take (length (h ∷ l ∷ rest) - 2) rest ≡ rest =
     take_all (length (h ∷ l ∷ rest) - 2) rest (omega arith) in
-    rw (high, low, lt-ltb (length bytes) 64 room, all)
+    rw (high, low, lt-ltb _ 64 room, all)
 
 -- the same of what it found
 pub strip_result : (word text : List ℕ) (found : Option (Bor (List ℕ)))
-    → MatchOption found (pointwise (λ a b. a == b) (take (length word) text) word ≡ false)
-    (λ x. (pointwise (λ a b. a == b) (take (length word) text) word ≡ true)
-    × (x.now ≡ drop (length word) text) × (length x.now + length word ≡ length text))
+    → Stripped word text found
     → option_map (λ x. x.now) found ≡ strip word text
-strip_result word text None h = sym (strip_none word text h)
-strip_result word text (Some x) h = sym (strip_found word text x.now h.0 h.1)
+strip_result _ _ None h = sym (strip_none _ _ h)
+strip_result _ _ (Some x) h = sym (strip_found _ _ _ h.0 h.1)

@@ -184,12 +184,14 @@ fn answer_in(text: &mut Text<'_>) -> Option<(ExchangeAnswer, Mark)>
     }
 }
 
+/// Whether a packet has data.
 fn is_data_packet(packet: &Packet) -> bool
     ensures { result ≡ is_data_packet packet.now }
 {
     matches!(packet, Packet::Payload { .. })
 }
 
+/// Whether a packet is ACK.
 fn is_ack_packet(packet: &Packet) -> bool
     ensures { result ≡ is_ack_packet packet.now }
 {

@@ -69,6 +69,7 @@ fn starts(asked: Asked, device: &PortPath, transfer: Option<&Transfer>, deed: &D
     }
 }
 
+/// Whether two moments of an attempt are the same.
 fn same_moment(one: Moment, other: Moment) -> bool
     ensures { result ≡ same_moment one other }
 {
@@ -153,12 +154,14 @@ fn asks_status(port: u8, deed: &Deed) -> bool
     }
 }
 
+/// Whether the host waits.
 fn is_wait(deed: &Deed) -> bool
     ensures { result ≡ is_wait deed.now }
 {
     matches!(deed, Deed::Wait)
 }
 
+/// Whether the host makes an attempt.
 fn is_attempt(deed: &Deed) -> bool
     ensures { result ≡ is_attempt deed.now }
 {
@@ -247,12 +250,14 @@ fn see_all(sought: &mut [Sought], transfer: Option<&Transfer>, seen: &Seen)
     }
 }
 
+/// Whether the place was found.
 fn is_found(sought: &Sought) -> bool
     ensures { result ≡ is_some sought.now.found }
 {
     sought.found.is_some()
 }
 
+/// How many of the places were found.
 fn found_in(sought: &[Sought]) -> usize
     ensures { result ≡ found_in sought.now }
 {

@@ -46,12 +46,14 @@ fn has_data(setup: Setup) -> bool
     setup.length != 0
 }
 
+/// Whether a token is IN.
 fn is_in(token: Token) -> bool
     ensures { result ≡ is_in token }
 {
     matches!(token, Token::In)
 }
 
+/// Whether a token is OUT.
 fn is_out(token: Token) -> bool
     ensures { result ≡ is_out token }
 {

@@ -10,6 +10,7 @@ ghost use Rattle.usb_plan.specs.Keys.{only_named, keys_at, no_when};
 use crate::entry_fault::EntryFault;
 use toml::{Table, Value};
 
+/// Whether a key is one of these.
 fn is_one_of(key: &str, names: &[&str]) -> bool
     ensures { result ≡ list_any (λ n. bytes_eq key.now n.now) names.now }
 {

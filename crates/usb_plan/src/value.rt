@@ -50,12 +50,14 @@ pub(crate) fn read_items(value: &Value) -> Result<&[Value], EntryFault>
     Ok(values.as_slice())
 }
 
+/// Whether a value is a table.
 fn is_table(value: &Value) -> bool
     ensures { result ≡ is_table (view value.now) }
 {
     value.as_table().is_some()
 }
 
+/// Whether each value is a table.
 pub(crate) fn are_tables(values: &[Value]) -> bool
     ensures { result ≡ list_all (λ v. is_table (view v)) values.now }
 {

@@ -34,6 +34,7 @@ impl ShownName {
         Ok(ShownName { bytes })
     }
 
+    /// The bytes of the name.
     pub(crate) fn as_bytes(&self) -> &[u8]
         ensures { result.now ≡ self.now }
     {
@@ -55,12 +56,14 @@ pub(crate) fn shown_names(
     Ok(names)
 }
 
+/// The characters of a text.
 fn letters_of(alloc: Global, text: &str) -> Result<Vec<char>, AllocError>
     ensures { IfOk result (λ letters. letters.items ≡ chars text.now) }
 {
     text.chars().collect(alloc)
 }
 
+/// Adds characters, each as the trace shows it.
 fn push_letters(out: &mut Vec<u8>, letters: &[char]) -> Result<(), AllocError>
     ensures { OnOk result (out.new.items ≡ out.old.items ++ flat_map shown_char letters.now) }
 {
@@ -70,6 +73,7 @@ fn push_letters(out: &mut Vec<u8>, letters: &[char]) -> Result<(), AllocError>
     Ok(())
 }
 
+/// Adds one character as the trace shows it.
 fn push_letter(out: &mut Vec<u8>, letter: char) -> Result<(), AllocError>
     ensures { OnOk result (out.new.items ≡ out.old.items ++ shown_char letter) }
 {

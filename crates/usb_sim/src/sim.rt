@@ -291,6 +291,7 @@ impl<T: Trace> SimBus<T> {
     }
 }
 
+/// What a bus keeps of a plan, before any event came.
 fn staged(alloc: Global, plan: &Plan) -> Result<Stage, AllocError>
     ensures roots { IfOk result (λ s. s.roots ≡ new_ports plan.now.roots) }
     ensures devices { IfOk result (λ s. (s.devices ≡ plan.now.devices)

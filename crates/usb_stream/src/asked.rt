@@ -166,6 +166,7 @@ pub(crate) fn add_full(
     }
 }
 
+/// Whether an outcome is ACK.
 pub(crate) fn is_ack(outcome: &Outcome) -> bool
     ensures { result ≡ is_ack outcome.now }
 {

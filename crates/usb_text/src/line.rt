@@ -48,6 +48,7 @@ pub fn packet_line(alloc: Global, text: &str) -> Result<String, LineFault>
     }
 }
 
+/// The text and the bytes in upper-case digits, each with a newline after it.
 fn two_lines(alloc: Global, text: &str, bytes: &[u8]) -> Result<String, AllocError>
     ensures { IfOk result (λ s. string_bytes s
         ≡ text.now ++ 10 ∷ [] ++ encode_upper bytes.now ++ 10 ∷ []) }

@@ -83,6 +83,7 @@ fn config_line(
     Ok(line)
 }
 
+/// Adds the line of each configuration.
 fn push_configs(
     alloc: Global,
     lines: &mut Lines,
@@ -113,6 +114,7 @@ fn hub_line(alloc: Global, path: &PortPath, hub: &HubFacts) -> Result<Vec<u8>, A
     Ok(line)
 }
 
+/// Adds the line of a hub; nothing of a function.
 fn push_hub(
     alloc: Global,
     lines: &mut Lines,
@@ -147,6 +149,7 @@ fn string_line(
     Ok(line)
 }
 
+/// Adds the line of a string, if the device has it.
 fn push_string(
     alloc: Global,
     lines: &mut Lines,
@@ -162,6 +165,7 @@ fn push_string(
     }
 }
 
+/// Adds the lines of an accepted device.
 #[tactic(auto, unfolding(crate::specs::ListingLines::device_lines))]
 fn push_device(
     alloc: Global,
@@ -216,6 +220,7 @@ fn cause_word(cause: Cause) -> &'static str
     }
 }
 
+/// Adds the number that some causes end in.
 fn push_index(line: &mut Vec<u8>, cause: Cause) -> Result<(), AllocError>
     ensures { OnOk result (line.new.items ≡ line.old.items ++ cause_index cause) }
 {
@@ -249,6 +254,7 @@ fn refused_line(alloc: Global, path: &PortPath, cause: Cause) -> Result<Vec<u8>,
     Ok(line)
 }
 
+/// Adds the lines of what was found at a port.
 fn push_finding(
     alloc: Global,
     lines: &mut Lines,
@@ -290,6 +296,7 @@ fn push_said(
     lines.push(said_line(alloc, path, said)?)
 }
 
+/// Adds the lines of each entry, and after them what its device said.
 fn push_entries(
     alloc: Global,
     lines: &mut Lines,

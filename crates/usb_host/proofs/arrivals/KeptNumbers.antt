@@ -103,7 +103,7 @@ module _ (path : List ℕ) (es : Entries) where
   refused_device cause numbers p d true tie at =
       let same : p ≡ path = path_tied p path tie in
       absurd (cc (rw (same, lookup-insert_entry_here path (Refused cause) es) at at))
-  refused_device cause numbers p d false apart at =
+  refused_device cause _ p d false apart at =
       rw (lookup-insert_entry_elsewhere p path (Refused cause) es apart) at at
 
   pub keeps_refused : (cause : Cause) {a b : Known} → a.entries ≡ es
@@ -111,7 +111,7 @@ module _ (path : List ℕ) (es : Entries) where
       → b.reported ≡ a.reported → b.options ≡ a.options → KeepsKnown a b
   keeps_refused cause {a} {b} before entered numbers reported options = record {
     rising = let next = ap (λ (m : DeviceNumbers). m.next) numbers in omega arith;
-    each = λ p d at. inl (rw before (refused_device cause a.numbers p d (is_at (path_cmp p) path)
+    each = λ p d at. inl (rw before (refused_device cause a.numbers p d _
         refl (rw (entered, numbers) at at)));
     reported = reported;
     options = options;
@@ -144,7 +144,7 @@ module _ (path : List ℕ) (es : Entries) where
       number_of None = 0
       number_of (Some k) = k.number
   accepted_device device numbers lt free p d false apart at =
-      inl (other_device device numbers free p (accepted_device_at p es) refl d
+      inl (other_device device numbers free p _ refl d
       (rw (lookup-insert_entry_elsewhere p path (Device device) es apart) at at))
 
   pub keeps_entered : (finding : Finding) {pool : Addresses} (after : Addresses)
@@ -164,12 +164,12 @@ module _ (path : List ℕ) (es : Entries) where
         reported = reported;
         options = options;
       })
-  keeps_entered (Refused cause) after numbers long accounts takes =
+  keeps_entered (Refused cause) _ _ _ _ _ =
       keeps_refused cause refl refl refl refl refl
   keeps_entered (Device device) {pool} after numbers long accounts takes = record {
     rising = omega arith;
     each = λ p d at. accepted_device device numbers (omega (arith, long, takes.free.0.1)) free p d
-        (is_at (path_cmp p) path) refl at;
+        _ refl at;
     reported = refl;
     options = refl;
   }
@@ -186,6 +186,6 @@ module _ (path : List ℕ) (es : Entries) where
       free : (p : List ℕ) (e : Accepted) → accepted_device_at p es ≡ Some e
           → e.address ≢ device.address
       free p e at same =
-          let is = claims_taken accounts p e.address
-          (taken p e (lookup (is_at (path_cmp p)) es) refl at) in
+          let is = claims_taken accounts p _
+          (taken p e _ refl at) in
           absurd (cc (subst (IsTaken pool) same is, takes.free.1))

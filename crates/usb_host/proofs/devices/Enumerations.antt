@@ -8,8 +8,8 @@ use Rattle.usb_host.specs.{HostState, HostSteps, HostRuns}
 use Rattle.usb_host.proofs.StepSums.{goes_by}
 
 pub askable_wide : (port : HubPort) → IsAskable port → IsWide port
-askable_wide (Root number) h = tt
-askable_wide (External hub port) h = h.wide
+askable_wide (Root _) h = tt
+askable_wide (External _ _) h = h.wide
 
 pub enumeration_goes : (port : HubPort) (a b : HostState) → IsAskable port
     → HostSteps (enumeration_bound port) a b → b.stopped ≡ a.stopped → b.options ≡ a.options

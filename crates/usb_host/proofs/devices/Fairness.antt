@@ -10,15 +10,15 @@ module _ {n : ℕ} {old mid new : World} {t s : Option (List ℕ)} where
   -- up to a part
   pub fair_before : StepRun n mid t new s → IsFairTo old new → IsFairTo old mid
   fair_before went f = record {
-    still = went_sound n mid new went f.still;
+    still = went_sound n _ _ went f.still;
     few = f.few;
-    kept = few_before (went_course n mid new went f.still) f.kept;
+    kept = few_before (went_course n _ _ went f.still) f.kept;
   }
 
   -- from there on
   pub fair_after : StepRun n old t mid s → IsFairTo old new → IsFairTo mid new
   fair_after went f = record {
     still = f.still;
-    few = went_three n old mid went f.few;
+    few = went_three n _ _ went f.few;
     kept = f.kept;
   }

@@ -31,8 +31,8 @@ pub level_rests : (a b : HostState) → OnlyBusSteps a b → KeepsDevices a.worl
     → b.world.shared ≡ false → (path : List ℕ) → InSyncAt path (table_in a) a.world
     → InSyncAt path (table_in b) b.world
 level_rests a b r devices single path l =
-    rw (ap (λ (h : HostState). table_in h) r) (level_stays (table_in a) a.world b.world
-    (devices.stays single) path l)
+    rw (ap (λ (h : HostState). table_in h) r) (level_stays _ _ b.world
+    (devices.stays single) _ l)
 
 -- What is taken out
 
@@ -52,10 +52,10 @@ remove_entry-apart q first e es apart more false tie =
 lookup-removed : (q first : List ℕ) (es : List (List ℕ × Pipes)) → is_at (path_cmp q) first ≡ false
     → lookup (is_at (path_cmp q)) (remove_entry (is_at (path_cmp first)) es)
     ≡ lookup (is_at (path_cmp q)) es
-lookup-removed q first [] apart = refl
+lookup-removed q _ [] _ = refl
 lookup-removed q first (e ∷ es) apart =
     remove_entry-apart q first e es apart (lookup-removed q first es apart)
-    (is_at (path_cmp first) e.0) refl
+    _ refl
 
 -- a path that is neither at another nor below it is not one that is
 is_at-not_below : (q path first : List ℕ) → is_at_or_below first path ≡ true
@@ -64,12 +64,12 @@ is_at-not_below q path first on away = pick (is_at (path_cmp q) first) refl
   where
     pick : (b : Bool) → is_at (path_cmp q) first ≡ b → b ≡ false
     pick true tie = false_true (sym (rw (path_tied q first tie) at away) ∙ on)
-    pick false tie = refl
+    pick false _ = refl
 
 pub pipes_apart : (q path : List ℕ) {finding : Finding} (old new : Table)
     → TakesOut path finding old new → is_at_or_below q path ≡ false
     → pipes_at q new ≡ pipes_at q old
-pipes_apart q path old new t away =
+pipes_apart q path old _ t away =
     ap (λ (x : Table). pipes_at q x) t.rest ∙ ap (λ (o : Option Pipes). unwrap_or o no_pipes)
     (lookup-removed q t.first old.pipes (is_at-not_below q path t.first t.at away))
 
@@ -118,7 +118,7 @@ level_came path f said t w is here others x =
 pub level_refused : (path : List ℕ) (cause : Cause) (said : ArrayVec ℕ) (t : Table) {u : Table}
     (w : World) → u ≡ entered path (Refused cause) said t → AllInSync t w → AllInSync u w
 level_refused path cause said t w is others =
-    level_came path (Refused cause) said t w is (level_entered path (Refused cause) said t w
+    level_came _ (Refused cause) said t w is (level_entered path (Refused cause) said t w
     (usual_options true) 0 0
     (λ device s found. absurd (cc found))) others
 
@@ -130,7 +130,7 @@ pub level_found : (path : List ℕ) (f : Finding) (said : ArrayVec ℕ) (options
     → state_there w.roots path ≡ Some s → IsOwn options tier supply device s) → AllInSync t w
     → AllInSync u w
 level_found path f said options tier supply t w is sane own others =
-    level_came path f said t w is (level_entered path f said t w options tier supply
+    level_came _ f said t w is (level_entered path f said t w options tier supply
     (λ device s found on stands. (
       ruled_there w.roots path s sane stands,
       own device s found on stands,

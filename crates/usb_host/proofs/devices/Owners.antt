@@ -41,18 +41,18 @@ opened_by f t None is =
     let o = t.so is in
     record {
       claims = o.claims;
-      owned = record { so = λ none. o.owned; single = t.single };
+      owned = record { so = λ _. o.owned; single = t.single };
       others = o.others;
     }
 opened_by f t (Some fault) is = record {
   claims = f;
   owned = record { so = λ none. absurd (cc (none, is)); single = t.single };
-  others = λ x away. refl;
+  others = λ x _. refl;
 }
 
 pub opened_if_owned : {p : List ℕ} {f : AddressMap} {w : World}
     → WhileBusWorks (MapHoldsExcept p f) w → Opened p f w
-opened_if_owned {f = f} {w = w} t = opened_by f t w.fault refl
+opened_if_owned {f = f} t = opened_by f t _ refl
 
 opened_closed : {p : List ℕ} {f : AddressMap} {w : World} → Opened p f w
     → WhileBusWorks (MapHoldsExcept p f) w
@@ -63,7 +63,7 @@ opened_closed o = record {
 
 pub but_all : {p : List ℕ} {f : AddressMap} {w : World} → WhileBusWorks (MapHolds f) w
     → WhileBusWorks (MapHoldsExcept p f) w
-but_all {f = f} t = opened_closed (record { claims = f; owned = t; others = λ x away. refl })
+but_all {f = f} t = opened_closed (record { claims = f; owned = t; others = λ x _. refl })
 
 pub but_kept : {p : List ℕ} {f : AddressMap} {old new : World} → KeepsAddresses old new
     → WhileBusWorks (MapHoldsExcept p f) old → WhileBusWorks (MapHoldsExcept p f) new
@@ -93,7 +93,7 @@ cleared_as p f g others x false away = others x away
 bare_as : (p : List ℕ) (f : AddressMap) {old new : World} → (o : Opened p f old)
     → WhileBusWorks (MapHolds (map_without o.claims p)) new
     → WhileBusWorks (MapHolds (map_without f p)) new
-bare_as p f o t = till_as (λ x. cleared_as p f o.claims o.others x (is_way p x) refl) t
+bare_as p f o t = till_as (λ x. cleared_as p f o.claims o.others x _ refl) t
 
 -- a port stands where its hub is, whatever is on it
 pub at_others : (f g : AddressMap) (port : HubPort) (p : List ℕ)
@@ -114,16 +114,16 @@ at_others f g (External hub port) p others at =
 pub bare_port : (port : HubPort) (p : List ℕ) {f : AddressMap} {old new : World}
     → Isolates port old new → IsAt f port p → WhileBusWorks (MapHoldsExcept p f) old
     → WhileBusWorks (MapHolds (map_without f p)) new
-bare_port port p {f = f} b at t =
+bare_port _ p {f = f} b at t =
     let o = opened_if_owned t in
-    bare_as p f o (b.bares o.claims p (at_others f o.claims port p o.others at) o.owned)
+    bare_as p f o (b.bares o.claims p (at_others f o.claims _ p o.others at) o.owned)
 
 pub bare_none : (p : List ℕ) (f : AddressMap) (w : World)
     → ((x : List ℕ) → is_way p x ≡ true → reach w.roots x ≡ false)
     → WhileBusWorks (MapHoldsExcept p f) w → WhileBusWorks (MapHolds (map_without f p)) w
 bare_none p f w none t =
     let o = opened_if_owned t in
-    bare_as p f o (record { so = λ h. bared o.claims p w none (o.owned.so h); single = t.single })
+    bare_as p f o (record { so = λ h. bared _ p w none (o.owned.so h); single = t.single })
 
 -- The table follows
 
@@ -148,7 +148,7 @@ pub owning_kept : (a b : HostState) → a.stopped ≡ false → b.entries ≡ a.
     → KeepsAddresses a.world b.world → HostMapHolds a → HostMapHolds b
 owning_kept a b going same k o =
     let t : IsOwned b = rw same (k.kept (claims a.entries) (o.owned going)) in
-    record { single = t.single; owned = λ on. t }
+    record { single = t.single; owned = λ _. t }
 
 pub stays_kept : (a b : HostState) → b.entries ≡ a.entries → roots_of b.world ≡ roots_of a.world
     → KeepsAddresses a.world b.world → StaysOwned a b
@@ -183,7 +183,7 @@ round_owning (Ok done) a b c going world entries stops k o =
     record {
       single = here.single;
       owned =
-          λ on. subst (λ (es : Entries). WhileBusWorks (MapHolds (claims es)) c.world) (sym entries)
+          λ _. subst (λ (es : Entries). WhileBusWorks (MapHolds (claims es)) c.world) (sym entries)
           here;
     }
 round_owning (Err fault) a b c going world entries stops k o =

@@ -159,8 +159,8 @@ there_was_plugged plan is paths {w = w} course path there =
     let came : List Event = take w.taken plan.events in
     let index : (i : ℕ) × (index_at (plugged_by [] came) path ≡ Some i) =
     index_some (index_at (plugged_by [] came) path) (state_there w.roots path) plan there
-    (devices_left plan is paths w course path) in
-    path_found (λ p. Any (AtPath p) came) (plugged_by [] came) path index.0
+    (devices_left _ is paths w course path) in
+    path_found (λ p. Any (AtPath p) came) (plugged_by [] came) path _
     (path_by (λ p. Any (AtPath p) came) came [] (λ p at. at) tt) index.1
 
 -- Where all addresses are taken, at least 128 devices were plugged
@@ -198,7 +198,7 @@ length-plug_addresses : (es : Entries) (events : List Event) → length (plug_ad
     ≡ plug_events events
 length-plug_addresses es [] = refl
 length-plug_addresses es (e ∷ events) = plug_step es e events (length-plug_addresses es events)
-    (is_plug e.action) refl
+    _ refl
 
 plug_here : (es : Entries) (path : List ℕ) (a : Action) (more : List ℕ) → PlugsAt path a
     → list_any (eqb (address_or es path)) (cond (is_plug a) (plug_address es a ∷ more) more) ≡ true
@@ -209,7 +209,7 @@ plug_here es path _ more is = absurd is
 
 plug_later : (q a : ℕ) (more : List ℕ) (b : Bool) → list_any (eqb q) more ≡ true
     → list_any (eqb q) (cond b (a ∷ more) more) ≡ true
-plug_later q a more true has = or_right (eqb q a) (list_any (eqb q) more) has
+plug_later q a more true has = or_right (eqb q a) _ has
 plug_later q a more false has = has
 
 plug_among : (es : Entries) (path : List ℕ) (events : List Event) → Any (AtPath path) events
@@ -261,7 +261,7 @@ pub plugs_then : (m n : ℕ) (a b c : HostState) → HostSteps m a b → HostSte
     → c.world.fault ≡ None → KeepsPlugs a b → KeepsPlugs b c → KeepsPlugs a c
 plugs_then m n a b c first second still x y plan is paths course plugs =
     y plan is paths (course_joined course
-    (went_course m a.world b.world first (went_sound n b.world c.world second still)))
+    (went_course m _ _ first (went_sound n _ _ second still)))
     (x plan is paths course plugs)
 
 -- what is listed was so before, or is lost
@@ -302,7 +302,7 @@ plugs_same events a b onward same = plugs_fewer a b onward
 
 pub plugs_kept : (a b : HostState) → a.world.taken ≤ b.world.taken → b.entries ≡ a.entries
     → KeepsPlugs a b
-plugs_kept a b onward same plan is paths course = plugs_same plan.events a b onward same
+plugs_kept a b onward same plan is paths course = plugs_same _ a b onward same
 
 pub plugs_rests : {n : ℕ} (a b : HostState) → HostSteps n a b → OnlyBusSteps a b → KeepsPlugs a b
 plugs_rests a b went r = plugs_kept a b went.spends.onward (ap (λ (h : HostState). h.entries) r)
@@ -381,7 +381,7 @@ plugs_entered events path a b agrees gone enters onward was plugs = record {
         let is : enters.finding ≡ Refused NoAddress =
         cc (here, lookup-insert_entry_here path enters.finding a.entries) in
         let many : 128 ≤ plug_events events =
-        full_plugged events path a plugs agrees (enters.waits is)
+        full_plugged _ path a plugs agrees (enters.waits is)
         (finding-none path path a.entries gone (way_itself path)) was in
         absurd (omega arith)
     waits few p false apart at = plugs.none_waits few p
@@ -415,13 +415,13 @@ seen_plugged : (path : List ℕ) (status : PortStatus) (old new : World)
     → WasPlugged plan.events new.taken path
 seen_plugged path status old new x order on plan is paths course =
     let first : Course AnyStep old x.told.now =
-    course_joined (call_course path x.cleared) (course_wider (λ s u k. tt) (x.told.before path)) in
+    course_joined (call_course _ x.cleared) (course_wider (λ s u k. tt) (x.told.before path)) in
     let there : is_some (state_there x.told.now.roots path) ≡ true =
-    told_there path x.told (orderly_on order first) on in
+    told_there _ x.told (orderly_on order first) on in
     let onward : x.told.now.taken ≤ x.now.taken = course_taken (x.told.since path) in
     let last : x.now.taken ≤ new.taken = disabled_taken status.enabled path x.now new x.disabled in
     was_later plan.events x.told.now.taken new.taken path (omega arith)
-    (there_was_plugged plan is paths (course_joined course first) path there)
+    (there_was_plugged _ is paths (course_joined course first) path there)
 
 -- what a status showed is found and entered
 pub plugs_found : {m : ℕ} (n : ℕ) (path : List ℕ) (status : PortStatus) (a b c d : HostState)
@@ -434,9 +434,9 @@ pub plugs_found : {m : ℕ} (n : ℕ) (path : List ℕ) (status : PortStatus) (a
 plugs_found n path status a b c d first second r others rest gone agrees x order on enters plan is
     paths course plugs =
     let was : WasPlugged plan.events c.world.taken path =
-    rw (ap (λ (h : HostState). h.world) others) (seen_plugged path status a.world b.world x order on
-    plan is paths course) in
-    plugs_entered plan.events path c d agrees gone enters second.spends.onward was
+    rw (ap (λ (h : HostState). h.world) others) (seen_plugged _ _ _ _ x order on
+    _ is paths course) in
+    plugs_entered _ _ c d agrees gone enters second.spends.onward was
     (plugs_forgot path a c first r rest plan is paths course plugs)
 
 -- A host that knows of no device

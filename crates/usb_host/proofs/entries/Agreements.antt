@@ -24,7 +24,7 @@ under : (q hub path rest : List ℕ) → parent_of q ≡ Some hub → hub ≡ pa
 under q hub path rest is on =
     (is_below-extension q path).1 (
       rest ++ port_on_hub q ∷ [],
-      rejoined q hub is ∙ ap (λ l. l ++ port_on_hub q ∷ []) on ∙ append_assoc path rest
+      rejoined q _ is ∙ ap (λ l. l ++ port_on_hub q ∷ []) on ∙ append_assoc path rest
           (port_on_hub q ∷ []),
       omega (arith, length-append rest (port_on_hub q ∷ [])),
     )
@@ -33,21 +33,21 @@ hub_away_by : (q hub path : List ℕ) → parent_of q ≡ Some hub → is_at_or_
     → (same on : Bool) → pointwise nat_eq hub path ≡ same → is_below hub path ≡ on
     → (same || on) ≡ false
 hub_away_by q hub path is away true on same is_on =
-    let goes_on = under q hub path [] is (same_text hub path (sym same) ∙ sym (append-nil path)) in
+    let goes_on = under q _ path [] is (same_text hub path (sym same) ∙ sym (append-nil path)) in
     absurd (cc (goes_on, (neither (pointwise nat_eq q path) (is_below q path) away).1))
 hub_away_by q hub path is away false true same is_on =
     let rest = (is_below-extension hub path).0 is_on in
     absurd (cc (
-      under q hub path rest.0 is rest.1,
+      under q _ path rest.0 is rest.1,
       (neither (pointwise nat_eq q path) (is_below q path) away).1,
     ))
-hub_away_by q hub path is away false false same is_on = refl
+hub_away_by q _ _ _ _ false false _ _ = refl
 
 -- the hub of a path that stands elsewhere stands elsewhere
 pub hub_away : (q hub path : List ℕ) → parent_of q ≡ Some hub → is_at_or_below q path ≡ false
     → is_at_or_below hub path ≡ false
-hub_away q hub path is away = hub_away_by q hub path is away (pointwise nat_eq hub path)
-    (is_below hub path) refl refl
+hub_away q hub path is away = hub_away_by q _ path is away _
+    _ refl refl
 
 pub lookup-without : (q path : List ℕ) {b : Bool} (es : Entries) → not (is_at_or_below q path) ≡ b
     → lookup (is_at (path_cmp q)) (without path es) ≡ cond b (lookup (is_at (path_cmp q)) es) None
@@ -58,14 +58,14 @@ lookup-without q path {b = b} es is =
 known_away_by : (q path : List ℕ) (es : Entries) → is_at_or_below q path ≡ false
     → (hub : Option (List ℕ)) → parent_of q ≡ hub → port_below hub (port_on_hub q) (without path es)
     ≡ port_below hub (port_on_hub q) es
-known_away_by q path es away None is = refl
+known_away_by q _ _ _ None _ = refl
 known_away_by q path es away (Some hub) is =
     ap (λ found. port_found found (is_below_hub hub) (port_on_hub q))
-    (lookup-without hub path es (ap not (hub_away q hub path is away)))
+    (lookup-without hub path es (ap not (hub_away q _ path is away)))
 
 pub known_away : (q path : List ℕ) (es : Entries) → is_at_or_below q path ≡ false
     → known_port q (without path es) ≡ known_port q es
-known_away q path es away = known_away_by q path es away (parent_of q) refl
+known_away q path es away = known_away_by q path es away _ refl
 
 nested_kept : (path : List ℕ) (es : Entries) (q : List ℕ) (f : Finding) → Nested es → (b : Bool)
     → is_at_or_below q path ≡ b → lookup (is_at (path_cmp q)) (without path es) ≡ Some f
@@ -84,9 +84,9 @@ nested_path-without path es q f n false is found =
     n.path q f (sym (lookup-without q path es (ap not is)) ∙ found)
 
 pub nested_without : (path : List ℕ) (es : Entries) → Nested es → Nested (without path es)
-nested_without path es n = record {
-  path = λ q f found. nested_path-without path es q f n (is_at_or_below q path) refl found;
-  each = λ q f found. nested_kept path es q f n (is_at_or_below q path) refl found;
+nested_without path _ n = record {
+  path = λ q f found. nested_path-without path _ q f n _ refl found;
+  each = λ q f found. nested_kept path _ q f n _ refl found;
 }
 
 elsewhere_step : (q path : List ℕ) (f : Finding) (e : List ℕ × Finding) (es : Entries)
@@ -95,19 +95,19 @@ elsewhere_step : (q path : List ℕ) (f : Finding) (e : List ℕ × Finding) (es
     → (o : Ordering) → path_cmp path e.0 ≡ o
     → lookup (is_at (path_cmp q)) (match_ordering o ((path, f) ∷ e ∷ es) ((e.0, f) ∷ es)
     (e ∷ insert_entry path_cmp es path f)) ≡ lookup (is_at (path_cmp q)) (e ∷ es)
-elsewhere_step q path f e es apart more Less is = rw apart refl
-elsewhere_step q path f e es apart more Equal is =
+elsewhere_step q _ f e _ apart _ Less _ = rw apart refl
+elsewhere_step q path f e _ apart _ Equal is =
     let tie : is_at (path_cmp path) e.0 ≡ true = rw is refl in
     let other : is_at (path_cmp q) e.0 ≡ false =
     rw (path_tied path e.0 tie) at apart in
     rw other refl
-elsewhere_step q path f e es apart more Greater is =
+elsewhere_step q _ f e _ _ more Greater _ =
     ap (λ found. cond (is_at (path_cmp q) e.0) (Some e.1) found) more
 
 pub lookup-insert_entry_elsewhere : (q path : List ℕ) (f : Finding) (es : Entries)
     → is_at (path_cmp q) path ≡ false → lookup (is_at (path_cmp q))
     (insert_entry path_cmp es path f) ≡ lookup (is_at (path_cmp q)) es
-lookup-insert_entry_elsewhere q path f [] apart = rw apart refl
+lookup-insert_entry_elsewhere q _ f [] apart = rw apart refl
 lookup-insert_entry_elsewhere q path f (e ∷ es) apart =
     elsewhere_step q path f e es apart (lookup-insert_entry_elsewhere q path f es apart)
     (path_cmp path e.0) refl
@@ -127,14 +127,14 @@ found_away q path f [] away found = absurd cc
 found_away q path f (e ∷ es) away found =
     found_away_by q path e es (neither (is_at_or_below e.0 path) (has_at path es) away).0
     (found_away q path f es (neither (is_at_or_below e.0 path) (has_at path es) away).1)
-    (is_at (path_cmp q) e.0) refl found
+    _ refl found
 
 pub is_at-outside : (hub path : List ℕ) → is_at_or_below hub path ≡ false → (b : Bool)
     → is_at (path_cmp hub) path ≡ b → b ≡ false
 is_at-outside hub path away true tie =
     let same : pointwise nat_eq hub path ≡ true = texts_ties hub path ∙ tie in
     absurd (cc (same, (neither (pointwise nat_eq hub path) (is_below hub path) away).0))
-is_at-outside hub path away false tie = refl
+is_at-outside _ _ _ false _ = refl
 
 -- a port of a hub that stands elsewhere is known as before
 known_entered_by : (q path : List ℕ) (f : Finding) (es : Entries)
@@ -150,43 +150,43 @@ known_entered_by q path f es apart (Some hub) is =
 pub known_entered : (q path : List ℕ) (f : Finding) (es : Entries)
     → ((hub : List ℕ) → parent_of q ≡ Some hub → is_at (path_cmp hub) path ≡ false)
     → known_port q (insert_entry path_cmp es path f) ≡ known_port q es
-known_entered q path f es apart = known_entered_by q path f es apart (parent_of q) refl
+known_entered q path f es apart = known_entered_by q path f es apart _ refl
 
 pub shorter_apart : (path hub : List ℕ) → parent_of path ≡ Some hub → (b : Bool)
     → is_at (path_cmp hub) path ≡ b → b ≡ false
 shorter_apart path hub is true tie =
-    let long : length path ≡ length hub + 1 = ap length (rejoined path hub is) ∙ length-append hub
+    let long : length path ≡ length hub + 1 = ap length (rejoined path _ is) ∙ length-append hub
     (port_on_hub path ∷ []) in
     absurd (omega (arith, ap length (path_tied hub path tie)))
-shorter_apart path hub is false tie = refl
+shorter_apart _ _ _ false _ = refl
 
 entered_step : (path : List ℕ) (f : Finding) (es : Entries) (q : List ℕ) (g : Finding)
     → has_at path es ≡ false → IsSome (known_port path es) → Nested es → (b : Bool)
     → is_at (path_cmp q) path ≡ b
     → lookup (is_at (path_cmp q)) (insert_entry path_cmp es path f) ≡ Some g
     → IsSome (known_port q (insert_entry path_cmp es path f))
-entered_step path f es q g away known n true tie found =
-    rw (path_tied q path tie) (rw (known_entered path path f es (λ hub is. shorter_apart path hub is
-    (is_at (path_cmp hub) path) refl)) known)
-entered_step path f es q g away known n false tie found =
+entered_step path f es q g _ known n true tie _ =
+    rw (path_tied q path tie) (rw (known_entered path path f es (λ _ is. shorter_apart path _ is
+    _ refl)) known)
+entered_step path f es q g away _ n false tie found =
     let there = sym (lookup-insert_entry_elsewhere q path f es tie) ∙ found in
     rw (known_entered q path f es (λ hub is. is_at-outside hub path
-    (hub_away q hub path is (found_away q path g es away there)) (is_at (path_cmp hub) path) refl))
+    (hub_away q _ path is (found_away q path g es away there)) _ refl))
     (n.each q g there)
 
 path_entered : (path : List ℕ) (f : Finding) (es : Entries) (q : List ℕ) (g : Finding) → IsPath path
     → Nested es → (b : Bool) → is_at (path_cmp q) path ≡ b
     → lookup (is_at (path_cmp q)) (insert_entry path_cmp es path f) ≡ Some g → IsPath q
-path_entered path f es q g is n true tie found = rw (path_tied q path tie) is
-path_entered path f es q g is n false tie found =
+path_entered path f _ q g is n true tie _ = rw (path_tied q path tie) is
+path_entered path f es q g _ n false tie found =
     n.path q g (sym (lookup-insert_entry_elsewhere q path f es tie) ∙ found)
 
 pub nested_entered : (path : List ℕ) (f : Finding) {es : Entries} → IsPath path
     → has_at path es ≡ false → IsSome (known_port path es) → Nested es
     → Nested (insert_entry path_cmp es path f)
-nested_entered path f {es = es} is away known n = record {
-  path = λ q g found. path_entered path f es q g is n (is_at (path_cmp q) path) refl found;
-  each = λ q g found. entered_step path f es q g away known n (is_at (path_cmp q) path) refl found;
+nested_entered path f is away known n = record {
+  path = λ q g found. path_entered path f _ q g is n _ refl found;
+  each = λ q g found. entered_step path f _ q g away known n _ refl found;
 }
 
 pub nested_none : Nested []

@@ -53,8 +53,8 @@ address_count-insert_by : (a : ℕ) (path : List ℕ) (f : Finding) (e : List �
     → address_count a (insert_entry path_cmp es path f) ≡ one_when (has_address a f) + address_count
     a es → address_count a (match_ordering o ((path, f) ∷ e ∷ es) ((e.0, f) ∷ es)
     (e ∷ insert_entry path_cmp es path f)) ≡ one_when (has_address a f) + address_count a (e ∷ es)
-address_count-insert_by a path f e es Less is away more = count-cons a (path, f) (e ∷ es)
-address_count-insert_by a path f e es Equal is away more =
+address_count-insert_by a path f e es Less _ _ _ = count-cons a (path, f) (e ∷ es)
+address_count-insert_by a path f e _ Equal is away _ =
     absurd (path_cmp-not_equal path e.0 away is)
 address_count-insert_by a path f e es Greater is away more =
     omega (arith, count-cons a e es, count-cons a e (insert_entry path_cmp es path f))
@@ -153,11 +153,11 @@ once_step : (a : ℕ) (p q : List ℕ) (f g : Finding) (e : List ℕ × Finding)
     → lookup (is_at (path_cmp q)) es ≡ Some g → p ≡ q) → (b c : Bool) → is_at (path_cmp p) e.0 ≡ b
     → is_at (path_cmp q) e.0 ≡ c → cond b (Some e.1) (lookup (is_at (path_cmp p)) es) ≡ Some f
     → cond c (Some e.1) (lookup (is_at (path_cmp q)) es) ≡ Some g → p ≡ q
-once_step a p q f g e es has also most more true true at_p at_q is_f is_g = path_tied p e.0 at_p
+once_step a p q f g e _ _ _ _ _ true true at_p at_q _ _ = path_tied p e.0 at_p
     ∙ sym (path_tied q e.0 at_q)
-once_step a p q f g e es has also most more true false at_p at_q is_f is_g =
+once_step a p q f g e es has also most _ true false _ _ is_f is_g =
     absurd (address_count-twice a (is_at (path_cmp q)) f g e es has also most is_f is_g)
-once_step a p q f g e es has also most more false true at_p at_q is_f is_g =
+once_step a p q f g e es has also most _ false true _ _ is_f is_g =
     absurd (address_count-twice a (is_at (path_cmp p)) g f e es also has most is_g is_f)
 once_step a p q f g e es has also most more false false at_p at_q is_f is_g =
     more (omega (arith, count-cons a e es)) is_f is_g
@@ -168,7 +168,7 @@ address_count-once : (a : ℕ) (p q : List ℕ) (f g : Finding) (es : Entries) �
 address_count-once a p q f g [] has also most is_f is_g = absurd cc
 address_count-once a p q f g (e ∷ es) has also most is_f is_g =
     once_step a p q f g e es has also most (address_count-once a p q f g es has also)
-    (is_at (path_cmp p) e.0) (is_at (path_cmp q) e.0) refl refl is_f is_g
+    _ _ refl refl is_f is_g
 
 pub one_when-most : (b : Bool) → one_when b ≤ 1
 unfolding one_when
@@ -211,7 +211,7 @@ key_so : (P : List ℕ → Type 0) (path : List ℕ) (f : Finding) (es : Entries
     → AllByRecursion P (keys_of es) → lookup (is_at (path_cmp path)) es ≡ Some f → P path
 key_so P path f [] all found = absurd (cc found)
 key_so P path f (e ∷ es) all found = key_step P path e es all.0 (key_so P path f es all.1)
-    (is_at (path_cmp path) e.0) refl found
+    _ refl found
 
 -- an entry with the address
 record Lists (a : ℕ) (es : Entries) : Type 0 where
@@ -226,7 +226,7 @@ lists_later a e es above x = record {
   path = x.path;
   finding = x.finding;
   found = rw (ap is_eq (nat_list_cmp_total.antisymm x.path e.0 ∙ ap ordering_reverse
-      (key_so (λ k. path_cmp e.0 k ≡ Less) x.path x.finding es above x.found)))
+      (key_so (λ k. path_cmp e.0 k ≡ Less) x.path _ es above x.found)))
       x.found;
   has = x.has;
 }
@@ -235,16 +235,16 @@ lists_step : (a : ℕ) (e : List ℕ × Finding) (es : Entries)
     → AllByRecursion (λ k. path_cmp e.0 k ≡ Less) (keys_of es) → 1 ≤ address_count a (e ∷ es)
     → (1 ≤ address_count a es → Lists a es) → (b : Bool) → has_address a e.1 ≡ b → Lists a (e ∷ es)
 unfolding one_when
-lists_step a e es above some more true has =
+lists_step a e _ _ _ _ true has =
     record { path = e.0; finding = e.1; found = rw (path_itself e.0) refl; has = has }
 lists_step a e es above some more false has = let none : one_when (has_address a e.1) ≡ 0 =
-    ap one_when has in lists_later a e es above (more (omega (arith, count-cons a e es)))
+    ap one_when has in lists_later a e _ above (more (omega (arith, count-cons a e es)))
 
 lists_by : (a : ℕ) (es : Entries) → Rises es → 1 ≤ address_count a es → Lists a es
 unfolding address_count IsStrictlySortedBy
 lists_by a [] rises some = absurd (omega arith)
 lists_by a (e ∷ es) rises some = lists_step a e es rises.0 some (lists_by a es rises.1)
-    (has_address a e.1) refl
+    _ refl
 
 address_has : (a : ℕ) (f : Finding) → has_address a f ≡ true → address_found f ≡ Some a
 unfolding has_address
@@ -297,20 +297,20 @@ range_none = λ a taken. absurd (cc (contains-empty nat_cmp a, taken))
 moved_address : (b a : ℕ) (old new : Addresses) → IsAddress a
     → ((b : ℕ) → b ≢ a → contains new b ≡ contains old b) → HasAddresses old → (same : Bool)
     → nat_eq b a ≡ same → IsTaken new b → IsAddress b
-moved_address b a old new is others range true same taken = rw (eqb-true b a same) is
-moved_address b a old new is others range false same taken =
+moved_address b a _ _ is _ _ true same _ = rw (eqb-true b a same) is
+moved_address b a _ _ _ others range false same taken =
     range b (sym (others b (eqb-false b a same)) ∙ taken)
 
 pub range_claimed : (f : Finding) (old new : Addresses) → TakesFor (Ok f) old new → HasAddresses old
     → HasAddresses new
 range_claimed (Device device) old new c range =
     λ b taken. moved_address b device.address old new c.free.0 c.others range
-    (nat_eq b device.address) refl taken
-range_claimed (Refused cause) old new same range = rw same range
+    _ refl taken
+range_claimed (Refused _) _ _ same range = rw same range
 
 pub range_freed : (f : Finding) (old new : Addresses) → Frees f old new → HasAddresses old
     → HasAddresses new
 range_freed (Device device) old new gone range =
     λ b taken. moved_address b device.address old new gone.free.0 gone.others range
-    (nat_eq b device.address) refl taken
-range_freed (Refused cause) old new same range = rw same range
+    _ refl taken
+range_freed (Refused _) _ _ same range = rw same range

@@ -36,18 +36,18 @@ claim_of (Some f) a h = record { finding = f; found = refl; has = has_its f a h 
 
 pub claims_distinct : (es : Entries) (addresses : Addresses) → Accounts es addresses
     → Injective (claims es)
-claims_distinct es addresses h p q a at_p at_q =
+claims_distinct es _ h p q a at_p at_q =
     let x = claim_of (lookup (is_at (path_cmp p)) es) a at_p in
     let y = claim_of (lookup (is_at (path_cmp q)) es) a at_q in
     subst (λ (r : List ℕ). same_path p r ≡ true)
-    (accounts_once a p q x.finding y.finding es addresses h x.has y.has x.found y.found)
+    (accounts_once a p q _ _ _ _ h x.has y.has x.found y.found)
     (self_path p)
 
 pub claims_taken : {es : Entries} {addresses : Addresses} → Accounts es addresses
     → (p : List ℕ) (a : ℕ) → claims es p ≡ Some a → IsTaken addresses a
-claims_taken {es = es} {addresses = addresses} h p a at =
+claims_taken {es = es} h p a at =
     let x = claim_of (lookup (is_at (path_cmp p)) es) a at in
-    accounts_taken a p x.finding es addresses h x.has x.found
+    accounts_taken a p _ _ _ h x.has x.found
 
 -- Entries are forgotten
 
@@ -60,7 +60,7 @@ claims-without_by path es x false way =
 
 pub claims-without : (path : List ℕ) (es : Entries) (x : List ℕ)
     → claims (without path es) x ≡ map_without (claims es) path x
-claims-without path es x = claims-without_by path es x (is_way path x) refl
+claims-without path es x = claims-without_by path es x _ refl
 
 -- Where nothing was found nothing is claimed
 
@@ -86,10 +86,10 @@ lookup-none_below path x e es away below more false tie =
 
 pub lookup-none_there : (path x : List ℕ) (es : Entries) → has_at path es ≡ false
     → is_at_or_below x path ≡ true → lookup (is_at (path_cmp x)) es ≡ None
-lookup-none_there path x [] away below = refl
+lookup-none_there _ x [] _ _ = refl
 lookup-none_there path x (e ∷ es) away below =
     lookup-none_below path x e es away below (λ rest. lookup-none_there path x es rest below)
-    (is_at (path_cmp x) e.0) refl
+    _ refl
 
 pub claims_free : (path : List ℕ) (es : Entries) → has_at path es ≡ false → Free (claims es) path
 claims_free path es away x way = ap address_in
@@ -118,7 +118,7 @@ is_at-same_path path x other true tie =
     let same : same_path path x ≡ true = subst (λ (r : List ℕ). same_path r x ≡ true)
     (path_tied x path tie) (self_path x) in
     absurd (cc (same, other))
-is_at-same_path path x other false tie = refl
+is_at-same_path _ x _ false _ = refl
 
 entered_by : (path : List ℕ) (f : Finding) (es : Entries) (x : List ℕ) (b : Bool)
     → same_path path x ≡ b → claims (insert_entry path_cmp es path f) x
@@ -127,23 +127,23 @@ entered_by path f es x true same = rw (same_is path x same)
     (ap address_in (lookup-insert_entry_here path f es))
 entered_by path f es x false other =
     ap address_in (lookup-insert_entry_elsewhere x path f es
-    (is_at-same_path path x other (is_at (path_cmp x) path) refl))
+    (is_at-same_path path x other _ refl))
 
 pub claims-device : (path : List ℕ) (device : Accepted) (es : Entries) (x : List ℕ)
     → claims (insert_entry path_cmp es path (Device device)) x ≡ after_taking (claims es) path
     device.address x
-claims-device path device es x = entered_by path (Device device) es x (same_path path x) refl
+claims-device path device es x = entered_by path (Device device) es x _ refl
 
 claims-refused_by : (path : List ℕ) (cause : Cause) (es : Entries) (x : List ℕ)
     → has_at path es ≡ false → (b : Bool) → same_path path x ≡ b
     → claims (insert_entry path_cmp es path (Refused cause)) x ≡ claims es x
 claims-refused_by path cause es x away true same =
     let none : claims es path ≡ None = claims_free path es away path (way_itself path) in
-    entered_by path (Refused cause) es x true same ∙ sym
+    entered_by path (Refused cause) es x _ same ∙ sym
     (ap (claims es) (same_is path x same) ∙ none)
-claims-refused_by path cause es x away false other =
-    entered_by path (Refused cause) es x false other
+claims-refused_by path cause es x _ false other =
+    entered_by path (Refused cause) es x _ other
 
 pub claims-refused : (path : List ℕ) (cause : Cause) (es : Entries) → has_at path es ≡ false
     → (x : List ℕ) → claims (insert_entry path_cmp es path (Refused cause)) x ≡ claims es x
-claims-refused path cause es away x = claims-refused_by path cause es x away (same_path path x) refl
+claims-refused path cause es away x = claims-refused_by path cause es x away _ refl

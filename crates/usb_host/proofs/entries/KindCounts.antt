@@ -67,7 +67,7 @@ module _ (kind : Finding → Bool) where
   of_kind-without_one path hub f [] way is_kind found = absurd cc
   of_kind-without_one path hub f (e ∷ es) way is_kind found =
       of_kind-without_by path hub e es way is_kind (of_kind-without_one path hub f es way is_kind)
-      (is_at (path_cmp hub) e.0) refl found
+      _ refl found
 
   of_kind-insert_by : (path : List ℕ) (f : Finding) (e : List ℕ × Finding) (es : Entries)
       → of_kind kind (insert_entry path_cmp es path f) ≤ of_kind kind es + one_when (kind f)

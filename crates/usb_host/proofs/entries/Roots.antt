@@ -24,7 +24,7 @@ use Rattle.usb_host.proofs.PortLocations.{root_alone}
 pub root_way : (path below : List ℕ) → 1 ≤ length path → is_way path below ≡ true
     → root_of below ≡ root_of path
 root_way [] below some way = absurd (omega arith)
-root_way (n ∷ path) below some way = ap root_of (way_rest (n ∷ path) below way).1
+root_way (n ∷ path) below _ way = ap root_of (way_rest (n ∷ path) below way).1
 
 root_joined : (path hub : List ℕ) → path ≡ hub ++ port_on_hub path ∷ [] → parent_of path ≡ Some hub
     → root_of path ≡ root_of hub
@@ -32,10 +32,10 @@ unfolding parent_of
 root_joined path [] joined is =
     let none : parent_of path ≡ None = ap parent_of joined in
     absurd (cc (none, is))
-root_joined path (n ∷ hub) joined is = ap root_of joined
+root_joined _ (n ∷ _) joined _ = ap root_of joined
 
 pub root_parent : (path hub : List ℕ) → parent_of path ≡ Some hub → root_of path ≡ root_of hub
-root_parent path hub is = root_joined path hub (rejoined path hub is) is
+root_parent path _ is = root_joined _ _ (rejoined path _ is) is
 
 -- As entries stay, go and come
 
@@ -54,15 +54,15 @@ finding_at-without first path es false is some =
 pub rooted_dropped : (first : List ℕ) (a b : HostState) → b.entries ≡ without first a.entries
     → roots_of b.world ≡ roots_of a.world → IsRooted a → IsRooted b
 rooted_dropped first a b rest roots r path some =
-    let was = finding_at-without first path a.entries (is_at_or_below path first) refl
+    let was = finding_at-without first path a.entries _ refl
     (rw rest at some) in
     rw roots (r path was)
 
 entered_root : (first path : List ℕ) (f : Finding) (es : Entries) (n : ℕ) → root_of first ≤ n
     → (IsSome (finding_at path es) → root_of path ≤ n) → (b : Bool) → is_at (path_cmp path) first
     ≡ b → IsSome (finding_at path (insert_entry path_cmp es first f)) → root_of path ≤ n
-entered_root first path f es n here more true tie some = rw (path_tied path first tie) here
-entered_root first path f es n here more false apart some =
+entered_root first path f _ n here _ true tie _ = rw (path_tied path first tie) here
+entered_root first path f es n _ more false apart some =
     more (rw (lookup-insert_entry_elsewhere path first f es apart) at some)
 
 pub rooted_came : (first : List ℕ) (f : Finding) (a b : HostState)
@@ -70,7 +70,7 @@ pub rooted_came : (first : List ℕ) (f : Finding) (a b : HostState)
     → root_of first ≤ roots_of a.world → IsRooted a → IsRooted b
 rooted_came first f a b is roots here r path some =
     rw roots (entered_root first path f a.entries (roots_of a.world) here (r path)
-    (is_at (path_cmp path) first) refl (rw is at some))
+    _ refl (rw is at some))
 
 -- Where a port stands
 
@@ -83,13 +83,13 @@ stands_by path port h s r None above e =
     subst (λ (p : KnownPort). IsPort h.world p.port) (sym same) s.there in
     subst (λ n. n ≤ roots_of h.world) (sym (ap root_of (root_alone path s.is.0 above))) there.1
 stands_by path port h s r (Some hub) above e =
-    subst (λ n. n ≤ roots_of h.world) (sym (root_parent path hub above))
+    subst (λ n. n ≤ roots_of h.world) (sym (root_parent path _ above))
     (r hub (rw (← (sym (port_found-some (finding_at hub h.entries) (is_below_hub hub)
-    (port_on_hub path) port e).stands)) refl))
+    (port_on_hub path) _ e).stands)) refl))
 
 pub rooted_stands : (path : List ℕ) (port : KnownPort) (h : HostState) → StandsAt path port h
     → IsRooted h → root_of path ≤ roots_of h.world
-rooted_stands path port h s r = stands_by path port h s r (parent_of path) refl s.known
+rooted_stands _ _ h s r = stands_by _ _ h s r _ refl s.known
 
 -- an entry stands at a port that is known
 alone_by : (path : List ℕ) (h : HostState) → StandsNowhere path h → Waits path h
@@ -107,7 +107,7 @@ pub waits_somewhere : (path : List ℕ) (h : HostState) → StandsNowhere path h
     → IsRooted h → ⊥
 waits_somewhere path h s w r =
     let some : IsSome (finding_at path h.entries) = rw w.entry refl in
-    let none = alone_by path h s w (parent_of path) refl in
+    let none = alone_by _ h s w _ refl in
     let here : root_of path ≡ port_on_hub path = ap root_of (root_alone path s.is.0 none) in
     absurd (omega (arith, s.beyond none, r path some))
 
@@ -120,8 +120,8 @@ rooted_opening options w t path some = false_true some
 port_by : {es : Entries} (roots : ℕ) (path : List ℕ) → Nested es → root_of path ≤ roots
     → parent_of path ≡ None → (o : Option Finding) → finding_at path es ≡ o → IsSome o
     → port_on_hub path ≤ roots
-port_by roots path n fits none None at some = false_true some
-port_by roots path n fits none (Some f) at some =
+port_by _ _ n _ _ None _ some = false_true some
+port_by _ path n fits none (Some f) at _ =
     rw (ap root_of (root_alone path (n.path path f at).0 none)) at fits
 
 -- what a host's invariant says, and that entries stand below the ports of the root
@@ -130,7 +130,7 @@ pub accounted : (h : HostState) → Agrees h.options h.entries h.addresses → I
 accounted h agrees rooted = record {
   agrees = agrees;
   root = λ path some none. port_by (roots_of h.world) path agrees.nested (rooted path some) none
-      (finding_at path h.entries) refl some;
+      _ refl some;
 }
 
 -- Of calls that failed

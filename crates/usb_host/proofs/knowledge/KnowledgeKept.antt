@@ -29,8 +29,8 @@ none_same (Some s) e h = absurd (cc (e, ap (option_map spec_of) h))
 there_same : (w v : World) (path : List ℕ) (o : Option Finding) → SameAt w.roots v.roots path
     → IsThere w path o → IsThere v path o
 there_same w v path None same h = none_same (state_there v.roots path) same.what h
-there_same w v path (Some (Device device)) same h = same.on ∙ h
-there_same w v path (Some (Refused cause)) same h = (
+there_same w v _ (Some (Device _)) same h = same.on ∙ h
+there_same w v path (Some (Refused _)) same h = (
   some_of (state_there w.roots path) (state_there v.roots path) same.what h.0,
   subst (λ o. IfSome o (λ b. b.enable ≡ false)) (sym same.port) h.1,
 )
@@ -43,7 +43,7 @@ known_stays path o w v c (inl pends) =
 known_stays path o w v c (inr here) = pick (rests_or_pends path c here.0)
   where
     pick : UnchangedOrPending w v path → IsKnownAs v path o
-    pick (inl rests) = inr (rests.0, there_same w v path o rests.1 here.1)
+    pick (inl rests) = inr (rests.0, there_same w v _ o rests.1 here.1)
     pick (inr pends) = inl pends
 
 -- Each port
@@ -58,7 +58,7 @@ known_each w v entries roots calm known path port =
 pub known_but_each : (first : List ℕ) (w v : World) (entries : Entries) → roots_of v ≡ roots_of w
     → Elsewhere first (λ path. Course (LeavesPortAlone path) w v) → KnownBut first w entries
     → KnownBut first v entries
-known_but_each first w v entries roots calm known path away port =
+known_but_each _ w v entries roots calm known path away port =
     let was = rw roots at port in
     known_stays path (finding_at path entries) w v (calm path away) (known path away was)
 
@@ -82,7 +82,7 @@ is_told_at-stays : {options : HostOptions} (j : Location) (w v : World) (entries
     → ((s : State) → reach_on v.roots j ≡ true → state_on v.roots j ≡ Some s
     → Was SameDevice w j s) → IsAccurateAt options w entries (path_to j)
     → IsAccurateAt options v entries (path_to j)
-is_told_at-stays j w v entries was told device s at on stands =
+is_told_at-stays j w v _ was told device s at on stands =
     let x : Was SameDevice w j s = was s on stands in
     tells_still j s x.so (told device x.before at x.on x.stands)
 
@@ -91,15 +91,15 @@ pub truthful_stays : {options : HostOptions} (w v : World) (entries : Entries) �
     → DevicesAccurate options v entries
 truthful_stays w v entries each told (suc j ∷ p) = is_told_at-stays (record { row = j; rest = p }) w
     v entries (each (record { row = j; rest = p })) (told (suc j ∷ p))
-truthful_stays w v entries each told _ = λ device s at on stands. false_true on
+truthful_stays w v _ _ _ _ = λ _ s _ on _. false_true on
 
 pub truthful_but_stays : {options : HostOptions} (first : List ℕ) (w v : World) (entries : Entries)
     → EachStillBut first w v
     → TruthfulBut options first w entries → TruthfulBut options first v entries
-truthful_but_stays first w v entries each told [] away = λ device s at on stands. false_true on
-truthful_but_stays first w v entries each told (zero ∷ p) away =
-    λ device s at on stands. false_true on
-truthful_but_stays first w v entries each told (suc j ∷ p) away =
+truthful_but_stays _ w v _ _ _ [] _ = λ device s at on stands. false_true on
+truthful_but_stays _ w v _ _ _ (zero ∷ p) _ =
+    λ _ s _ on _. false_true on
+truthful_but_stays _ w v entries each told (suc j ∷ p) away =
     is_told_at-stays (record { row = j; rest = p }) w v entries
     (λ s. each (record { row = j; rest = p }) s away) (told (suc j ∷ p) away)
 
@@ -172,7 +172,7 @@ pub causes_but_stay : {options : HostOptions} (first : List ℕ) (w v : World) {
     → Accounted options (roots_of w) entries addresses → KnownBut first w entries
     → Elsewhere first (λ path. Course (KeepsPendingAt path) w v) → CausesBut options first w entries
     → CausesBut options first v entries
-causes_but_stay {options = options} first w v {entries = entries} accounted known spares
+causes_but_stay {options = options} _ w v {entries = entries} accounted known spares
     caused path away
     cause s at
     stands =

@@ -32,7 +32,7 @@ way_hub [] hub n le h = refl
 way_hub (m ∷ p) [] n le h = absurd (omega arith)
 way_hub (m ∷ p) (k ∷ hub) n le h =
     let parts = both (same_number m k) (is_way p (hub ++ n ∷ [])) h in
-    and_of (same_number m k) (is_way p hub) parts.0 (way_hub p hub n (omega arith) parts.1)
+    and_of _ _ parts.0 (way_hub p hub n (omega arith) parts.1)
 
 -- What is listed elsewhere
 
@@ -55,27 +55,27 @@ untied_by : (first path : List ℕ) → is_way first path ≡ false → (b : Boo
     → is_at (path_cmp path) first ≡ b → b ≡ false
 untied_by first path away true tie =
     false_true (sym (rw (path_tied path first tie) at away) ∙ way_itself first)
-untied_by first path away false tie = refl
+untied_by _ _ _ false _ = refl
 
 pub untied : (first path : List ℕ) → is_way first path ≡ false → is_at (path_cmp path) first ≡ false
-untied first path away = untied_by first path away (is_at (path_cmp path) first) refl
+untied first path away = untied_by first path away _ refl
 
 is_way-parent : (first path hub : List ℕ) → parent_of path ≡ Some hub → is_way first path ≡ false
     → (b : Bool) → is_way first hub ≡ b → b ≡ false
 is_way-parent first path hub is away true way =
-    false_true (sym away ∙ way_trans first hub path way (way_parent path hub is))
-is_way-parent first path hub is away false way = refl
+    false_true (sym away ∙ way_trans first hub path way (way_parent path _ is))
+is_way-parent _ _ _ _ _ false _ = refl
 
 -- the hub of a path that stands elsewhere stands elsewhere
 hub_elsewhere : (first path hub : List ℕ) → parent_of path ≡ Some hub → is_way first path ≡ false
     → is_way first hub ≡ false
-hub_elsewhere first path hub is away = is_way-parent first path hub is away (is_way first hub) refl
+hub_elsewhere first path hub is away = is_way-parent first path _ is away _ refl
 
 port_as : (roots : ℕ) (es fs : Entries) (n : ℕ) (o : Option (List ℕ))
     → ((hub : List ℕ) → o ≡ Some hub → finding_at hub es ≡ finding_at hub fs)
     → IsPortBelow roots es o n → IsPortBelow roots fs o n
-port_as roots es fs n None same h = h
-port_as roots es fs n (Some hub) same h = rw (same hub refl) at h
+port_as _ _ _ n None _ h = h
+port_as _ _ _ n (Some hub) same h = rw (same hub refl) at h
 
 -- a port is listed as long as its hub is
 pub listed_as : {roots : ℕ} {es : Entries} (fs : Entries) (path : List ℕ)
@@ -106,7 +106,7 @@ split_by first path (n ∷ rest) some way is =
     let long : length path ≡ length first + length (n ∷ rest) = ap length is ∙ length-append first
     (n ∷ rest) in
     let above = parent_some path (omega arith) in
-    let joined = rejoined path above.0 above.1 in
+    let joined = rejoined path _ above.1 in
     let short : length path ≡ length above.0 + 1 = ap length joined ∙ length-append above.0
     (port_on_hub path ∷ []) in
     inr (
@@ -118,7 +118,7 @@ split_by first path (n ∷ rest) some way is =
 split : (first path : List ℕ) → 1 ≤ length first → is_way first path ≡ true → (path ≡ first)
     ⊎ ((hub : List ℕ) × (parent_of path ≡ Some hub) × (is_way first hub ≡ true))
 split first path some way = let rest = way_rest first path way in
-    split_by first path rest.0 some way rest.1
+    split_by first _ rest.0 some way rest.1
 
 -- what is known elsewhere, at the path, and of the ports of hubs there and below it, is known
 pub known_whole : (first : List ℕ) (w : World) (es : Entries) → 1 ≤ length first
@@ -149,8 +149,8 @@ none_below {roots = roots} es path hub is none port =
 pub known_dropped : (first : List ℕ) (w : World) (es : Entries) → KnownBut first w es
     → KnownBut first w (without first es)
 known_dropped first w es known path away port =
-    let was = listed_as es path
-    (λ hub is. finding-kept first hub es (hub_elsewhere first path hub is away)) port in
+    let was = listed_as es _
+    (λ hub is. finding-kept first hub es (hub_elsewhere first path _ is away)) port in
     rw (finding-kept first path es away) (known path away was)
 
 -- nothing is listed at a path and below it, and nothing stands there
@@ -159,13 +159,13 @@ pub known_vacant : (first : List ℕ) (w : World) (es : Entries) → 1 ≤ lengt
 known_vacant first w es some gone known here =
     known_whole first w es some known (rw (finding-none first first es gone (way_itself first))
     here)
-    (λ path hub is way port. absurd (none_below es path hub is (finding-none first hub es gone way)
+    (λ _ hub is way port. absurd (none_below _ _ _ is (finding-none first hub es gone way)
     port))
 
 is_told_at-same : {options : HostOptions} (w : World) (es fs : Entries) (path : List ℕ)
     → finding_at path fs ≡ finding_at path es → known_supply path fs ≡ known_supply path es
     → IsAccurateAt options w es path → IsAccurateAt options w fs path
-is_told_at-same w es fs path same supply told device s at on stands =
+is_told_at-same w _ _ _ same supply told device s at on stands =
     let t = told device s (ap accepted_device_of (sym same) ∙ at) on stands in
     record { found = rw supply t.found; set = t.set }
 
@@ -187,7 +187,7 @@ caused_as options w es fs path same supply caused cause s at stands =
 supply_known : (path : List ℕ) {o u : Option KnownPort} → o ≡ u
     → unwrap_or (option_map (λ (known : KnownPort). known.supply) o) 0
     ≡ unwrap_or (option_map (λ (known : KnownPort). known.supply) u) 0
-supply_known path e = ap (λ (x : Option KnownPort). unwrap_or
+supply_known _ e = ap (λ (x : Option KnownPort). unwrap_or
     (option_map (λ (known : KnownPort). known.supply) x) 0) e
 
 supply-kept : (first path : List ℕ) (es : Entries) → is_way first path ≡ false
@@ -234,30 +234,30 @@ module _ (first : List ℕ) (f : Finding) (es : Entries) (some : 1 ≤ length fi
       → known_supply path entered ≡ known_supply path es
   supply-entered path away = supply_known path
       (known_entered path first f es (λ hub is. untied first hub
-      (hub_elsewhere first path hub is away)))
+      (hub_elsewhere first path _ is away)))
 
   -- below it stands nothing yet
   finding-below : (path hub : List ℕ) → parent_of path ≡ Some hub → is_way first hub ≡ true
       → finding_at path entered ≡ None
   finding-below path hub is way =
-      let short : length path ≡ length hub + 1 = ap length (rejoined path hub is) ∙ length-append
+      let short : length path ≡ length hub + 1 = ap length (rejoined path _ is) ∙ length-append
       hub (port_on_hub path ∷ []) in
       let rest = way_rest first hub way in
       let long : length hub ≡ length first + length rest.0 = ap length rest.1 ∙ length-append first
       rest.0 in
-      finding-entered path (longer path (omega arith) (is_at (path_cmp path) first) refl)
-      ∙ finding-none first path es gone (way_trans first hub path way (way_parent path hub is))
+      finding-entered path (longer path (omega arith) _ refl)
+      ∙ finding-none first path es gone (way_trans first hub path way (way_parent path _ is))
     where
       longer : (path : List ℕ) → length first + 1 ≤ length path → (b : Bool)
           → is_at (path_cmp path) first ≡ b → is_at (path_cmp path) first ≡ false
       longer path long true tie = let same : length path ≡ length first =
           ap length (path_tied path first tie) in absurd (omega arith)
-      longer path long false tie = tie
+      longer _ _ false tie = tie
 
   known_but_entered : (w : World) → KnownBut first w es → KnownBut first w entered
   known_but_entered w known path away port =
-      let was = listed_as es path
-      (λ hub is. finding-entered hub (untied first hub (hub_elsewhere first path hub is away)))
+      let was = listed_as es _
+      (λ hub is. finding-entered hub (untied first hub (hub_elsewhere first path _ is away)))
       port in
       rw (finding-entered path (untied first path away)) (known path away was)
 
@@ -268,24 +268,24 @@ module _ (first : List ℕ) (f : Finding) (es : Entries) (some : 1 ≤ length fi
   known_found w known here ports =
       known_whole first w entered some (known_but_entered w known)
       (rw (lookup-insert_entry_here first f es) here)
-      (λ path hub is way port. subst (IsKnownAs w path) (sym (finding-below path hub is way))
+      (λ path hub is way port. subst (IsKnownAs w path) (sym (finding-below path _ is way))
       (below path hub is way port (is_at (path_cmp hub) first) refl))
     where
       below : (path hub : List ℕ) → parent_of path ≡ Some hub → is_way first hub ≡ true
           → IsListedPort (roots_of w) entered path → (b : Bool) → is_at (path_cmp hub) first ≡ b
           → IsKnownAs w path None
-      below path hub is way port true tie =
+      below path hub is _ port true tie =
           let at : IsPortBelow (roots_of w) entered (Some first) (port_on_hub path) =
           rw (path_tied hub first tie) at (rw is at port.port) in
           let own : IsSomeAnd (hub_facts_in (Some f)) (λ facts. (1 ≤ port_on_hub path)
           × (port_on_hub path ≤ facts.ports)) =
           subst (λ (x : Option Finding). IsSomeAnd (hub_facts_in x) (λ facts. (1 ≤ port_on_hub path)
           × (port_on_hub path ≤ facts.ports))) (lookup-insert_entry_here first f es) at in
-          let joined : path ≡ first ++ port_on_hub path ∷ [] = rejoined path hub is ∙ ap
+          let joined : path ≡ first ++ port_on_hub path ∷ [] = rejoined path _ is ∙ ap
           (λ (l : List ℕ). l ++ port_on_hub path ∷ []) (path_tied hub first tie) in
           rw joined (ports (port_on_hub path) own)
-      below path hub is way port false apart =
-          absurd (none_below entered path hub is (finding-entered hub apart ∙ finding-none first hub
+      below _ hub is way port false apart =
+          absurd (none_below _ _ _ is (finding-entered hub apart ∙ finding-none first hub
           es gone way) port)
 
   pub truthful_found : {options : HostOptions} (w : World) → DevicesAccurate options w es
@@ -296,7 +296,7 @@ module _ (first : List ℕ) (f : Finding) (es : Entries) (some : 1 ≤ length fi
     where
       pick : (b : Bool) → is_at (path_cmp path) first ≡ b → (is_way first path ≡ true)
           ⊎ (is_way first path ≡ false) → IsAccurateAt options w entered path
-      pick true tie on = rw (path_tied path first tie) here
+      pick true tie _ = rw (path_tied path first tie) here
       pick false apart (inl way) = λ device s at on stands. absurd (cc (
         ap accepted_device_of (finding-entered path apart ∙ finding-none first path es gone way),
         at,
@@ -312,7 +312,7 @@ module _ (first : List ℕ) (f : Finding) (es : Entries) (some : 1 ≤ length fi
     where
       pick : (b : Bool) → is_at (path_cmp path) first ≡ b → (is_way first path ≡ true)
           ⊎ (is_way first path ≡ false) → IsJustifiedAt options w entered path
-      pick true tie on = rw (path_tied path first tie) here
+      pick true tie _ = rw (path_tied path first tie) here
       pick false apart (inl way) = λ cause s at stands. absurd
           (cc (finding-entered path apart ∙ finding-none first path es gone way, at))
       pick false apart (inr away) = caused_as options w es entered path (finding-entered path apart)

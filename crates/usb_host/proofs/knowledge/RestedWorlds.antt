@@ -49,11 +49,11 @@ kept_each_still k single j s on at = still_was s (k.stays single j s on at)
 
 pub each_still_but : (path : List ℕ) {w v : World} → KeepsDevices w v → v.shared ≡ false
     → EachStillBut path w v
-each_still_but path k single j s away on at = still_was s (k.stays single j s on at)
+each_still_but _ k single j s _ on at = still_was s (k.stays single j s on at)
 
 pub elsewhere_still : (path : List ℕ) (w v : World) → EachElsewhere path StaysAs w v
     → EachStillBut path w v
-elsewhere_still path w v each j s away on at = still_was s (each j s away on at)
+elsewhere_still _ w v each j s away on at = still_was s (each j s away on at)
 
 -- What is known everywhere is known elsewhere, and less is known further above
 
@@ -62,9 +62,9 @@ but_of_sound path s = record {
   owned = but_all s.owned;
   rooted = s.rooted;
   order = s.order;
-  known = λ still x away. s.known still x;
-  truthful = λ still x away. s.truthful still x;
-  level = λ still x away. s.level still x;
+  known = λ still x _. s.known still x;
+  truthful = λ still x _. s.truthful still x;
+  level = λ still x _. s.level still x;
 }
 
 pub but_of_above : (path below : List ℕ) (h : HostState) → is_way path below ≡ true
@@ -97,7 +97,7 @@ module _ {n : ℕ} (a : HostState) {b : HostState} (r : OnlyBusSteps a b) (went 
         rooted = rooted_kept a b same_entries went.spends.roots s.rooted;
         order = went_in_order n a.world b.world went s.order;
         known = λ still. subst (PortsListed b.world) (sym same_entries)
-            (known_each a.world b.world a.entries went.spends.roots (λ path port. rests path)
+            (known_each a.world b.world a.entries went.spends.roots (λ path _. rests path)
             (s.known (went_sound n a.world b.world went still)));
         truthful =
             λ still. rw same_wide (subst (DevicesAccurate a.options b.world) (sym same_entries)
@@ -111,7 +111,7 @@ module _ {n : ℕ} (a : HostState) {b : HostState} (r : OnlyBusSteps a b) (went 
       → (b.world.fault ≡ None → RestElsewhere path a.world b.world) → IsSoundBut path a
       → IsSoundBut path b
   sound_rests_but {path = path} devices rests s =
-      let owned = but_rests path a b r k s.owned in
+      let owned = but_rests _ a b r k s.owned in
       record {
         owned = owned;
         rooted = rooted_kept a b same_entries went.spends.roots s.rooted;
@@ -137,10 +137,10 @@ port_found-finding (Some f) below n h = (f, refl)
 
 pub occupied_by : (w : World) (path : List ℕ) (f : Finding) → IsKnownAs w path (Some f)
     → IsOccupied w path
-occupied_by w path f (inl x) = inl x
-occupied_by w path (Device device) (inr x) = let s : _ = reached_there w.roots path x.1 in
+occupied_by w _ f (inl x) = inl x
+occupied_by w path (Device _) (inr x) = let s : _ = reached_there w.roots path x.1 in
     inr (x.0, subst IsSome (sym s.1) refl)
-occupied_by w path (Refused cause) (inr x) = inr (x.0, x.1.0)
+occupied_by w _ (Refused _) (inr x) = inr (x.0, x.1.0)
 
 -- the hub of a port that is known may be dropped, where what is known elsewhere than at the port is
 -- so
@@ -149,7 +149,7 @@ pub droppable_above : (path hub : List ℕ) (h : HostState) → parent_of path �
     → IsSoundBut path h → IsDroppable hub h
 droppable_above path hub h above known agrees s = record {
   listed = rw found.1 refl;
-  but = but_of_above hub path h (way_parent path hub above) s;
+  but = but_of_above hub _ h (way_parent path _ above) s;
   there = there;
 }
   where
@@ -160,13 +160,13 @@ droppable_above path hub h above known agrees s = record {
     away : is_way path hub ≡ false
     away = way_shorter path hub (omega (
       arith,
-      ap length (rejoined path hub above) ∙ length-append hub (port_on_hub path ∷ []),
+      ap length (rejoined path _ above) ∙ length-append hub (port_on_hub path ∷ []),
     ))
 
     there : h.world.fault ≡ None → IsOccupied h.world hub
     there still =
         let port = listed_port h.world (accounted h agrees s.rooted) hub
-        found.0 found.1 in
+        _ found.1 in
         occupied_by h.world hub found.0 (rw found.1 at (s.known still hub away port))
 
 -- A request at a port failed
@@ -176,12 +176,12 @@ pub lost_sound : {path : List ℕ} {port : KnownPort} {a : HostState} (b : HostS
     → IsSome (known_port path b.entries) → Agrees b.options b.entries b.addresses
     → (LetsGoOn {A = Unit {0}} (Err fault) → IsSoundBut path b)
     → InvariantAfterPort path (Err fault) b
-lost_sound {path = path} {a = a} b ParentLost s told known agrees but = by_parent (parent_of path)
+lost_sound {path = path} {a = a} b ParentLost s told known agrees but = by_parent _
     refl
   where
     by_parent : (o : Option (List ℕ)) → parent_of path ≡ o → IsSomeAnd o (λ hub. IsDroppable hub b)
     by_parent None above = absurd (cc (lost_above path a.entries b.world told None above
         (rw above at s.known)))
-    by_parent (Some hub) above = droppable_above path hub b above known agrees (but tt)
+    by_parent (Some _) above = droppable_above _ _ b above known agrees (but tt)
 lost_sound b (Bus fault) s told known agrees but = tt
 lost_sound b Memory s told known agrees but = tt

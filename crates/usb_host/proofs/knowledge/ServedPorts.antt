@@ -48,14 +48,14 @@ pub stands_listed : (path : List ℕ) (port : KnownPort) (h : HostState) → Sta
 stands_listed path port h s = record {
   some = s.is.0;
   port = port_below_hub (roots_of h.world) h.entries (port_on_hub path) (parent_of path)
-      (port_number path s.is).0 (root_most path port h s (parent_of path) refl s.known)
+      (port_number path s.is).0 (root_most _ _ h s _ refl s.known)
       (rw s.known refl);
 }
 
 pub stands_way : {path : List ℕ} {port : KnownPort} (h : HostState) → StandsAt path port h
     → PortsListed h.world h.entries → HasWay h.world path
 stands_way {path = path} {port = port} h s known = known_way path h.world
-    (finding_at path h.entries) (known path (stands_listed path port h s))
+    (finding_at path h.entries) (known path (stands_listed _ _ h s))
 
 -- A request at the port fails, and only the world has gone on
 
@@ -147,7 +147,7 @@ module _ {n : ℕ} {path : List ℕ} {port : KnownPort} {a b : HostState} (s : S
   rests_stands = record {
     is = s.is;
     known = ap (λ (h : HostState). known_port path h.entries) r ∙ s.known;
-    there = is_port-spends n port.port a.world b.world went.spends s.there;
+    there = is_port-spends n port.port _ _ went.spends s.there;
     askable = s.askable;
     agrees = rests_agrees r s;
   }
@@ -185,7 +185,7 @@ module _ {n : ℕ} {path : List ℕ} {port : KnownPort} {a b c : HostState} {sta
   stays = stays_bare path a b c s r went.spends.roots x.bares f.others f.rest
 
   still_before : c.world.fault ≡ None → a.world.fault ≡ None
-  still_before still = went_sound n a.world b.world went (ap (λ (w : World). w.fault) (sym world_is)
+  still_before still = went_sound n _ _ went (ap (λ (w : World). w.fault) (sym world_is)
       ∙ still)
 
   forgot_known : c.world.fault ≡ None → KnownBut path c.world c.entries
@@ -209,7 +209,7 @@ module _ {n : ℕ} {path : List ℕ} {port : KnownPort} {a b c : HostState} {sta
       (λ y away. level_rests a b r x.devices single y (i.level (still_before still) y))
 
   forgot_order : c.world.fault ≡ None → IsOrderly c.world
-  forgot_order still = rw world_is (went_in_order n a.world b.world went i.order
+  forgot_order still = rw world_is (went_in_order n _ _ went i.order
       (ap (λ (w : World). w.fault) (sym world_is) ∙ still))
 
   forgot_decides : c.world.fault ≡ None → Decides status.connected c.world path

@@ -58,7 +58,7 @@ port_found-facts o below n least h = pick (port_found o below n) refl h
         → IsSomeAnd (hub_facts_in o) (λ facts. (1 ≤ n) × (n ≤ facts.ports))
     pick None e h = absurd cc
     pick (Some port) e h =
-        let x : FoundPort o below n port = port_found-some o below n port e in
+        let x : FoundPort o below n port = port_found-some o below n _ e in
         rw (ap hub_facts_in x.stands ∙ x.told) (least, x.most)
 
 pub port_below_hub : (roots : ℕ) (entries : Entries) (n : ℕ) (o : Option (List ℕ)) → 1 ≤ n
@@ -84,12 +84,12 @@ module _ {options : HostOptions} (w : World) {entries : Entries} {addresses : Ad
   pub listed_address : (path : List ℕ) (address : ℕ) → entry_address path entries ≡ Some address
       → IsAddress address
   listed_address path address at = accounted.agrees.range address
-      (claims_taken accounted.agrees.accounts path address at)
+      (claims_taken accounted.agrees.accounts path _ at)
 
   listed_once : (path other : List ℕ) (address : ℕ) → entry_address path entries ≡ Some address
       → entry_address other entries ≡ Some address → path ≡ other
   listed_once path other address at same =
-      sym (same_is path other (claims_distinct entries addresses accounted.agrees.accounts path
+      sym (same_is path other (claims_distinct _ _ accounted.agrees.accounts path
       other address at same))
 
 -- What is known where nothing is pending
@@ -215,7 +215,7 @@ module _ (options : HostOptions) (w : World) (entries : Entries) (addresses : Ad
           → IsRight (ListsEach entries) spec options (tier_of path) (supply_at (tree_in w) path) f
       moved s f stands right =
           let same : s.spec ≡ spec = cc (tree_in-spec w path stands, is) in
-          right_moved (ListsEach entries) options spec (tier_of path)
+          right_moved (ListsEach entries) _ _ _
           f same (supply_known (parent_of path) (port_on_hub path) port.port) right
 
       pick : (o : Option Finding) → finding_at path entries ≡ o
@@ -226,7 +226,7 @@ module _ (options : HostOptions) (w : World) (entries : Entries) (addresses : Ad
           subst (IsThere w path) at (there_at port) in
           absurd (cc (ap (option_map spec_of) none, is))
       pick (Some (Device device)) at = let t : _ = told path device at in
-          moved t.0 (Device device) t.1 (inl t.2.found)
+          moved _ (Device device) t.1 (inl t.2.found)
       pick (Some (Refused cause)) at = stood (state_there w.roots path) refl
           (subst (IsThere w path) at (there_at port)).0
         where

@@ -38,7 +38,7 @@ level_event table w level path = record {
 pub known_event : (w : World) (entries : Entries) → PortsListed w entries
     → PortsListed (after event w) entries
 known_event w entries known = known_each w (after event w) entries
-    (course_later (event_calm [] w)).roots (λ path port. event_calm path w) known
+    (course_later (event_calm [] w)).roots (λ path _. event_calm path w) known
 
 pub truthful_event : {options : HostOptions} (w : World) (entries : Entries)
     → DevicesAccurate options w entries → DevicesAccurate options (after event w) entries
@@ -57,4 +57,4 @@ pub causes_event : {options : HostOptions} (w : World) {entries : Entries} {addr
     → RefusalsJustified options (after event w) entries
 causes_event w accounted known caused =
     causes_stay w (after event w) accounted known
-    (λ path port. course_wider (λ s u x. x.spares) (event_calm path w)) caused
+    (λ path _. course_wider (λ s u x. x.spares) (event_calm path w)) caused

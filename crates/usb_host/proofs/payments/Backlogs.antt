@@ -141,7 +141,7 @@ module _ (j : ℕ) (e : List ℕ) (status : PortStatus) (old mid : World) (ports
       let onward : KeepsBy unmarked unmarked (only p) t.now x.mid =
       (all_then t.rested x.acted).all before.left unmarked unmarked (only p) (few-only p) in
       let pays : PaysStray t.now new =
-      tidied_pays j e t.now x.mid new q.0 q.1 set onward
+      tidied_pays j e _ _ _ q.0 q.1 set onward
       (λ o at. x.cleared (port_of o) (port_of_place x.mid.roots p ∙ ap (option_map port_of) at))
       (x.rested.all onward.left unmarked unmarked unmarked few-none) in
       record {
@@ -162,7 +162,7 @@ module _ (j : ℕ) (e : List ℕ) (status : PortStatus) (old mid : World) (ports
     at_clearing : ClearedAt j e t.now x.mid
     at_clearing =
         let q : _ = told_place p t in
-        cleared_at j e t.now x.mid q.0 q.1 (ap (λ (b : PortState). b.connection_changed) q.2 ∙ ap
+        cleared_at j e _ _ q.0 q.1 (ap (λ (b : PortState). b.connection_changed) q.2 ∙ ap
         (λ (s : PortStatus). s.connection_changed) (sym t.is) ∙ told) onward
         (λ o at. x.cleared (port_of o) (port_of_place x.mid.roots p ∙ ap (option_map port_of) at))
         (x.bare order)
@@ -174,7 +174,7 @@ module _ (j : ℕ) (e : List ℕ) (status : PortStatus) (old mid : World) (ports
         let there : _ = full_of (place x.now.roots p)
         (ap is_some (sym (state_of_place x.now.roots p)) ∙ x.stood order on) in
         let pays : PaysLook t.now new =
-        found_pays j e t.now x.mid x.now new at_clearing (found_all p x.between)
+        found_pays j e t.now _ _ _ at_clearing (found_all p x.between)
         (found_then p (found_all p x.rested) found) onward.left there.0 there.1 there.2
         there.3 in
         record {
@@ -185,7 +185,7 @@ module _ (j : ℕ) (e : List ℕ) (status : PortStatus) (old mid : World) (ports
     -- none was
     pub none_pays : PaysBare old left
     none_pays =
-        let pays : PaysBare t.now left = bare_pays j e t.now x.mid left at_clearing
+        let pays : PaysBare t.now left = bare_pays j e t.now _ _ at_clearing
         (all_then x.between x.rested) onward.left in
         record {
           looks = omega (arith, before.looks, pays.looks);
@@ -209,26 +209,26 @@ port_there-not_empty _ w f there = absurd (cc there)
 pub told_resets : (p : List ℕ) (status : PortStatus) (old mid new : World) → AtPorts old.left
     → PortStatusAt p status old mid → status.reset_changed ≡ true → ResetCleared p mid new
     → PaysStray old new
-told_resets p status old mid new ports t told x =
+told_resets p _ _ _ _ ports t told x =
     port_there-not_empty p t.now
-    (λ j e is. reset_pays j e status old mid ports (rw is at t) told new (rw is at x)) t.stood
+    (λ j e is. reset_pays j e _ _ _ ports (rw is at t) told _ (rw is at x)) t.stood
 
 pub told_looks : (p : List ℕ) (status : PortStatus) (old mid : World) → AtPorts old.left
     → PortStatusAt p status old mid → status.connection_changed ≡ true
     → (second : PortStatus) (left : World) → ChangeCleared p second mid left → IsOrderly mid
     → second.connected ≡ true → (new : World) → KeepsFound p left new → PaysLook old new
-told_looks p status old mid ports t told second left x order on new found =
+told_looks p _ _ _ ports t told _ _ x order on _ found =
     port_there-not_empty p t.now
-    (λ j e is. look_pays j e status old mid ports (rw is at t) told second left (rw is at x) order
-    on new (rw is at found)) t.stood
+    (λ j e is. look_pays j e _ _ _ ports (rw is at t) told _ _ (rw is at x) order
+    on _ (rw is at found)) t.stood
 
 pub told_pays_bare : (p : List ℕ) (status : PortStatus) (old mid : World) → AtPorts old.left
     → PortStatusAt p status old mid → status.connection_changed ≡ true
     → (second : PortStatus) (left : World) → ChangeCleared p second mid left → IsOrderly mid
     → PaysBare old left
-told_pays_bare p status old mid ports t told second left x order =
+told_pays_bare p _ _ _ ports t told _ _ x order =
     port_there-not_empty p t.now
-    (λ j e is. none_pays j e status old mid ports (rw is at t) told second left (rw is at x) order)
+    (λ j e is. none_pays j e _ _ _ ports (rw is at t) told _ _ (rw is at x) order)
     t.stood
 
 -- a status was told, and no more is left to do since

@@ -73,8 +73,8 @@ steady_steps : (p : List ℕ)
 unfolding after_event leaves_step
 steady_steps p = record {
   events = keeps_events (λ w. Steady (port_there w.roots p))
-      (λ e es w l. happened_steady e.action w.devices w.roots p);
-  made = λ a w made g. subst Steady (sym (made_port a (at_attempt w) p g));
+      (λ e _ w l. happened_steady e.action w.devices w.roots p);
+  made = λ a w _ g. subst Steady (sym (made_port a (at_attempt w) p g));
   root = λ c m w g. subst Steady (sym (root_port c m w.roots p g));
   refused = λ w h. h;
 }

@@ -32,9 +32,9 @@ watched_plain path a s owned status w =
 
 pub keeps_each_then : {n : ℕ} {old mid new : World} {r s : Option (List ℕ)} → KeepsEach old mid
     → StepRun n mid r new s → KeepsEach mid new → KeepsEach old new
-keeps_each_then {n = n} {old = old} {mid = mid} {new = new} x went y = record {
-  addresses = keeps_then old mid new x.addresses y.addresses;
-  devices = devices_then n old mid new x.devices went y.devices;
+keeps_each_then {n = n} x went y = record {
+  addresses = keeps_then _ _ _ x.addresses y.addresses;
+  devices = devices_then n _ _ _ x.devices went y.devices;
 }
 
 -- The changes of a hub

@@ -43,7 +43,7 @@ call_done {c = c} other calls f p at owned =
 
 pub done_not : {b : Bool} (p : List ℕ) (c : PortCall) (old new : World) → b ≡ false → new ≡ old
     → DoneWhere b p c old new
-done_not p c old new is same = rw is same
+done_not p c _ _ is same = rw is same
 
 -- Entries
 
@@ -62,9 +62,9 @@ without-without_by lost path e es goes same false false is at =
 
 pub without-way : (lost path : List ℕ) → is_way lost path ≡ true → (es : Entries)
     → without lost (without path es) ≡ without lost es
-without-way lost path way [] = refl
+without-way _ _ _ [] = refl
 without-way lost path way (e ∷ es) = without-without_by lost path e es goes
-    (without-way lost path way es) (is_at_or_below e.0 path) (is_at_or_below e.0 lost) refl refl
+    (without-way lost path way es) _ _ refl refl
   where
     goes : is_at_or_below e.0 path ≡ true → is_at_or_below e.0 lost ≡ true
     goes at = at_or_below_way e.0 lost ∙ way_trans lost path e.0 way (sym (at_or_below_way e.0 path)
@@ -75,7 +75,7 @@ pub loses_then : (path : List ℕ) (old : Entries) {mid new : Entries} → Stays
     → LosesParent path mid new → LosesParent path old new
 loses_then path old {new = new} (inl same) x = rw same at x
 loses_then path old {mid = mid} (inr gone) x =
-    let way = way_trans x.loses.path x.hub path x.loses.above (way_parent path x.hub x.parent) in
+    let way = way_trans x.loses.path x.hub path x.loses.above (way_parent path _ x.parent) in
     let left : without x.loses.path mid ≡ without x.loses.path old =
     ap (λ (es : Entries). without x.loses.path es) gone ∙ without-way x.loses.path path way old in
     record {
@@ -91,7 +91,7 @@ loses_then path old {mid = mid} (inr gone) x =
 
 pub renews_by : {b : Bool} (path : List ℕ) (old new : Entries) {c : Bool} → b ≡ c
     → Renews c path old new → Renews b path old new
-renews_by path old new is x = rw is x
+renews_by _ _ _ is x = rw is x
 
 -- A port
 
@@ -105,7 +105,7 @@ module _ {path : List ℕ} {port : KnownPort} {a b : HostState} (s : StandsAt pa
   status_failed fault = inl stays
 
   pub cleared_failed : (fault : EnumFault) → LookedOrLost path a (Err fault) b
-  cleared_failed fault = inl stays
+  cleared_failed _ = inl stays
 
   module _ {status : PortStatus} (x : Watches port.port a.world (Ok status) b.world) where
     told_now : PortStatusAt path status a.world b.world
@@ -133,7 +133,7 @@ module _ {path : List ℕ} {port : KnownPort} {a b : HostState} (s : StandsAt pa
     pub serves_looked : status.connection_changed ≡ true
         → (result : Result (Unit {0}) EnumFault) (c : HostState)
         → (IsOwned b → LookedOrLost path b result c) → ServedOrLost path a result c
-    serves_looked on (Ok done) c x = was_looked_at status b told_now on r (x owned_now)
+    serves_looked on (Ok done) c x = was_looked_at _ b told_now on r (x owned_now)
     serves_looked on (Err fault) c x = rw stays at (x owned_now)
 
 -- what stood there was forgotten, and no more was done
@@ -148,7 +148,7 @@ pub handled_at : (path : List ℕ) (served : Result (Unit {0}) EnumFault)
     → EndsAt path served b result c → ServedOrLost path a served b → OnOk result (ServedAt path a c)
 handled_at path (Ok done) (Ok x) a b c ends left s = rw left s
 handled_at path (Err ParentLost) (Ok x) a b c ends left s =
-    was_lost (loses_then path a.entries s left)
+    was_lost (loses_then _ a.entries s left)
 handled_at path (Err (Bus fault)) (Ok x) a b c ends left s = absurd (cc ends)
 handled_at path (Err Memory) (Ok x) a b c ends left s = absurd (cc ends)
 handled_at path _ _ a b c ends left s = tt
@@ -156,16 +156,16 @@ handled_at path _ _ a b c ends left s = tt
 pub handled_once : (path : List ℕ) (looked : Result (Unit {0}) EnumFault) (a b c : HostState)
     → EndsAs looked (Ok tt) → EndsAt path looked b (Ok tt) c → LookedOrLost path a looked b
     → LookedOnce path a c
-handled_once path (Ok done) a b c ends left s = looked_once (rw left s)
-handled_once path (Err ParentLost) a b c ends left s = lost_once (loses_then path a.entries s left)
+handled_once _ (Ok _) a b c _ left s = looked_once (rw left s)
+handled_once _ (Err ParentLost) a b c _ left s = lost_once (loses_then _ a.entries s left)
 handled_once path _ a b c ends left s = absurd (cc ends)
 
 pub handles_at : (path : List ℕ) (due : Type 0) (result : Result (Unit {0}) HostFault)
     (a c : HostState) → OnOk result (due → HostProgress a c)
     → (HostInvariant a → OnOk result (ServedAt path a c)) → OnOk result (HandledSo path a c)
     → OnOk result (HandlesAt path due a c)
-handles_at path due (Ok done) a c x y z = record { advances = x; served = y; order = z }
-handles_at path due (Err fault) a c x y z = tt
+handles_at _ _ (Ok _) a c x y z = record { advances = x; served = y; order = z }
+handles_at _ _ (Err _) a c x y z = tt
 
 -- a hub that was dropped is the port's own, or stands above it; so does one that could not be
 pub loses_parent : (path hub : List ℕ) (old new : Entries) (result : Result (Unit {0}) HostFault)
@@ -175,7 +175,7 @@ pub loses_parent : (path hub : List ℕ) (old new : Entries) (result : Result (U
 loses_parent path hub old new (Ok done) above x y = record { hub = hub; parent = above; loses = x }
 loses_parent path hub old new (Err fault) above x y = record {
   on = y.on;
-  way = way_trans y.on hub path y.way (way_parent path hub above);
+  way = way_trans y.on hub path y.way (way_parent path _ above);
   left = y.left;
 }
 
@@ -189,7 +189,7 @@ pub pushed_part : (hub : List ℕ) (number : ℕ) → 1 ≤ length hub → IsPat
 pushed_part hub number least is =
     let long : length (hub ++ (number ∷ [])) ≡ length hub + 1 = length-append hub (number ∷ []) in
     let last = same_last hub {m = number} {n = port_on_hub (hub ++ (number ∷ []))}
-    (rejoined (hub ++ (number ∷ [])) hub (parent hub number least)) in (
+    (rejoined (hub ++ (number ∷ [])) _ (parent hub number least)) in (
       rw last (port_number (hub ++ (number ∷ [])) is),
       omega (arith, is.1),
     )

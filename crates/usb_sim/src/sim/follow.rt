@@ -56,6 +56,7 @@ impl<T: Trace> SimBus<T> {
         Ok(())
     }
 
+    /// Whether another plan has as many devices, and the same damages up to the attempts that were made.
     fn is_alike(&self, plan: &Plan) -> bool
         ensures { result ≡ is_alike plan.now (world_of self.now) }
     {
@@ -75,6 +76,7 @@ fn events_behind(alloc: Global, events: &[Event], taken: u64) -> Result<VecDeque
     Ok(VecDeque::from(event_copies(alloc, &events[first..])?))
 }
 
+/// The same damages, in a vector of their own.
 fn damage_copies(alloc: Global, damages: &[Damage]) -> Result<Vec<Damage>, AllocError>
     ensures { IfOk result (λ copies. copies.items ≡ damages.now) }
 {

@@ -11,7 +11,7 @@ returns-then-is_err-clause-captures g c = torn_header _ _ _ c.put_piece.ensures.
 
 pub reads-init : goal.reads-init
 reads-init g c =
-    let gone = not_err c.put_piece.result (sym c.is_err.ensures.value ∙ c.if-is_err.false)
+    let gone = not_err _ (sym c.is_err.ensures.value ∙ c.if-is_err.false)
     c.put_piece.ensures.ok in (
       [],
       Consumes-nil _,
@@ -24,32 +24,32 @@ reads-init g c =
 pub returns-in-Err-clause-captures : goal.returns-in-Err-clause-captures
 returns-in-Err-clause-captures g c =
     let (done, read, stands, count) = c.reads.invariant in
-    read_failed (g.R.Read.remaining (inner_of c.args.reader.now))
-    (g.R.Read.remaining (inner_of c.reads.reader)) _ _ done c.reads.line read stands
+    read_failed _
+    _ _ _ _ _ read stands
 
 pub returns-in-Ok-eq0-clause-captures : goal.returns-in-Ok-eq0-clause-captures
 returns-in-Ok-eq0-clause-captures g c =
     let (done, read, stands, count) = c.reads.invariant in
     let bytes = c.in-Ok-eq0.ensures.bytes in
     let none : c.in-Ok-eq0.field-0 ≡ 0 = omega arith in
-    captures_all (g.R.Read.remaining (inner_of c.args.reader.now))
-    (g.R.Read.remaining (inner_of c.read.new.self)) _ _ done c.end.result
-    (read_none (g.R.Read.remaining (inner_of c.args.reader.now))
-    (g.R.Read.remaining (inner_of c.reads.reader))
-    (g.R.Read.remaining (inner_of c.read.new.self)) done _ _ read none bytes.0)
+    captures_all _
+    _ _ _ _ _
+    (read_none _
+    _
+    _ _ _ _ read none bytes.0)
     (bytes.1 none (omega arith)) (c.end.ensures.captures _ _ done stands)
 
 pub returns-in-Err-take_piece-clause-read : goal.returns-in-Err-take_piece-clause-read
 returns-in-Err-take_piece-clause-read g c =
     let (done, read, stands, count) = c.reads.invariant in
-    never_read _ _ _ c.in-Err-take_piece.fault _ (c.in-Err-take_piece.ensures.comes _ done stands)
+    never_read _ _ _ _ _ (c.in-Err-take_piece.ensures.comes _ done stands)
 
 pub returns-in-Err-take_piece-clause-captures : goal.returns-in-Err-take_piece-clause-captures
 returns-in-Err-take_piece-clause-captures g c =
     let (done, read, stands, count) = c.reads.invariant in
-    comes_front (g.R.Read.remaining (inner_of c.args.reader.now))
-    (g.R.Read.remaining (inner_of c.read.new.self)) _ _
-    (done ++ take c.in-Ok.count c.read.new.buf) c.in-Err-take_piece.fault _
+    comes_front _
+    _ _ _
+    _ _ _
     (Consumes-trans _ (g.R.Read.remaining (inner_of c.reads.reader)) _ done
     (take c.in-Ok.count c.read.new.buf) read c.in-Ok.ensures.bytes.0)
     (c.in-Err-take_piece.ensures.comes _ done stands)
@@ -71,6 +71,6 @@ reads-preserved g c =
 pub returns-clause-captures : goal.returns-clause-captures
 returns-clause-captures g c =
     let (done, read, stands, count) = c.reads.invariant in
-    read_on (g.R.Read.remaining (inner_of c.args.reader.now))
-    (g.R.Read.remaining (inner_of c.reads.reader)) _ _ done c.reads.line read stands
+    read_on _
+    _ _ _ _ _ read stands
     (omega arith)

@@ -1,12 +1,11 @@
 use Rattle.std.proofs.Common.{◌/◌, ◌%◌}
-use Rattle.std.specs.Int.{to_le_bytes, w32}
 use Rattle.usb_pcap.proofs.Records.{four_parts}
 use Rattle.usb_pcap.proofs.record.push_head.Goals as goal
 
 pub returns : goal.returns
 returns c =
-    four_parts c.args.records.now.items c.push_word.new.records.items
-    c.push_word-2.new.records.items c.push_word-3.new.records.items _
-    (to_le_bytes w32 (c.args.number / 1000000)) (to_le_bytes w32 (c.args.number % 1000000))
-    (to_le_bytes w32 c.args.size) (to_le_bytes w32 c.args.size)
+    four_parts _ _
+    _ _ _
+    _ _
+    _ _
     c.push_word.ensures c.push_word-2.ensures c.push_word-3.ensures c.push_word-4.ensures

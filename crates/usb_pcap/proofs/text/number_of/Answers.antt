@@ -4,21 +4,21 @@ use Rattle.usb_pcap.proofs.text.number_of.Goals as goal
 
 pub returns-then-not-is_ascii_digit : goal.returns-then-not-is_ascii_digit
 returns-then-not-is_ascii_digit c =
-    number_halts c.digits.value c.digits.digit-index c.args.text.now (omega arith)
+    number_halts _ _ _ (omega arith)
     c.digits.invariant (sym c.is_ascii_digit.ensures.value ∙ c.if-not-is_ascii_digit.true)
 
 pub returns-in-None : goal.returns-in-None
 returns-in-None c =
-    number_over c.digits.value c.digits.digit-index c.args.text.now _ (omega arith)
+    number_over _ _ _ _ (omega arith)
     c.digits.invariant (sym c.is_ascii_digit.ensures.value ∙ c.if-not-is_ascii_digit.false)
     c.with_digit.ensures c.in-None.is
 
 pub digits-preserved : goal.digits-preserved
 digits-preserved c =
-    number_goes c.digits.value c.digits.digit-index _ c.args.text.now _ (omega arith)
+    number_goes _ _ _ _ _ (omega arith)
     c.digits.invariant (sym c.is_ascii_digit.ensures.value ∙ c.if-not-is_ascii_digit.false)
     c.with_digit.ensures c.in-Some.is
 
 pub returns : goal.returns
-returns c = number_on-end c.digits.value c.digits.digit-index c.args.text.now (omega arith)
+returns c = number_on-end _ _ _ (omega arith)
     c.digits.invariant

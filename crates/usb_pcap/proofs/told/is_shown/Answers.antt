@@ -8,8 +8,8 @@ pub bytes-init : goal.bytes-init
 bytes-init c = subst (Begins _) (sym c.new-begun.ensures) begins_none
 
 pub bytes-preserved : goal.bytes-preserved
-bytes-preserved c = shown_more _ _ c.bytes.byte-index _ c.bytes-test.true refl
+bytes-preserved c = shown_more _ _ _ _ c.bytes-test.true refl
     (c.take_shown.ensures _ c.bytes.invariant)
 
 pub returns : goal.returns
-returns c = shown_all _ _ c.bytes.byte-index _ (omega arith) c.bytes.invariant c.is_empty.ensures
+returns c = shown_all _ _ _ _ (omega arith) c.bytes.invariant c.is_empty.ensures
