@@ -85,6 +85,9 @@ impl Indexes {
         ensures none { IfNone result
             (list_any (λ e. is_at_or_below e.0 path.now) self.now.by_path.entries ≡ false) }
     {
+        if self.by_path.is_empty() {
+            return None;
+        }
         let (first, _) = self.by_path.range(path.duplicate()..).next()?;
         if !is_at_or_below(first, path) {
             return None;

@@ -257,6 +257,9 @@ impl DeviceTable {
         ensures none { IfNone result
             (IsLast (fits kind) (option_copied last.entry) self.now.entries) }
     {
+        if self.indexes.by_path.is_empty() {
+            return None;
+        }
         let behind = (start_after(last), Bound::Unbounded);
         'entries: for (path, key) in self.indexes.by_path.range(behind) {
             if fits(kind, self.entries[*key].finding()) {
