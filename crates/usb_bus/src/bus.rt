@@ -8,10 +8,11 @@ ghost use Rattle.usb_world.specs.Worlds.{World, IsAttempt, FitsMaximum, root_por
 ghost use Rattle.usb_world.specs.Steps.{WorldInvariant, SetsRoot, ClearsRoot};
 ghost use Rattle.usb_tree.specs.AttemptPackets.{IsSettled};
 ghost use Rattle.usb_bus.specs.Traces.{Attempts, Spends};
+ghost use Rattle.usb_bus.specs.OutcomeKinds.{result_with};
 ghost use Rattle.usb_bus.specs.Rows.{InsMade, OutsMade, IsDestination, CountsRow, RowTold, row_attempts};
 
 use crate::rows::{add_full, is_ack, out_attempt};
-use crate::{Attempt, BusFault, Destination, Outcome, ROW_ROOM, RowDone, RowEnd};
+use crate::{Attempt, BusFault, Destination, Outcome, OutcomeKind, ROW_ROOM, RowDone, RowEnd};
 use arrayvec::ArrayVec;
 use usb_packet::Toggle;
 
@@ -60,6 +61,33 @@ pub trait Bus {
         ensures spends { Spends spent ports 1 self.old self.new }
         ensures fits { IfOk result (FitsMaximum (attempt_data attempt.now).max) }
         ensures told { IfErr result (λ fault. failed self.new ≡ Some fault) };
+
+    /// The same attempt, whose data are put into a room of the caller's; what else is in it then is not said.
+    ///
+    /// This body makes it by `attempt`. A bus that has the bytes elsewhere puts them there at once.
+    ///
+    /// # Errors
+    ///
+    /// As of `attempt`.
+    fn attempt_into(
+        &mut self,
+        attempt: &Attempt,
+        room: &mut ArrayVec<u8, 64>,
+    ) -> Result<OutcomeKind, BusFault>
+        requires { IsAttempt (attempt_data attempt.now) }
+        ensures attempts { modelled ≡ true → Attempts (attempt_data attempt.now)
+            (world self.old) (trace self.old) (result_with result room.new)
+            (world self.new) (trace self.new) }
+        ensures spends { Spends spent ports 1 self.old self.new }
+        ensures fits { IfOk (result_with result room.new)
+            (FitsMaximum (attempt_data attempt.now).max) }
+        ensures told { IfErr result (λ fault. failed self.new ≡ Some fault) }
+    {
+        match self.attempt(attempt) {
+            Ok(outcome) => Ok(OutcomeKind::put(outcome, room)),
+            Err(fault) => Err(fault),
+        }
+    }
 
     /// Makes INs of one endpoint, one after the other, until one is not answered by a full packet of the toggle that is
     /// due.

@@ -57,10 +57,6 @@ pub record AttemptMade {A : Type 0} (a : Attempt) (old : World) (before : Option
     pub other : IfErr result (λ f. f ≢ Limit)
     pub text : WritesText result before now (step_lines a old new)
 
-abbrev pub is_data : ExchangeAnswer → Bool
-is_data (One (packet.Payload toggle bytes)) = true
-is_data _ = false
-
 -- how many bytes of data a device answered, where one device did
 abbrev pub data_length : ExchangeAnswer → ℕ
 data_length (One (packet.Payload toggle bytes)) = length bytes.items

@@ -1,13 +1,24 @@
 -- What an outcome means to the host that made the attempt.
-use Rattle.std.specs.Prelude.{Bool, true, false, if◌then◌else◌, [], Option, Some, None, Result, Ok}
+use Rattle.std.specs.Prelude.{ℕ, Bool, true, false, if◌then◌else◌, [], Option, Some, None, Result, Ok}
 use Rattle.std.specs.Prelude.{Err}
 use Rattle.usb_packet.specs.{Toggle, other, is_same}
 use Rattle.usb_world.specs.{Outcome}
 use Rattle.usb_world.specs.declared.types.Outcome.TheVariants.{Payload, Ack, Nak, Stall, Nothing}
+use Rattle.arrayvec.specs.ArrayVec.{ArrayVec}
+use Rattle.usb_transaction.specs.declared.heard_outcome.HeardKind.{HeardKind}
+use Rattle.usb_transaction.specs.declared.heard_outcome.HeardKind.TheVariants as kind
 use Rattle.usb_transaction.specs.declared.heard_outcome.HeardOutcome.{HeardOutcome}
 use Rattle.usb_transaction.specs.declared.heard_outcome.HeardOutcome.TheVariants.{Moved, NotReady}
 use Rattle.usb_transaction.specs.declared.heard_outcome.HeardOutcome.TheVariants.{Repeat, Refused}
 use Rattle.usb_transaction.specs.declared.heard_outcome.HeardOutcome.TheVariants.{Lost}
+
+-- what is heard, with the bytes that are in the room
+abbrev pub heard_with : HeardKind → ArrayVec ℕ → HeardOutcome
+heard_with kind.Moved bytes = Moved bytes
+heard_with kind.NotReady bytes = NotReady
+heard_with kind.Repeat bytes = Repeat
+heard_with kind.Refused bytes = Refused
+heard_with kind.Lost bytes = Lost
 
 -- to a host that awaits a packet of a toggle
 abbrev pub heard_as : Toggle → Outcome → HeardOutcome

@@ -10,6 +10,8 @@ use Rattle.usb_transaction.specs.declared.fault.TransFault.{TransFault}
 use Rattle.usb_transaction.specs.declared.fault.TransFault.TheVariants.{Stalled, Busy, NoAnswer}
 use Rattle.usb_transaction.specs.declared.fault.TransFault.TheVariants.{Bus}
 use Rattle.usb_transaction.specs.declared.tries.Tries.{Tries}
+use Rattle.usb_transaction.specs.declared.tries.Turn.{Turn}
+use Rattle.usb_transaction.specs.declared.tries.Turn.TheVariants as turn
 use Rattle.usb_transaction.specs.AttemptLogs.{IsNoEnd, errors_with, waits_with}
 use Rattle.usb_transaction.specs.Transactions.{error_limit, wait_limit}
 
@@ -26,6 +28,12 @@ HearsAs old heard (Err Stalled) new = heard ≡ Refused
 HearsAs old heard (Err Busy) new = waits_with heard old.waits ≡ wait_limit
 HearsAs old heard (Err NoAnswer) new = errors_with heard old.errors ≡ error_limit
 HearsAs old heard (Err (Bus fault)) new = ⊥
+
+-- whether the packet was moved, with the bytes that are in the room
+abbrev pub moved_in : Result Turn TransFault → ArrayVec ℕ → Result (Option (ArrayVec ℕ)) TransFault
+moved_in (Ok turn.Moved) bytes = Ok (Some bytes)
+moved_in (Ok turn.Again) bytes = Ok None
+moved_in (Err fault) bytes = Err fault
 
 -- the most attempts of a transaction after its first
 abbrev pub further_bound : ℕ

@@ -6,9 +6,10 @@ ghost use Rattle.usb_transaction.specs.HeardOutcomes.{toggle_after};
 ghost use Rattle.usb_transaction.specs.Transactions.{BusTold, IsTarget, transaction_bound};
 
 use crate::attempt::attempt_of_in;
-use crate::heard_outcome::{HeardOutcome, heard_as};
+use crate::heard_outcome::{HeardKind, heard_as};
 use crate::tries::Tries;
 use crate::{Done, Target, TransFault};
+use arrayvec::ArrayVec;
 use usb_bus::Bus;
 use usb_packet::Toggle;
 
@@ -49,17 +50,18 @@ pub fn poll_in<B: Bus>(
 {
     let attempt = attempt_of_in(target, ep);
     let mut tries = Tries::new();
+    let mut room = ArrayVec::new();
     'tries: loop {
-        match bus.attempt(&attempt) {
-            Ok(outcome) => match heard_as(*toggle, outcome) {
-                HeardOutcome::Moved(bytes) => {
+        match bus.attempt_into(&attempt, &mut room) {
+            Ok(kind) => match heard_as(*toggle, kind, &room) {
+                HeardKind::Moved => {
                     *toggle = toggle.other();
-                    return Ok(Some(Done::data(bytes)));
+                    return Ok(Some(Done::data(room)));
                 }
-                HeardOutcome::NotReady => return Ok(None),
-                HeardOutcome::Repeat => tries.wait()?,
-                HeardOutcome::Refused => return Err(TransFault::Stalled),
-                HeardOutcome::Lost => tries.error()?,
+                HeardKind::NotReady => return Ok(None),
+                HeardKind::Repeat => tries.wait()?,
+                HeardKind::Refused => return Err(TransFault::Stalled),
+                HeardKind::Lost => tries.error()?,
             },
             Err(fault) => return Err(TransFault::Bus(fault)),
         }

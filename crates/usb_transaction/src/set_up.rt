@@ -8,6 +8,7 @@ use crate::attempt::attempt_of_setup;
 use crate::heard_outcome::is_ack;
 use crate::tries::ERROR_LIMIT;
 use crate::{Done, Target, TransFault};
+use arrayvec::ArrayVec;
 use usb_bus::Bus;
 
 /// Sends setup data (8.5.3), in at most three attempts.
@@ -31,10 +32,11 @@ pub fn setup<B: Bus>(bus: &mut B, target: Target, bytes: [u8; 8]) -> Result<Done
         → SetsUp target bytes (B.world bus.old) result (B.world bus.new) }
 {
     let attempt = attempt_of_setup(target, bytes);
+    let mut room = ArrayVec::new();
     for _error in 0..ERROR_LIMIT {
-        match bus.attempt(&attempt) {
-            Ok(outcome) => {
-                if is_ack(&outcome) {
+        match bus.attempt_into(&attempt, &mut room) {
+            Ok(kind) => {
+                if is_ack(kind, &room) {
                     return Ok(Done::nothing());
                 }
             }

@@ -2,10 +2,11 @@
 ghost use Rattle.std.specs.Prelude.{◌≡◌, ◌+◌, ◌<◌, MatchResult};
 ghost use Rattle.usb_transaction.specs.declared.fault.TransFault.TheVariants.{Busy, NoAnswer};
 ghost use Rattle.usb_transaction.specs.Transactions.{error_limit, wait_limit};
-ghost use Rattle.usb_transaction.specs.HeardTries.{HearsAs};
+ghost use Rattle.usb_transaction.specs.HeardOutcomes.{heard_with};
+ghost use Rattle.usb_transaction.specs.HeardTries.{HearsAs, moved_in};
 
 use crate::TransFault;
-use crate::heard_outcome::HeardOutcome;
+use crate::heard_outcome::HeardKind;
 use arrayvec::ArrayVec;
 
 /// This number of errors in a row ends a transaction.
@@ -13,6 +14,15 @@ pub(crate) const ERROR_LIMIT: u8 = 3;
 
 /// So many NAKs and discarded repeats together end it.
 const WAIT_LIMIT: u16 = 256;
+
+/// What a transaction does after an attempt.
+#[derive(Clone, Copy, Debug)]
+pub(crate) enum Turn {
+    /// It is done: the packet was moved.
+    Moved,
+    /// It makes another attempt.
+    Again,
+}
 
 /// The errors in a row, and the NAKs and discarded repeats together, of one transaction.
 #[derive(Drop)]
@@ -31,25 +41,28 @@ impl Tries {
         }
     }
 
-    /// Hears what came of an attempt: the packet, or None where another attempt is to be made.
+    /// Hears what came of an attempt, whose bytes are in the room: the packet was moved, or another attempt is to be
+    /// made.
     pub(crate) fn hear(
         &mut self,
-        heard: HeardOutcome,
-    ) -> Result<Option<ArrayVec<u8, 64>>, TransFault>
+        heard: HeardKind,
+        _room: &ArrayVec<u8, 64>,
+    ) -> Result<Turn, TransFault>
         requires errors { self.old.errors < error_limit }
         requires waits { self.old.waits < wait_limit }
-        ensures { HearsAs self.old heard result self.new }
+        ensures { HearsAs self.old (heard_with heard _room.now) (moved_in result _room.now)
+            self.new }
     {
         match heard {
-            HeardOutcome::Moved(bytes) => Ok(Some(bytes)),
-            HeardOutcome::NotReady | HeardOutcome::Repeat => {
+            HeardKind::Moved => Ok(Turn::Moved),
+            HeardKind::NotReady | HeardKind::Repeat => {
                 self.wait()?;
-                Ok(None)
+                Ok(Turn::Again)
             }
-            HeardOutcome::Refused => Err(TransFault::Stalled),
-            HeardOutcome::Lost => {
+            HeardKind::Refused => Err(TransFault::Stalled),
+            HeardKind::Lost => {
                 self.error()?;
-                Ok(None)
+                Ok(Turn::Again)
             }
         }
     }

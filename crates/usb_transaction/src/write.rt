@@ -1,6 +1,7 @@
 //! OUT.
 ghost use Rattle.std.specs.Prelude.{◌≡◌, ◌≤◌, ◌<◌, length, MatchResult, true};
 ghost use Rattle.usb_bus.specs.Traces.{Spends, StepRun, Steps};
+ghost use Rattle.usb_bus.specs.OutcomeKinds.{outcome_with};
 ghost use Rattle.usb_packet.specs.Toggles.{other};
 ghost use Rattle.usb_transaction.specs.AttemptLogs.{Transacted};
 ghost use Rattle.usb_transaction.specs.Calls.{SendsOut};
@@ -12,9 +13,10 @@ ghost use Rattle.usb_world.specs.Worlds.{IsAttempt};
 
 use crate::attempt::attempt_of_out;
 use crate::heard_outcome::heard_when_sent;
-use crate::tries::Tries;
+use crate::tries::{Tries, Turn};
 use crate::{Done, Target, TransFault};
-use usb_bus::{Attempt, Bus, Outcome};
+use arrayvec::ArrayVec;
+use usb_bus::{Attempt, Bus, Outcome, OutcomeKind};
 use usb_packet::Toggle;
 
 /// Sends one data packet of at most the target's maximum to an endpoint, 0 to 15 (8.5), again
@@ -50,8 +52,9 @@ pub fn data_out<B: Bus>(
         (λ _. toggle.new ≡ toggle.old) }
 {
     let attempt = attempt_of_out(target, ep, *toggle, bytes);
-    match bus.attempt(&attempt) {
-        Ok(first) => send_on(bus, &attempt, toggle, first),
+    let mut room = ArrayVec::new();
+    match bus.attempt_into(&attempt, &mut room) {
+        Ok(first) => send_on(bus, &attempt, toggle, first, room),
         Err(fault) => Err(TransFault::Bus(fault)),
     }
 }
@@ -76,40 +79,42 @@ pub(crate) fn data_out_from<B: Bus>(
     ensures toggle { MatchResult result (λ _. toggle.new ≡ other toggle.old)
         (λ _. toggle.new ≡ toggle.old) }
 {
-    send_on(
-        bus,
-        &attempt_of_out(target, ep, *toggle, bytes),
-        toggle,
-        first,
-    )
+    let mut room = ArrayVec::new();
+    let kind = OutcomeKind::put(first, &mut room);
+    let attempt = attempt_of_out(target, ep, *toggle, bytes);
+    send_on(bus, &attempt, toggle, kind, room)
 }
 
-/// Makes the attempt of an OUT, whose first outcome was this, until its packet is acknowledged.
+/// Makes the attempt of an OUT until its packet is acknowledged. Its first outcome was of this kind, with what is in
+/// the room.
 fn send_on<B: Bus>(
     bus: &mut B,
     attempt: &Attempt,
     toggle: &mut Toggle,
-    first: Outcome,
+    first: OutcomeKind,
+    room: ArrayVec<u8, 64>,
 ) -> Result<Done, TransFault>
     requires { IsAttempt (attempt_data attempt.now) }
     ensures any_bus { Spends B.spent B.ports further_bound bus.old bus.new
         × BusTold result (B.failed bus.new) }
     ensures sends { B.modelled ≡ true → AfterFirst (attempt_data attempt.now)
-        first (B.world bus.old) (B.trace bus.old)
+        (outcome_with first room) (B.world bus.old) (B.trace bus.old)
         (λ old text. StepRun transaction_bound old text (B.world bus.new) (B.trace bus.new)
         × Transacted heard_when_sent (attempt_data attempt.now) old result (B.world bus.new)) }
     ensures toggle { MatchResult result (λ _. toggle.new ≡ other toggle.old)
         (λ _. toggle.new ≡ toggle.old) }
 {
     let mut tries = Tries::new();
-    let mut outcome = first;
+    let mut kind = first;
+    let mut room = room;
     'tries: loop {
-        if tries.hear(heard_when_sent(&outcome))?.is_some() {
+        let heard = heard_when_sent(kind, &room);
+        if let Turn::Moved = tries.hear(heard, &ArrayVec::new())? {
             *toggle = toggle.other();
             return Ok(Done::nothing());
         }
-        match bus.attempt(attempt) {
-            Ok(next) => outcome = next,
+        match bus.attempt_into(attempt, &mut room) {
+            Ok(next) => kind = next,
             Err(fault) => return Err(TransFault::Bus(fault)),
         }
     }

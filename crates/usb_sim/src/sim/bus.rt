@@ -10,16 +10,17 @@ ghost use Rattle.usb_world.specs.Worlds.{Attempted, FitsMaximum, IsAttempt, root
 ghost use Rattle.usb_world.specs.Steps.{AttemptFails, SetsRoot, ClearsRoot, after, root_call};
 ghost use Rattle.usb_bus.specs.Traces.{Attempts, Spends};
 ghost use Rattle.usb_world.specs.declared.types.BusFault.TheVariants.{Failed};
-ghost use Rattle.usb_sim.specs.Parts.{is_data};
+ghost use Rattle.usb_bus.specs.OutcomeKinds.{outcome_with, result_with};
 
 use super::SimBus;
 use crate::Trace;
-use usb_bus::Bus;
+use arrayvec::ArrayVec;
+use usb_bus::{Bus, OutcomeKind};
 use usb_device::{Holders, Ports, keeps_enable};
 use usb_packet::Packet;
 use usb_port::PortCall;
 use usb_world::{
-    Attempt, BusFault, ExchangeAnswer, Mark, Outcome, damage_of, make_exchange_by, outcome_of,
+    Attempt, BusFault, ExchangeAnswer, Mark, Outcome, damage_of, make_exchange_by,
 };
 
 impl<T: Trace> Bus for SimBus<T> {
@@ -48,6 +49,30 @@ impl<T: Trace> Bus for SimBus<T> {
         ensures told { IfErr result (λ fault. (world_of self.new).fault ≡ Some fault) }
         ensures leaves { LeavesAttempt (attempt_data attempt.now) self.old result self.new }
     {
+        let mut room = ArrayVec::new();
+        match self.attempt_into(attempt, &mut room) {
+            Ok(kind) => Ok(kind.with_bytes(room)),
+            Err(fault) => Err(fault),
+        }
+    }
+
+    fn attempt_into(
+        &mut self,
+        attempt: &Attempt,
+        room: &mut ArrayVec<u8, 64>,
+    ) -> Result<OutcomeKind, BusFault>
+        requires { IsAttempt (attempt_data attempt.now) }
+        ensures attempts { Attempts (attempt_data attempt.now) (world_of self.old)
+            (trace_of self.old) (result_with result room.new)
+            (world_of self.new) (trace_of self.new) }
+        ensures spends { Spends (λ bus. (world_of bus).attempts) (λ bus. roots_of (world_of bus)) 1
+            self.old self.new }
+        ensures fits { IfOk (result_with result room.new)
+            (FitsMaximum (attempt_data attempt.now).max) }
+        ensures told { IfErr result (λ fault. (world_of self.new).fault ≡ Some fault) }
+        ensures leaves { LeavesAttempt (attempt_data attempt.now) self.old
+            (result_with result room.new) self.new }
+    {
         if let Some(fault) = self.fault {
             return Err(fault);
         }
@@ -57,12 +82,12 @@ impl<T: Trace> Bus for SimBus<T> {
         }
         self.make_attempt(attempt)?;
         let max = attempt.destination().max;
-        let answer = &self.exchange.answer;
-        let mark = self.exchange.answer_mark;
-        if is_data(answer) {
-            return Ok(outcome_of(answer, mark, max));
-        }
-        Ok(handshake_of(answer, mark, max))
+        Ok(put_outcome(
+            &self.exchange.answer,
+            self.exchange.answer_mark,
+            max,
+            room,
+        ))
     }
 
     fn root_ports(&self) -> u8 {
@@ -157,28 +182,33 @@ impl<T: Trace> SimBus<T> {
     }
 }
 
-/// Whether the answer is data.
-fn is_data(answer: &ExchangeAnswer) -> bool
-    ensures { result ≡ is_data answer.now }
-{
-    matches!(answer, ExchangeAnswer::One(Packet::Payload { .. }))
-}
-
-/// What the host gets of an answer that is no data. It is apart from data, so that no room for them is copied.
+/// What the host gets of an answer; its data are put into the room.
 #[tactic(auto, unfolding(usb_world::specs::Exchanges::outcome_of))]
-fn handshake_of(answer: &ExchangeAnswer, mark: Mark, max: u8) -> Outcome
-    requires { is_data answer.now ≡ false }
-    ensures value { result ≡ outcome_of answer.now mark max }
-    ensures fits { FitsMaximum max result }
+fn put_outcome(
+    answer: &ExchangeAnswer,
+    mark: Mark,
+    max: u8,
+    room: &mut ArrayVec<u8, 64>,
+) -> OutcomeKind
+    ensures value { outcome_with result room.new ≡ outcome_of answer.now mark max }
+    ensures fits { FitsMaximum max (outcome_with result room.new) }
 {
     if !mark.is_read() {
-        return Outcome::Nothing;
+        return OutcomeKind::Nothing;
     }
     match answer {
-        ExchangeAnswer::One(Packet::Ack) => Outcome::Ack,
-        ExchangeAnswer::One(Packet::Nak) => Outcome::Nak,
-        ExchangeAnswer::One(Packet::Stall) => Outcome::Stall,
-        _ => Outcome::Nothing,
+        ExchangeAnswer::One(Packet::Payload { toggle, bytes }) => {
+            if bytes.len() > usize::from(max) {
+                return OutcomeKind::Nothing;
+            }
+            room.clear();
+            room.try_extend_from_slice(bytes.as_slice()).unwrap();
+            OutcomeKind::Payload(*toggle)
+        }
+        ExchangeAnswer::One(Packet::Ack) => OutcomeKind::Ack,
+        ExchangeAnswer::One(Packet::Nak) => OutcomeKind::Nak,
+        ExchangeAnswer::One(Packet::Stall) => OutcomeKind::Stall,
+        _ => OutcomeKind::Nothing,
     }
 }
 

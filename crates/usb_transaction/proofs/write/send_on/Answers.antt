@@ -1,9 +1,9 @@
 use Rattle.std.proofs.Common.{◌≡◌, ◌∙◌, ℕ, [], Option, None, Some, Ok, Err, refl, sym, ap, subst}
 use Rattle.std.proofs.Common.{arith, rules, true, false}
-use Rattle.std.specs.Option.{is_some}
 use Rattle.arrayvec.specs.ArrayVec.{ArrayVec}
 use Rattle.std.proofs.lemmas.Result.{err_from_is_err_and}
-use Rattle.usb_transaction.specs.{HearsAs, heard_when_sent, packed}
+use Rattle.usb_bus.specs.{outcome_with}
+use Rattle.usb_transaction.specs.{HearsAs, heard_when_sent, heard_with, moved_in, packed}
 use Rattle.usb_transaction.proofs.LastOutcomes.{sent_last, sent_stall}
 use Rattle.usb_transaction.proofs.TransactionTries.{heard_fault, heard_last, heard_on, heard_packet}
 use Rattle.usb_transaction.proofs.TransactionTries.{pending_first, told_cut, try_more, went_last}
@@ -18,23 +18,21 @@ tries-init g c = (
   search rules,
 )
 
-none_of : (r : Option (ArrayVec ℕ)) → false ≡ is_some r → r ≡ None
-none_of None e = refl
-none_of (Some x) e = cc e
-
-some_of : (r : Option (ArrayVec ℕ)) → true ≡ is_some r → (x : ArrayVec ℕ) × (r ≡ Some x)
-some_of (Some x) e = (x, refl)
-some_of None e = cc e
+-- no bytes: those that are heard with an acknowledgement
+abbrev no_bytes : ArrayVec ℕ
+no_bytes = record { items = [] }
 
 pub tries-preserved : goal.tries-preserved
 tries-preserved g c =
     let t = c.tries.tries in
     let u = c.hear.new.self in
-    let o = heard_when_sent c.tries.outcome in
-    let none = none_of c.in_ok-hear.field-0 (sym c.if-is_some.false ∙ c.is_some.ensures) in
+    let o = heard_when_sent (outcome_with c.tries.kind c.tries.room) in
     let heard : HearsAs t o (Ok None) u = subst (λ h. HearsAs t h (Ok None) u)
-    c.heard_when_sent.ensures
-    (subst (λ r. HearsAs t c.heard_when_sent.result (Ok r) u) none c.in_ok-hear.ensures) in
+    c.heard_when_sent-heard.ensures
+    (subst (λ r. HearsAs t (heard_with c.heard_when_sent-heard.result no_bytes)
+    (moved_in (Ok r) no_bytes) u) c.in_default.is (subst (λ b. HearsAs t
+    (heard_with c.heard_when_sent-heard.result b) (moved_in (Ok c.in_ok-hear.field-0) b) u)
+    (ap packed c.new.ensures) c.in_ok-hear.ensures)) in
     let more = try_more o t.errors t.waits heard.0 c.tries.invariant.1.0 in (
       c.tries.invariant.0,
       (heard.2, heard.3),
@@ -63,23 +61,27 @@ returns-in_err-hear-clause-sends g c known old before settled made =
     let t = c.tries.tries in
     let u = c.hear.new.self in
     let fault = c.in_err-hear.field-0.0 in
-    let heard : HearsAs t (heard_when_sent c.tries.outcome) (Err fault) u =
-    subst (λ h. HearsAs t h (Err fault) u) c.heard_when_sent.ensures c.in_err-hear.ensures in
+    let heard : HearsAs t (heard_when_sent (outcome_with c.tries.kind c.tries.room)) (Err fault) u =
+    subst (λ h. HearsAs t h (Err fault) u) c.heard_when_sent-heard.ensures
+    (subst (λ b. HearsAs t (heard_with c.heard_when_sent-heard.result b) (Err fault) u)
+    (ap packed c.new.ensures) c.in_err-hear.ensures) in
     let p = c.tries.invariant.2 known old before settled made in
     rw (told.1, told.2) (
       heard_last p u,
       heard_fault p u fault (λ e. sent_stall _ e) heard,
     )
 
-pub returns-then-is_some-clause-sends : goal.returns-then-is_some-clause-sends
-returns-then-is_some-clause-sends g c known old before settled made =
+pub returns-in-Moved-clause-sends : goal.returns-in-Moved-clause-sends
+returns-in-Moved-clause-sends g c known old before settled made =
     let t = c.tries.tries in
     let u = c.hear.new.self in
-    let o = heard_when_sent c.tries.outcome in
-    let some = some_of c.in_ok-hear.field-0 (sym c.if-is_some.true ∙ c.is_some.ensures) in
-    let heard : HearsAs t o (Ok (Some some.0)) u = subst (λ h. HearsAs t h (Ok (Some some.0)) u)
-    c.heard_when_sent.ensures
-    (subst (λ r. HearsAs t c.heard_when_sent.result (Ok r) u) some.1 c.in_ok-hear.ensures) in
+    let o = heard_when_sent (outcome_with c.tries.kind c.tries.room) in
+    let heard : HearsAs t o (Ok (Some no_bytes)) u = subst (λ h. HearsAs t h (Ok (Some no_bytes)) u)
+    c.heard_when_sent-heard.ensures
+    (subst (λ r. HearsAs t (heard_with c.heard_when_sent-heard.result no_bytes)
+    (moved_in (Ok r) no_bytes) u) c.in-Moved.is (subst (λ b. HearsAs t
+    (heard_with c.heard_when_sent-heard.result b) (moved_in (Ok c.in_ok-hear.field-0) b) u)
+    (ap packed c.new.ensures) c.in_ok-hear.ensures)) in
     let p = c.tries.invariant.2 known old before settled made in
     rw c.nothing.ensures (
       heard_last p u,
@@ -90,11 +92,13 @@ pub returns-in-Err-clause-sends : goal.returns-in-Err-clause-sends
 returns-in-Err-clause-sends g c known old before settled made =
     let t = c.tries.tries in
     let u = c.hear.new.self in
-    let o = heard_when_sent c.tries.outcome in
-    let none = none_of c.in_ok-hear.field-0 (sym c.if-is_some.false ∙ c.is_some.ensures) in
+    let o = heard_when_sent (outcome_with c.tries.kind c.tries.room) in
     let heard : HearsAs t o (Ok None) u = subst (λ h. HearsAs t h (Ok None) u)
-    c.heard_when_sent.ensures
-    (subst (λ r. HearsAs t c.heard_when_sent.result (Ok r) u) none c.in_ok-hear.ensures) in
+    c.heard_when_sent-heard.ensures
+    (subst (λ r. HearsAs t (heard_with c.heard_when_sent-heard.result no_bytes)
+    (moved_in (Ok r) no_bytes) u) c.in_default.is (subst (λ b. HearsAs t
+    (heard_with c.heard_when_sent-heard.result b) (moved_in (Ok c.in_ok-hear.field-0) b) u)
+    (ap packed c.new.ensures) c.in_ok-hear.ensures)) in
     let s = heard_on (c.tries.invariant.2 known old before settled made) u heard in (
       went_last s c.requires (c.in-Err.ensures.attempts known),
       told_cut s (c.in-Err.ensures.attempts known),

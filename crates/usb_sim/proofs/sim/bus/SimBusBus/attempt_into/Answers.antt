@@ -1,10 +1,11 @@
 use Rattle.std.proofs.Common.{rules, refl, sym, ap, subst}
 use Rattle.std.proofs.lemmas.Result.{err_from_is_err_and}
 use Rattle.usb_world.specs.{Destination, FitsMaximum, attempt_data}
+use Rattle.usb_bus.specs.{outcome_with}
 use Rattle.usb_sim.specs.{world_of}
 use Rattle.usb_sim.proofs.Endings.{after_fault, after-limit, again_attempts, limit_attempts}
 use Rattle.usb_sim.proofs.Endings.{cut_attempts, made_attempts, never_limit}
-use Rattle.usb_sim.proofs.sim.bus.SimBusBus.attempt.Goals as goal
+use Rattle.usb_sim.proofs.sim.bus.SimBusBus.attempt_into.Goals as goal
 
 pub returns-in-Some-clause-attempts : goal.returns-in-Some-clause-attempts
 returns-in-Some-clause-attempts g c = again_attempts
@@ -57,25 +58,15 @@ returns-in_err-make_attempt-clause-leaves g c =
       failed = λ e none. c.in_err-make_attempt.ensures.trace (cc e);
     })
 
--- data
-pub returns-then-is_data-clause-attempts : goal.returns-then-is_data-clause-attempts
-returns-then-is_data-clause-attempts g c =
-    let a = attempt_data c.args.attempt.now in
-    let max = ap (λ (d : Destination). d.max) c.destination-max.ensures in
-    made_attempts a c.outcome_of.result (world_of c.args.self.now)
-    (world_of c.make_attempt.new.self) _ _ c.in_default.is c.if-self.false
-    (subst (λ n. FitsMaximum n c.outcome_of.result) max c.outcome_of.ensures.fits)
-    (rw (c.outcome_of.ensures.value, max) c.in_ok-make_attempt.ensures.made)
-
--- a handshake, or nothing
 pub returns-clause-attempts : goal.returns-clause-attempts
 returns-clause-attempts g c =
     let a = attempt_data c.args.attempt.now in
     let max = ap (λ (d : Destination). d.max) c.destination-max.ensures in
-    made_attempts a c.handshake_of.result (world_of c.args.self.now)
+    let got = outcome_with c.put_outcome.result c.put_outcome.new.room in
+    made_attempts a got (world_of c.args.self.now)
     (world_of c.make_attempt.new.self) _ _ c.in_default.is c.if-self.false
-    (subst (λ n. FitsMaximum n c.handshake_of.result) max c.handshake_of.ensures.fits)
-    (rw (c.handshake_of.ensures.value, max) c.in_ok-make_attempt.ensures.made)
+    (subst (λ n. FitsMaximum n got) max c.put_outcome.ensures.fits)
+    (rw (c.put_outcome.ensures.value, max) c.in_ok-make_attempt.ensures.made)
 
 pub returns-clause-leaves : goal.returns-clause-leaves
 returns-clause-leaves g c = record {

@@ -1,13 +1,14 @@
 use Rattle.std.proofs.Common.{◌∙◌, None, Some, Ok, Err, refl, sym, ap, subst, arith, rules}
 use Rattle.std.proofs.lemmas.Result.{err_from_is_err_and}
 use Rattle.usb_world.specs.{FitsMaximum}
-use Rattle.usb_transaction.specs.{Bus, HearsAs, heard_as}
+use Rattle.usb_bus.specs.{outcome_with}
+use Rattle.usb_transaction.specs.{Bus, HearsAs, heard_as, heard_with, moved_in}
 use Rattle.usb_transaction.proofs.Calls.{asks_in}
 use Rattle.usb_transaction.proofs.LastOutcomes.{heard_stall}
 use Rattle.usb_transaction.proofs.TransactionTries.{heard_fault, heard_last, heard_on, heard_packet}
 use Rattle.usb_transaction.proofs.TransactionTries.{pending_first, read_fits, told_cut, try_more}
 use Rattle.usb_transaction.proofs.TransactionTries.{went_last}
-use Rattle.usb_transaction.proofs.read.data_in_from.Goals as goal
+use Rattle.usb_transaction.proofs.read.read_on.Goals as goal
 
 pub tries-init : goal.tries-init
 tries-init g c = (
@@ -24,9 +25,10 @@ pub tries-preserved : goal.tries-preserved
 tries-preserved g c =
     let t = c.tries.tries in
     let u = c.hear.new.self in
-    let o = heard_as c.tries.toggle c.tries.outcome in
+    let o = heard_as c.tries.toggle (outcome_with c.tries.kind c.tries.room) in
     let heard : HearsAs t o (Ok None) u = subst (λ h. HearsAs t h (Ok None) u) c.heard_as.ensures
-    (subst (λ r. HearsAs t c.heard_as.result (Ok r) u) c.in_default.is c.in_ok-bytes.ensures) in
+    (subst (λ r. HearsAs t (heard_with c.heard_as.result c.tries.room)
+    (moved_in (Ok r) c.tries.room) u) c.in_default.is c.in_ok-hear.ensures) in
     let more = try_more o t.errors t.waits heard.0 c.tries.invariant.1.0 in (
       c.tries.invariant.0,
       (heard.2, heard.3),
@@ -47,19 +49,20 @@ tries-preserved g c =
         ),
         c.in-Ok.ensures.spends.1 ∙ c.tries.invariant.3.1,
       ),
-      subst (λ max. FitsMaximum max c.in-Ok.next)
+      subst (λ max. FitsMaximum max (outcome_with c.in-Ok.next c.attempt_into.new.room))
           (ap (λ a. a.max) c.attempt_of_in-attempt.ensures.value) c.in-Ok.ensures.fits,
     )
 
-pub returns-in-Some-clause-asks : goal.returns-in-Some-clause-asks
-returns-in-Some-clause-asks g c known old before settled made =
+pub returns-in-Moved-clause-asks : goal.returns-in-Moved-clause-asks
+returns-in-Moved-clause-asks g c known old before settled made =
     let t = c.tries.tries in
     let u = c.hear.new.self in
-    let packet = c.in-Some.bytes in
-    let o = heard_as c.tries.toggle c.tries.outcome in
+    let packet = c.tries.room in
+    let o = heard_as c.tries.toggle (outcome_with c.tries.kind c.tries.room) in
     let heard : HearsAs t o (Ok (Some packet)) u = subst (λ h. HearsAs t h (Ok (Some packet)) u)
     c.heard_as.ensures
-    (subst (λ r. HearsAs t c.heard_as.result (Ok r) u) c.in-Some.is c.in_ok-bytes.ensures) in
+    (subst (λ r. HearsAs t (heard_with c.heard_as.result packet) (moved_in (Ok r) packet) u)
+    c.in-Moved.is c.in_ok-hear.ensures) in
     let p = c.tries.invariant.2 known old before settled made in
     rw c.data.ensures (
       heard_last p u,
@@ -68,13 +71,13 @@ returns-in-Some-clause-asks g c known old before settled made =
           (read_fits c.tries.toggle _ packet (sym heard) p.made),
     )
 
-pub returns-in_err-bytes-clause-asks : goal.returns-in_err-bytes-clause-asks
-returns-in_err-bytes-clause-asks g c known old before settled made =
+pub returns-in_err-hear-clause-asks : goal.returns-in_err-hear-clause-asks
+returns-in_err-hear-clause-asks g c known old before settled made =
     let told = err_from_is_err_and c.from_residual.result c.from_residual.ensures.1 in
-    let fault = c.in_err-bytes.field-0.0 in
-    let heard : HearsAs c.tries.tries (heard_as c.tries.toggle c.tries.outcome) (Err fault)
+    let fault = c.in_err-hear.field-0.0 in
+    let heard : HearsAs c.tries.tries (heard_as c.tries.toggle (outcome_with c.tries.kind c.tries.room)) (Err fault)
     c.hear.new.self = subst (λ h. HearsAs c.tries.tries h (Err fault) c.hear.new.self)
-    c.heard_as.ensures c.in_err-bytes.ensures in
+    c.heard_as.ensures c.in_err-hear.ensures in
     let p = c.tries.invariant.2 known old before settled made in
     rw (told.1, told.2) (
       heard_last p c.hear.new.self,
@@ -86,9 +89,10 @@ pub returns-in-Err-clause-asks : goal.returns-in-Err-clause-asks
 returns-in-Err-clause-asks g c known old before settled made =
     let t = c.tries.tries in
     let u = c.hear.new.self in
-    let o = heard_as c.tries.toggle c.tries.outcome in
+    let o = heard_as c.tries.toggle (outcome_with c.tries.kind c.tries.room) in
     let heard : HearsAs t o (Ok None) u = subst (λ h. HearsAs t h (Ok None) u) c.heard_as.ensures
-    (subst (λ r. HearsAs t c.heard_as.result (Ok r) u) c.in_default.is c.in_ok-bytes.ensures) in
+    (subst (λ r. HearsAs t (heard_with c.heard_as.result c.tries.room)
+    (moved_in (Ok r) c.tries.room) u) c.in_default.is c.in_ok-hear.ensures) in
     let s = heard_on (c.tries.invariant.2 known old before settled made) u heard in (
       went_last s c.attempt_of_in-attempt.ensures.fits (c.in-Err.ensures.attempts known),
       asks_in c.args.target c.args.ep c.args.toggle.now old _ settled c.tries.invariant.0
