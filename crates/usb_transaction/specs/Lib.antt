@@ -13,7 +13,8 @@ pub mod Attempts
 pub mod HeardTries
 pub mod Rows
 -- the words of this crate, wherever one stands
-pub use HeardOutcomes.{heard_with, acks, heard_as, heard_when_sent, polled, polled_as, set_up_as, toggle_after}
+pub use HeardOutcomes.{acks, heard_as, heard_when_sent, heard_with, polled, polled_as, set_up_as}
+pub use HeardOutcomes.{toggle_after}
 pub use Transactions.{AttemptsMade, BusTold, Ends, IsTarget, SetupEnds, error_limit, in_attempt}
 pub use Transactions.{out_attempt, packed, setup_attempt, transaction_bound, wait_limit}
 pub use AttemptLogs.{AttemptLog, BusFailed, IsNoEnd, LastOutcome, Polled, Transacted}
@@ -36,7 +37,7 @@ pub use SparedDevices.{EachSpared, IsSpared}
 pub use Calls.{AsksIn, InFailure, InLeaves, IsUnhindered, MeansOfIn, MeansOfOut, MeansOfSetup}
 pub use Calls.{OutFailure, OutLeaves, PollsIn, SendsOut, SetsUp}
 pub use Attempts.{GivenUp, IsOnly, TransactionAttempts}
-pub use HeardTries.{moved_in, AfterFirst, HearsAs, further_bound, tried}
+pub use HeardTries.{AfterFirst, HearsAs, further_bound, moved_in, tried}
 pub use Rows.{AskedFull, AsksRow, CameInRow, RowCame, RowGone, RowKept, RowLost, RowSent, SendsRow}
 pub use Rows.{SentFull, none_asked, none_sent, one_asked, one_sent, row_bound, row_packets}
 pub use declared.fault.TransFault.{TransFault}

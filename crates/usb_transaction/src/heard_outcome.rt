@@ -7,7 +7,7 @@ use arrayvec::ArrayVec;
 use usb_bus::OutcomeKind;
 use usb_packet::Toggle;
 
-/// What an outcome is to a host that awaits a packet, or sends one.
+/// What an outcome is to a host that awaits a packet, or sends one. Contracts speak of it; the code has `HeardKind`.
 #[derive(Drop)]
 pub(crate) enum HeardOutcome {
     /// The packet that was awaited, or the acknowledgement of the one sent (then no bytes).
@@ -38,11 +38,7 @@ pub(crate) enum HeardKind {
 }
 
 /// To a host that awaits a packet of this toggle.
-pub(crate) fn heard_as(
-    awaited: Toggle,
-    kind: OutcomeKind,
-    _room: &ArrayVec<u8, 64>,
-) -> HeardKind
+pub(crate) fn heard_as(awaited: Toggle, kind: OutcomeKind, _room: &ArrayVec<u8, 64>) -> HeardKind
     ensures { heard_with result _room.now ≡ heard_as awaited (outcome_with kind _room.now) }
 {
     match kind {

@@ -81,8 +81,13 @@ pub(crate) fn data_out_from<B: Bus>(
 {
     let mut room = ArrayVec::new();
     let kind = OutcomeKind::put(first, &mut room);
-    let attempt = attempt_of_out(target, ep, *toggle, bytes);
-    send_on(bus, &attempt, toggle, kind, room)
+    send_on(
+        bus,
+        &attempt_of_out(target, ep, *toggle, bytes),
+        toggle,
+        kind,
+        room,
+    )
 }
 
 /// Makes the attempt of an OUT until its packet is acknowledged. Its first outcome was of this kind, with what is in

@@ -19,9 +19,7 @@ use usb_bus::{Bus, OutcomeKind};
 use usb_device::{Holders, Ports, keeps_enable};
 use usb_packet::Packet;
 use usb_port::PortCall;
-use usb_world::{
-    Attempt, BusFault, ExchangeAnswer, Mark, Outcome, damage_of, make_exchange_by,
-};
+use usb_world::{Attempt, BusFault, ExchangeAnswer, Mark, Outcome, damage_of, make_exchange_by};
 
 impl<T: Trace> Bus for SimBus<T> {
     ghost use Rattle.usb_sim.specs.Parts.{LeavesAttempt};
@@ -82,12 +80,7 @@ impl<T: Trace> Bus for SimBus<T> {
         }
         self.make_attempt(attempt)?;
         let max = attempt.destination().max;
-        Ok(put_outcome(
-            &self.exchange.answer,
-            self.exchange.answer_mark,
-            max,
-            room,
-        ))
+        Ok(put_outcome(&self.exchange.answer, self.exchange.answer_mark, max, room))
     }
 
     fn root_ports(&self) -> u8 {

@@ -43,7 +43,8 @@ returns-in-Moved-clause-polls g c known =
     let made = rw c.attempt_of_in-attempt.ensures.value at (c.in-Ok.ensures.attempts known) in
     rw c.data.ensures (polls_in c.args.target c.args.ep c.args.toggle.now _ _
     (g.met.B.Bus.settled known c.args.bus.now) c.tries.invariant.0 (Ok
-    (Some c.attempt_into.new.room.items)) (told_moved (c.tries.invariant.2 known) made c.attempt_into.new.room
+    (Some c.attempt_into.new.room.items)) (told_moved (c.tries.invariant.2 known) made
+    c.attempt_into.new.room
     (sym (ap polled c.in-Moved.ensures))) (read_fits c.tries.toggle _ c.attempt_into.new.room
     c.in-Moved.ensures made))
 

@@ -75,7 +75,8 @@ pub returns-in_err-hear-clause-asks : goal.returns-in_err-hear-clause-asks
 returns-in_err-hear-clause-asks g c known old before settled made =
     let told = err_from_is_err_and c.from_residual.result c.from_residual.ensures.1 in
     let fault = c.in_err-hear.field-0.0 in
-    let heard : HearsAs c.tries.tries (heard_as c.tries.toggle (outcome_with c.tries.kind c.tries.room)) (Err fault)
+    let heard : HearsAs c.tries.tries
+    (heard_as c.tries.toggle (outcome_with c.tries.kind c.tries.room)) (Err fault)
     c.hear.new.self = subst (λ h. HearsAs c.tries.tries h (Err fault) c.hear.new.self)
     c.heard_as.ensures c.in_err-hear.ensures in
     let p = c.tries.invariant.2 known old before settled made in

@@ -7,10 +7,10 @@ use Rattle.usb_transaction.proofs.read.read_on.Given as goal
 
 abbrev pub invariant-tries : goal.invariant-tries
 invariant-tries g l = (l.toggle ≡ l.initial.toggle) × ((l.tries.errors < 3) × (l.tries.waits < 256))
-    × (g.B.Bus.modelled ≡ true → AfterFirst (in_attempt l.fn.target l.fn.ep) (outcome_with l.fn.first l.fn.room)
-    (g.B.Bus.world l.initial.bus) (g.B.Bus.trace l.initial.bus)
-    (λ old text. Pending (heard_as l.toggle) (in_attempt l.fn.target l.fn.ep) l.tries (outcome_with l.kind l.room)
-    old text (g.B.Bus.world l.bus) (g.B.Bus.trace l.bus)))
+    × (g.B.Bus.modelled ≡ true → AfterFirst (in_attempt l.fn.target l.fn.ep)
+    (outcome_with l.fn.first l.fn.room) (g.B.Bus.world l.initial.bus) (g.B.Bus.trace l.initial.bus)
+    (λ old text. Pending (heard_as l.toggle) (in_attempt l.fn.target l.fn.ep) l.tries
+    (outcome_with l.kind l.room) old text (g.B.Bus.world l.bus) (g.B.Bus.trace l.bus)))
     × Spends g.B.Bus.spent g.B.Bus.ports (3 * l.tries.waits + l.tries.errors) l.initial.bus l.bus
     × FitsMaximum l.fn.target.max (outcome_with l.kind l.room)
 

@@ -3,7 +3,7 @@ use Rattle.usb_transaction.proofs.write.data_out_from.Goals as goal
 
 pub returns-clause-sends : goal.returns-clause-sends
 returns-clause-sends g c known old before settled made =
-    let is = c.attempt_of_out-attempt.ensures.value in
+    let is = c.attempt_of_out.ensures.value in
     let done = c.send_on.ensures.sends known old before settled
     (rw (c.put-kind.ensures) (rw (← is) at made)) in (
       done.0,

@@ -1,5 +1,5 @@
-use Rattle.std.proofs.Common.{◌≡◌, ◌∙◌, ℕ, [], Option, None, Some, Ok, Err, refl, sym, ap, subst}
-use Rattle.std.proofs.Common.{arith, rules, true, false}
+use Rattle.std.proofs.Common.{◌∙◌, ℕ, [], None, Some, Ok, Err, refl, ap, subst}
+use Rattle.std.proofs.Common.{arith, rules}
 use Rattle.arrayvec.specs.ArrayVec.{ArrayVec}
 use Rattle.std.proofs.lemmas.Result.{err_from_is_err_and}
 use Rattle.usb_bus.specs.{outcome_with}
