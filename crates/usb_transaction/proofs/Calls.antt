@@ -32,7 +32,8 @@ use Rattle.usb_transaction.specs.{OutLeaves, OutFailure, MeansOfOut, SendsOut, P
 use Rattle.usb_transaction.specs.{ControlInFailure, StatusReadFailure, SourceInFailure}
 use Rattle.usb_transaction.specs.{SinkOutFailure, Ends, WriteOut, WriteStatusIn}
 use Rattle.usb_transaction.specs.{WriteOutFailure, WriteStatusFailure}
-use Rattle.usb_transaction.proofs.ControlWrites.{write_leaves, write_status_leaves}
+use Rattle.usb_transaction.proofs.ControlWrites.{read_status_why, status_leaves, write_leaves}
+use Rattle.usb_transaction.proofs.ControlWrites.{write_out_why}
 use Rattle.usb_transaction.proofs.DeviceRuns.{Deeds, EachIf, Run, had_address, in_others, more}
 use Rattle.usb_transaction.proofs.DeviceRuns.{none, out_others, over_trail}
 use Rattle.usb_transaction.proofs.LastOutcomes.{read_last, sent_last, set_up_last, sent_empty}
@@ -43,11 +44,10 @@ use Rattle.usb_transaction.proofs.Trails.{few_waits, last_erred, trail_settled, 
 use Rattle.usb_transaction.proofs.BulkTransactions.{sink_leaves, sink_why, source_leaves}
 use Rattle.usb_transaction.proofs.BulkTransactions.{source_why}
 use Rattle.usb_transaction.proofs.ControlTransactions.{control_in_why, control_leaves}
-use Rattle.usb_transaction.proofs.ControlTransactions.{read_status_why, status_leaves}
+use Rattle.usb_transaction.proofs.ControlTransactions.{write_status_leaves, write_status_why}
 use Rattle.usb_transaction.proofs.Polls.{poll_leaves, poll_why}
 use Rattle.usb_transaction.proofs.SourcePolls.{source_poll_why, source_polled}
 use Rattle.usb_transaction.proofs.TransactionTries.{ends_of, poll_ends}
-use Rattle.usb_transaction.proofs.WriteFailures.{write_out_why, write_status_why}
 
 -- The last attempt of a trail, with what the host got of it
 

@@ -5,18 +5,20 @@ use Rattle.std.proofs.Common.{◌≡◌, ◌≢◌, ◌⊎◌, inl, inr, ◌&&�
 use Rattle.std.proofs.Common.{◌+◌, ◌<◌, ◌≤◌, ◌==◌, List, [], ◌∷◌, true, false, Option, None, Some}
 use Rattle.std.proofs.Common.{Result, Ok, Err, refl, sym, subst, ap, ◌∙◌, arith}
 use Rattle.usb_packet.specs.{Toggle, Zero, One, other}
-use Rattle.usb_device.specs.{State, Reply, is_busy, Way, in_law, out_law, row_of, Location}
+use Rattle.usb_device.specs.{Spec, State, Reply, is_busy, Way, in_law, out_law, row_of, Location}
 use Rattle.usb_device.specs.{reach_on, state_on}
 use Rattle.usb_device.specs.Attempt.{whole, broken}
 use Rattle.usb_port.specs.{PortState}
 use Rattle.usb_world.specs.{Attempt, BusFault, Outcome, IsMade, got, World, Made, attempt, after}
 use Rattle.usb_world.specs.{outcome_in, damage_in, Relation, Was, EachWas, DidIn, DidOut}
-use Rattle.usb_world.specs.declared.types.Outcome.TheVariants.{Nak, Stall}
+use Rattle.usb_world.specs.declared.types.Outcome.TheVariants.{Nak, Stall, Nothing}
 use Rattle.usb_tree.specs.{IsSettled, deep_at, address_of}
 use Rattle.usb_world.proofs.Interface.{AttemptCut, cut_or_same, each_in, each_out, made_of}
 use Rattle.usb_world.proofs.Interface.{made_unshared, made_whole, unmade}
 use Rattle.usb_tree.proofs.Interface.{decided, neither, false_true}
 use Rattle.usb_transaction.specs.{Target, HeardOutcome, Moved, Lost, TransFault, Stalled, Busy}
+use Rattle.usb_transaction.specs.{CanAnswer, NotReady, Refused, heard_as}
+use Rattle.usb_transaction.proofs.LastOutcomes.{no_packet, packet_heard, packet_in, packet_of}
 use Rattle.usb_transaction.specs.{NoAnswer, Bus, polled_as, NoThreeDamaged, Listens, IsNotOfBus}
 use Rattle.usb_transaction.specs.{is_at, AttemptLog, start, next, waits_with, errors_running}
 use Rattle.usb_transaction.specs.{waits_in, IsNoEnd, KeepsTrying, LastOutcome, TransactionDone}
@@ -80,22 +82,32 @@ pub data RunThrough (Did : Deeds) (a : Attempt) (hear : Outcome → HeardOutcome
   stopped : {outcomes : List Outcome} {w : World} → GaveUp → Run Did a old j s outcomes w v
       → KeepsTrying hear outcomes → RunThrough Did a hear Last GaveUp old new j s v
 
--- what an answer says of the last outcome and those before it; of the attempt that the bus gave up
--- nothing is known
+-- what an answer says of the last outcome and those before it, by what is so of one that is done;
+-- of the attempt that the bus gave up nothing is known
+abbrev pub End : {A : Type 0} → (A → Outcome → Type 0) → (Outcome → HeardOutcome)
+    → Result A TransFault → Outcome → List Outcome → Type 0
+End Done hear (Ok x) o outcomes = Done x o
+End Done hear (Err Stalled) o outcomes = o ≡ Stall
+End Done hear (Err Busy) o outcomes = IsNoEnd (hear o) × (waits_in hear (o ∷ outcomes) ≡ 256)
+End Done hear (Err NoAnswer) o outcomes =
+    IsNoEnd (hear o) × (errors_running hear (o ∷ outcomes) ≡ 3)
+End Done hear (Err (Bus fault)) o outcomes = Unit {0}
+
+abbrev pub Moves : (Outcome → HeardOutcome) → List ℕ → Outcome → Type 0
+Moves hear bytes o = hear o ≡ Moved (packed bytes)
+
 abbrev pub IsEnd : (Outcome → HeardOutcome) → Result (List ℕ) TransFault → Outcome → List Outcome
     → Type 0
-IsEnd hear (Ok bytes) o outcomes = hear o ≡ Moved (packed bytes)
-IsEnd hear (Err Stalled) o outcomes = o ≡ Stall
-IsEnd hear (Err Busy) o outcomes = IsNoEnd (hear o) × (waits_in hear (o ∷ outcomes) ≡ 256)
-IsEnd hear (Err NoAnswer) o outcomes = IsNoEnd (hear o) × (errors_running hear (o ∷ outcomes) ≡ 3)
-IsEnd hear (Err (Bus fault)) o outcomes = Unit {0}
+IsEnd hear result o outcomes = End (Moves hear) hear result o outcomes
 
 -- a poll's, of which a NAK is one
+abbrev pub PollGot : Toggle → Option (List ℕ) → Outcome → Type 0
+PollGot toggle None o = o ≡ Nak
+PollGot toggle (Some bytes) o = Moves (polled_as toggle) bytes o
+
 abbrev pub IsPollEnd : Toggle → Result (Option (List ℕ)) TransFault → Outcome → List Outcome
     → Type 0
-IsPollEnd toggle (Ok None) o outcomes = o ≡ Nak
-IsPollEnd toggle (Ok (Some bytes)) o outcomes = IsEnd (polled_as toggle) (Ok bytes) o outcomes
-IsPollEnd toggle (Err fault) o outcomes = IsEnd (polled_as toggle) (Err fault) o outcomes
+IsPollEnd toggle result o outcomes = End (PollGot toggle) (polled_as toggle) result o outcomes
 
 abbrev pub IsOfBus : {A : Type 0} → Result A TransFault → Type 0
 IsOfBus result = IsNotOfBus result → ⊥
@@ -218,6 +230,31 @@ module _ {Did : Deeds} {a : Attempt} {old : World} {j : Location} {s : State} (h
   at_end E v final cut (last {outcomes} w u t r g d is told) =
       final outcomes w u t (along r g) d is told
   at_end E v final cut (stopped {outcomes} {w} gave r g) = cut gave outcomes w (along r g)
+
+-- One induction: what an attempt with an outcome leaves of a device, attempts leave one behind the
+-- other, if those that go on leave what nothing would
+module _ {Did : Deeds} {a : Attempt} {hear : Outcome → HeardOutcome} {Last : Outcome → List Outcome
+    → Type 0} {GaveUp : Type 0} {old new : World} {j : Location} {s v : State}
+    (x : RunThrough Did a hear Last GaveUp old new j s v)
+    (up : GaveUp → (outcomes : List Outcome) → Last Nothing outcomes) (Is : State → Type 0)
+    (Gave : State → Outcome → State → Type 0)
+    (did : (w : World) (u y : State) → Did w j u y → Is u → Gave u (outcome_in a w) y × Is y)
+    (joined : (s u y : State) (o : Outcome) → Gave s Nothing u → Gave u o y → Gave s o y)
+    (quiet : (s y : State) (o : Outcome) → IsNoEnd (hear o) → Gave s o y → Gave s Nothing y)
+  where
+    -- the last outcome, and what it left
+    abbrev pub Summed : State → Type 0
+    Summed y = (o : Outcome) × (outcomes : List Outcome) × Last o outcomes × Gave s o y
+
+    pub summed : Is s → Gave s Nothing s → Summed v
+    summed is begun =
+        at_end hear (λ outcomes w u. Is u × Gave s Nothing u) (is, begun)
+        (λ outcomes w u y trail made i d n.
+        let g = did w u y d i.0 in
+        (g.1, quiet s y (outcome_in a w) n (joined s u y (outcome_in a w) i.1 g.0))) Summed v
+        (λ outcomes w u trail i d l told.
+        (outcome_in a w, outcomes, l, joined s u v (outcome_in a w) i.1 (did w u v d i.0).0))
+        (λ gave outcomes w i. (Nothing, outcomes, up gave outcomes, i.1)) x
 
 -- A device is at the target's address, or not
 
@@ -457,17 +494,55 @@ stands_on hear awaited {a} {old} {w} three trail made n turn (inr y) =
 -- Why a transaction with a device of a kind fails: what is of the kind stays so over attempts that
 -- go on
 
-module _ {Did : Deeds} {a : Attempt} {hear : Outcome → HeardOutcome} {old new : World}
-    {j : Location} {s v : State} (Is : State → Type 0)
-    (stays : (w : World) (u x : State) → Did w j u x → IsNoEnd (hear (outcome_in a w)) → Is u
-    → Is x) (is : Is s) where
+-- a device of this description made the host hear this: only one that is not silent is heard, and
+-- only one that is not always busy says more than that
+abbrev pub OutcomeOfSpec : Spec → HeardOutcome → Type 0
+OutcomeOfSpec spec h = (h ≡ Lost) ⊎ ((spec.silent ≡ false) × ((h ≡ NotReady) ⊎ (spec.busy ≡ false)))
+
+says_free : (spec : Spec) (h : HeardOutcome) → OutcomeOfSpec spec h → h ≢ Lost → h ≢ NotReady
+    → (spec.silent ≡ false) × (spec.busy ≡ false)
+says_free spec h (inl e) some ready = absurd (some e)
+says_free spec h (inr x) some ready =
+    elim x.1 [ inl e ↦ absurd (ready e) | inr calm ↦ (x.0, calm) ]
+
+-- what an answer says of its description; the first wait was heard
+abbrev Waited : Spec → ℕ → Type 0
+Waited spec n = (n ≡ 0) ⊎ (spec.silent ≡ false)
+
+one_waited : (spec : Spec) (h : HeardOutcome) (n : ℕ) → OutcomeOfSpec spec h → Waited spec n
+    → Waited spec (waits_with h n)
+one_waited spec h n (inl e) waits = rw e waits
+one_waited spec h n (inr x) waits = inr x.0
+
+could_answer : {A : Type 0} (Done : A → Outcome → Type 0) (hear : Outcome → HeardOutcome)
+    (spec : Spec) → hear Stall ≡ Refused
+    → ((x : A) (o : Outcome) → Done x o → (hear o ≢ Lost) × (hear o ≢ NotReady))
+    → (r : Result A TransFault) (o : Outcome) (outcomes : List Outcome)
+    → OutcomeOfSpec spec (hear o) → Waited spec (waits_in hear (o ∷ outcomes))
+    → End Done hear r o outcomes → CanAnswer spec r
+could_answer Done hear spec refuses done (Ok x) o outcomes says waits e =
+    says_free spec (hear o) says (done x o e).0 (done x o e).1
+could_answer Done hear spec refuses done (Err Stalled) o outcomes says waits e =
+    let same = ap hear e ∙ refuses in
+    says_free spec (hear o) says (λ f. cc (sym same ∙ f)) (λ f. cc (sym same ∙ f))
+could_answer Done hear spec refuses done (Err Busy) o outcomes says waits e =
+    elim waits [ inl unwaited ↦ absurd (omega (arith, unwaited, e.1)) | inr loud ↦ loud ]
+could_answer Done hear spec refuses done r o outcomes says waits e = tt
+
+module _ {A : Type 0} (Done : A → Outcome → Type 0) (result : Result A TransFault) {Did : Deeds}
+    {a : Attempt} {hear : Outcome → HeardOutcome} {old new : World} {j : Location} {s v : State}
+    (ran : RunThrough Did a hear (End Done hear result) (IsOfBus result) old new j s v)
+    (Is : State → Type 0) (stays : (w : World) (u x : State) → Did w j u x
+    → IsNoEnd (hear (outcome_in a w)) → Is u → Is x) (is : Is s) where
+  abbrev Ran : Result A TransFault → Type 0
+  Ran r = RunThrough Did a hear (End Done hear r) (IsOfBus r) old new j s v
+
   -- where an attempt that is not damaged is no error, three errors run only over three damaged
   -- attempts
   pub heeded : NoThreeDamaged old → ((w : World) (u x : State) → Did w j u x → Is u
-      → damage_in w ≡ None → hear (outcome_in a w) ≢ Lost)
-      → Through Did a hear (Err NoAnswer) old new j s v → ⊥
+      → damage_in w ≡ None → hear (outcome_in a w) ≢ Lost) → result ≢ Err NoAnswer
   unfolding errors_running
-  heeded three heeds x =
+  heeded three heeds e =
       at_end hear (λ outcomes w u. Is u × LostRun old.damages (errors_running hear outcomes)
       w.attempts) (is, none_lost)
       (λ outcomes w u y t made i d n. (
@@ -482,7 +557,7 @@ module _ {Did : Deeds} {a : Attempt} {hear : Outcome → HeardOutcome} {old new 
         run_short old (errors_running hear (outcome_in a w ∷ outcomes))
             (after (attempt a) w).attempts three run,
       ))
-      (λ gave outcomes w i. gave tt) x
+      (λ gave outcomes w i. gave tt) (subst Ran e ran)
     where
       none_lost : LostRun old.damages (errors_running hear []) old.attempts
       none_lost = lost_run_none old.damages old.attempts
@@ -490,9 +565,9 @@ module _ {Did : Deeds} {a : Attempt} {hear : Outcome → HeardOutcome} {old new 
   -- where each wait is one fewer of those it has left, there are no more
   pub spared : (left : State → ℕ) → ((w : World) (u x : State) → Did w j u x → Is u → (n : ℕ)
       → waits_with (hear (outcome_in a w)) n + left x ≤ n + left u) → left s < 256
-      → Through Did a hear (Err Busy) old new j s v → ⊥
+      → result ≢ Err Busy
   unfolding waits_in
-  spared left spares few x =
+  spared left spares few e =
       at_end hear (λ outcomes w u. Is u × (waits_in hear outcomes + left u ≤ left s))
       (is, none_left)
       (λ outcomes w u y t made i d n. (
@@ -507,7 +582,7 @@ module _ {Did : Deeds} {a : Attempt} {hear : Outcome → HeardOutcome} {old new 
         one_left outcomes (outcome_in a w)
             (left u) (left v) i.1 (spares w u v d i.0 (waits_in hear outcomes)),
       ))
-      (λ gave outcomes w i. gave tt) x
+      (λ gave outcomes w i. gave tt) (subst Ran e ran)
     where
       none_left : waits_in hear [] + left s ≤ left s
       none_left = omega arith
@@ -522,9 +597,9 @@ module _ {Did : Deeds} {a : Attempt} {hear : Outcome → HeardOutcome} {old new 
   pub few_repeats : (awaited : Toggle) (given : State → Toggle) → NoThreeDamaged old
       → ((w : World) (u x : State) → Did w j u x → Is u → IsNoEnd (hear (outcome_in a w))
       → Turns awaited (given u) (given x) (hear (outcome_in a w)) (damage_in w ≢ None))
-      → Through Did a hear (Err Busy) old new j s v → ⊥
+      → result ≢ Err Busy
   unfolding waits_in
-  few_repeats awaited given three turns x =
+  few_repeats awaited given three turns e =
       at_end hear (λ outcomes w u. Is u
       × Stands awaited old (given u) (waits_in hear outcomes) w)
       (is, first (either (given s) awaited))
@@ -537,8 +612,47 @@ module _ {Did : Deeds} {a : Attempt} {hear : Outcome → HeardOutcome} {old new 
       (after (attempt a) w) = stands_on hear awaited three t (told (λ g. g tt)).0
       (waits_in hear outcomes) (turns w u v d i.0 end.0) i.1 in
       omega (arith, end.1, stands_most awaited old (given v) _ (after (attempt a) w) three stands))
-      (λ gave outcomes w i. gave tt) x
+      (λ gave outcomes w i. gave tt) (subst Ran e ran)
     where
       first : (given s ≡ awaited) ⊎ (given s ≡ other awaited) → Stands awaited old (given s) 0 old
       first (inl e) = inl (e, omega arith)
       first (inr e) = inr (e, (0, lost_run_none old.damages old.attempts, omega arith))
+
+  -- a device of the kind could answer so
+  pub could : (spec : Spec) → hear Stall ≡ Refused
+      → ((x : A) (o : Outcome) → Done x o → (hear o ≢ Lost) × (hear o ≢ NotReady))
+      → ((w : World) (u x : State) → Did w j u x → Is u
+      → OutcomeOfSpec spec (hear (outcome_in a w))) → CanAnswer spec result
+  unfolding waits_in
+  could spec refuses done says =
+      at_end hear (λ outcomes w u. Is u × Waited spec (waits_in hear outcomes)) (is, inl refl)
+      (λ outcomes w u y t made i d n. (
+        stays w u y d n i.0,
+        one_waited spec (hear (outcome_in a w)) (waits_in hear outcomes) (says w u y d i.0) i.1,
+      )) (λ y. CanAnswer spec result) v
+      (λ outcomes w u t i d end told. could_answer Done hear spec refuses done result (outcome_in a w)
+      outcomes (says w u v d i.0) (one_waited spec (hear (outcome_in a w))
+      (waits_in hear outcomes) (says w u v d i.0) i.1) end)
+      (λ gave outcomes w i. of_bus (λ r. CanAnswer spec r) (λ fault. tt) result gave) ran
+
+-- The packet that came with an answer
+
+pub result_of : {A : Type 0} (got : A → Option (List ℕ)) (P : Option (List ℕ) → Type 0)
+    (F : Result A TransFault → Type 0) → ((x : A) → P (got x) → F (Ok x))
+    → (P None → F (Err Stalled) × F (Err Busy) × F (Err NoAnswer))
+    → ((fault : BusFault) (c : Option (List ℕ)) → P c → F (Err (Bus fault)))
+    → (result : Result A TransFault) (c : Option (List ℕ))
+    → (IsNotOfBus result → c ≡ packet_of got result) → P c → F result
+result_of got P F some nil cut (Ok x) c e h = some x (subst P (e tt) h)
+result_of got P F some nil cut (Err Stalled) c e h = (nil (subst P (e tt) h)).0
+result_of got P F some nil cut (Err Busy) c e h = (nil (subst P (e tt) h)).1
+result_of got P F some nil cut (Err NoAnswer) c e h = (nil (subst P (e tt) h)).2
+result_of got P F some nil cut (Err (Bus fault)) c e h = cut fault c h
+
+pub brought : (awaited : Toggle) (result : Result (List ℕ) TransFault) (o : Outcome)
+    (outcomes : List Outcome) → IsEnd (heard_as awaited) result o outcomes → IsNotOfBus result
+    → packet_heard (heard_as awaited o) ≡ packet_in result
+brought awaited (Ok bytes) o outcomes e n = ap packet_heard e
+brought awaited (Err Stalled) o outcomes e n = ap (λ x. packet_heard (heard_as awaited x)) e
+brought awaited (Err (Bus fault)) o outcomes e n = absurd n
+brought awaited (Err fault) o outcomes e n = no_packet (heard_as awaited o) e.0
