@@ -6,8 +6,8 @@ use Rattle.usb_device.specs.{taken_row, given_law, GivesWithin, IsPrompt, sink_r
 use Rattle.usb_device.specs.{is_whole, heard, gave, in_law, out_law, taken_of, IsSource, SourceAt}
 use Rattle.usb_device.specs.{SourceOn, OnlySource, IsSink, SinkAt, level, ahead, Joined, OnlySink}
 use Rattle.std.proofs.Common.{◌≡◌, ◌≢◌, ◌⊎◌, inl, inr, ℕ, ◌+◌, ◌<◌, ◌≤◌, nat_le, nat_lt}
-use Rattle.std.proofs.Common.{if◌then◌else◌, is_some, Bool, true, false, List, ◌∷◌, ◌++◌, length}
-use Rattle.std.proofs.Common.{Option, None, Some, Result, Ok, Err, refl, sym, subst, ap, ◌∙◌, arith}
+use Rattle.std.proofs.Common.{if◌then◌else◌, is_some, Bool, true, false, List, ◌++◌, length, Option}
+use Rattle.std.proofs.Common.{None, Some, Result, Ok, Err, refl, sym, subst, ap, ◌∙◌, arith}
 use Rattle.std.proofs.lemmas.Bool.Decides.{nat_tests}
 use Rattle.arrayvec.specs.ArrayVec.{ArrayVec}
 use Rattle.usb_packet.specs.{Toggle, Zero, One, other, is_same}
@@ -30,7 +30,7 @@ use Rattle.usb_transaction.specs.{TransactionDone, Transacted, in_attempt, out_a
 use Rattle.usb_transaction.proofs.DeviceRuns.{Any, EachIf, End, IsEnd, IsOfBus, Moves, RunThrough}
 use Rattle.usb_transaction.proofs.DeviceRuns.{Through, asked_in, brought, result_of, summed}
 use Rattle.usb_transaction.proofs.DeviceRuns.{delivered_out, at_end, each_device, heeded, in_others}
-use Rattle.usb_transaction.proofs.DeviceRuns.{listens_on, of_bus, out_others, over_in}
+use Rattle.usb_transaction.proofs.DeviceRuns.{never, listens_on, of_bus, out_others, over_in}
 use Rattle.usb_transaction.proofs.DeviceRuns.{over_in_trail, over_out, over_out_trail, spared}
 use Rattle.usb_transaction.proofs.DeviceRuns.{stays_away, stopped, was_then}
 use Rattle.usb_transaction.proofs.LastOutcomes.{no_packet, packet_heard}
@@ -481,7 +481,8 @@ module _ (t : Target) (ep : ℕ) (awaited : Toggle) {hear : Outcome → HeardOut
 
     pub short_answered : NoThreeDamaged old → GivesWithin t.max ep most s → result ≢ Err NoAnswer
     short_answered three m = heeded Done result run (IsShort t ep awaited most j)
-        (λ w u y d n. stays_short t ep awaited most w j u y d) (listens, m) three (λ w u y d is sound f. (erred w u y d is.0 sound f).1 is.1)
+        (λ w u y d n. stays_short t ep awaited most w j u y d) (listens, m) three
+        (λ w u y d is sound f. (erred w u y d is.0 sound f).1 is.1)
 
     pub halted_answered : NoThreeDamaged old → (in_end s ep).state.halted ≡ true
         → (result ≢ Err NoAnswer) × (result ≢ Err Busy)
@@ -515,9 +516,9 @@ module _ (t : Target) (ep : ℕ) (awaited : Toggle) (old : World) (three : NoThr
   first_stands most had s (ahead g p q) x =
       behind g p q 0 (lost_run_none old.damages old.attempts) (inr refl) (omega (arith, x.0)) x.1
 
-  never : (most had n : ℕ) (w : World) (u : State) → Stands most had n w u → n ≡ 256 → ⊥
-  never most had n w u (even g q few) e = omega (arith, few, e)
-  never most had n w u (behind g p q k ran or few each) e =
+  too_many : (most had n : ℕ) (w : World) (u : State) → Stands most had n w u → n ≡ 256 → ⊥
+  too_many most had n w u (even g q few) e = omega (arith, few, e)
+  too_many most had n w u (behind g p q k ran or few each) e =
       omega (arith, few, e, run_short old k w.attempts three ran)
 
   none_there : {o : Option (List ℕ)} {P : Type 0} → o ≡ None → is_some o ≡ true → P
@@ -593,29 +594,22 @@ module _ (t : Target) (ep : ℕ) (awaited : Toggle) (old : World) (three : NoThr
       → is_some (next_packet s ep most had) ≡ true → IsPrompt (in_end s ep).pace
       → result ≢ Err Busy
   unfolding waits_in
-  waits_few result new j s v most had run is at left prompt e =
-      at_end (heard_as awaited) (λ outcomes w u. IsShort t ep awaited most j u
-      × (is_some (next_packet u ep most had) ≡ true)
-      × Stands most had (waits_in (heard_as awaited) outcomes) w u)
-      (is, left, first_stands most had s at prompt)
-      (λ outcomes w u y trail made so d n. (
+  waits_few result new j s v most had run is at left prompt =
+      never (Moves (heard_as awaited)) result run (λ u. IsShort t ep awaited most j u
+      × (is_some (next_packet u ep most had) ≡ true))
+      (λ w u y d n so. (
         stays_short t ep awaited most w j u y d so.0,
         subst (λ (z : State). is_some (next_packet z ep most had) ≡ true)
             (sym (only_in t ep awaited most w j u y d so.0.0.0.at so.0.0.1).rest) so.1,
-        next_stands had (waits_in (heard_as awaited) outcomes) w trail made
-            (λ e. (e, so.0.0.0)) so.0.1 so.1
-            (did_in t ep awaited most w j u y d so.0.0.0.at so.0.0.1) n so.2,
-      ))
-      (λ y. ⊥) v
-      (λ outcomes w u trail so d is told.
-      never most had (waits_in (heard_as awaited) (outcome_in (in_attempt t ep) w ∷ outcomes))
-      (after (attempt (in_attempt t ep)) w) v
-      (next_stands had (waits_in (heard_as awaited) outcomes) w trail (told (λ e. e tt)).0
-      (λ e. (e, so.0.0.0)) so.0.1 so.1 (did_in t ep awaited most w j u v d so.0.0.0.at so.0.0.1)
-      is.0 so.2) is.1)
-      (λ gave outcomes w so. gave tt)
-      (subst (λ r. Through (DidIn (a_in t ep awaited)) (a_in t ep awaited) (heard_as awaited) r old
-      new j s v) e run)
+      )) (is, left)
+      (λ outcomes w u. Stands most had (waits_in (heard_as awaited) outcomes) w u)
+      (first_stands most had s at prompt)
+      (λ outcomes w u y trail made so stands d n. next_stands had
+      (waits_in (heard_as awaited) outcomes) w trail made (λ e. (e, so.0.0.0)) so.0.1 so.1
+      (did_in t ep awaited most w j u y d so.0.0.0.at so.0.0.1) n stands)
+      (Err Busy) tt (λ outcomes. waits_in (heard_as awaited) outcomes ≡ 256)
+      (λ o outcomes end. end) (λ outcomes w stands full.
+      too_many most had (waits_in (heard_as awaited) outcomes) w v stands full)
 
 pub source_why : (t : Target) (ep : ℕ) (awaited : Toggle) (result : Result (List ℕ) TransFault)
     (old new : World) → IsSettled old.roots → NoThreeDamaged old

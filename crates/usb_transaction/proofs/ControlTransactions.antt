@@ -27,11 +27,12 @@ use Rattle.usb_transaction.specs.{WriteStatusEnds, WriteStatusFailure, WriteStat
 use Rattle.usb_transaction.specs.Failures.{data_stage}
 use Rattle.std.proofs.lemmas.Bool.Decides.{nat_tests}
 use Rattle.arrayvec.specs.ArrayVec.{ArrayVec}
-use Rattle.usb_transaction.proofs.DeviceRuns.{IsEnd, Run, as_whole, asked_in, at_end, at_from}
-use Rattle.usb_transaction.proofs.DeviceRuns.{each_device, had_address, heeded, listens_on, mine}
-use Rattle.usb_transaction.proofs.DeviceRuns.{not_busy, of_bus, one_wait, others_stay_then, over_in}
+use Rattle.usb_transaction.proofs.DeviceRuns.{IsEnd, Run, as_whole, asked_in, at_from, each_device}
+use Rattle.usb_transaction.proofs.DeviceRuns.{had_address, heeded, listens_on, mine, not_busy}
+use Rattle.usb_transaction.proofs.DeviceRuns.{of_bus, one_wait, others_stay_then, over_in}
 use Rattle.usb_transaction.proofs.DeviceRuns.{over_in_trail, positive, Through, was_then, Moves}
 use Rattle.usb_transaction.proofs.DeviceRuns.{OutcomeOfSpec, brought, could, result_of, summed}
+use Rattle.usb_transaction.proofs.DeviceRuns.{never}
 use Rattle.usb_transaction.proofs.LastOutcomes.{heard_taken, no_packet, packet_heard, packet_in}
 use Rattle.usb_transaction.proofs.Trails.{LostRun, as_transacted, damaged_more, lost_run_none}
 use Rattle.usb_transaction.proofs.Trails.{run_short, trail_settled}
@@ -179,6 +180,11 @@ status_from : (a : Option ℕ) (s u v : State) (o : Option (List ℕ)) → u.reg
 status_from a s u v None e h = (h.0, h.1 ∙ e)
 status_from a s u v (Some bytes) e h = (h.0, given_from a s u v e h.1)
 
+-- in the data stage of a read it stays there, with its registers
+abbrev pub StaysReading : State → State → Type 0
+StaysReading s v = (text : List ℕ) (wanted k : ℕ) → s.stage ≡ reading text wanted k
+    → (v.registers ≡ s.registers) × (n : ℕ) × (v.stage ≡ reading text wanted n)
+
 module _ (t : Target) (awaited : Toggle) where
   abbrev came : Outcome → Option (List ℕ)
   came o = packet_heard (heard_as awaited o)
@@ -195,6 +201,7 @@ module _ (t : Target) (awaited : Toggle) where
         → StatusOn a s (came o) v
     pub written : is_at s t ≡ true → awaited ≡ One → (w : Write) → s.stage ≡ writing w
         → WrittenOn w (came o) v × (v.registers ≡ s.registers)
+    pub stays : StaysReading s v
     pub refuses : s.stage ≡ refused → (v.stage ≡ refused) × (v.registers ≡ s.registers)
         × (is_at s t ≡ true → came o ≡ None)
     pub fails : awaited ≡ One → came o ≡ None → v.registers ≡ s.registers
@@ -219,6 +226,7 @@ module _ (t : Target) (awaited : Toggle) where
       subst (λ c. WrittenOn w c (record s { naks = k })) (sym (none at)) h,
       refl,
     );
+    stays = λ text wanted n h. (refl, n, h);
     refuses = λ h. (h, refl, none);
     fails = λ e c. refl;
     back = λ h. h;
@@ -246,6 +254,7 @@ module _ (t : Target) (awaited : Toggle) where
     reading = λ a text wanted n e r. (reads text wanted n e r, refl);
     status = λ a e b g. cc (sym h ∙ g);
     written = λ a e w g. cc (sym h ∙ g);
+    stays = λ answer most i g. (refl, n, cc (sym h ∙ g));
     refuses = λ g. cc (sym h ∙ g);
     fails = λ e c. refl;
     back = λ g. cc g;
@@ -260,6 +269,7 @@ module _ (t : Target) (awaited : Toggle) where
         (packet_heard (heard_as z (Payload One (packed [])))) x) (sym e)
         (refl, subst (λ c. StatusGiven c u x) (cc (sym h ∙ g)) given);
     written = λ a e w g. cc (sym h ∙ g);
+    stays = λ answer most i g. cc (sym h ∙ g);
     refuses = λ g. cc (sym h ∙ g);
     fails = λ e c. absurd (cc (ap (λ z. packet_heard (heard_as z (Payload One (packed [])))) (sym e)
         ∙ c));
@@ -282,6 +292,7 @@ module _ (t : Target) (awaited : Toggle) where
           (cc (sym h ∙ g)) (refl, done, is)),
       refl,
     );
+    stays = λ answer most i g. cc (sym h ∙ g);
     refuses = λ g. cc (sym h ∙ g);
     fails = λ e c. refl;
     back = λ g. elim is [
@@ -353,6 +364,10 @@ module _ (t : Target) (awaited : Toggle) where
         let before = x.written at e w h in
         let later = y.written (at_from t s u before.1 at) e w before.0 in
         (later.0, later.1 ∙ before.1);
+    stays = λ text wanted k h.
+        let before = x.stays text wanted k h in
+        let later = y.stays text wanted before.1 before.2 in
+        (later.0 ∙ before.0, later.1, later.2);
     refuses = λ h. let before = x.refuses h in let later = y.refuses before.0 in
         (later.0, later.1 ∙ before.1, λ at. later.2 (at_from t s u before.1 at));
     fails = λ e c. y.fails e c ∙ x.fails e refl;
@@ -372,6 +387,7 @@ module _ (t : Target) (awaited : Toggle) where
         reading = λ at text wanted n e r. rw none at (x.reading at text wanted n e r);
         status = λ at e a h. rw none at (x.status at e a h);
         written = λ at e w h. rw none at (x.written at e w h);
+        stays = x.stays;
         refuses = λ h. ((x.refuses h).0, (x.refuses h).1, λ at. refl);
         fails = λ e c. x.fails e none;
         back = x.back;
@@ -464,8 +480,8 @@ module _ (t : Target) (awaited : Toggle) (result : Result (List ℕ) TransFault)
 
   whole_in : (o : Outcome) × (outcomes : List Outcome) × IsEnd hears result o outcomes
       × InResult t awaited s o v
-  whole_in = summed run (λ gave outcomes. of_bus (λ r. IsEnd hears r Nothing outcomes) (λ f. tt) result
-      gave) (λ u. Unit {0}) (InResult t awaited) (λ w u y d i. (did_step t awaited w j u y d, tt))
+  whole_in = summed run (λ gave outcomes.
+      of_bus (λ r. IsEnd hears r Nothing outcomes) (λ f. tt) result gave) (λ u. Unit {0}) (InResult t awaited) (λ w u y d i. (did_step t awaited w j u y d, tt))
       (joined t awaited) (quiet t awaited) tt (unmoved t awaited s)
 
   same : IsNotOfBus result → came t awaited whole_in.0 ≡ packet_in result
@@ -489,12 +505,12 @@ module _ (t : Target) (awaited : Toggle) (result : Result (List ℕ) TransFault)
     others = x.others;
     frame = x.frame;
     reading = λ at text wanted n f r.
-        result_of (λ b. Some b) (λ c. ReadOn text wanted n s c v) (λ y. ReadEnds text wanted n s y v) (λ b z. z)
-        (λ z. (z, z, z)) (λ fault c z. cut_read text wanted n s v c z) result
+        result_of (λ b. Some b) (λ c. ReadOn text wanted n s c v)
+        (λ y. ReadEnds text wanted n s y v) (λ b z. z) (λ z. (z, z, z)) (λ fault c z. cut_read text wanted n s v c z) result
         (came t awaited whole_in.0) same (x.reading at text wanted n f r).0;
     status = λ at f a h.
-        result_of (λ b. Some b) (λ c. StatusOn a s c v) (λ y. StatusEnds a s y v) (λ b z. z) (λ z. (z, z, z))
-        (λ fault c z. cut_status a s v c z) result (came t awaited whole_in.0) same
+        result_of (λ b. Some b) (λ c. StatusOn a s c v) (λ y. StatusEnds a s y v) (λ b z. z)
+        (λ z. (z, z, z)) (λ fault c z. cut_status a s v c z) result (came t awaited whole_in.0) same
         (x.status at f a h);
     refused = λ h. (
       (x.refuses h).0,
@@ -665,7 +681,7 @@ next_kept t awaited place u v x l (writes_on w e h) = let q = x.written l.at e w
 -- A device that has what is next, over attempts that go on: it waits no longer than it has NAKs,
 -- but for repeats, which come no more after an attempt that is not damaged
 
-module _ (t : Target) (awaited : Toggle) (old : World) (never : NoThreeDamaged old) (j : Location)
+module _ (t : Target) (awaited : Toggle) (old : World) (three : NoThreeDamaged old) (j : Location)
     (s : State) where
   abbrev a : Attempt
   a = in_attempt t 0
@@ -735,7 +751,7 @@ module _ (t : Target) (awaited : Toggle) (old : World) (never : NoThreeDamaged o
           let more : _ = one_wait (hear (outcome_in a w)) (waits_in hear outcomes) in
           let left : v.naks ≤ u.naks = (did_step t awaited w j u v d).naks in
           record {
-            few = omega (arith, more, left, q.2, run_short old q.0 w.attempts never q.1);
+            few = omega (arith, more, left, q.2, run_short old q.0 w.attempts three q.1);
             behind = λ still. (
               q.0 + 1,
               damaged_more trail made q.0 (λ sound. false_true (sym still
@@ -745,32 +761,25 @@ module _ (t : Target) (awaited : Toggle) (old : World) (never : NoThreeDamaged o
             );
           }
 
-  too_many : (outcomes : List Outcome) (w : World) (u v : State)
-      → Waits (outcome_in a w ∷ outcomes) (after (attempt a) w) v
-      → waits_in hear (outcome_in a w ∷ outcomes) ≡ 256 → s.naks ≤ 200 → ⊥
-  too_many outcomes w u v x full few = omega (arith, x.few, full, few)
-
   -- it answers, and waits no longer
   module _ (result : Result (List ℕ) TransFault) (new : World) (v : State)
       (run : Through (DidIn a) a hear result old new j s v) (l : Listens t j s)
       (h : Ready t awaited s) where
     answered : result ≢ Err NoAnswer
-    answered = heeded (Moves hear) result run (λ u. Listens t j u × Ready t awaited u) stays (l, h) never
+    answered = heeded (Moves hear) result run (λ u. Listens t j u × Ready t awaited u) stays (l, h)
+        three
         (λ w u y d i sound. (heeds_in w u y d i sound).0)
 
     waited : s.spec.busy ≡ false → s.naks ≤ 200 → result ≢ Err Busy
-    waited calm few e =
-        at_end hear (λ outcomes w u. (Listens t j u × Ready t awaited u) × (u.spec.busy ≡ false)
-        × Waits outcomes w u) ((l, h), calm, waits_none)
-        (λ outcomes w u y trail made i d n. (
+    waited calm few =
+        never (Moves hear) result run (λ u. (Listens t j u × Ready t awaited u)
+        × (u.spec.busy ≡ false)) (λ w u y d n i. (
           stays w u y d n i.0,
           ap (λ z. z.spec.busy) (did_step t awaited w j u y d).frame ∙ i.1,
-          one_more outcomes w u y trail made i.0 i.1 i.2 d n,
-        )) (λ y. ⊥) v
-        (λ outcomes w u trail i d end told. too_many outcomes w u v
-        (one_more outcomes w u v trail (told (λ g. g tt)).0 i.0 i.1 i.2 d end.0) end.1 few)
-        (λ gave outcomes w i. gave tt)
-        (subst (λ r. Through (DidIn a) a hear r old new j s v) e run)
+        )) ((l, h), calm) Waits waits_none
+        (λ outcomes w u y trail made i so d n. one_more outcomes w u y trail made i.0 i.1 so d n)
+        (Err Busy) tt (λ outcomes. waits_in hear outcomes ≡ 256) (λ o outcomes end. end)
+        (λ outcomes w so full. omega (arith, so.few, full, few))
 
 -- Each device
 
@@ -796,15 +805,24 @@ pub control_in_leaves : (t : Target) (awaited : Toggle) (result : Result (List �
 control_in_leaves t awaited result old new settled e =
     control_leaves t awaited result old new settled (as_transacted result e)
 
+pub reading_leaves : (t : Target) (awaited : Toggle) (result : Result (List ℕ) TransFault)
+    (old new : World) → IsSettled old.roots
+    → Transacted (heard_as awaited) (in_attempt t 0) old result new → new.shared ≡ false
+    → EachWas (λ j s v. StaysReading s v) old new
+reading_leaves t awaited result old new settled x single =
+    each_device _ (λ j s v. StaysReading s v) old new
+    (λ j s v run. (whole_in t awaited result old new j s v run).3.stays)
+    (over_in t 0 old new settled single (heard_as awaited) result x)
+
 pub control_in_why : (t : Target) (awaited : Toggle) (result : Result (List ℕ) TransFault)
     (old new : World) → IsSettled old.roots → NoThreeDamaged old
     → TransactionDone (heard_as awaited) (in_attempt t 0) old result new → new.shared ≡ false
     → EachWas (ControlInFailure t awaited result) old new
-control_in_why t awaited result old new settled never e single =
+control_in_why t awaited result old new settled three e single =
     each_device _ (ControlInFailure t awaited result) old new
     (λ j s v run. record {
-      answered = λ l h. answered t awaited old never j s result new v run l (reads_on h);
-      waited = λ l h. waited t awaited old never j s result new v run l (reads_on h);
+      answered = λ l h. answered t awaited old three j s result new v run l (reads_on h);
+      waited = λ l h. waited t awaited old three j s result new v run l (reads_on h);
     })
     (over_in t 0 old new settled single (heard_as awaited) result (as_transacted result e))
 
@@ -824,10 +842,10 @@ pub write_status_why : (t : Target) (result : Result (List ℕ) TransFault) (old
     → IsSettled old.roots → NoThreeDamaged old
     → TransactionDone (heard_as One) (in_attempt t 0) old result new → new.shared ≡ false
     → EachWas (WriteStatusFailure t result) old new
-write_status_why t result old new settled never e single =
+write_status_why t result old new settled three e single =
     each_device _ (WriteStatusFailure t result) old new
     (λ j s v run. record {
-      answered = λ l w h. answered t One old never j s result new v run l (writes_on w refl h);
-      waited = λ l w h. waited t One old never j s result new v run l (writes_on w refl h);
+      answered = λ l w h. answered t One old three j s result new v run l (writes_on w refl h);
+      waited = λ l w h. waited t One old three j s result new v run l (writes_on w refl h);
     })
     (over_in t 0 old new settled single (heard_as One) result (as_transacted result e))

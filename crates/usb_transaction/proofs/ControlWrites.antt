@@ -184,10 +184,10 @@ module _ (t : Target) (toggle : Toggle) (bytes : List ℕ) where
   module _ (result : Result (List ℕ) TransFault) (old new : World) (j : Location) (s v : State)
       (run : Through (DidOut a_write toggle bytes) a_write heard_when_sent result old new j s v)
     where
-      whole_out : (o : Outcome) × (outcomes : List Outcome) × IsEnd heard_when_sent result o outcomes
-          × OutResult s o v
-      whole_out = summed run (λ gave outcomes. of_bus (λ r. IsEnd heard_when_sent r Nothing outcomes)
-          (λ f. tt) result gave) (λ u. Unit {0}) OutResult
+      whole_out : (o : Outcome) × (outcomes : List Outcome)
+          × IsEnd heard_when_sent result o outcomes × OutResult s o v
+      whole_out = summed run (λ gave outcomes.
+          of_bus (λ r. IsEnd heard_when_sent r Nothing outcomes) (λ f. tt) result gave) (λ u. Unit {0}) OutResult
           (λ w u y d i. (did_write w j u y d, tt)) joined (λ u y o n. quiet u y o) tt
           (unmoved s Nothing (λ at. refl))
 
@@ -272,17 +272,19 @@ module _ (t : Target) (toggle : Toggle) (bytes : List ℕ) (Is : State → Type 
       )
 
   answered : NoThreeDamaged old → result ≢ Err NoAnswer
-  answered three = heeded (Moves heard_when_sent) result run Stays (λ w u y d n. stays_out w u y d) (l, is) three
+  answered three = heeded (Moves heard_when_sent) result run Stays
+      (λ w u y d n. stays_out w u y d) (l, is) three
       (λ w u y d x sound e.
       let z = delivered_out t 0 toggle bytes w j u y d x.0.at in
       heeds u x.1 (sym (ap (λ r. heard_when_sent (got t.max r.0))
       (as_whole z sound x.0 (out_law u 0 toggle bytes))) ∙ sym (ap heard_when_sent z.gave) ∙ e))
 
   waited : s.spec.busy ≡ false → s.naks ≤ 200 → result ≢ Err Busy
-  waited calm few = spared (Moves heard_when_sent) result run (λ u. Stays u × (u.spec.busy ≡ false)) (λ w u y d n x. (
-    stays_out w u y d x.0,
-    ap (λ q. q.spec.busy) (did_write t toggle bytes w j u y d).frame ∙ x.1,
-  )) ((l, is), calm) (λ u. u.naks) (λ w u y d x n.
+  waited calm few = spared (Moves heard_when_sent) result run
+      (λ u. Stays u × (u.spec.busy ≡ false)) (λ w u y d n x. (
+        stays_out w u y d x.0,
+        ap (λ q. q.spec.busy) (did_write t toggle bytes w j u y d).frame ∙ x.1,
+      )) ((l, is), calm) (λ u. u.naks) (λ w u y d x n.
       let z = delivered_out t 0 toggle bytes w j u y d x.0.0.at in
       rw (z.is, z.gave) (law_waits u toggle bytes t.max x.1 z.first z.second z.third n))
       (omega (arith, few))

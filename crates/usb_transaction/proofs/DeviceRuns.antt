@@ -398,54 +398,56 @@ out_others t ep toggle bytes w j u v (DidOut.asked d q x o e) away = false_true 
 
 -- each device over a transaction of IN, of OUT, over a poll, and over attempts of IN or OUT
 
-module _ (t : Target) (ep : ℕ) (old new : World) (settled : IsSettled old.roots)
-    (single : new.shared ≡ false) where
+module _ (t : Target) (ep : ℕ) where
   abbrev a_in : Attempt
   a_in = in_attempt t ep
 
-  does_in : (w : World) → IsMade a_in w → (after (attempt a_in) w).shared ≡ false
-      → EachIf Any (DidIn a_in w) w (after (attempt a_in) w)
-  does_in w made u j v on there h = each_in a_in w made (record { kind = refl; payload = refl }) u j
-      v on there
+  pub does_in : (P : State → Type 0) (w : World) → IsMade a_in w
+      → (after (attempt a_in) w).shared ≡ false
+      → EachIf P (DidIn a_in w) w (after (attempt a_in) w)
+  does_in P w made u j v on there h =
+      each_in a_in w made (record { kind = refl; payload = refl }) u j v on there
 
-  pub over_in : (hear : Outcome → HeardOutcome) (result : Result (List ℕ) TransFault)
-      → Transacted hear a_in old result new
-      → EachIf Any (Through (DidIn a_in) a_in hear result old new) old new
-  over_in hear result x = over_transaction (DidIn a_in) a_in Any (λ w j u v d h. tt) does_in old
-      settled hear new single result x
+  module _ (old new : World) (settled : IsSettled old.roots) (single : new.shared ≡ false) where
+    pub over_in : (hear : Outcome → HeardOutcome) (result : Result (List ℕ) TransFault)
+        → Transacted hear a_in old result new
+        → EachIf Any (Through (DidIn a_in) a_in hear result old new) old new
+    over_in hear = over_transaction (DidIn a_in) a_in Any (λ w j u v d h. tt) (does_in Any) old
+        settled hear new single
 
-  pub over_polled : (toggle : Toggle) (result : Result (Option (List ℕ)) TransFault)
-      → Polled toggle a_in old result new
-      → EachIf Any (RunThrough (DidIn a_in) a_in (polled_as toggle) (IsPollEnd toggle result)
-      (IsOfBus result) old new) old new
-  over_polled toggle result x = over_poll (DidIn a_in) a_in Any (λ w j u v d h. tt) does_in old
-      settled toggle new single result x
+    pub over_polled : (toggle : Toggle) (result : Result (Option (List ℕ)) TransFault)
+        → Polled toggle a_in old result new
+        → EachIf Any (RunThrough (DidIn a_in) a_in (polled_as toggle) (IsPollEnd toggle result)
+        (IsOfBus result) old new) old new
+    over_polled toggle = over_poll (DidIn a_in) a_in Any (λ w j u v d h. tt) (does_in Any) old
+        settled toggle new single
 
-  pub over_in_trail : {outcomes : List Outcome} → AttemptLog a_in old outcomes new
-      → EachIf Any (λ j s v. Run (DidIn a_in) a_in old j s outcomes new v) old new
-  over_in_trail x = over_trail (DidIn a_in) a_in Any (λ w j u v d h. tt) does_in old settled x
-      single
+    pub over_in_trail : {outcomes : List Outcome} → AttemptLog a_in old outcomes new
+        → EachIf Any (λ j s v. Run (DidIn a_in) a_in old j s outcomes new v) old new
+    over_in_trail x = over_trail (DidIn a_in) a_in Any (λ w j u v d h. tt) (does_in Any) old settled
+        x single
 
-module _ (t : Target) (ep : ℕ) (toggle : Toggle) (bytes : List ℕ) (old new : World)
-    (settled : IsSettled old.roots) (single : new.shared ≡ false) where
+module _ (t : Target) (ep : ℕ) (toggle : Toggle) (bytes : List ℕ) where
   abbrev a_out : Attempt
   a_out = out_attempt t ep toggle bytes
 
-  does_out : (w : World) → IsMade a_out w → (after (attempt a_out) w).shared ≡ false
-      → EachIf Any (DidOut a_out toggle bytes w) w (after (attempt a_out) w)
-  does_out w made u j v on there h = each_out a_out w toggle bytes made
+  pub does_out : (P : State → Type 0) (w : World) → IsMade a_out w
+      → (after (attempt a_out) w).shared ≡ false
+      → EachIf P (DidOut a_out toggle bytes w) w (after (attempt a_out) w)
+  does_out P w made u j v on there h = each_out a_out w toggle bytes made
       (record { kind = refl; payload = refl }) u j v on there
 
-  pub over_out : (hear : Outcome → HeardOutcome) (result : Result (List ℕ) TransFault)
-      → Transacted hear a_out old result new
-      → EachIf Any (Through (DidOut a_out toggle bytes) a_out hear result old new) old new
-  over_out hear result x = over_transaction (DidOut a_out toggle bytes) a_out Any
-      (λ w j u v d h. tt) does_out old settled hear new single result x
+  module _ (old new : World) (settled : IsSettled old.roots) (single : new.shared ≡ false) where
+    pub over_out : (hear : Outcome → HeardOutcome) (result : Result (List ℕ) TransFault)
+        → Transacted hear a_out old result new
+        → EachIf Any (Through (DidOut a_out toggle bytes) a_out hear result old new) old new
+    over_out hear = over_transaction (DidOut a_out toggle bytes) a_out Any (λ w j u v d h. tt)
+        (does_out Any) old settled hear new single
 
-  pub over_out_trail : {outcomes : List Outcome} → AttemptLog a_out old outcomes new
-      → EachIf Any (λ j s v. Run (DidOut a_out toggle bytes) a_out old j s outcomes new v) old new
-  over_out_trail x = over_trail (DidOut a_out toggle bytes) a_out Any (λ w j u v d h. tt) does_out
-      old settled x single
+    pub over_out_trail : {outcomes : List Outcome} → AttemptLog a_out old outcomes new
+        → EachIf Any (λ j s v. Run (DidOut a_out toggle bytes) a_out old j s outcomes new v) old new
+    over_out_trail x = over_trail (DidOut a_out toggle bytes) a_out Any (λ w j u v d h. tt)
+        (does_out Any) old settled x single
 
 pub one_wait : (h : HeardOutcome) (n : ℕ) → waits_with h n ≤ n + 1
 one_wait h n = grind arith
@@ -537,52 +539,53 @@ module _ {A : Type 0} (Done : A → Outcome → Type 0) (result : Result A Trans
   abbrev Ran : Result A TransFault → Type 0
   Ran r = RunThrough Did a hear (End Done hear r) (IsOfBus r) old new j s v
 
+  -- what is so at first, and after each attempt that goes on, is so at the end: it refutes an
+  -- answer that tells of an outcome too many
+  pub never : (Holds : List Outcome → World → State → Type 0) → Holds [] old s
+      → ((outcomes : List Outcome) (w : World) (u x : State) → AttemptLog a old outcomes w
+      → Made w (after (attempt a) w) → Is u → Holds outcomes w u → Did w j u x
+      → IsNoEnd (hear (outcome_in a w)) → Holds (outcome_in a w ∷ outcomes) (after (attempt a) w) x)
+      → (r : Result A TransFault) → IsNotOfBus r → (Full : List Outcome → Type 0)
+      → ((o : Outcome) (outcomes : List Outcome) → End Done hear r o outcomes
+      → IsNoEnd (hear o) × Full (o ∷ outcomes))
+      → ((outcomes : List Outcome) (w : World) → Holds outcomes w v → Full outcomes → ⊥)
+      → result ≢ r
+  never Holds first step r sound Full ends refutes e =
+      at_end hear (λ outcomes w u. Is u × Holds outcomes w u) (is, first)
+      (λ outcomes w u y t made i d n. (
+        stays w u y d n i.0,
+        step outcomes w u y t made i.0 i.1 d n,
+      )) (λ y. ⊥) v
+      (λ outcomes w u t i d end told.
+      let x = ends (outcome_in a w) outcomes end in
+      refutes (outcome_in a w ∷ outcomes) (after (attempt a) w)
+      (step outcomes w u v t (told (λ g. g sound)).0 i.0 i.1 d x.0) x.1)
+      (λ gave outcomes w i. gave sound) (subst Ran e ran)
+
   -- where an attempt that is not damaged is no error, three errors run only over three damaged
   -- attempts
   pub heeded : NoThreeDamaged old → ((w : World) (u x : State) → Did w j u x → Is u
       → damage_in w ≡ None → hear (outcome_in a w) ≢ Lost) → result ≢ Err NoAnswer
   unfolding errors_running
-  heeded three heeds e =
-      at_end hear (λ outcomes w u. Is u × LostRun old.damages (errors_running hear outcomes)
-      w.attempts) (is, none_lost)
-      (λ outcomes w u y t made i d n. (
-        stays w u y d n i.0,
-        lost_more t made hear (heeds w u y d i.0) i.1,
-      )) (λ y. ⊥) v
-      (λ outcomes w u t i d end told.
-      let run : _ = lost_more t (told (λ g. g tt)).0 hear (heeds w u v d i.0) i.1 in
-      omega (
-        arith,
-        end.1,
-        run_short old (errors_running hear (outcome_in a w ∷ outcomes))
-            (after (attempt a) w).attempts three run,
-      ))
-      (λ gave outcomes w i. gave tt) (subst Ran e ran)
-    where
-      none_lost : LostRun old.damages (errors_running hear []) old.attempts
-      none_lost = lost_run_none old.damages old.attempts
+  heeded three heeds =
+      never (λ outcomes w u. LostRun old.damages (errors_running hear outcomes) w.attempts)
+      (lost_run_none old.damages old.attempts)
+      (λ outcomes w u y t made i run d n. lost_more t made hear (heeds w u y d i) run)
+      (Err NoAnswer) tt (λ outcomes. errors_running hear outcomes ≡ 3) (λ o outcomes end. end)
+      (λ outcomes w run full.
+      omega (arith, full, run_short old (errors_running hear outcomes) w.attempts three run))
 
   -- where each wait is one fewer of those it has left, there are no more
   pub spared : (left : State → ℕ) → ((w : World) (u x : State) → Did w j u x → Is u → (n : ℕ)
       → waits_with (hear (outcome_in a w)) n + left x ≤ n + left u) → left s < 256
       → result ≢ Err Busy
   unfolding waits_in
-  spared left spares few e =
-      at_end hear (λ outcomes w u. Is u × (waits_in hear outcomes + left u ≤ left s))
-      (is, none_left)
-      (λ outcomes w u y t made i d n. (
-        stays w u y d n i.0,
-        one_left outcomes (outcome_in a w)
-            (left u) (left y) i.1 (spares w u y d i.0 (waits_in hear outcomes)),
-      )) (λ y. ⊥) v
-      (λ outcomes w u t i d end told. omega (
-        arith,
-        end.1,
-        few,
-        one_left outcomes (outcome_in a w)
-            (left u) (left v) i.1 (spares w u v d i.0 (waits_in hear outcomes)),
-      ))
-      (λ gave outcomes w i. gave tt) (subst Ran e ran)
+  spared left spares few =
+      never (λ outcomes w u. waits_in hear outcomes + left u ≤ left s) none_left
+      (λ outcomes w u y t made i so d n. one_left outcomes (outcome_in a w) (left u) (left y) so
+      (spares w u y d i (waits_in hear outcomes)))
+      (Err Busy) tt (λ outcomes. waits_in hear outcomes ≡ 256) (λ o outcomes end. end)
+      (λ outcomes w so full. omega (arith, so, full, few))
     where
       none_left : waits_in hear [] + left s ≤ left s
       none_left = omega arith
@@ -599,20 +602,17 @@ module _ {A : Type 0} (Done : A → Outcome → Type 0) (result : Result A Trans
       → Turns awaited (given u) (given x) (hear (outcome_in a w)) (damage_in w ≢ None))
       → result ≢ Err Busy
   unfolding waits_in
-  few_repeats awaited given three turns e =
-      at_end hear (λ outcomes w u. Is u
-      × Stands awaited old (given u) (waits_in hear outcomes) w)
-      (is, first (either (given s) awaited))
-      (λ outcomes w u y t made i d n. (
-        stays w u y d n i.0,
-        stands_on hear awaited three t made (waits_in hear outcomes) (turns w u y d i.0 n) i.1,
-      )) (λ y. ⊥) v
-      (λ outcomes w u t i d end told.
-      let stands : Stands awaited old (given v) (waits_in hear (outcome_in a w ∷ outcomes))
-      (after (attempt a) w) = stands_on hear awaited three t (told (λ g. g tt)).0
-      (waits_in hear outcomes) (turns w u v d i.0 end.0) i.1 in
-      omega (arith, end.1, stands_most awaited old (given v) _ (after (attempt a) w) three stands))
-      (λ gave outcomes w i. gave tt) (subst Ran e ran)
+  few_repeats awaited given three turns =
+      never (λ outcomes w u. Stands awaited old (given u) (waits_in hear outcomes) w)
+      (first (either (given s) awaited))
+      (λ outcomes w u y t made i so d n.
+      stands_on hear awaited three t made (waits_in hear outcomes) (turns w u y d i n) so)
+      (Err Busy) tt (λ outcomes. waits_in hear outcomes ≡ 256) (λ o outcomes end. end)
+      (λ outcomes w so full. omega (
+        arith,
+        full,
+        stands_most awaited old (given v) (waits_in hear outcomes) w three so,
+      ))
     where
       first : (given s ≡ awaited) ⊎ (given s ≡ other awaited) → Stands awaited old (given s) 0 old
       first (inl e) = inl (e, omega arith)
@@ -630,9 +630,10 @@ module _ {A : Type 0} (Done : A → Outcome → Type 0) (result : Result A Trans
         stays w u y d n i.0,
         one_waited spec (hear (outcome_in a w)) (waits_in hear outcomes) (says w u y d i.0) i.1,
       )) (λ y. CanAnswer spec result) v
-      (λ outcomes w u t i d end told. could_answer Done hear spec refuses done result (outcome_in a w)
-      outcomes (says w u v d i.0) (one_waited spec (hear (outcome_in a w))
-      (waits_in hear outcomes) (says w u v d i.0) i.1) end)
+      (λ outcomes w u t i d end told.
+      could_answer Done hear spec refuses done result (outcome_in a w) outcomes (says w u v d i.0)
+      (one_waited spec (hear (outcome_in a w)) (waits_in hear outcomes) (says w u v d i.0) i.1)
+      end)
       (λ gave outcomes w i. of_bus (λ r. CanAnswer spec r) (λ fault. tt) result gave) ran
 
 -- The packet that came with an answer

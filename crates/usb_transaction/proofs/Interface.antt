@@ -9,7 +9,8 @@ pub use Rattle.usb_transaction.proofs.Calls.{had_one, poll_answered, poll_had, r
 pub use Rattle.usb_transaction.proofs.Calls.{read_had, set_up_had, wait_answered}
 pub use Rattle.usb_transaction.proofs.Calls.{write_answered, write_had}
 pub use Rattle.usb_transaction.proofs.ControlTransactions.{control_in_leaves, control_in_why}
-pub use Rattle.usb_transaction.proofs.ControlTransactions.{control_leaves, write_status_leaves}
+pub use Rattle.usb_transaction.proofs.ControlTransactions.{StaysReading, control_leaves}
+pub use Rattle.usb_transaction.proofs.ControlTransactions.{reading_leaves, write_status_leaves}
 pub use Rattle.usb_transaction.proofs.ControlTransactions.{write_status_why}
 pub use Rattle.usb_transaction.proofs.ControlWrites.{read_status_why, status_leaves, write_leaves}
 pub use Rattle.usb_transaction.proofs.ControlWrites.{write_out_why}
