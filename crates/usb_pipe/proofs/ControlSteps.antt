@@ -1,18 +1,14 @@
 -- The transactions of a control transfer: what each leaves of each device, and how they join.
-use Rattle.std.proofs.Common.{◌≡◌, ℕ, ◌+◌, nat_le, ◌&&◌, if◌then◌else◌, Bool, true, false, List}
-use Rattle.std.proofs.Common.{length, Option, None, Some, is_some, refl, sym, subst, ◌∙◌, ◌≢◌, zero}
-use Rattle.std.proofs.Common.{suc, ◌%◌, ◌==◌, not, ap, arith, ◌<◌, ◌≤◌, [], Result, Ok, Err}
+use Rattle.std.proofs.Common.{◌≡◌, ℕ, ◌+◌, ◌&&◌, if◌then◌else◌, Bool, true, false, List, length}
+use Rattle.std.proofs.Common.{None, refl, sym, subst, ◌∙◌, ◌≢◌, zero, suc, ◌%◌, ◌==◌, not, ap}
+use Rattle.std.proofs.Common.{arith, ◌<◌, ◌≤◌, [], Result, Ok, Err}
 use Rattle.std.proofs.lemmas.Bool.Decides.{nat_tests}
 use Rattle.std.proofs.lemmas.Option.{same_Some}
 use Rattle.usb_packet.specs.{Toggle, Zero, One, other, flips}
 use Rattle.usb_request.specs.{bytes_of, setup_of, IsToHost, Setup, PORT_RESET, C_PORT_CONNECTION}
 use Rattle.usb_request.specs.{CLEAR_FEATURE, SET_FEATURE, PORT_OUT}
-use Rattle.usb_port.specs.{PortState}
-use Rattle.usb_device.specs.{Way, is_whole, gave, in_law, OnlyControl, OnlyStage, State, Reply}
-use Rattle.usb_device.specs.{forgotten, is_busy, reading, max_packet, packet_at, toggle_at, row_of}
-use Rattle.usb_device.specs.{Location}
-use Rattle.usb_device.specs.declared.transfer.InEndpoint.TheVariants as by
-use Rattle.usb_world.specs.{is_harmless, Relation, EachWas, DidIn, Was, damage_of, World, Attempt}
+use Rattle.usb_device.specs.{OnlyControl, OnlyStage, State, toggle_at, Location}
+use Rattle.usb_world.specs.{is_harmless, Relation, EachWas, Was, damage_of, World, Attempt}
 use Rattle.usb_tree.specs.{IsSettled}
 use Rattle.usb_transaction.specs.{NoThreeDamaged, SetupFailure, ControlInFailure, StatusReadFailure}
 use Rattle.usb_transaction.specs.{heard_as, ControlIn, SetupDone, is_at, ReadStatus}
@@ -20,17 +16,17 @@ use Rattle.usb_transaction.specs.{IsNotOfBus as TransNotOfBus, begins_no_stretch
 use Rattle.usb_transaction.specs.{LosesNone, EachSpared, IsSpared, TransactionDone, Transacted}
 use Rattle.usb_transaction.specs.{in_attempt, TransFault, Target, WriteOut, WriteOutFailure}
 use Rattle.usb_transaction.specs.{WriteStatusFailure, WriteStatusIn}
-use Rattle.usb_transaction.specs.declared.fault.TransFault.TheVariants as trans
-use Rattle.usb_transaction.proofs.Interface.{at_end, control_leaves, each_device, over_in}
-use Rattle.usb_transaction.proofs.Interface.{set_up_why, setup_leaves, trail_damages, trail_settled}
-use Rattle.usb_transaction.proofs.Interface.{trail_unshared, others_stay_then, status_leaves}
-use Rattle.usb_transaction.proofs.Interface.{transacted_unshared, control_in_why, in_losses}
-use Rattle.usb_transaction.proofs.Interface.{set_up_losses, spared_joined, spared_wider}
-use Rattle.usb_transaction.proofs.Interface.{read_status_why, out_losses, read_losses, was_then}
-use Rattle.usb_transaction.proofs.Interface.{write_leaves, write_out_why, write_status_leaves}
-use Rattle.usb_transaction.proofs.Interface.{write_status_why}
+use Rattle.usb_transaction.proofs.Interface.{control_leaves, set_up_why, setup_leaves}
+use Rattle.usb_transaction.proofs.Interface.{trail_damages, trail_settled, trail_unshared}
+use Rattle.usb_transaction.proofs.Interface.{others_stay_then, status_leaves, transacted_unshared}
+use Rattle.usb_transaction.proofs.Interface.{control_in_why, in_losses, set_up_losses}
+use Rattle.usb_transaction.proofs.Interface.{spared_joined, spared_wider, read_status_why}
+use Rattle.usb_transaction.proofs.Interface.{out_losses, read_losses, was_then, write_leaves}
+use Rattle.usb_transaction.proofs.Interface.{write_out_why, write_status_leaves, write_status_why}
+use Rattle.usb_transaction.proofs.Interface.{StaysReading, reading_leaves}
 use Rattle.usb_pipe.specs.{as_pipe_fault, IsNoBusFault, SetUp, Asks, Confirms, PipeFault, Puts}
 use Rattle.usb_pipe.proofs.TransactionFaults.{Fell}
+use Rattle.usb_transaction.specs.declared.fault.TransFault.TheVariants as trans
 
 -- What a transaction's answer says of its worlds
 
@@ -82,83 +78,11 @@ pub never_three : (old new : World) → new.damages ≡ old.damages → NoThreeD
 never_three old new e three = subst (λ d. (n : ℕ) → damage_of d n ≢ None
     → damage_of d (n + 1) ≢ None → damage_of d (n + 2) ≢ None → ⊥) (sym e) three
 
--- One IN of endpoint 0 keeps the registers of a device in the data stage of a read
-
-pub data IsReading (s : State) : Type 0 where
-  reads : (answer : List ℕ) (wanted known : ℕ) → s.stage ≡ reading answer wanted known → IsReading s
-
-abbrev StageStays : State → State → Type 0
-StageStays s v = IsReading v × (v.registers ≡ s.registers)
-
-abbrev pub Steady : Relation
-Steady j s v = IsReading s → StageStays s v
-
-abbrev at_reading : List ℕ → ℕ → ℕ → State → State
-at_reading answer wanted known s = record s { stage = reading answer wanted known }
-
 -- each branch of a choice
 pub either_way : {A : Type 0} (P : A → Type 0) (b : Bool) (x y : A) → P x → P y
     → P (if b then x else y)
 either_way P true x y h g = h
 either_way P false x y h g = g
-
--- the ACK of a packet came, or it did not; and there was a packet, or there was none
-reading_stays : (answer : List ℕ) (wanted k max : ℕ) (s : State) (t2 t3 : Way) (o : Option (List ℕ))
-    → StageStays (at_reading answer wanted k s) (elim o
-    as (λ _. Reply) [
-      | None ↦ (None, at_reading answer wanted k s)
-      | Some bytes ↦ gave (at_reading answer wanted k s) by.Control max (toggle_at k) bytes t2 t3
-    ]).1
-reading_stays answer wanted k max s t2 t3 None = (reads answer wanted k refl, refl)
-reading_stays answer wanted k max s t2 t3 (Some bytes) =
-    either_way (λ v. StageStays (at_reading answer wanted k s) v)
-    (is_whole t2 && nat_le (length bytes) max && is_whole t3) _ _
-    (either_way (λ (v : State). StageStays (at_reading answer wanted k s) (forgotten v))
-    (is_some (packet_at (max_packet s.spec) wanted answer k))
-    (at_reading answer wanted (k + 1) s) (at_reading answer wanted k s)
-    (reads answer wanted (k + 1) refl, refl) (reads answer wanted k refl, refl))
-    (reads answer wanted k refl, refl)
-
-in_stays : (answer : List ℕ) (wanted k max : ℕ) (s : State) (row : List PortState) (t1 t2 t3 : Way)
-    → StageStays (at_reading answer wanted k s) (in_law (at_reading answer wanted k s) row 0 max t1
-    t2 t3).1
-in_stays answer wanted k max s row t1 t2 t3 =
-    let Q = λ (r : Reply). StageStays (at_reading answer wanted k s) r.1 in
-    either_way Q (is_whole t1) _ _ (either_way Q (is_busy s) _ _ (reads answer wanted k refl, refl)
-    (reading_stays answer wanted k max s t2 t3
-    (packet_at (max_packet s.spec) wanted answer k))) (reads answer wanted k refl, refl)
-
-steady_asked : (max : ℕ) (s : State) (row : List PortState) (t1 t2 t3 : Way) → IsReading s
-    → StageStays s (in_law s row 0 max t1 t2 t3).1
-steady_asked max s row t1 t2 t3 (reads answer wanted k h) =
-    subst (λ st. StageStays (record s { stage = st })
-    (in_law (record s { stage = st }) row 0 max t1 t2 t3).1) (sym h)
-    (in_stays answer wanted k max s row t1 t2 t3)
-
-steady_did : (t : Target) (w : World) (j : Location) (s v : State) → DidIn (in_attempt t 0) w j s v
-    → Steady j s v
-steady_did t w j s v (DidIn.other d e) h = subst (λ x. StageStays s x) (sym e) (h, refl)
-steady_did t w j s v (DidIn.silent d q o e) h = subst (λ x. StageStays s x) (sym e) (h, refl)
-steady_did t w j s v (DidIn.asked d q b below f x o e) h =
-    subst (λ y. StageStays s y) (sym e) (steady_asked t.max s (row_of below) x.first x.second
-    x.third h)
-
-stage_stays_then : (t : Target) (w : World) (j : Location) (s u v : State) → StageStays s u
-    → DidIn (in_attempt t 0) w j u v → StageStays s v
-stage_stays_then t w j s u v x d = let y = steady_did t w j u v d x.0 in (y.0, y.1 ∙ x.1)
-
-each_steady : (t : Target) (awaited : Toggle) (result : Result (List ℕ) TransFault)
-    (old new : World) → IsSettled old.roots
-    → Transacted (heard_as awaited) (in_attempt t 0) old result new → new.shared ≡ false
-    → EachWas Steady old new
-each_steady t awaited result old new settled x single =
-    each_device _ Steady old new
-    (λ j s v run h. at_end (heard_as awaited) (λ outcomes w u. StageStays s u) (h, refl)
-    (λ outcomes w u y trail made is d n. stage_stays_then t w j s u y is d)
-    (λ y. StageStays s y) v
-    (λ outcomes w u trail is d l told. stage_stays_then t w j s u v is d) (λ gave outcomes w is. is)
-    run)
-    (over_in t 0 old new settled single (heard_as awaited) result x)
 
 -- What a transaction leaves of each device, with why it fails and what it loses
 
@@ -172,7 +96,7 @@ also S {j = j} {v} a b = subst (λ d. S j d v)
 pub record ControlInAsked (t : Target) (awaited : Toggle) (result : Result (List ℕ) TransFault)
     (old new : World) (j : Location) (s v : State) : Type 0 where
   pub leaves : ControlIn t awaited result j s v
-  pub steady : Steady j s v
+  pub steady : StaysReading s v
   pub why : NoThreeDamaged old → TransNotOfBus result → ControlInFailure t awaited result j s v
   pub kept : TransNotOfBus result → LosesNone t old new j s v
   pub losses : TransNotOfBus result → awaited ≡ One → LossesIn t result old new j s v
@@ -185,7 +109,8 @@ asked_leaves t awaited result old new x settled single j v on there =
     control_leaves t awaited result old new settled x single j v on there in
     was_then a (record {
       leaves = a.so;
-      steady = also Steady a (each_steady t awaited result old new settled x single j v on there);
+      steady = also (λ j s v. StaysReading s v) a
+          (reading_leaves t awaited result old new settled x single j v on there);
       why = λ three sound. also (ControlInFailure t awaited result) a
           (control_in_why t awaited result old new settled three (ended_by result sound x) single j
           v on there);
@@ -197,49 +122,53 @@ asked_leaves t awaited result old new x settled single j v on there =
           (ended_by result sound x)) single j v on there);
     })
 
--- the OUT that ends a read
-pub record Confirmed (t : Target) (result : Result (List ℕ) TransFault) (old new : World)
+-- an OUT of endpoint 0, by what it leaves and why it fails
+pub record Sent (Leaves Fails : Relation) (result : Result (List ℕ) TransFault) (old new : World)
     (j : Location) (s v : State) : Type 0 where
-  pub leaves : ReadStatus t result j s v
-  pub why : NoThreeDamaged old → TransNotOfBus result → StatusReadFailure t result j s v
+  pub leaves : Leaves j s v
+  pub why : NoThreeDamaged old → TransNotOfBus result → Fails j s v
   pub kept : TransNotOfBus result → new.losses ≡ old.losses
+
+sent_leaves : (Leaves Fails : Relation) (t : Target) (toggle : Toggle) (bytes : List ℕ)
+    (result : Result (List ℕ) TransFault) (old new : World) → Puts t 0 toggle bytes old result new
+    → IsSettled old.roots → EachWas Leaves old new
+    → (NoThreeDamaged old → TransNotOfBus result → EachWas Fails old new)
+    → EachWas (Sent Leaves Fails result old new) old new
+sent_leaves Leaves Fails t toggle bytes result old new x settled each fails j v on there =
+    let a : Was Leaves old j v = each j v on there in
+    was_then a (record {
+      leaves = a.so;
+      why = λ three sound. also Fails a (fails three sound j v on there);
+      kept = λ sound. out_losses t 0 toggle bytes old new settled (ended_by result sound x).trail;
+    })
+
+-- the OUT that ends a read
+abbrev pub Confirmed : Target → Result (List ℕ) TransFault → World → World → Relation
+Confirmed t result = Sent (ReadStatus t result) (StatusReadFailure t result) result
 
 pub confirmed_leaves : (t : Target) (result : Result (List ℕ) TransFault) (old new : World)
     → Confirms t old result new → IsSettled old.roots → new.shared ≡ false
     → EachWas (Confirmed t result old new) old new
-confirmed_leaves t result old new x settled single j v on there =
-    let a : Was (ReadStatus t result) old j v = status_leaves t result old new settled x single j v
-    on there in
-    was_then a (record {
-      leaves = a.so;
-      why = λ three sound. also (StatusReadFailure t result) a
-          (read_status_why t result old new settled three (ended_by result sound x) single j v on
-          there);
-      kept = λ sound. out_losses t 0 One [] old new settled (ended_by result sound x).trail;
-    })
+confirmed_leaves t result old new x settled single =
+    sent_leaves (ReadStatus t result) (StatusReadFailure t result) t One [] result old new x settled
+    (status_leaves t result old new settled x single)
+    (λ three sound. read_status_why t result old new settled three (ended_by result sound x) single)
 
--- an OUT of a control write
-pub record WritePacket (t : Target) (toggle : Toggle) (bytes : List ℕ)
-    (result : Result (List ℕ) TransFault) (old new : World) (j : Location) (s v : State) : Type 0
-  where
-    pub leaves : WriteOut t toggle bytes result j s v
-    pub why : NoThreeDamaged old → TransNotOfBus result → WriteOutFailure t bytes result j s v
-    pub kept : TransNotOfBus result → new.losses ≡ old.losses
+-- one of a control write
+abbrev pub WritePacket : Target → Toggle → List ℕ → Result (List ℕ) TransFault → World → World
+    → Relation
+WritePacket t toggle bytes result =
+    Sent (WriteOut t toggle bytes result) (WriteOutFailure t bytes result) result
 
 pub write_packet_leaves : (t : Target) (toggle : Toggle) (bytes : List ℕ)
     (result : Result (List ℕ) TransFault) (old new : World)
     → Puts t 0 toggle bytes old result new → IsSettled old.roots → new.shared ≡ false
     → EachWas (WritePacket t toggle bytes result old new) old new
-write_packet_leaves t toggle bytes result old new x settled single j v on there =
-    let a : Was (WriteOut t toggle bytes result) old j v =
-    write_leaves t toggle bytes result old new settled x single j v on there in
-    was_then a (record {
-      leaves = a.so;
-      why = λ three sound. also (WriteOutFailure t bytes result) a
-          (write_out_why t toggle bytes result old new settled three (ended_by result sound x)
-          single j v on there);
-      kept = λ sound. out_losses t 0 toggle bytes old new settled (ended_by result sound x).trail;
-    })
+write_packet_leaves t toggle bytes result old new x settled single =
+    sent_leaves (WriteOut t toggle bytes result) (WriteOutFailure t bytes result) t toggle bytes
+    result old new x settled (write_leaves t toggle bytes result old new settled x single)
+    (λ three sound. write_out_why t toggle bytes result old new settled three
+    (ended_by result sound x) single)
 
 -- the IN that ends a control write
 pub record WriteStatus (t : Target) (result : Result (List ℕ) TransFault) (old new : World)

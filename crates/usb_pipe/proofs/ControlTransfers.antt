@@ -45,8 +45,6 @@ use Rattle.usb_transaction.specs.{ControlIn, AcceptedAt, is_at, CanAccept, CanAn
 use Rattle.usb_transaction.specs.{IsNotOfBus as TransNotOfBus, begins_no_stretch, LossesIn}
 use Rattle.usb_transaction.specs.{EachSpared, Transacted, setup_attempt, AttemptsMade}
 use Rattle.usb_transaction.specs.{transaction_bound, TransFault, Target, refuses_in}
-use Rattle.usb_transaction.specs.Losses as transaction
-use Rattle.usb_transaction.specs.declared.fault.TransFault.TheVariants as trans
 use Rattle.usb_transaction.proofs.Interface.{at_from, spared_all, listens_at, spared_wider}
 use Rattle.usb_transaction.proofs.Interface.{spec_stays, listens_on}
 use Rattle.usb_pipe.specs.{as_pipe_fault, ends_stage, byte_bound, FaultAfter, WriteFailure}
@@ -56,11 +54,10 @@ use Rattle.usb_pipe.specs.{WriteLeaves, TookItOrLost, LossesOf, IsMaximum, Losse
 use Rattle.usb_pipe.specs.{DataStage, Reads, Writes, Asks, DataEnds, Confirms, Unshared}
 use Rattle.usb_pipe.specs.{ControlRead, ControlWrite, PipeFault}
 use Rattle.usb_pipe.specs.Stages.{start, packet}
-use Rattle.usb_pipe.specs.declared.fault.PipeFault.TheVariants as pipe_fault
 use Rattle.usb_pipe.proofs.Answerers.{who_reads, who_writes}
 use Rattle.usb_pipe.proofs.Attempts.{in_behind, out_behind, goes_behind, stage_behind}
 use Rattle.usb_pipe.proofs.Bounds.{full_packet, bound_grows}
-use Rattle.usb_pipe.proofs.ControlSteps.{reads, ended_stalled, asked_leaves, only_stage, flips_at}
+use Rattle.usb_pipe.proofs.ControlSteps.{ended_stalled, asked_leaves, only_stage, flips_at}
 use Rattle.usb_pipe.proofs.ControlSteps.{ended_damages, never_three, host_harmless}
 use Rattle.usb_pipe.proofs.ControlSteps.{request_type-other, sound_in, ControlInAsked, Confirmed}
 use Rattle.usb_pipe.proofs.ControlSteps.{confirmed_leaves, Requested, Only, only_first}
@@ -68,6 +65,9 @@ use Rattle.usb_pipe.proofs.ControlSteps.{RequestReached, reached_first, reached_
 use Rattle.usb_pipe.proofs.ControlSteps.{either_way, host_stretch}
 use Rattle.usb_pipe.proofs.MovedPackets.{flips_more}
 use Rattle.usb_pipe.proofs.TransactionFaults.{fell, could_answer, could_accept, Fell}
+use Rattle.usb_transaction.specs.Losses as transaction
+use Rattle.usb_transaction.specs.declared.fault.TransFault.TheVariants as trans
+use Rattle.usb_pipe.specs.declared.fault.PipeFault.TheVariants as pipe_fault
 
 -- What a request for data asks: bytes, or a refusal
 
@@ -475,7 +475,7 @@ module _ (t : Target) (request : Setup) (host : IsToHost request) (some : 1 ≤ 
       steady_on : v.registers ≡ u.registers
       steady_on = elim x.far [
         | refuses_at f h none ↦ y.leaves.rests h
-        | answers_at answer f r b so ↦ (y.steady (reads answer Wants r.known r.stage)).1
+        | answers_at answer f r b so ↦ (y.steady answer Wants r.known r.stage).0
       ]
 
       frame_then : OnlyStage s v

@@ -2,43 +2,43 @@
 use Rattle.usb_device.specs.{Location, State, Reply, forgotten, sunk, in_end, InEnd, OutEnd}
 use Rattle.usb_device.specs.{out_end, with_in, given_on, taken_on, no_in, no_out, next_packet}
 use Rattle.usb_device.specs.{next_place, hesitated, in_hesitates, out_hesitates, out_halts}
-use Rattle.usb_device.specs.{taken_row, given_law, GivesWithin, IsPrompt}
-use Rattle.usb_device.specs.{sink_row, data_row, Way, is_whole, heard, gave, in_law, out_law}
-use Rattle.usb_device.specs.{taken_of, IsSource, SourceAt, SourceOn, OnlySource, IsSink, SinkAt}
-use Rattle.usb_device.specs.{level, ahead, Joined, OnlySink}
+use Rattle.usb_device.specs.{taken_row, given_law, GivesWithin, IsPrompt, sink_row, data_row, Way}
+use Rattle.usb_device.specs.{is_whole, heard, gave, in_law, out_law, taken_of, IsSource, SourceAt}
+use Rattle.usb_device.specs.{SourceOn, OnlySource, IsSink, SinkAt, level, ahead, Joined, OnlySink}
 use Rattle.std.proofs.Common.{◌≡◌, ◌≢◌, ◌⊎◌, inl, inr, ℕ, ◌+◌, ◌<◌, ◌≤◌, nat_le, nat_lt}
-use Rattle.std.proofs.Common.{if◌then◌else◌, is_some}
-use Rattle.std.proofs.Common.{Bool, true, false, List, ◌∷◌, ◌++◌, length, Option, None}
-use Rattle.std.proofs.Common.{Some, Result, Ok, Err, refl, sym, subst, ap, ◌∙◌, arith}
+use Rattle.std.proofs.Common.{if◌then◌else◌, is_some, Bool, true, false, List, ◌++◌, length, Option}
+use Rattle.std.proofs.Common.{None, Some, Result, Ok, Err, refl, sym, subst, ap, ◌∙◌, arith}
 use Rattle.std.proofs.lemmas.Bool.Decides.{nat_tests}
 use Rattle.arrayvec.specs.ArrayVec.{ArrayVec}
 use Rattle.usb_packet.specs.{Toggle, Zero, One, other, is_same}
 use Rattle.usb_port.specs.{PortState}
-use Rattle.usb_device.specs.declared.answer.Answer.TheVariants as answer
-use Rattle.usb_device.specs.declared.transfer.InEndpoint.TheVariants as by
 use Rattle.usb_device.specs.Attempt.{whole}
-use Rattle.usb_device.proofs.Interface.{at_other, at_same, bulk_law_is, is_same-refl}
-use Rattle.usb_device.proofs.Interface.{other_toggle, other-other, source_on}
+use Rattle.usb_device.proofs.Interface.{at_other, at_same, bulk_law_is, is_same-refl, other_toggle}
+use Rattle.usb_device.proofs.Interface.{other-other, source_on}
 use Rattle.usb_world.specs.{Attempt, Outcome, Relation, EachWas, DidIn, DidOut, got, attempt, after}
 use Rattle.usb_world.specs.{outcome_in, damage_in, World, Made}
 use Rattle.usb_tree.specs.{IsSettled}
 use Rattle.usb_world.proofs.Interface.{remembers, settled_memory}
 use Rattle.usb_tree.proofs.Interface.{decided, false_true}
 use Rattle.usb_transaction.specs.{Target, HeardOutcome, Moved, NotReady, Repeat, Refused, Lost}
-use Rattle.usb_transaction.specs.{TransFault, Stalled, Busy, NoAnswer, Bus, NoThreeDamaged, Listens}
+use Rattle.usb_transaction.specs.{TransFault, Stalled, Busy, NoAnswer, NoThreeDamaged, Listens}
 use Rattle.usb_transaction.specs.{SourceInFailure, SinkOutFailure, heard_as, heard_when_sent, is_at}
 use Rattle.usb_transaction.specs.{SourceCut, none_came, one_came, SourceEnds, SourceIn}
 use Rattle.usb_transaction.specs.{SourceBetween, SinkEnds, SinkOut, SinkBetween, AttemptLog}
-use Rattle.usb_transaction.specs.{IsPacedWithin}
-use Rattle.usb_transaction.specs.{waits_with, waits_in, IsNoEnd, KeepsTrying, TransactionDone}
-use Rattle.usb_transaction.specs.{Transacted, in_attempt, out_attempt, packed}
-use Rattle.usb_transaction.proofs.DeviceRuns.{Any, EachIf, IsEnd, IsOfBus, RunThrough, asked_in}
+use Rattle.usb_transaction.specs.{IsPacedWithin, waits_with, waits_in, IsNoEnd, KeepsTrying}
+use Rattle.usb_transaction.specs.{TransactionDone, Transacted, in_attempt, out_attempt, packed}
+use Rattle.usb_transaction.proofs.DeviceRuns.{Any, EachIf, End, IsEnd, IsOfBus, Moves, RunThrough}
+use Rattle.usb_transaction.proofs.DeviceRuns.{Through, asked_in, brought, result_of, summed}
 use Rattle.usb_transaction.proofs.DeviceRuns.{delivered_out, at_end, each_device, heeded, in_others}
-use Rattle.usb_transaction.proofs.DeviceRuns.{listens_on, of_bus, out_others, over_in}
+use Rattle.usb_transaction.proofs.DeviceRuns.{never, listens_on, of_bus, out_others, over_in}
 use Rattle.usb_transaction.proofs.DeviceRuns.{over_in_trail, over_out, over_out_trail, spared}
 use Rattle.usb_transaction.proofs.DeviceRuns.{stays_away, stopped, was_then}
+use Rattle.usb_transaction.proofs.LastOutcomes.{no_packet, packet_heard}
+use Rattle.usb_world.specs.declared.types.Outcome.TheVariants.{Nothing}
 use Rattle.usb_transaction.proofs.Trails.{LostRun, as_transacted, damaged_more, lost_run_none}
 use Rattle.usb_transaction.proofs.Trails.{run_short}
+use Rattle.usb_device.specs.declared.answer.Answer.TheVariants as answer
+use Rattle.usb_device.specs.declared.transfer.InEndpoint.TheVariants as by
 
 -- IN
 
@@ -191,154 +191,139 @@ pub source_at_kept : (t : Target) {ep : ℕ} (s u : State) → OnlySource ep s u
     → is_at u t ≡ true
 source_at_kept t s u e h = ap (λ x. is_at x t) e.rest ∙ h
 
--- what a transaction leaves of the endpoint
-abbrev pub SourceLeft : ℕ → ℕ → Toggle → Result (List ℕ) TransFault → State → State → Type 0
-SourceLeft e most awaited result s v =
-    OnlySource e s v × ((n : ℕ) → 1 ≤ most → SourceAt e most n awaited s
-    → SourceEnds e most n awaited s result v)
-    × (result ≡ Err Stalled → (in_end v e).state.halted ≡ true)
-    × ((in_end s e).state.halted ≡ true → (v ≡ s) × ((bytes : List ℕ) → result ≡ Ok bytes → ⊥))
-    × StaysPaced e s v
+-- what attempts leave of the endpoint of which the last was heard so
+pub record SourceResult (e most : ℕ) (awaited : Toggle) (s : State) (h : HeardOutcome) (v : State) :
+    Type 0 where
+  pub frame : OnlySource e s v
+  pub goes : SourceStep e most awaited s (packet_heard h) v
+  pub halted : (in_end s e).state.halted ≡ true → (v ≡ s) × (packet_heard h ≡ None)
+      × (h ≢ NotReady)
+  pub stalls : h ≡ Refused → (in_end v e).state.halted ≡ true
+  pub paced : StaysPaced e s v
+  pub spent : h ≡ NotReady → IsPacedWithin 0 (in_end s e).pace
+      → next_packet v e most (in_end v e).place ≡ None
 
-source_ends_stepped : (e most n : ℕ) (awaited : Toggle) (s : State)
-    (result : Result (List ℕ) TransFault) (v : State)
-    → SourceEnds e most n awaited (stepped e most s true) result v
-    → SourceEnds e most n awaited s result v
-source_ends_stepped e most n awaited s (Err (Bus fault)) v (none_came x) = none_came x
-source_ends_stepped e most n awaited s (Err (Bus fault)) v (one_came x) = one_came x
-source_ends_stepped e most n awaited s _ v x = x
+only_if : (e most : ℕ) (s : State) (came : Bool) → OnlySource e s (stepped e most s came)
+only_if e most s true = only_stepped e most s
+only_if e most s false = only_same e s
 
-source_ends_hesitates : (e most n : ℕ) (awaited : Toggle) (s : State)
-    (result : Result (List ℕ) TransFault) (v : State)
-    → SourceEnds e most n awaited (in_hesitates s e) result v
-    → SourceEnds e most n awaited s result v
-source_ends_hesitates e most n awaited s (Err (Bus fault)) v (none_came x) = none_came x
-source_ends_hesitates e most n awaited s (Err (Bus fault)) v (one_came x) = one_came x
-source_ends_hesitates e most n awaited s _ v x = x
+paced_if : (e most : ℕ) (s : State) (came : Bool) → StaysPaced e s (stepped e most s came)
+paced_if e most s true = stepped_paced e most s
+paced_if e most s false = λ n x. x
 
-after_nak : (e most : ℕ) (awaited : Toggle) (s : State) (result : Result (List ℕ) TransFault)
-    → (in_end s e).state.halted ≡ false → (v : State)
-    → SourceLeft e most awaited result (in_hesitates s e) v → SourceLeft e most awaited result s v
-after_nak e most awaited s result f v l = (
-  only_then e s (in_hesitates s e) v (only_hesitates e s) l.0,
-  λ m one at. source_ends_hesitates e most m awaited s result v (l.1 m one (hesitates_at s at)),
-  l.2,
-  λ c. false_true (sym f ∙ c),
-  λ n x. l.4 n (hesitates_paced e s n x),
-)
+module _ {e most : ℕ} {awaited : Toggle} {s : State} (h : HeardOutcome) where
+  stood_in : packet_heard h ≡ None → (h ≡ Refused → (in_end s e).state.halted ≡ true)
+      → (h ≡ NotReady → ((in_end s e).state.halted ≡ false)
+      × (next_packet s e most (in_end s e).place ≡ None)) → SourceResult e most awaited s h s
+  stood_in nothing refuses waits = record {
+    frame = only_same e s;
+    goes = λ n m at. subst (λ c. SourceOn e most n awaited s c s) (sym nothing) at;
+    halted = λ c. (refl, nothing, λ q. false_true (sym (waits q).0 ∙ c));
+    stalls = refuses;
+    paced = λ n x. x;
+    spent = λ q p. (waits q).1;
+  }
 
-module _ {e most max : ℕ} {awaited : Toggle} {Clear : Type 0} {s : State} where
-  pub kept : {h : HeardOutcome} {v : State} → SourceGave e most max awaited Clear s h v
-      → OnlySource e s v × ((in_end s e).state.halted ≡ true → v ≡ s)
-      × StaysPaced e s v
-  kept (moved b true f on) =
-      (only_stepped e most s, λ c. false_true (sym f ∙ c), stepped_paced e most s)
-  kept (again true f n q c on) =
-      (only_stepped e most s, λ c. false_true (sym f ∙ c), stepped_paced e most s)
-  kept (hesitates f n) = (only_hesitates e s, λ c. false_true (sym f ∙ c), hesitates_paced e s)
-  kept (lost_nak d f n) = (only_hesitates e s, λ c. false_true (sym f ∙ c), hesitates_paced e s)
-  kept g = (only_same e s, λ c. refl, λ n x. x)
+  hesitated_in : packet_heard h ≡ None → h ≢ Refused → (in_end s e).state.halted ≡ false
+      → 1 ≤ (in_end s e).pace.naks → SourceResult e most awaited s h (in_hesitates s e)
+  hesitated_in nothing not f one = record {
+    frame = only_hesitates e s;
+    goes = λ n m at. subst (λ c. SourceOn e most n awaited s c (in_hesitates s e)) (sym nothing)
+        (hesitates_at s at);
+    halted = λ c. false_true (sym f ∙ c);
+    stalls = λ q. absurd (not q);
+    paced = hesitates_paced e s;
+    spent = λ q p. absurd (omega (arith, p.0, one));
+  }
 
-  -- an attempt that does not end the transaction, and the rest of it
-  pub before : {h : HeardOutcome} {u : State} (result : Result (List ℕ) TransFault)
-      → SourceGave e most max awaited Clear s h u → IsNoEnd h → (v : State)
-      → SourceLeft e most awaited result u v → SourceLeft e most awaited result s v
-  before result (moved b came f on) n v l = elim n [ ]
-  before result (again true f w q c on) n v l = (
-    only_then e s (stepped e most s true) v (only_stepped e most s) l.0,
-    λ m one at. source_ends_stepped e most m awaited s result v (l.1 m one (on m one at)),
-    l.2,
-    λ c. false_true (sym f ∙ c),
-    λ n x. l.4 n (stepped_paced e most s n x),
-  )
-  before result (hesitates f w) n v l = after_nak e most awaited s result f v l
-  before result (lost_nak d f w) n v l = after_nak e most awaited s result f v l
-  before result g n v l = l
+  stepped_in : (came : Bool) → h ≢ Refused → h ≢ NotReady → (in_end s e).state.halted ≡ false
+      → SourceStep e most awaited s (packet_heard h) (stepped e most s came)
+      → SourceResult e most awaited s h (stepped e most s came)
+  stepped_in came not ready f on = record {
+    frame = only_if e most s came;
+    goes = on;
+    halted = λ c. false_true (sym f ∙ c);
+    stalls = λ q. absurd (not q);
+    paced = paced_if e most s came;
+    spent = λ q. absurd (ready q);
+  }
 
-  cut : {h : HeardOutcome} {v : State} → SourceGave e most max awaited Clear s h v → (n : ℕ)
-      → 1 ≤ most → SourceAt e most n awaited s → SourceCut e most n awaited s v
-  cut (moved b came f on) n m at = one_came (on n m at).1
-  cut (again came f w q c on) n m at = none_came (on n m at)
-  cut (hesitates f w) n m at = none_came (hesitates_at s at)
-  cut (lost_nak d f w) n m at = none_came (hesitates_at s at)
-  cut g n m at = none_came at
+module _ {e most : ℕ} {awaited : Toggle} where
+  pub one_in : {max : ℕ} {Clear : Type 0} {s v : State} {h : HeardOutcome}
+      → SourceGave e most max awaited Clear s h v → SourceResult e most awaited s h v
+  one_in (unheard c) = stood_in Lost refl (λ q. cc q) (λ q. cc q)
+  one_in (refused f) = stood_in Refused refl (λ q. f) (λ q. cc q)
+  one_in (empty f is) = stood_in NotReady refl (λ q. cc q) (λ q. (f, is))
+  one_in (hesitates f one) = hesitated_in NotReady refl (λ q. cc q) f one
+  one_in (lost_nak d f one) = hesitated_in Lost refl (λ q. cc q) f one
+  one_in (moved b came f on) = stepped_in (Moved b) came (λ q. cc q) (λ q. cc q) f on
+  one_in (again came f w miss c on) = stepped_in Repeat came (λ q. cc q) (λ q. cc q) f on
 
-  pub came_in : {bytes : List ℕ} {v : State}
-      → SourceGave e most max awaited Clear s (Moved (packed bytes)) v
-      → SourceLeft e most awaited (Ok bytes) s v
-  came_in (moved b true f on) = (
-    only_stepped e most s,
-    on,
-    λ e. cc e,
-    λ c. false_true (sym f ∙ c),
-    stepped_paced e most s,
-  )
-  came_in (moved b false f on) =
-      (only_same e s, on, λ e. cc e, λ c. false_true (sym f ∙ c), λ n x. x)
+  -- one behind others that brought nothing
+  then_in : (s u v : State) (h : HeardOutcome) → SourceResult e most awaited s Lost u
+      → SourceResult e most awaited u h v → SourceResult e most awaited s h v
+  then_in s u v h x y = record {
+    frame = only_then e s u v x.frame y.frame;
+    goes = λ n m at. subst (λ z. SourceOn e most n awaited z (packet_heard h) v) x.frame.rest
+        (y.goes n m (x.goes n m at));
+    halted = λ c.
+        let same = (x.halted c).0 in
+        let z = y.halted (subst (λ q. (in_end q e).state.halted ≡ true) (sym same) c) in
+        (z.0 ∙ same, z.1, z.2);
+    stalls = y.stalls;
+    paced = λ n p. y.paced n (x.paced n p);
+    spent = λ q p. y.spent q (x.paced 0 p);
+  }
 
-  pub stalls_in : {v : State} → SourceGave e most max awaited Clear s Refused v
-      → SourceLeft e most awaited (Err Stalled) s v
-  stalls_in (refused f) =
-      (only_same e s, λ n m at. at, λ r. f, λ c. (refl, λ b r. cc r), λ n x. x)
+  -- one that goes on brought nothing
+  lost_in : (s v : State) (h : HeardOutcome) → IsNoEnd h → SourceResult e most awaited s h v
+      → SourceResult e most awaited s Lost v
+  lost_in s v h n x = let nothing : packet_heard h ≡ None = no_packet h n in record {
+    frame = x.frame;
+    goes = subst (λ c. SourceStep e most awaited s c v) nothing x.goes;
+    halted = λ c. ((x.halted c).0, refl, λ q. cc q);
+    stalls = λ q. cc q;
+    paced = x.paced;
+    spent = λ q. cc q;
+  }
 
-  pub ended_in : (result : Result (List ℕ) TransFault) (o : Outcome) (outcomes : List Outcome)
-      {v : State} → SourceGave e most max awaited Clear s (heard_as awaited o) v
-      → IsEnd (heard_as awaited) result o outcomes → SourceLeft e most awaited result s v
-  ended_in (Ok bytes) o outcomes {v} g is =
-      came_in (subst (λ h. SourceGave e most max awaited Clear s h v) is g)
-  ended_in (Err Stalled) o outcomes {v} g is =
-      stalls_in (subst (λ x. SourceGave e most max awaited Clear s (heard_as awaited x) v) is g)
-  ended_in (Err (Bus fault)) o outcomes g is =
-      let k = kept g in
-      (k.0, cut g, λ e. cc e, λ c. (k.1 c, λ b e. cc e), k.2)
-  ended_in result o outcomes {v} g is = before result g is.0 v (
-    only_same e v,
-    λ n m at. at,
-    λ e. cc e,
-    λ c. (refl, λ b e. cc e),
-    λ n x. x,
-  )
+pub cut_source : (e most n : ℕ) (awaited : Toggle) (s v : State) (c : Option (List ℕ))
+    → SourceOn e most n awaited s c v → SourceCut e most n awaited s v
+cut_source e most n awaited s v None x = none_came x
+cut_source e most n awaited s v (Some bytes) x = one_came x.1
 
-  pub unheard_in : {v : State} → SourceGave e most max awaited Clear s Lost v → Clear
-      → ((in_end s e).state.halted ≡ false) × (GivesWithin max e most s → ⊥)
-  unheard_in (unheard c) = c
-  unheard_in (lost_nak d f n) = λ c. absurd (d c)
+pub unheard_in : {e most max : ℕ} {awaited : Toggle} {Clear : Type 0} {s v : State}
+    → SourceGave e most max awaited Clear s Lost v → Clear
+    → ((in_end s e).state.halted ≡ false) × (GivesWithin max e most s → ⊥)
+unheard_in (unheard c) = c
+unheard_in (lost_nak d f n) = λ c. absurd (d c)
 
-  pub no_waits_in : {h : HeardOutcome} {v : State} → SourceGave e most max awaited Clear s h v
-      → (in_end s e).state.halted ≡ true → (n : ℕ) → waits_with h n + 0 ≤ n + 0
-  no_waits_in (empty f e) c n = false_true (sym f ∙ c)
-  no_waits_in (hesitates f w) c n = false_true (sym f ∙ c)
-  no_waits_in (again came f w q d on) c n = false_true (sym f ∙ c)
-  no_waits_in g c n = omega arith
+no_waits_in : {e most max : ℕ} {awaited : Toggle} {Clear : Type 0} {s v : State} {h : HeardOutcome}
+    → SourceGave e most max awaited Clear s h v → (in_end s e).state.halted ≡ true
+    → (n : ℕ) → waits_with h n ≤ n
+no_waits_in (empty f e) c n = false_true (sym f ∙ c)
+no_waits_in (hesitates f w) c n = false_true (sym f ∙ c)
+no_waits_in (again came f w q d on) c n = false_true (sym f ∙ c)
+no_waits_in g c n = omega arith
 
-  -- it goes on listening
-  pub stays_in : {j : Location} {v : State} (t : Target) {h : HeardOutcome}
-      → SourceGave e most max awaited Clear s h v → Listens t j s × IsSource e most s
-      → Listens t j v
-      × IsSource e most v
-  stays_in {j} {v} t g is =
-      let f : OnlySource e s v = (kept g).0 in (
-        listens_on t j s v (ap (λ x. x.spec) f.rest) (ap (λ x. x.registers) f.rest) is.0,
-        source_kept e most s v f is.1,
-      )
+-- The device over a transaction, or over a poll: to its host outcomes are what they are to one that
+-- reads, or an end
+pub record HearsRead (awaited : Toggle) (hear : Outcome → HeardOutcome) : Type 0 where
+  pub goes : (o : Outcome) → IsNoEnd (hear o) → IsNoEnd (heard_as awaited o)
+  pub lost : (o : Outcome) → hear o ≡ Lost → heard_as awaited o ≡ Lost
+  pub few : (o : Outcome) (n : ℕ) → waits_with (hear o) n ≤ waits_with (heard_as awaited o) n
 
--- The device over a transaction
+pub as_read : (awaited : Toggle) → HearsRead awaited (heard_as awaited)
+as_read awaited = record { goes = λ o n. n; lost = λ o e. e; few = λ o n. omega arith }
 
 module _ (t : Target) (ep : ℕ) (awaited : Toggle) where
-  abbrev a_in : Attempt
+  abbrev pub a_in : Attempt
   a_in = in_attempt t ep
-
-  abbrev hear : Outcome → HeardOutcome
-  hear = heard_as awaited
-
-  abbrev Ran : Type 0 → Result (List ℕ) TransFault → World → World → Relation
-  Ran GaveUp result old new j s v = RunThrough (DidIn a_in) a_in hear (IsEnd hear result) GaveUp old
-      new j s v
 
   pub did_in : (most : ℕ) (w : World) (j : Location) (u v : State) → DidIn a_in w j u v
       → is_at u t ≡ true → IsSource ep most u
       → SourceGave ep most t.max awaited ((damage_in w ≡ None) × Listens t j u) u
-      (hear (outcome_in a_in w)) v
+      (heard_as awaited (outcome_in a_in w)) v
   did_in most w j u v d at i =
       let y : _ = asked_in t ep w j u v d at in
       let x : _ = y.1 in
@@ -346,41 +331,108 @@ module _ (t : Target) (ep : ℕ) (awaited : Toggle) where
       y.0 x.first x.second x.third (λ c. x.heard c.0 c.1)
       (λ n m so. source_on ep most n awaited u i m so y.0 t.max x.first x.second x.third))
 
-  source_in : (result : Result (List ℕ) TransFault) (GaveUp : Type 0)
-      → ((most : ℕ) (v : State) → GaveUp → SourceLeft ep most awaited result v v)
-      → (old new : World) (j : Location) (s v : State)
-      → Ran GaveUp result old new j s v → SourceIn t ep awaited result j s v
-  source_in result GaveUp up old new j s v x = record {
-    others = away;
-    frame = λ most i. elim (decided (is_at s t)) [
-      | inl h ↦ (left h most i).0
-      | inr h ↦ subst (OnlySource ep s) (sym (away h)) (only_same ep s)
-    ];
-    source = λ h most n i. (left h most i).1 n;
-    stalled = λ h most i. (left h most i).2;
-    halted = λ h most i. (left h most i).3;
-    paced = λ h most i. (left h most i).4 100;
+  -- what an attempt keeps of its kind
+  pub only_in : (most : ℕ) (w : World) (j : Location) (u v : State) → DidIn a_in w j u v
+      → is_at u t ≡ true → IsSource ep most u → OnlySource ep u v
+  only_in most w j u v d at i = (one_in (did_in most w j u v d at i)).frame
+
+  -- it goes on listening
+  abbrev pub ListensIn : ℕ → Location → State → Type 0
+  ListensIn most j u = Listens t j u × IsSource ep most u
+
+  pub stays_in : (most : ℕ) (w : World) (j : Location) (u v : State) → DidIn a_in w j u v
+      → ListensIn most j u → ListensIn most j v
+  stays_in most w j u v d is = let f = only_in most w j u v d is.0.at is.1 in (
+    listens_on t j u v (ap (λ x. x.spec) f.rest) (ap (λ x. x.registers) f.rest) is.0,
+    source_kept ep most u v f is.1,
+  )
+
+  -- with packets as short as the host wants them
+  abbrev pub IsShort : ℕ → Location → State → Type 0
+  IsShort most j u = ListensIn most j u × GivesWithin t.max ep most u
+
+  pub stays_short : (most : ℕ) (w : World) (j : Location) (u v : State) → DidIn a_in w j u v
+      → IsShort most j u → IsShort most j v
+  stays_short most w j u v d is = (
+    stays_in most w j u v d is.0,
+    subst (λ (z : State). GivesWithin t.max ep most z)
+        (sym (only_in most w j u v d is.0.0.at is.0.1).rest) is.1,
+  )
+
+  module _ {hear : Outcome → HeardOutcome} (hears : HearsRead awaited hear) {Last : Outcome
+      → List Outcome → Type 0} {GaveUp : Type 0} {old new : World} {j : Location} {s v : State}
+      (run : RunThrough (DidIn a_in) a_in hear Last GaveUp old new j s v)
+      (up : GaveUp → (outcomes : List Outcome) → Last Nothing outcomes) where
+    pub away_in : is_at s t ≡ false → v ≡ s
+    away_in = stays_away t (λ w u y. in_others t ep w j u y) run
+
+    pub whole_in : is_at s t ≡ true → (most : ℕ) → IsSource ep most s
+        → (o : Outcome) × (outcomes : List Outcome) × Last o outcomes
+        × SourceResult ep most awaited s (heard_as awaited o) v
+    whole_in at most i =
+        summed run up (λ u. (is_at u t ≡ true) × IsSource ep most u)
+        (λ u o y. SourceResult ep most awaited u (heard_as awaited o) y)
+        (λ w u y d so.
+        let g = one_in (did_in most w j u y d so.0 so.1) in
+        (g, (source_at_kept t u y g.frame so.0, source_kept ep most u y g.frame so.1)))
+        (λ u x y o. then_in u x y (heard_as awaited o))
+        (λ u y o n. lost_in u y (heard_as awaited o) (hears.goes o n)) (at, i)
+        (stood_in Lost refl (λ q. cc q) (λ q. cc q))
+
+    pub frame_in : (most : ℕ) → IsSource ep most s → OnlySource ep s v
+    frame_in most i = elim (decided (is_at s t)) [
+      | inl h ↦ (whole_in h most i).3.frame
+      | inr h ↦ subst (OnlySource ep s) (sym (away_in h)) (only_same ep s)
+    ]
+
+  source_in : (result : Result (List ℕ) TransFault) (old new : World) (j : Location) (s v : State)
+      → Through (DidIn a_in) a_in (heard_as awaited) result old new j s v
+      → SourceIn t ep awaited result j s v
+  source_in result old new j s v run = record {
+    others = away_in (as_read awaited) run up;
+    frame = frame_in (as_read awaited) run up;
+    source = λ h most n i m at.
+        let (o, outcomes, is, x) = whole_in (as_read awaited) run up h most i in
+        result_of (λ b. Some b) (λ c. SourceOn ep most n awaited s c v)
+        (λ r. SourceEnds ep most n awaited s r v) (λ b z. z) (λ z. (z, z, z))
+        (λ fault c z. cut_source ep most n awaited s v c z) result
+        (packet_heard (heard_as awaited o)) (brought awaited result o outcomes is) (x.goes n m at);
+    stalled = λ h most i e.
+        let (o, outcomes, is, x) = whole_in (as_read awaited) run up h most i in
+        x.stalls (ap (heard_as awaited)
+        (subst (λ r. IsEnd (heard_as awaited) r o outcomes) e is));
+    halted = λ h most i c.
+        let (o, outcomes, is, x) = whole_in (as_read awaited) run up h most i in (
+          (x.halted c).0,
+          λ b e. cc (sym (x.halted c).1 ∙ ap packet_heard
+              (subst (λ r. IsEnd (heard_as awaited) r o outcomes) e is)),
+        );
+    paced = λ h most i. (whole_in (as_read awaited) run up h most i).3.paced 100;
   }
     where
-      away : is_at s t ≡ false → v ≡ s
-      away = stays_away t (λ w u y. in_others t ep w j u y) x
+      up : IsOfBus result → (outcomes : List Outcome)
+          → IsEnd (heard_as awaited) result Nothing outcomes
+      up gave outcomes =
+          of_bus (λ r. IsEnd (heard_as awaited) r Nothing outcomes) (λ f. tt) result gave
 
-      left : is_at s t ≡ true → (most : ℕ) → IsSource ep most s
-          → SourceLeft ep most awaited result s v
-      left h most i =
-          at_end hear (λ outcomes w u. (is_at u t ≡ true) × IsSource ep most u
-          × ((y : State) → SourceLeft ep most awaited result u y
-          → SourceLeft ep most awaited result s y)) (h, i, λ y l. l)
-          (λ outcomes w u y trail made so d n.
-          let g = did_in most w j u y d so.0 so.1 in (
-            source_at_kept t u y (kept g).0 so.0,
-            source_kept ep most u y (kept g).0 so.1,
-            λ z l. so.2 z (before result g n z l),
-          ))
-          (SourceLeft ep most awaited result s) v
-          (λ outcomes w u trail so d is told. so.2 v
-          (ended_in result (outcome_in a_in w) outcomes (did_in most w j u v d so.0 so.1) is))
-          (λ gave outcomes w so. so.2 v (up most v gave)) x
+  -- between two attempts
+  pub between_in : {hear : Outcome → HeardOutcome} → HearsRead awaited hear
+      → (outcomes : List Outcome) (old now : World) → IsSettled old.roots
+      → AttemptLog a_in old outcomes now → KeepsTrying hear outcomes
+      → now.shared ≡ false → EachWas (SourceBetween t ep awaited) old now
+  between_in {hear} hears outcomes old now settled trail onward single =
+      each_device _ (SourceBetween t ep awaited) old now
+      (λ j s v ran.
+      let run : RunThrough (DidIn a_in) a_in hear (λ o os. o ≡ Nothing) (Unit {0}) old now j s v =
+      stopped tt ran onward in
+      record {
+        others = away_in hears run (λ g os. refl);
+        frame = frame_in hears run (λ g os. refl);
+        source = λ h most n i m at. let x = whole_in hears run (λ g os. refl) h most i in
+            subst (λ o. SourceOn ep most n awaited s (packet_heard (heard_as awaited o)) v) x.2
+            (x.3.goes n m at);
+      })
+      (over_in_trail t ep old now settled single trail)
 
 -- whatever its answer is
 pub source_leaves : (t : Target) (ep : ℕ) (awaited : Toggle) (result : Result (List ℕ) TransFault)
@@ -388,16 +440,7 @@ pub source_leaves : (t : Target) (ep : ℕ) (awaited : Toggle) (result : Result 
     → Transacted (heard_as awaited) (in_attempt t ep) old result new → new.shared ≡ false
     → EachWas (SourceIn t ep awaited result) old new
 source_leaves t ep awaited result old new settled x single =
-    each_device _ (SourceIn t ep awaited result) old new
-    (source_in t ep awaited result (IsOfBus result)
-    (λ most v gave. of_bus (λ r. SourceLeft ep most awaited r v v)
-    (λ fault. (
-      only_same ep v,
-      λ n m at. none_came at,
-      λ e. cc e,
-      λ c. (refl, λ b e. cc e),
-      λ n x. x,
-    )) result gave) old new)
+    each_device _ (SourceIn t ep awaited result) old new (source_in t ep awaited result old new)
     (over_in t ep old new settled single (heard_as awaited) result x)
 
 pub source_over : (t : Target) (ep : ℕ) (awaited : Toggle) (result : Result (List ℕ) TransFault)
@@ -407,28 +450,52 @@ pub source_over : (t : Target) (ep : ℕ) (awaited : Toggle) (result : Result (L
 source_over t ep awaited result old new settled e single =
     source_leaves t ep awaited result old new settled (as_transacted result e) single
 
--- Between two attempts
-pub source_between : (t : Target) (ep : ℕ) (awaited : Toggle) (outcomes : List Outcome)
-    (old now : World) → IsSettled old.roots
-    → AttemptLog (in_attempt t ep) old outcomes now → KeepsTrying (heard_as awaited) outcomes
-    → now.shared ≡ false → EachWas (SourceBetween t ep awaited) old now
-source_between t ep awaited outcomes old now settled trail onward single =
-    each_device _ (SourceBetween t ep awaited) old now
-    (λ j s v run.
-    let x : SourceIn t ep awaited (Err NoAnswer) j s v =
-    source_in t ep awaited (Err NoAnswer) (Unit {0})
-    (λ most y gave. (
-      only_same ep y,
-      λ n m at. at,
-      λ e. cc e,
-      λ c. (refl, λ b e. cc e),
-      λ n x. x,
-    )) old now j s v
-    (stopped tt run onward) in
-    record { others = x.others; frame = x.frame; source = x.source })
-    (over_in_trail t ep old now settled single trail)
-
 -- Why it fails
+
+module _ (t : Target) (ep : ℕ) (awaited : Toggle) {hear : Outcome → HeardOutcome}
+    (hears : HearsRead awaited hear) {A : Type 0} (Done : A → Outcome → Type 0)
+    (result : Result A TransFault) {old new : World} {j : Location} {s v : State}
+    (run : RunThrough (DidIn (a_in t ep awaited)) (a_in t ep awaited) hear (End Done hear result)
+    (IsOfBus result) old new j s v) (most : ℕ)
+    (listens : ListensIn t ep awaited most j s)
+  where
+    abbrev IsHalted : State → Type 0
+    IsHalted u = ListensIn t ep awaited most j u × ((in_end u ep).state.halted ≡ true)
+
+    abbrev AttemptIn : World → State → State → Type 0
+    AttemptIn w u y = DidIn (a_in t ep awaited) w j u y
+
+    stays_halted : (w : World) (u y : State) → AttemptIn w u y → IsHalted u → IsHalted y
+    stays_halted w u y d is = subst IsHalted
+        (sym ((one_in (did_in t ep awaited most w j u y d is.0.0.at is.0.1)).halted is.1).0) is
+
+    -- an error of an attempt that is not damaged
+    erred : (w : World) (u y : State) → AttemptIn w u y → ListensIn t ep awaited most j u
+        → damage_in w ≡ None
+        → hear (outcome_in (a_in t ep awaited) w) ≡ Lost
+        → ((in_end u ep).state.halted ≡ false) × (GivesWithin t.max ep most u → ⊥)
+    erred w u y d is sound f = unheard_in (subst (λ h. SourceGave ep most t.max awaited
+        ((damage_in w ≡ None) × Listens t j u) u h y)
+        (hears.lost (outcome_in (a_in t ep awaited) w) f)
+        (did_in t ep awaited most w j u y d is.0.at is.1)) (sound, is.0)
+
+    pub short_answered : NoThreeDamaged old → GivesWithin t.max ep most s → result ≢ Err NoAnswer
+    short_answered three m = heeded Done result run (IsShort t ep awaited most j)
+        (λ w u y d n. stays_short t ep awaited most w j u y d) (listens, m) three
+        (λ w u y d is sound f. (erred w u y d is.0 sound f).1 is.1)
+
+    pub halted_answered : NoThreeDamaged old → (in_end s ep).state.halted ≡ true
+        → (result ≢ Err NoAnswer) × (result ≢ Err Busy)
+    halted_answered three c = (
+      heeded Done result run IsHalted (λ w u y d n. stays_halted w u y d) (listens, c) three
+          (λ w u y d is sound f. false_true (sym (erred w u y d is.0 sound f).0 ∙ is.1)),
+      spared Done result run IsHalted (λ w u y d n. stays_halted w u y d) (listens, c) (λ u. 0)
+          (λ w u y d is n. omega (
+            arith,
+            hears.few (outcome_in (a_in t ep awaited) w) n,
+            no_waits_in (did_in t ep awaited most w j u y d is.0.0.at is.0.1) is.1 n,
+          )) (omega arith),
+    )
 
 module _ (t : Target) (ep : ℕ) (awaited : Toggle) (old : World) (three : NoThreeDamaged old) where
   -- level with the host it has some NAKs to give; behind it, it gives them first, and then its
@@ -449,9 +516,9 @@ module _ (t : Target) (ep : ℕ) (awaited : Toggle) (old : World) (three : NoThr
   first_stands most had s (ahead g p q) x =
       behind g p q 0 (lost_run_none old.damages old.attempts) (inr refl) (omega (arith, x.0)) x.1
 
-  never : (most had n : ℕ) (w : World) (u : State) → Stands most had n w u → n ≡ 256 → ⊥
-  never most had n w u (even g q few) e = omega (arith, few, e)
-  never most had n w u (behind g p q k ran or few each) e =
+  too_many : (most had n : ℕ) (w : World) (u : State) → Stands most had n w u → n ≡ 256 → ⊥
+  too_many most had n w u (even g q few) e = omega (arith, few, e)
+  too_many most had n w u (behind g p q k ran or few each) e =
       omega (arith, few, e, run_short old k w.attempts three ran)
 
   none_there : {o : Option (List ℕ)} {P : Type 0} → o ≡ None → is_some o ≡ true → P
@@ -521,75 +588,28 @@ module _ (t : Target) (ep : ℕ) (awaited : Toggle) (old : World) (three : NoThr
       (omega (arith, few)) each
   next_stands had n w trail made c m left _ z y = elim z [ ]
 
-  waits_few : (new : World) (j : Location) (s v : State) (most had : ℕ) → Listens t j s
-      × IsSource ep most s → SourceAt ep most had awaited s → GivesWithin t.max ep most s
+  waits_few : (result : Result (List ℕ) TransFault) (new : World) (j : Location) (s v : State)
+      (most had : ℕ) → Through (DidIn (a_in t ep awaited)) (a_in t ep awaited) (heard_as awaited)
+      result old new j s v → IsShort t ep awaited most j s → SourceAt ep most had awaited s
       → is_some (next_packet s ep most had) ≡ true → IsPrompt (in_end s ep).pace
-      → Ran t ep awaited (IsOfBus {A = List ℕ} (Err Busy)) (Err Busy) old new j s v → ⊥
+      → result ≢ Err Busy
   unfolding waits_in
-  waits_few new j s v most had is at m left prompt x =
-      at_end (heard_as awaited) (λ outcomes w u. (Listens t j u × IsSource ep most u)
-      × (GivesWithin t.max ep most u × (is_some (next_packet u ep most had) ≡ true))
-      × Stands most had (waits_in (heard_as awaited) outcomes) w u)
-      (is, (m, left), first_stands most had s at prompt)
-      (λ outcomes w u y trail made so d n.
-      let g = did_in t ep awaited most w j u y d so.0.0.at so.0.1 in (
-        stays_in t g so.0,
-        subst (λ (z : State). GivesWithin t.max ep most z
-            × (is_some (next_packet z ep most had) ≡ true)) (sym (kept g).0.rest) so.1,
-        next_stands had (waits_in (heard_as awaited) outcomes) w trail made
-            (λ e. (e, so.0.0)) so.1.0 so.1.1 g n so.2,
-      ))
-      (λ y. ⊥) v
-      (λ outcomes w u trail so d is told.
-      let g = did_in t ep awaited most w j u v d so.0.0.at so.0.1 in
-      never most had (waits_in (heard_as awaited) (outcome_in (in_attempt t ep) w ∷ outcomes))
-      (after (attempt (in_attempt t ep)) w) v
-      (next_stands had (waits_in (heard_as awaited) outcomes) w trail (told (λ e. e tt)).0
-      (λ e. (e, so.0.0)) so.1.0 so.1.1 g is.0 so.2) is.1)
-      (λ gave outcomes w so. gave tt) x
-
-  abbrev IsHalted : ℕ → Location → State → Type 0
-  IsHalted most j u = Listens t j u × IsSource ep most u × ((in_end u ep).state.halted ≡ true)
-
-  why_in : (result : Result (List ℕ) TransFault) (new : World) (j : Location) (s v : State)
-      → Ran t ep awaited (IsOfBus result) result old new j s v
-      → SourceInFailure t ep awaited result j s v
-  why_in result new j s v x = record {
-    answered = λ l most n i at m e.
-        heeded (λ u. (Listens t j u × IsSource ep most u) × GivesWithin t.max ep most u)
-        (λ w u y d z is.
-        let g = did_in t ep awaited most w j u y d is.0.0.at is.0.1 in (
-          stays_in t g is.0,
-          subst (λ (z : State). GivesWithin t.max ep most z) (sym (kept g).0.rest) is.1,
-        ))
-        ((l, i), m) three
-        (λ w u y d is none f. (unheard_in
-        (subst (λ h. SourceGave ep most t.max awaited ((damage_in w ≡ None) × Listens t j u) u
-        h y) f (did_in t ep awaited most w j u y d is.0.0.at is.0.1)) (none, is.0.0)).1 is.1)
-        (as_result e);
-    waited = λ l most n i one at m left prompt e.
-        waits_few new j s v most n (l, i) at m left prompt (as_result e);
-    halted = λ l most i c. (
-      λ e. heeded (IsHalted most j) (halted_stays most) (l, i, c) three
-          (λ w u y d is none f. false_true
-          (sym (unheard_in (subst (λ h. SourceGave ep most t.max awaited ((damage_in w ≡ None)
-          × Listens t j u) u h y) f (did_in t ep awaited most w j u y d is.0.at is.1))
-          (none, is.0)).0 ∙ is.2)) (as_result e),
-      λ e. spared (IsHalted most j) (halted_stays most) (l, i, c) (λ u. 0)
-          (λ w u y d is n. no_waits_in (did_in t ep awaited most w j u y d is.0.at is.1) is.2 n)
-          (omega arith) (as_result e),
-    );
-  }
-    where
-      as_result : {r : Result (List ℕ) TransFault} → result ≡ r
-          → Ran t ep awaited (IsOfBus r) r old new j s v
-      as_result e = subst (λ r. Ran t ep awaited (IsOfBus r) r old new j s v) e x
-
-      halted_stays : (most : ℕ) (w : World) (u y : State) → DidIn (in_attempt t ep) w j u y
-          → IsNoEnd (heard_as awaited (outcome_in (in_attempt t ep) w)) → IsHalted most j u
-          → IsHalted most j y
-      halted_stays most w u y d z is = subst (IsHalted most j)
-          (sym ((kept (did_in t ep awaited most w j u y d is.0.at is.1)).1 is.2)) is
+  waits_few result new j s v most had run is at left prompt =
+      never (Moves (heard_as awaited)) result run (λ u. IsShort t ep awaited most j u
+      × (is_some (next_packet u ep most had) ≡ true))
+      (λ w u y d n so. (
+        stays_short t ep awaited most w j u y d so.0,
+        subst (λ (z : State). is_some (next_packet z ep most had) ≡ true)
+            (sym (only_in t ep awaited most w j u y d so.0.0.0.at so.0.0.1).rest) so.1,
+      )) (is, left)
+      (λ outcomes w u. Stands most had (waits_in (heard_as awaited) outcomes) w u)
+      (first_stands most had s at prompt)
+      (λ outcomes w u y trail made so stands d n. next_stands had
+      (waits_in (heard_as awaited) outcomes) w trail made (λ e. (e, so.0.0.0)) so.0.1 so.1
+      (did_in t ep awaited most w j u y d so.0.0.0.at so.0.0.1) n stands)
+      (Err Busy) tt (λ outcomes. waits_in (heard_as awaited) outcomes ≡ 256)
+      (λ o outcomes end. end) (λ outcomes w stands full.
+      too_many most had (waits_in (heard_as awaited) outcomes) w v stands full)
 
 pub source_why : (t : Target) (ep : ℕ) (awaited : Toggle) (result : Result (List ℕ) TransFault)
     (old new : World) → IsSettled old.roots → NoThreeDamaged old
@@ -597,7 +617,14 @@ pub source_why : (t : Target) (ep : ℕ) (awaited : Toggle) (result : Result (Li
     → EachWas (SourceInFailure t ep awaited result) old new
 source_why t ep awaited result old new settled three e single =
     each_device _ (SourceInFailure t ep awaited result) old new
-    (why_in t ep awaited old three result new)
+    (λ j s v run. record {
+      answered = λ l most n i at m. short_answered t ep awaited (as_read awaited)
+          (Moves (heard_as awaited)) result run most (l, i) three m;
+      waited = λ l most n i one at m left prompt.
+          waits_few t ep awaited old three result new j s v most n run ((l, i), m) at left prompt;
+      halted = λ l most i. halted_answered t ep awaited (as_read awaited)
+          (Moves (heard_as awaited)) result run most (l, i) three;
+    })
     (over_in t ep old new settled single (heard_as awaited) result (as_transacted result e))
 
 -- OUT
@@ -1016,17 +1043,17 @@ sink_why t ep toggle bytes result old new settled three e single =
     why : (j : Location) (s v : State) → RanOut t ep toggle bytes (IsOfBus result) result old new j
         s v → SinkOutFailure t ep toggle bytes result j s v
     why j s v x = record {
-      answered = λ l most i fits e. heeded (λ u. Listens t j u × IsSink ep most u)
+      answered = λ l most i fits. heeded (Moves heard_when_sent) result x
+          (λ u. Listens t j u × IsSink ep most u)
           (λ w u y d n. stays most w j u y d) (l, i) three
           (λ w u y d is none f.
           unheard_out (subst (λ h. Took ep most toggle bytes ((damage_in w ≡ None) × Listens t j u)
-          u h y) f (did_out t ep toggle bytes most w j u y d is.0.at is.1)) (none, is.0) fits)
-          (subst (λ r. RanOut t ep toggle bytes (IsOfBus r) r old new j s v) e x);
-      waited = λ l most i prompt e. spared (λ u. Listens t j u × IsSink ep most u)
+          u h y) f (did_out t ep toggle bytes most w j u y d is.0.at is.1)) (none, is.0) fits);
+      waited = λ l most i prompt. spared (Moves heard_when_sent) result x
+          (λ u. Listens t j u × IsSink ep most u)
           (λ w u y d n. stays most w j u y d) (l, i) (naks_left ep toggle)
           (λ w u y d is n. few_waits_out (did_out t ep toggle bytes most w j u y d is.0.at is.1) n)
-          (few_left (is_same toggle (out_end s ep).state.toggle) prompt.0)
-          (subst (λ r. RanOut t ep toggle bytes (IsOfBus r) r old new j s v) e x);
+          (few_left (is_same toggle (out_end s ep).state.toggle) prompt.0);
     }
       where
         few_left : (same : Bool) → (out_end s ep).pace.naks ≤ 100

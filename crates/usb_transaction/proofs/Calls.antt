@@ -7,34 +7,31 @@ use Rattle.usb_packet.specs.{Toggle, One}
 use Rattle.usb_request.specs.{setup_of}
 use Rattle.usb_device.specs.{Answer, Way, is_whole, heard, State, Reply, accepted, forgotten}
 use Rattle.usb_device.specs.{row_of, Location, reach_on, state_on}
-use Rattle.usb_device.specs.declared.answer.Answer.TheVariants as answer
-use Rattle.usb_world.specs.{Relation}
-use Rattle.usb_world.specs.{Attempt, Outcome, is_harmless, IsMade, AttemptAnswerer, IsSetup, got}
-use Rattle.usb_world.specs.{hears_attempt, token_way, payload_way, answer_way, World, at_attempt}
-use Rattle.usb_world.specs.{damage_in, outcome_in, with_attempt, attempt, after, Course, here, Was}
-use Rattle.usb_world.specs.{DidIn, DidOut}
-use Rattle.usb_world.specs.declared.types.Outcome.TheVariants as outcome
+use Rattle.usb_world.specs.{Relation, Attempt, Outcome, is_harmless, IsMade, AttemptAnswerer}
+use Rattle.usb_world.specs.{IsSetup, got, hears_attempt, token_way, payload_way, answer_way, World}
+use Rattle.usb_world.specs.{at_attempt, damage_in, outcome_in, with_attempt, attempt, after, Course}
+use Rattle.usb_world.specs.{here, Was, DidIn, DidOut}
 use Rattle.usb_tree.specs.{address_of, IsSettled, deep_at}
-use Rattle.usb_world.proofs.Interface.{course_then, due_back, each_in, each_out, given_by}
-use Rattle.usb_world.proofs.Interface.{got_given, holder_in, in_in, is_state, made_is, made_of}
-use Rattle.usb_world.proofs.Interface.{made_unshared, one_answers, out_in, setup_in, setup_sound_in}
-use Rattle.usb_world.proofs.Interface.{stands, state_stands, stays_reachable_in, third, each_beside}
+use Rattle.usb_world.proofs.Interface.{course_then, due_back, given_by, got_given, holder_in, in_in}
+use Rattle.usb_world.proofs.Interface.{is_state, made_is, made_of, made_unshared, one_answers}
+use Rattle.usb_world.proofs.Interface.{out_in, setup_in, setup_sound_in, stands, state_stands}
+use Rattle.usb_world.proofs.Interface.{stays_reachable_in, third, each_beside}
 use Rattle.usb_tree.proofs.Interface.{decided, equal_same, same_equal}
-use Rattle.usb_transaction.specs.{Target, TransFault, Stalled, Busy, NoAnswer, HeardOutcome}
-use Rattle.usb_transaction.specs.{Lost, Moved, Answerer, HadOne, IsAnswer, heard_as, polled_as}
+use Rattle.usb_transaction.specs.{Target, TransFault, Stalled, Busy, NoAnswer, HeardOutcome, Lost}
+use Rattle.usb_transaction.specs.{Moved, Answerer, HadOne, IsAnswer, heard_as, polled_as}
 use Rattle.usb_transaction.specs.{heard_when_sent, set_up_as, is_at, ControlIn, ReadStatus}
-use Rattle.usb_transaction.specs.{SourceIn, SinkOut, AskedLast, SetupAccepted, Answered}
-use Rattle.usb_transaction.specs.{Took, IsUnheard, AttemptLog, start, next, waits_with, waits_in}
-use Rattle.usb_transaction.specs.{IsNoEnd, KeepsTrying, TransactionDone, Transacted, Waiting}
-use Rattle.usb_transaction.specs.{Polled, packed, setup_attempt, in_attempt, out_attempt, SetupEnds}
-use Rattle.usb_transaction.specs.{MeansOfSetup, SetsUp, InLeaves, InFailure, MeansOfIn, AsksIn}
-use Rattle.usb_transaction.specs.{OutLeaves, OutFailure, MeansOfOut, SendsOut, PollsIn}
-use Rattle.usb_transaction.specs.{ControlInFailure, StatusReadFailure, SourceInFailure}
-use Rattle.usb_transaction.specs.{SinkOutFailure, Ends, WriteOut, WriteStatusIn}
-use Rattle.usb_transaction.specs.{WriteOutFailure, WriteStatusFailure}
-use Rattle.usb_transaction.proofs.ControlWrites.{write_leaves, write_status_leaves}
+use Rattle.usb_transaction.specs.{SourceIn, SinkOut, AskedLast, SetupAccepted, Answered, Took}
+use Rattle.usb_transaction.specs.{IsUnheard, AttemptLog, start, next, waits_with, waits_in, IsNoEnd}
+use Rattle.usb_transaction.specs.{KeepsTrying, TransactionDone, Transacted, Waiting, Polled, packed}
+use Rattle.usb_transaction.specs.{setup_attempt, in_attempt, out_attempt, SetupEnds, MeansOfSetup}
+use Rattle.usb_transaction.specs.{SetsUp, InLeaves, InFailure, MeansOfIn, AsksIn, OutLeaves}
+use Rattle.usb_transaction.specs.{OutFailure, MeansOfOut, SendsOut, PollsIn, ControlInFailure}
+use Rattle.usb_transaction.specs.{StatusReadFailure, SourceInFailure, SinkOutFailure, Ends}
+use Rattle.usb_transaction.specs.{WriteOut, WriteStatusIn, WriteOutFailure, WriteStatusFailure}
+use Rattle.usb_transaction.proofs.ControlWrites.{read_status_why, status_leaves, write_leaves}
+use Rattle.usb_transaction.proofs.ControlWrites.{write_out_why}
 use Rattle.usb_transaction.proofs.DeviceRuns.{Deeds, EachIf, Run, had_address, in_others, more}
-use Rattle.usb_transaction.proofs.DeviceRuns.{none, out_others, over_trail}
+use Rattle.usb_transaction.proofs.DeviceRuns.{none, out_others, over_trail, does_in, does_out}
 use Rattle.usb_transaction.proofs.LastOutcomes.{read_last, sent_last, set_up_last, sent_empty}
 use Rattle.usb_transaction.proofs.LastOutcomes.{set_up_empty}
 use Rattle.usb_transaction.proofs.SetupTransactions.{SetupResult, accepting, set_up_why}
@@ -43,52 +40,31 @@ use Rattle.usb_transaction.proofs.Trails.{few_waits, last_erred, trail_settled, 
 use Rattle.usb_transaction.proofs.BulkTransactions.{sink_leaves, sink_why, source_leaves}
 use Rattle.usb_transaction.proofs.BulkTransactions.{source_why}
 use Rattle.usb_transaction.proofs.ControlTransactions.{control_in_why, control_leaves}
-use Rattle.usb_transaction.proofs.ControlTransactions.{read_status_why, status_leaves}
+use Rattle.usb_transaction.proofs.ControlTransactions.{write_status_leaves, write_status_why}
 use Rattle.usb_transaction.proofs.Polls.{poll_leaves, poll_why}
 use Rattle.usb_transaction.proofs.SourcePolls.{source_poll_why, source_polled}
 use Rattle.usb_transaction.proofs.TransactionTries.{ends_of, poll_ends}
-use Rattle.usb_transaction.proofs.WriteFailures.{write_out_why, write_status_why}
+use Rattle.usb_device.specs.declared.answer.Answer.TheVariants as answer
+use Rattle.usb_world.specs.declared.types.Outcome.TheVariants as outcome
 
--- The last attempt of a trail, with what the host got of it
+-- The last attempt of a trail, that was answered, with what the host got of it
 
-record LastAttempt (a : Attempt) (old new : World) (last : Outcome) : Type 0 where
-  outcomes : List Outcome
-  mid : World
-  before : AttemptLog a old outcomes mid
-  is_last : new ≡ after (attempt a) mid
-  came : outcome_in a mid ≡ last
-  made : IsMade a mid
-  single : (after (attempt a) mid).shared ≡ false
-
-last_attempt : {a : Attempt} {old new : World} {last : Outcome} {outcomes : List Outcome}
+asked_last : {a : Attempt} {old new : World} {last : Outcome} {outcomes : List Outcome}
     → IsSettled old.roots → AttemptLog a old (last ∷ outcomes) new → new.shared ≡ false
-    → LastAttempt a old new last
-last_attempt {a} {old} settled (next {outcomes = os} w t made) h =
-    record {
-      outcomes = os;
-      mid = w;
-      before = t;
-      is_last = refl;
-      came = refl;
-      made = made_of a w (trail_settled t settled) made;
-      single = h;
-    }
-
--- it was answered
-answerer : {a : Attempt} {old new : World} {last : Outcome} (l : LastAttempt a old new last)
-    → last ≢ outcome.Nothing → AttemptAnswerer a l.mid
-answerer {a} l loud = one_answers a l.mid l.made l.single (λ e. loud (sym l.came ∙ e))
-
-abbrev asked_last : {a : Attempt} {old new : World} {last : Outcome}
-    (l : LastAttempt a old new last) → AttemptAnswerer a l.mid → AskedLast a old new
-asked_last l y = record {
-  outcomes = l.outcomes;
-  mid = l.mid;
-  before = l.before;
-  last = l.is_last;
-  holder = y.holder;
-  loud = y.loud;
-}
+    → last ≢ outcome.Nothing → (q : AskedLast a old new) × (outcome_in a q.mid ≡ last)
+asked_last {a} settled (next {outcomes = os} w t made) single loud =
+    let y : AttemptAnswerer a w =
+    one_answers a w (made_of a w (trail_settled t settled) made) single loud in (
+      record {
+        outcomes = os;
+        mid = w;
+        before = t;
+        last = refl;
+        holder = y.holder;
+        loud = y.loud;
+      },
+      refl,
+    )
 
 -- the device that was asked is still reachable
 asked_last-reach : {a : Attempt} {old new : World} (q : AskedLast a old new)
@@ -106,15 +82,14 @@ trail_answered : (t : Target) (ep : ℕ) (g : Answer) (old new : World) {last : 
     → AttemptLog (in_attempt t ep) old (last ∷ outcomes) new → given_by last ≡ Some g
     → new.shared ≡ false → Answered t ep g old new
 trail_answered t ep g old new {last} settled trail is h =
-    let l = last_attempt settled trail h in
-    let y = answerer l (given_loud is) in
-    let q = y.holder in
-    let x = in_in (in_attempt t ep) l.mid q y.loud (record { kind = refl; payload = refl }) in
+    let (q, came) = asked_last settled trail h (given_loud is) in
+    let x = in_in (in_attempt t ep) q.mid q.holder q.loud
+    (record { kind = refl; payload = refl }) in
     record {
-      asked = asked_last l y;
-      gave = got_given t.max _ last (sym x.outcome ∙ l.came) (given_loud is) ∙ is;
-      on = asked_last-reach (asked_last l y);
-      state = ap (λ w. state_on w.roots q.spot) l.is_last ∙ x.state;
+      asked = q;
+      gave = got_given t.max _ last (sym x.outcome ∙ came) (given_loud is) ∙ is;
+      on = asked_last-reach q;
+      state = ap (λ w. state_on w.roots q.holder.spot) q.last ∙ x.state;
     }
 
 took : (t : Target) (ep : ℕ) (toggle : Toggle) (bytes : List ℕ) (g : Answer) (old new : World)
@@ -122,46 +97,15 @@ took : (t : Target) (ep : ℕ) (toggle : Toggle) (bytes : List ℕ) (g : Answer)
     → AttemptLog (out_attempt t ep toggle bytes) old (last ∷ outcomes) new → given_by last ≡ Some g
     → new.shared ≡ false → Took t ep toggle bytes g old new
 took t ep toggle bytes g old new {last} settled trail is h =
-    let l = last_attempt settled trail h in
-    let y = answerer l (given_loud is) in
-    let q = y.holder in
-    let x = out_in (out_attempt t ep toggle bytes) l.mid q y.loud toggle bytes
+    let (q, came) = asked_last settled trail h (given_loud is) in
+    let x = out_in (out_attempt t ep toggle bytes) q.mid q.holder q.loud toggle bytes
     (record { kind = refl; payload = refl }) in
     record {
-      asked = asked_last l y;
-      gave = got_given t.max _ last (sym x.outcome ∙ l.came) (given_loud is) ∙ is;
-      on = asked_last-reach (asked_last l y);
-      state = ap (λ w. state_on w.roots q.spot) l.is_last ∙ x.state;
+      asked = q;
+      gave = got_given t.max _ last (sym x.outcome ∙ came) (given_loud is) ∙ is;
+      on = asked_last-reach q;
+      state = ap (λ w. state_on w.roots q.holder.spot) q.last ∙ x.state;
     }
-
-pub in_answered : (t : Target) (ep : ℕ) (toggle : Toggle) (bytes : List ℕ) (old new : World)
-    → IsSettled old.roots
-    → Transacted (heard_as toggle) (in_attempt t ep) old (Ok bytes) new → new.shared ≡ false
-    → Answered t ep (answer.Data toggle (packed bytes)) old new
-in_answered t ep toggle bytes old new settled e =
-    trail_answered t ep (answer.Data toggle (packed bytes)) old new settled e.trail
-    (ap given_by (read_last toggle e.last bytes e.tells))
-
-pub read_stalled : (t : Target) (ep : ℕ) (toggle : Toggle) (old new : World) → IsSettled old.roots
-    → Transacted (heard_as toggle) (in_attempt t ep) old (Err Stalled) new → new.shared ≡ false
-    → Answered t ep answer.Stall old new
-read_stalled t ep toggle old new settled e =
-    trail_answered t ep answer.Stall old new settled e.trail (ap given_by e.tells)
-
-pub write_done : (t : Target) (ep : ℕ) (toggle : Toggle) (bytes done : List ℕ) (old new : World)
-    → IsSettled old.roots
-    → Transacted heard_when_sent (out_attempt t ep toggle bytes) old (Ok done) new
-    → new.shared ≡ false → Took t ep toggle bytes answer.Ack old new
-write_done t ep toggle bytes done old new settled e =
-    took t ep toggle bytes answer.Ack old new settled e.trail
-    (ap given_by (sent_last e.last (packed done) e.tells))
-
-pub write_stalled : (t : Target) (ep : ℕ) (toggle : Toggle) (bytes : List ℕ) (old new : World)
-    → IsSettled old.roots
-    → Transacted heard_when_sent (out_attempt t ep toggle bytes) old (Err Stalled) new
-    → new.shared ≡ false → Took t ep toggle bytes answer.Stall old new
-write_stalled t ep toggle bytes old new settled e =
-    took t ep toggle bytes answer.Stall old new settled e.trail (ap given_by e.tells)
 
 -- setup data that were answered were accepted
 pub taken_up : (x : Bool) (t : Way) (s v : State) (max : ℕ)
@@ -177,25 +121,24 @@ pub set_up_done : (t : Target) (bytes done : List ℕ) (old new : World) → len
 set_up_done t bytes done old new eight settled e h =
     let a = setup_attempt t bytes in
     let last : e.last ≡ outcome.Ack = set_up_last e.last (packed done) e.tells in
-    let l : LastAttempt a old new e.last = last_attempt settled e.trail h in
-    let y : AttemptAnswerer a l.mid = answerer l (given_loud (ap given_by last)) in
-    let q = y.holder in
-    let k = (at_attempt l.mid).roots in
-    let d = damage_in (at_attempt l.mid) in
-    let x = setup_in a l.mid q y.loud bytes (record {
+    let (q, came) = asked_last settled e.trail h (given_loud (ap given_by last)) in
+    let own = q.holder.own in
+    let spot = q.holder.spot in
+    let d = damage_in (at_attempt q.mid) in
+    let x = setup_in a q.mid q.holder q.loud bytes (record {
       kind = refl;
       ep = refl;
       payload = refl;
       whole = eight;
     }) in
-    let whole : Bool = is_whole (token_way a d (deep_at false q.spot.rest) q.own) &&
-    is_whole (payload_way a d (deep_at false q.spot.rest) q.own) in
+    let whole : Bool = is_whole (token_way a d (deep_at false spot.rest) own) &&
+    is_whole (payload_way a d (deep_at false spot.rest) own) in
     record {
-      asked = asked_last l y;
-      on = asked_last-reach (asked_last l y);
-      state = ap (λ w. state_on w.roots q.spot) l.is_last ∙ x.state
-          ∙ ap (λ v. Some v) (taken_up whole (answer_way a d k) q.own
-          (accepted q.own (row_of q.below) (setup_of bytes)) a.max (sym x.outcome ∙ l.came
+      asked = q;
+      on = asked_last-reach q;
+      state = ap (λ w. state_on w.roots spot) q.last ∙ x.state
+          ∙ ap (λ v. Some v) (taken_up whole (answer_way a d (at_attempt q.mid).roots) own
+          (accepted own (row_of q.holder.below) (setup_of bytes)) a.max (sym x.outcome ∙ came
           ∙ last));
     }
 
@@ -343,27 +286,21 @@ set_up_had t bytes fault old new eight addressed settled y e single =
 
 module _ (t : Target) (ep : ℕ) (old new : World) (settled : IsSettled old.roots)
     (single : new.shared ≡ false) where
-  does_in : (w : World) → IsMade (in_attempt t ep) w → (after (attempt (in_attempt t ep)) w).shared
-      ≡ false → EachIf (IsThere t) (DidIn (in_attempt t ep) w) w
-      (after (attempt (in_attempt t ep)) w)
-  does_in w made u j v on there at = each_in (in_attempt t ep) w made
-      (record { kind = refl; payload = refl }) u j v on there
-
   who_read : {last : Outcome} {outcomes : List Outcome}
       → AttemptLog (in_attempt t ep) old (last ∷ outcomes) new → last ≢ outcome.Nothing
       → Answerer t old new
-  who_read = who t (in_attempt t ep) refl (DidIn (in_attempt t ep)) (in_others t ep) does_in old
-      settled single
+  who_read = who t (in_attempt t ep) refl (DidIn (in_attempt t ep)) (in_others t ep)
+      (does_in t ep (IsThere t)) old settled single
 
   moved_in : (hear : Outcome → HeardOutcome) → hear outcome.Nothing ≡ Lost → (bytes : List ℕ)
       → TransactionDone hear (in_attempt t ep) old (Ok bytes) new → Answerer t old new
-  moved_in = moved_who t (in_attempt t ep) refl (DidIn (in_attempt t ep)) (in_others t ep) does_in
-      old settled new single
+  moved_in = moved_who t (in_attempt t ep) refl (DidIn (in_attempt t ep)) (in_others t ep)
+      (does_in t ep (IsThere t)) old settled new single
 
   had_in : (hear : Outcome → HeardOutcome) → hear outcome.Nothing ≡ Lost → (fault : TransFault)
       → IsAnswer fault → Transacted hear (in_attempt t ep) old (Err fault) new → HadOne t old
-  had_in = fault_had t (in_attempt t ep) refl (DidIn (in_attempt t ep)) (in_others t ep) does_in old
-      settled new single
+  had_in = fault_had t (in_attempt t ep) refl (DidIn (in_attempt t ep)) (in_others t ep)
+      (does_in t ep (IsThere t)) old settled new single
 
 pub read_answered : (t : Target) (ep : ℕ) (awaited : Toggle) (bytes : List ℕ) (old new : World)
     → IsSettled old.roots
@@ -399,20 +336,13 @@ poll_had t ep toggle fault old new settled y e single =
     had_in t ep old new settled single (polled_as toggle) refl fault y e
 
 module _ (t : Target) (ep : ℕ) (toggle : Toggle) (bytes : List ℕ) where
-  does_out : (w : World) → IsMade (out_attempt t ep toggle bytes) w
-      → (after (attempt (out_attempt t ep toggle bytes)) w).shared ≡ false
-      → EachIf (IsThere t) (DidOut (out_attempt t ep toggle bytes) toggle bytes w) w
-      (after (attempt (out_attempt t ep toggle bytes)) w)
-  does_out w made u j v on there at = each_out (out_attempt t ep toggle bytes) w toggle bytes made
-      (record { kind = refl; payload = refl }) u j v on there
-
   pub write_answered : (done : List ℕ) (old new : World) → IsSettled old.roots
       → TransactionDone heard_when_sent (out_attempt t ep toggle bytes) old (Ok done) new
       → new.shared ≡ false → Answerer t old new
   write_answered done old new settled e single =
       moved_who t (out_attempt t ep toggle bytes) refl
       (DidOut (out_attempt t ep toggle bytes) toggle bytes) (out_others t ep toggle bytes)
-      does_out old settled new single heard_when_sent refl done e
+      (does_out t ep toggle bytes (IsThere t)) old settled new single heard_when_sent refl done e
 
   pub write_had : (fault : TransFault) (old new : World) → IsSettled old.roots → IsAnswer fault
       → Transacted heard_when_sent (out_attempt t ep toggle bytes) old (Err fault) new
@@ -420,7 +350,7 @@ module _ (t : Target) (ep : ℕ) (toggle : Toggle) (bytes : List ℕ) where
   write_had fault old new settled y e single =
       fault_had t (out_attempt t ep toggle bytes) refl
       (DidOut (out_attempt t ep toggle bytes) toggle bytes) (out_others t ep toggle bytes)
-      does_out old settled new single heard_when_sent refl fault y e
+      (does_out t ep toggle bytes (IsThere t)) old settled new single heard_when_sent refl fault y e
 
 brings_nothing : (hear : Outcome → HeardOutcome) (a : Attempt)
     → ((o : Outcome) (bytes : List ℕ) → hear o ≡ Moved (packed bytes) → bytes ≡ [])
@@ -442,8 +372,10 @@ module _ (t : Target) (ep : ℕ) (awaited : Toggle) (old new : World) (settled :
     means_in : (result : Result (List ℕ) TransFault)
         → Transacted (heard_as awaited) (in_attempt t ep) old result new
         → MeansOfIn t ep awaited old result new
-    means_in (Ok bytes) x = in_answered t ep awaited bytes old new settled x
-    means_in (Err Stalled) x = read_stalled t ep awaited old new settled x
+    means_in (Ok bytes) x = trail_answered t ep (answer.Data awaited (packed bytes)) old new settled
+        x.trail (ap given_by (read_last awaited x.last bytes x.tells))
+    means_in (Err Stalled) x =
+        trail_answered t ep answer.Stall old new settled x.trail (ap given_by x.tells)
     means_in result x = tt
 
     abbrev SourceOrControl : Result (List ℕ) TransFault → Relation
@@ -511,8 +443,10 @@ module _ (t : Target) (ep : ℕ) (toggle : Toggle) (bytes : List ℕ) (old new :
   means_out : (result : Result (List ℕ) TransFault)
       → Transacted heard_when_sent (out_attempt t ep toggle bytes) old result new
       → MeansOfOut t ep toggle bytes old result new
-  means_out (Ok got) x = write_done t ep toggle bytes got old new settled x
-  means_out (Err Stalled) x = write_stalled t ep toggle bytes old new settled x
+  means_out (Ok got) x = took t ep toggle bytes answer.Ack old new settled x.trail
+      (ap given_by (sent_last x.last (packed got) x.tells))
+  means_out (Err Stalled) x =
+      took t ep toggle bytes answer.Stall old new settled x.trail (ap given_by x.tells)
   means_out result x = tt
 
   abbrev SinkOrStatus : Result (List ℕ) TransFault → Relation

@@ -1,51 +1,47 @@
--- Control transactions: what IN of endpoint 0, and OUT that ends a control read, leave of each
--- device, and why they fail.
+-- IN of endpoint 0: what it leaves of each device, and why it fails.
 use Rattle.std.proofs.Common.{◌≡◌, ◌≢◌, ◌⊎◌, inl, inr, ℕ, ◌+◌, ◌-◌, ◌<◌, ◌≤◌, nat_le, ◌&&◌}
 use Rattle.std.proofs.Common.{if◌then◌else◌, Bool, true, false, List, [], ◌∷◌, length, Option, None}
-use Rattle.std.proofs.Common.{Some, is_some, Result, Ok, Err, refl, sym, subst, ap, ◌∙◌, arith, not}
+use Rattle.std.proofs.Common.{Some, is_some, Result, Err, refl, sym, subst, ap, ◌∙◌, arith, not}
 use Rattle.usb_packet.specs.{Toggle, Zero, One, is_same}
 use Rattle.usb_port.specs.{PortState}
-use Rattle.usb_device.specs.{Answer, RememberedPacket, Stage, idle, refused, reading, read, ending}
+use Rattle.usb_device.specs.{Answer, RememberedPacket, Stage, idle, refused, reading, ending}
 use Rattle.usb_device.specs.{max_packet, packet_at, toggle_at, Spec, State, Reply, forgotten}
-use Rattle.usb_device.specs.{is_busy, nak_row, acknowledged, out_row, Way, lost, is_whole, heard}
-use Rattle.usb_device.specs.{gave, in_stage_law, in_law, out_law, Registers, row_of, Location}
-use Rattle.usb_device.specs.{reach_on, state_on, held_addresses, repeats, address_then, taken_of}
-use Rattle.usb_device.specs.{ReadingAt, ReadOn, StatusOn, StatusGiven, seen, unseen, OnlyControl}
-use Rattle.usb_device.specs.{IsRead, OnlyStage, Write, writing, is_done}
-use Rattle.usb_device.specs.declared.answer.Answer.TheVariants as answer
-use Rattle.usb_device.specs.declared.transfer.InEndpoint.TheVariants as by
-use Rattle.usb_device.specs.Attempt.{whole, broken}
+use Rattle.usb_device.specs.{is_busy, nak_row, acknowledged, Way, is_whole, heard, gave}
+use Rattle.usb_device.specs.{in_stage_law, in_law, Registers, row_of, Location, reach_on, state_on}
+use Rattle.usb_device.specs.{held_addresses, repeats, address_then, taken_of, ReadingAt, ReadOn}
+use Rattle.usb_device.specs.{StatusOn, StatusGiven, seen, unseen, OnlyControl, Write, writing}
+use Rattle.usb_device.specs.{is_done, WriteEnded, WritingAt, taken_with}
+use Rattle.usb_device.specs.Attempt.{whole}
 use Rattle.usb_device.proofs.Interface.{control_read, is_same-refl}
 use Rattle.usb_tree.specs.{IsSettled, address_of}
-use Rattle.usb_world.specs.{Outcome, AttemptAnswerer, got, BusFault, World, Made, at_attempt}
-use Rattle.usb_world.specs.{attempt, after, outcome_in, damage_in, Was, EachWas, DidIn, DidOut}
-use Rattle.usb_world.specs.{Attempt}
-use Rattle.usb_world.specs.declared.types.Outcome.TheVariants.{Payload, Nak, Stall, Nothing, Ack}
-use Rattle.usb_transaction.specs.{Target, HeardOutcome, Moved, NotReady, Repeat, Refused, Lost}
-use Rattle.usb_transaction.specs.{TransFault, Stalled, Busy, NoAnswer, Bus, heard_as}
-use Rattle.usb_transaction.specs.{heard_when_sent, AttemptLog, start, next, IsNoEnd, waits_with}
-use Rattle.usb_transaction.specs.{waits_in, TransactionDone, Transacted, NoThreeDamaged, Listens}
-use Rattle.usb_transaction.specs.{Fits, HasNext, status, refusal, ControlInFailure}
-use Rattle.usb_transaction.specs.{StatusReadFailure, packed, in_attempt, out_attempt, is_at}
-use Rattle.usb_transaction.specs.{IsNotOfBus, CanAnswer, ReadCut, none_came, one_came, ReadEnds}
-use Rattle.usb_transaction.specs.{StatusEnds, ControlIn, IsInRead, over, ReadStatus, refuses_in}
+use Rattle.usb_world.specs.{Outcome, AttemptAnswerer, got, World, Made, at_attempt, attempt, after}
+use Rattle.usb_world.specs.{outcome_in, damage_in, Was, EachWas, DidIn, Attempt}
+use Rattle.usb_world.specs.declared.types.Outcome.TheVariants.{Payload, Nak, Stall, Nothing}
+use Rattle.usb_transaction.specs.{Target, HeardOutcome, Moved, Repeat, Lost, TransFault, Stalled}
+use Rattle.usb_transaction.specs.{Busy, NoAnswer, heard_as, AttemptLog, start, next, IsNoEnd}
+use Rattle.usb_transaction.specs.{waits_with, waits_in, TransactionDone, Transacted, NoThreeDamaged}
+use Rattle.usb_transaction.specs.{Listens, Fits, HasNext, status, refusal, ControlInFailure, packed}
+use Rattle.usb_transaction.specs.{in_attempt, is_at, IsNotOfBus, CanAnswer, ReadCut, none_came}
+use Rattle.usb_transaction.specs.{one_came, ReadEnds, StatusEnds, ControlIn, refuses_in}
+use Rattle.usb_transaction.specs.{WriteStatusEnds, WriteStatusFailure, WriteStatusIn}
 use Rattle.usb_transaction.specs.Failures.{data_stage}
 use Rattle.std.proofs.lemmas.Bool.Decides.{nat_tests}
 use Rattle.arrayvec.specs.ArrayVec.{ArrayVec}
-use Rattle.usb_transaction.proofs.DeviceRuns.{IsEnd, Run, as_whole, asked_in, at_end, at_from}
-use Rattle.usb_transaction.proofs.DeviceRuns.{each_device, had_address, heeded, listens_on, mine}
-use Rattle.usb_transaction.proofs.DeviceRuns.{not_busy, of_bus, one_wait, others_stay_then, over_in}
-use Rattle.usb_transaction.proofs.DeviceRuns.{over_in_trail, positive, delivered_out, out_others}
-use Rattle.usb_transaction.proofs.DeviceRuns.{over_out, spared, Through, stays_away, was_then}
+use Rattle.usb_transaction.proofs.DeviceRuns.{IsEnd, Run, as_whole, asked_in, at_from, each_device}
+use Rattle.usb_transaction.proofs.DeviceRuns.{had_address, heeded, listens_on, mine, not_busy}
+use Rattle.usb_transaction.proofs.DeviceRuns.{of_bus, one_wait, others_stay_then, over_in}
+use Rattle.usb_transaction.proofs.DeviceRuns.{over_in_trail, positive, Through, was_then, Moves}
+use Rattle.usb_transaction.proofs.DeviceRuns.{OutcomeOfSpec, brought, could, result_of, summed}
+use Rattle.usb_transaction.proofs.DeviceRuns.{never}
 use Rattle.usb_transaction.proofs.LastOutcomes.{heard_taken, no_packet, packet_heard, packet_in}
-use Rattle.usb_transaction.proofs.LastOutcomes.{sent_last}
 use Rattle.usb_transaction.proofs.Trails.{LostRun, as_transacted, damaged_more, lost_run_none}
 use Rattle.usb_transaction.proofs.Trails.{run_short, trail_settled}
-use Rattle.usb_transaction.specs.Leaves.{data_stage as in_stage}
 use Rattle.usb_world.proofs.Interface.{data_back, due_back, in_in, made_of, made_unshared}
 use Rattle.usb_world.proofs.Interface.{one_answers, one_state, stands, state_stands}
 use Rattle.usb_world.proofs.Interface.{stays_reachable_in}
 use Rattle.usb_tree.proofs.Interface.{decided, equal_same, false_true, same_equal}
+use Rattle.usb_device.specs.declared.answer.Answer.TheVariants as answer
+use Rattle.usb_device.specs.declared.transfer.InEndpoint.TheVariants as by
 
 -- What a device that is asked answers, and what it is then
 
@@ -72,8 +68,7 @@ gives_no_answer max u = silence u.naks (omega arith)
 
 heard_or : (P : Option Answer → Type 0) (o : Option Answer) (t : Way) → P o → P None → P (heard t o)
 heard_or P o whole x y = x
-heard_or P o broken x y = y
-heard_or P o lost x y = y
+heard_or P o t x y = y
 
 gives_packet : (max : ℕ) (toggle : Toggle) (bytes : List ℕ) (u : State) (t2 t3 : Way)
     → ControlGave u (Payload toggle (packed bytes)) (forgotten (acknowledged u by.Control))
@@ -85,11 +80,9 @@ gives_packet max toggle bytes u whole t3 x y = fits (nat_le (length bytes) max) 
         (if b then Payload toggle (packed bytes) else Nothing)
         (if b && is_whole t then forgotten (acknowledged u by.Control) else u)
     fits true whole = x
-    fits true broken = y
-    fits true lost = y
+    fits true t = y
     fits false t = gives_no_answer max u
-gives_packet max toggle bytes u broken t3 x y = gives_no_answer max u
-gives_packet max toggle bytes u lost t3 x y = gives_no_answer max u
+gives_packet max toggle bytes u t2 t3 x y = gives_no_answer max u
 
 abbrev record_stage : State → Stage → State
 record_stage s st = record s { stage = st }
@@ -130,13 +123,11 @@ gives_write max s w t2 t3 free false unended =
 
 gives_stage : (max : ℕ) (s : State) (st : Stage) (t2 t3 : Way) → is_busy s ≡ false
     → ControlGives max (record_stage s st) (in_stage_law (record_stage s st) st max t2 t3)
-gives_stage max s idle t2 t3 free = gives_no_answer max (record_stage s idle)
 gives_stage max s refused t2 t3 free =
     heard_or (λ o. ControlGives max (record_stage s refused) (o, record_stage s refused))
     (Some answer.Stall) t2 (a_stall free refl) (gives_no_answer max (record_stage s refused))
 gives_stage max s (reading text wanted k) t2 t3 free =
     gives_read max s text wanted k t2 t3 free (packet_at (max_packet s.spec) wanted text k)
-gives_stage max s read t2 t3 free = gives_no_answer max (record_stage s read)
 gives_stage max s (ending None) t2 t3 free = gives_packet max One [] (record_stage s (ending None))
     t2 t3 (a_status free None _ refl (seen refl refl) refl refl)
     (a_status free None _ refl (unseen refl refl) refl refl)
@@ -145,6 +136,7 @@ gives_stage max s (ending (Some a)) t2 t3 free =
     (a_status free (Some a) _ refl (seen refl refl) refl refl)
     (a_status free (Some a) _ refl (unseen refl refl) refl refl)
 gives_stage max s (writing w) t2 t3 free = gives_write max s w t2 t3 free (is_done w) refl
+gives_stage max s st t2 t3 free = gives_no_answer max (record_stage s st)
 
 gives_control : (max : ℕ) (u : State) (t2 t3 : Way) (b : Bool) → is_busy u ≡ b
     → ControlGives max u (if b then (heard t2 (Some answer.Nak), (nak_row u).1) else in_stage_law u
@@ -156,69 +148,19 @@ gives_control max u t2 t3 false free = gives_stage max u u.stage t2 t3 free
 pub gives_in : (max : ℕ) (u : State) (row : List PortState) (t1 t2 t3 : Way)
     → ControlGives max u (in_law u row 0 max t1 t2 t3)
 gives_in max u row whole t2 t3 = gives_control max u t2 t3 (is_busy u) refl
-gives_in max u row broken t2 t3 = gives_no_answer max u
-gives_in max u row lost t2 t3 = gives_no_answer max u
+gives_in max u row t1 t2 t3 = gives_no_answer max u
 
--- What a device is after attempts of which the last brought these bytes
+-- What a device is after attempts of which the last had this outcome
 
 -- neither silent nor always busy
 abbrev pub Free : Spec → Type 0
 Free spec = (spec.silent ≡ false) × (spec.busy ≡ false)
 
--- a device of this description made the host hear this: only one that is not silent is heard, and
--- only one that is not always busy says more than that
-abbrev pub OutcomeOfSpec : Spec → HeardOutcome → Type 0
-OutcomeOfSpec spec h = (h ≡ Lost) ⊎ ((spec.silent ≡ false) × ((h ≡ NotReady) ⊎ (spec.busy ≡ false)))
-
-says_free : (spec : Spec) (h : HeardOutcome) → OutcomeOfSpec spec h → h ≢ Lost → h ≢ NotReady
-    → Free spec
-says_free spec h (inl e) some more = absurd (some e)
-says_free spec h (inr x) some more = elim x.1 [ inl e ↦ absurd (more e) | inr calm ↦ (x.0, calm) ]
-
-pub can_answer : (spec : Spec) (hear : Outcome → HeardOutcome) → hear Stall ≡ Refused
-    → (result : Result (List ℕ) TransFault) (o : Outcome) (outcomes : List Outcome)
-    → IsEnd hear result o outcomes → OutcomeOfSpec spec (hear o)
-    → (waits_in hear (o ∷ outcomes) ≡ 0) ⊎ (spec.silent ≡ false) → CanAnswer spec result
-can_answer spec hear refuses (Ok bytes) o outcomes e says waits =
-    says_free spec (hear o) says (λ f. cc (sym e ∙ f)) (λ f. cc (sym e ∙ f))
-can_answer spec hear refuses (Err Stalled) o outcomes e says waits =
-    says_free spec (hear o) says (λ f. cc (sym refuses ∙ ap hear (sym e) ∙ f))
-    (λ f. cc (sym refuses ∙ ap hear (sym e) ∙ f))
-can_answer spec hear refuses (Err Busy) o outcomes e says waits =
-    elim waits [ inl none ↦ absurd (omega (arith, none, e.1)) | inr loud ↦ loud ]
-can_answer spec hear refuses _ o outcomes e says waits = tt
-
--- the first wait was heard
-pub waits_more : (spec : Spec) (hear : Outcome → HeardOutcome) (o : Outcome)
-    (outcomes : List Outcome) → OutcomeOfSpec spec (hear o) → (waits_in hear outcomes ≡ 0)
-    ⊎ (spec.silent ≡ false) → (waits_in hear (o ∷ outcomes) ≡ 0) ⊎ (spec.silent ≡ false)
-unfolding waits_in
-waits_more spec hear o outcomes (inl e) waits = rw e waits
-waits_more spec hear o outcomes (inr x) waits = inr x.0
-
-pub record InReadResult (t : Target) (awaited : Toggle) (came : Option (List ℕ)) (s v : State) :
-    Type 0 where
-  pub others : is_at s t ≡ false → v ≡ s
-  pub frame : OnlyControl s v
-  pub naks : v.naks ≤ s.naks
-  pub there : is_at s t ≡ true → (v.registers ≡ s.registers) ⊎ Free s.spec
-  pub reading : is_at s t ≡ true → (answer : List ℕ) (wanted n : ℕ) → awaited ≡ toggle_at n
-      → ReadingAt answer wanted n s → ReadOn answer wanted n s came v × (v.registers ≡ s.registers)
-  pub status : is_at s t ≡ true → awaited ≡ One → (a : Option ℕ) → s.stage ≡ ending a
-      → StatusOn a s came v
-  pub refuses : s.stage ≡ refused → (v.stage ≡ refused) × (v.registers ≡ s.registers)
-      × (is_at s t ≡ true → came ≡ None)
-  pub fails : awaited ≡ One → came ≡ None → v.registers ≡ s.registers
-  pub back : refuses_in v.stage ≡ true → refuses_in s.stage ≡ true
-
-abbrev InReadStep : Target → Toggle → Option (List ℕ) → State → State → Type 0
-InReadStep t awaited came s v = is_at s t ≡ true → (answer : List ℕ) (wanted n : ℕ)
-    → awaited ≡ toggle_at n → ReadingAt answer wanted n s → ReadOn answer wanted n s came v
-
-status_on_none : (a : Option ℕ) (s v : State) (came : Option (List ℕ)) → came ≡ None
-    → v.stage ≡ ending a → v.registers ≡ s.registers → StatusOn a s came v
-status_on_none a s v came e stage registers =
-    subst (λ x. StatusOn a s x v) (sym e) (stage, registers)
+-- of a control write that this came to: it stands, or its status stage came
+abbrev pub WrittenOn : Write → Option (List ℕ) → State → Type 0
+WrittenOn w None v = v.stage ≡ writing w
+WrittenOn w (Some bytes) v = (bytes ≡ []) × (is_done w ≡ true)
+    × ((v.stage ≡ idle) ⊎ (v.stage ≡ writing w))
 
 reads_from : (text : List ℕ) (wanted n : ℕ) (s u v : State) (o : Option (List ℕ)) → u.spec ≡ s.spec
     → ReadOn text wanted n u o v → ReadOn text wanted n s o v
@@ -238,45 +180,81 @@ status_from : (a : Option ℕ) (s u v : State) (o : Option (List ℕ)) → u.reg
 status_from a s u v None e h = (h.0, h.1 ∙ e)
 status_from a s u v (Some bytes) e h = (h.0, given_from a s u v e h.1)
 
+-- in the data stage of a read it stays there, with its registers
+abbrev pub StaysReading : State → State → Type 0
+StaysReading s v = (text : List ℕ) (wanted k : ℕ) → s.stage ≡ reading text wanted k
+    → (v.registers ≡ s.registers) × (n : ℕ) × (v.stage ≡ reading text wanted n)
+
 module _ (t : Target) (awaited : Toggle) where
+  abbrev came : Outcome → Option (List ℕ)
+  came o = packet_heard (heard_as awaited o)
+
+  pub record InResult (s : State) (o : Outcome) (v : State) : Type 0 where
+    pub others : is_at s t ≡ false → v ≡ s
+    pub frame : OnlyControl s v
+    pub naks : v.naks ≤ s.naks
+    pub there : is_at s t ≡ true → (v.registers ≡ s.registers) ⊎ Free s.spec
+    pub reading : is_at s t ≡ true → (answer : List ℕ) (wanted n : ℕ) → awaited ≡ toggle_at n
+        → ReadingAt answer wanted n s
+        → ReadOn answer wanted n s (came o) v × (v.registers ≡ s.registers)
+    pub status : is_at s t ≡ true → awaited ≡ One → (a : Option ℕ) → s.stage ≡ ending a
+        → StatusOn a s (came o) v
+    pub written : is_at s t ≡ true → awaited ≡ One → (w : Write) → s.stage ≡ writing w
+        → WrittenOn w (came o) v × (v.registers ≡ s.registers)
+    pub stays : StaysReading s v
+    pub refuses : s.stage ≡ refused → (v.stage ≡ refused) × (v.registers ≡ s.registers)
+        × (is_at s t ≡ true → came o ≡ None)
+    pub fails : awaited ≡ One → came o ≡ None → v.registers ≡ s.registers
+    pub back : refuses_in v.stage ≡ true → refuses_in s.stage ≡ true
+
   -- it stands where it stood
-  kept : (came : Option (List ℕ)) (s : State) (k : ℕ) → k ≤ s.naks
-      → (is_at s t ≡ false → k ≡ s.naks) → (is_at s t ≡ true → came ≡ None)
-      → InReadStep t awaited came s (record s { naks = k })
-      → InReadResult t awaited came s (record s { naks = k })
-  kept came s k few same none reads = record {
+  kept : (o : Outcome) (s : State) (k : ℕ) → k ≤ s.naks → (is_at s t ≡ false → k ≡ s.naks)
+      → (is_at s t ≡ true → came o ≡ None) → InResult s o (record s { naks = k })
+  kept o s k few same none = record {
     others = λ a. ap (λ n. record s { naks = n }) (same a);
     frame = refl;
     naks = few;
     there = λ at. inl refl;
-    reading = λ at text wanted n e r. (reads at text wanted n e r, refl);
-    status = λ at e a h. status_on_none a s (record s { naks = k }) came (none at) h refl;
+    reading = λ at text wanted n e r. (
+      subst (λ c. ReadOn text wanted n s c (record s { naks = k })) (sym (none at))
+          (record { known = r.known; stage = r.stage; near = r.near }),
+      refl,
+    );
+    status = λ at e a h. subst (λ c. StatusOn a s c (record s { naks = k })) (sym (none at))
+        (h, refl);
+    written = λ at e w h. (
+      subst (λ c. WrittenOn w c (record s { naks = k })) (sym (none at)) h,
+      refl,
+    );
+    stays = λ text wanted n h. (refl, n, h);
     refuses = λ h. (h, refl, none);
     fails = λ e c. refl;
     back = λ h. h;
   }
 
-  pub unmoved : (s : State) → InReadResult t awaited None s s
-  unmoved s = kept None s s.naks (omega arith) (λ a. refl) (λ at. refl) (λ at text wanted n e r. r)
+  pub unmoved : (s : State) → InResult s Nothing s
+  unmoved s = kept Nothing s s.naks (omega arith) (λ a. refl) (λ at. refl)
 
-  abbrev came_in : Outcome → Option (List ℕ)
-  came_in o = packet_heard (heard_as awaited o)
+  abbrev Reads : State → Outcome → State → Type 0
+  Reads s o v = (answer : List ℕ) (wanted n : ℕ) → awaited ≡ toggle_at n
+      → ReadingAt answer wanted n s → ReadOn answer wanted n s (came o) v
 
   gave_step : (u : State) (o : Outcome) (v : State) → ControlGave u o v → is_at u t ≡ true
-      → u.spec.silent ≡ false → InReadStep t awaited (came_in o) u v
-      → InReadResult t awaited (came_in o) u v
-  gave_step u o v (silence k few) at loud reads = kept None u k few (mine t u at) (λ a. refl) reads
-  gave_step u o v (a_nak busy) at loud reads = kept None u (u.naks - 1) (omega arith) (mine t u at)
-      (λ a. refl) reads
-  gave_step u o v (a_stall free h) at loud reads = kept None u u.naks (omega arith) (mine t u at)
-      (λ a. refl) reads
+      → u.spec.silent ≡ false → Reads u o v → InResult u o v
+  gave_step u o v (silence k few) at loud reads = kept Nothing u k few (mine t u at) (λ a. refl)
+  gave_step u o v (a_nak busy) at loud reads =
+      kept Nak u (u.naks - 1) (omega arith) (mine t u at) (λ a. refl)
+  gave_step u o v (a_stall free h) at loud reads =
+      kept Stall u u.naks (omega arith) (mine t u at) (λ a. refl)
   gave_step u o v (a_packet free text bytes wanted k n m h) at loud reads = record {
     others = mine t u at;
     frame = refl;
     naks = omega arith;
     there = λ a. inl refl;
-    reading = λ a text wanted n e r. (reads a text wanted n e r, refl);
+    reading = λ a text wanted n e r. (reads text wanted n e r, refl);
     status = λ a e b g. cc (sym h ∙ g);
+    written = λ a e w g. cc (sym h ∙ g);
+    stays = λ answer most i g. (refl, n, cc (sym h ∙ g));
     refuses = λ g. cc (sym h ∙ g);
     fails = λ e c. refl;
     back = λ g. cc g;
@@ -290,6 +268,8 @@ module _ (t : Target) (awaited : Toggle) where
     status = λ at e b g. subst (λ z. StatusOn b u
         (packet_heard (heard_as z (Payload One (packed [])))) x) (sym e)
         (refl, subst (λ c. StatusGiven c u x) (cc (sym h ∙ g)) given);
+    written = λ a e w g. cc (sym h ∙ g);
+    stays = λ answer most i g. cc (sym h ∙ g);
     refuses = λ g. cc (sym h ∙ g);
     fails = λ e c. absurd (cc (ap (λ z. packet_heard (heard_as z (Payload One (packed [])))) (sym e)
         ∙ c));
@@ -305,6 +285,14 @@ module _ (t : Target) (awaited : Toggle) where
     there = λ a. inl refl;
     reading = λ a text wanted n e r. cc (sym h ∙ r.stage);
     status = λ at e b g. cc (sym h ∙ g);
+    written = λ a e x g. (
+      subst (λ z. WrittenOn x (packet_heard (heard_as z (Payload One (packed []))))
+          (record u { memory = m; stage = st })) (sym e)
+          (subst (λ y. WrittenOn y (Some []) (record u { memory = m; stage = st }))
+          (cc (sym h ∙ g)) (refl, done, is)),
+      refl,
+    );
+    stays = λ answer most i g. cc (sym h ∙ g);
     refuses = λ g. cc (sym h ∙ g);
     fails = λ e c. refl;
     back = λ g. elim is [
@@ -330,22 +318,20 @@ module _ (t : Target) (awaited : Toggle) where
 
   -- one attempt; what another device answered is not this one's
   pub did_step : (w : World) (j : Location) (u v : State) → DidIn (in_attempt t 0) w j u v
-      → InReadResult t awaited (came_in (outcome_in (in_attempt t 0) w)) u v
+      → InResult u (outcome_in (in_attempt t 0) w) v
   did_step w j u v (DidIn.other d e) =
-      rw e (kept (came_in (outcome_in (in_attempt t 0) w)) u u.naks (omega arith) (λ a. refl)
-      (λ at. mine t u at d) (λ at. mine t u at d))
-  did_step w j u v (DidIn.silent d q o e) =
-      rw (o, e) (kept None u u.naks (omega arith) (λ a. refl) (λ at. refl)
-      (λ at text wanted n f r. r))
+      rw e (kept (outcome_in (in_attempt t 0) w) u u.naks (omega arith) (λ a. refl)
+      (λ at. mine t u at d))
+  did_step w j u v (DidIn.silent d q o e) = rw (o, e) (unmoved u)
   did_step w j u v (DidIn.asked d q b below stood x o e) =
       let r : Reply = in_law u (row_of below) 0 t.max x.first x.second x.third in
       rw (o, e) (gave_step u (got t.max r.0) r.1 (gives_in t.max u (row_of below) x.first x.second
-      x.third) d q (λ at text wanted n f h.
+      x.third) d q (λ text wanted n f h.
       subst (λ c. ReadOn text wanted n u c r.1) (ap (λ z. taken_of z t.max r.0) (sym f)
       ∙ sym (heard_taken awaited t.max r.0))
       (control_read text wanted n u h (row_of below) t.max x.first x.second x.third)))
 
-  pub did_says : (w : World) (j : Location) (u v : State) → DidIn (in_attempt t 0) w j u v
+  did_says : (w : World) (j : Location) (u v : State) → DidIn (in_attempt t 0) w j u v
       → is_at u t ≡ true → OutcomeOfSpec u.spec (heard_as awaited (outcome_in (in_attempt t 0) w))
   did_says w j u v (DidIn.other d e) at = mine t u at d
   did_says w j u v (DidIn.silent d q o e) at = inl (ap (heard_as awaited) o)
@@ -353,9 +339,8 @@ module _ (t : Target) (awaited : Toggle) where
       rw o (gave_says u _ _ (gives_in t.max u (row_of below) x.first x.second x.third) q)
 
   -- and attempts before it that brought nothing
-  joined : (came : Option (List ℕ)) (s u v : State) → InReadResult t awaited None s u
-      → InReadResult t awaited came u v → InReadResult t awaited came s v
-  joined came s u v x y = record {
+  joined : (s u v : State) (o : Outcome) → InResult s Nothing u → InResult u o v → InResult s o v
+  joined s u v o x y = record {
     others = others_stay_then t s u v x.others y.others;
     frame = cc (x.frame, y.frame);
     naks = omega (arith, x.naks, y.naks);
@@ -370,16 +355,43 @@ module _ (t : Target) (awaited : Toggle) where
     reading = λ at text wanted n e r.
         let before = x.reading at text wanted n e r in
         let later = y.reading (at_from t s u before.1 at) text wanted n e before.0 in (
-          reads_from text wanted n s u v came (ap (λ z. z.spec) x.frame) later.0,
+          reads_from text wanted n s u v (came o) (ap (λ z. z.spec) x.frame) later.0,
           later.1 ∙ before.1,
         );
     status = λ at e a h. let before = x.status at e a h in
-        status_from a s u v came before.1 (y.status (at_from t s u before.1 at) e a before.0);
+        status_from a s u v (came o) before.1 (y.status (at_from t s u before.1 at) e a before.0);
+    written = λ at e w h.
+        let before = x.written at e w h in
+        let later = y.written (at_from t s u before.1 at) e w before.0 in
+        (later.0, later.1 ∙ before.1);
+    stays = λ text wanted k h.
+        let before = x.stays text wanted k h in
+        let later = y.stays text wanted before.1 before.2 in
+        (later.0 ∙ before.0, later.1, later.2);
     refuses = λ h. let before = x.refuses h in let later = y.refuses before.0 in
         (later.0, later.1 ∙ before.1, λ at. later.2 (at_from t s u before.1 at));
     fails = λ e c. y.fails e c ∙ x.fails e refl;
     back = λ h. x.back (y.back h);
   }
+
+  -- one that goes on brings nothing
+  quiet : (s v : State) (o : Outcome) → IsNoEnd (heard_as awaited o) → InResult s o v
+      → InResult s Nothing v
+  quiet s v o n x =
+      let none : came o ≡ None = no_packet (heard_as awaited o) n in
+      record {
+        others = x.others;
+        frame = x.frame;
+        naks = x.naks;
+        there = x.there;
+        reading = λ at text wanted n e r. rw none at (x.reading at text wanted n e r);
+        status = λ at e a h. rw none at (x.status at e a h);
+        written = λ at e w h. rw none at (x.written at e w h);
+        stays = x.stays;
+        refuses = λ h. ((x.refuses h).0, (x.refuses h).1, λ at. refl);
+        fails = λ e c. x.fails e none;
+        back = x.back;
+      }
 
 -- A STALL is of the one device that had the target's address from the first attempt on
 
@@ -449,24 +461,6 @@ stalled_refused t {old} settled (next {outcomes} w r made) stall single j s on t
 
 -- A transaction
 
--- what came with an answer
-result_of_came : (awaited : Toggle) (P : Option (List ℕ) → Type 0) (F : Result (List ℕ) TransFault
-    → Type 0) → ((bytes : List ℕ) → P (Some bytes) → F (Ok bytes))
-    → (P None → F (Err Stalled) × F (Err Busy) × F (Err NoAnswer))
-    → ((fault : BusFault) (c : Option (List ℕ)) → P c → F (Err (Bus fault)))
-    → (result : Result (List ℕ) TransFault) (o : Outcome) (outcomes : List Outcome)
-    → IsEnd (heard_as awaited) result o outcomes → P (packet_heard (heard_as awaited o)) → F result
-result_of_came awaited P F some nil cut (Ok bytes) o outcomes e x =
-    some bytes (subst (λ h. P (packet_heard h)) e x)
-result_of_came awaited P F some nil cut (Err Stalled) o outcomes e x =
-    (nil (subst (λ y. P (packet_heard (heard_as awaited y))) e x)).0
-result_of_came awaited P F some nil cut (Err Busy) o outcomes e x =
-    (nil (subst P (no_packet (heard_as awaited o) e.0) x)).1
-result_of_came awaited P F some nil cut (Err NoAnswer) o outcomes e x =
-    (nil (subst P (no_packet (heard_as awaited o) e.0) x)).2
-result_of_came awaited P F some nil cut (Err (Bus fault)) o outcomes e x =
-    cut fault (packet_heard (heard_as awaited o)) x
-
 cut_read : (text : List ℕ) (wanted n : ℕ) (s v : State) (o : Option (List ℕ))
     → ReadOn text wanted n s o v → ReadCut text wanted n v
 cut_read text wanted n s v None x = none_came x
@@ -477,78 +471,80 @@ cut_status : (a : Option ℕ) (s v : State) (o : Option (List ℕ)) → StatusOn
 cut_status a s v None x = unseen x.0 x.1
 cut_status a s v (Some bytes) x = x.1
 
-module _ (t : Target) (awaited : Toggle) (result : Result (List ℕ) TransFault) (j : Location)
-    (s v : State) (stalled : is_at s t ≡ true → result ≡ Err Stalled
-    → refuses_in s.stage ≡ true) where
-  leaves : (o : Outcome) (outcomes : List Outcome) → IsEnd (heard_as awaited) result o outcomes
-      → InReadResult t awaited (came_in t awaited o) s v
-      → (is_at s t ≡ true → CanAnswer s.spec result) → ControlIn t awaited result j s v
-  leaves o outcomes e x could =
-      let same : IsNotOfBus result → came_in t awaited o ≡ packet_in result =
-      result_of_came awaited (λ c. came_in t awaited o ≡ c) (λ y. IsNotOfBus y
-      → came_in t awaited o ≡ packet_in y) (λ b z n. z) (λ z. (λ n. z, λ n. z, λ n. z))
-      (λ f c z n. absurd n)
-      result o outcomes e refl in
-      record {
-        others = x.others;
-        frame = x.frame;
-        reading = λ at text wanted n f r.
-            result_of_came awaited (λ c. ReadOn text wanted n s c v)
-            (λ y. ReadEnds text wanted n s y v) (λ b z. z) (λ z. (z, z, z))
-            (λ fault c z. cut_read text wanted n s v c z) result o outcomes e
-            (x.reading at text wanted n f r).0;
-        status = λ at f a h. result_of_came awaited (λ c. StatusOn a s c v)
-            (λ y. StatusEnds a s y v) (λ b z. z) (λ z. (z, z, z))
-            (λ fault c z. cut_status a s v c z) result o outcomes e (x.status at f a h);
-        refused = λ h. (
-          (x.refuses h).0,
-          λ at bytes g. cc (sym ((x.refuses h).2 at)
-              ∙ same (subst IsNotOfBus (sym g) tt) ∙ ap packet_in g),
-        );
-        rests = λ h. (x.refuses h).1;
-        failed = λ f fault g n. x.fails f (same n ∙ ap packet_in g);
-        stalled = stalled;
-        could = could;
-        naks = x.naks;
-      }
+-- a device over it
+module _ (t : Target) (awaited : Toggle) (result : Result (List ℕ) TransFault) (old new : World)
+    (j : Location) (s v : State) (run : Through (DidIn (in_attempt t 0)) (in_attempt t 0)
+    (heard_as awaited) result old new j s v) where
+  abbrev hears : Outcome → HeardOutcome
+  hears = heard_as awaited
 
-  control_in : (old new : World)
-      → Through (DidIn (in_attempt t 0)) (in_attempt t 0) (heard_as awaited) result old new j s v
-      → ControlIn t awaited result j s v
-  unfolding waits_in
-  control_in old new run =
-      at_end (heard_as awaited) (λ outcomes w u. InReadResult t awaited None s u
-      × (is_at s t ≡ true → (waits_in (heard_as awaited) outcomes ≡ 0)
-      ⊎ (s.spec.silent ≡ false))) (unmoved t awaited s, λ at. inl none_waited)
-      (λ outcomes w u y trail made i d n. (
-        joined t awaited None s u y i.0 (subst (λ c. InReadResult t awaited c u y)
-            (no_packet (heard_as awaited (outcome_in (in_attempt t 0) w)) n)
-            (did_step t awaited w j u y d)),
-        λ at. waits_more s.spec (heard_as awaited) (outcome_in (in_attempt t 0) w) outcomes
-            (said w u y i.0 d at) (i.1 at),
-      ))
-      (ControlIn t awaited result j s) v
-      (λ outcomes w u trail i d is told. leaves (outcome_in (in_attempt t 0) w) outcomes is
-      (joined t awaited (came_in t awaited (outcome_in (in_attempt t 0) w)) s u v i.0
-      (did_step t awaited w j u v d))
-      (λ at. can_answer s.spec (heard_as awaited) refl result (outcome_in (in_attempt t 0) w)
-      outcomes is (said w u v i.0 d at) (waits_more s.spec (heard_as awaited)
-      (outcome_in (in_attempt t 0) w) outcomes (said w u v i.0 d at) (i.1 at))))
-      (λ gave outcomes w i. leaves Nothing outcomes
-      (of_bus (λ r. IsEnd (heard_as awaited) r Nothing outcomes) (λ f. tt) result gave) i.0
-      (λ at. of_bus (λ r. CanAnswer s.spec r) (λ f. tt) result gave)) run
-    where
-      none_waited : waits_in (heard_as awaited) [] ≡ 0
-      none_waited = refl
+  whole_in : (o : Outcome) × (outcomes : List Outcome) × IsEnd hears result o outcomes
+      × InResult t awaited s o v
+  whole_in = summed run (λ gave outcomes.
+      of_bus (λ r. IsEnd hears r Nothing outcomes) (λ f. tt) result gave) (λ u. Unit {0}) (InResult t awaited) (λ w u y d i. (did_step t awaited w j u y d, tt))
+      (joined t awaited) (quiet t awaited) tt (unmoved t awaited s)
 
-      said : (w : World) (u y : State) → InReadResult t awaited None s u
-          → DidIn (in_attempt t 0) w j u y → is_at s t ≡ true
-          → OutcomeOfSpec s.spec (heard_as awaited (outcome_in (in_attempt t 0) w))
-      said w u y x d at = elim (x.there at) [
-        | inl e ↦ subst (λ z. OutcomeOfSpec z (heard_as awaited (outcome_in (in_attempt t 0) w)))
-            (ap (λ z. z.spec) x.frame) (did_says t awaited w j u y d (at_from t s u e at))
+  same : IsNotOfBus result → came t awaited whole_in.0 ≡ packet_in result
+  same = brought awaited result whole_in.0 whole_in.1 whole_in.2
+
+  so_could : is_at s t ≡ true → CanAnswer s.spec result
+  so_could at =
+      could (Moves hears) result run (λ u. InResult t awaited s Nothing u) (λ w u y d n i.
+      quiet t awaited s y (outcome_in (in_attempt t 0) w) n
+      (joined t awaited s u y _ i (did_step t awaited w j u y d))) (unmoved t awaited s) s.spec refl
+      (λ bytes o e. (λ f. cc (sym e ∙ f), λ f. cc (sym e ∙ f)))
+      (λ w u y d i. elim (i.there at) [
+        | inl e ↦ subst (λ z. OutcomeOfSpec z (hears (outcome_in (in_attempt t 0) w)))
+            (ap (λ z. z.spec) i.frame) (did_says t awaited w j u y d (at_from t s u e at))
         | inr free ↦ inr (free.0, inr free.1)
-      ]
+      ])
+
+  control_in : (is_at s t ≡ true → result ≡ Err Stalled → refuses_in s.stage ≡ true)
+      → ControlIn t awaited result j s v
+  control_in stalled = let x = whole_in.3 in record {
+    others = x.others;
+    frame = x.frame;
+    reading = λ at text wanted n f r.
+        result_of (λ b. Some b) (λ c. ReadOn text wanted n s c v)
+        (λ y. ReadEnds text wanted n s y v) (λ b z. z) (λ z. (z, z, z)) (λ fault c z. cut_read text wanted n s v c z) result
+        (came t awaited whole_in.0) same (x.reading at text wanted n f r).0;
+    status = λ at f a h.
+        result_of (λ b. Some b) (λ c. StatusOn a s c v) (λ y. StatusEnds a s y v) (λ b z. z)
+        (λ z. (z, z, z)) (λ fault c z. cut_status a s v c z) result (came t awaited whole_in.0) same
+        (x.status at f a h);
+    refused = λ h. (
+      (x.refuses h).0,
+      λ at bytes g. cc (sym ((x.refuses h).2 at)
+          ∙ same (subst IsNotOfBus (sym g) tt) ∙ ap packet_in g),
+    );
+    rests = λ h. (x.refuses h).1;
+    failed = λ f fault g n. x.fails f (same n ∙ ap packet_in g);
+    stalled = stalled;
+    could = so_could;
+    naks = x.naks;
+  }
+
+  -- the status stage of a control write
+  module _ (at : is_at s t ≡ true) (one : awaited ≡ One) (before : List ℕ) (w : Write)
+      (so : WritingAt before w s) where
+    kept_bytes : v.taken ≡ taken_with before w
+    kept_bytes = ap (λ z. z.taken) whole_in.3.frame ∙ so.taken
+
+    still_writing : v.stage ≡ writing w → WritingAt before w v
+    still_writing stage = record { stage = stage; taken = kept_bytes }
+
+    ended_write : (c : Option (List ℕ)) → WrittenOn w c v → WriteEnded before w v
+    ended_write None x = unseen (still_writing x)
+    ended_write (Some bytes) x =
+        elim x.2 [ inl e ↦ seen e kept_bytes | inr e ↦ unseen (still_writing e) ]
+
+    status_in : WriteStatusEnds before w result v
+    status_in =
+        result_of (λ b. Some b) (λ c. WrittenOn w c v) (λ y. WriteStatusEnds before w y v)
+        (λ b z. (z.0, z.1, ended_write (Some b) z))
+        (λ z. let y = still_writing z in (y, y, y))
+        (λ fault c z. ended_write c z) result (came t awaited whole_in.0) same
+        (whole_in.3.written at one w so.stage).0
 
 -- Why it fails: packets that come whole
 
@@ -592,26 +588,43 @@ heeds_read t awaited u text wanted k short near (Some bytes) packet some =
       ],
     )
 
-heeds_stage : (t : Target) (awaited : Toggle) (u : State) → HasNext t awaited u
+-- what is next, also of a control write
+data Ready (t : Target) (awaited : Toggle) (s : State) : Type 0 where
+  reads_on : HasNext t awaited s → Ready t awaited s
+  writes_on : (w : Write) → awaited ≡ One → s.stage ≡ writing w → Ready t awaited s
+
+heeds_write : (t : Target) (u : State) (w : Write) (done : Bool)
+    → Heeds t One (record_stage u (writing w))
+    (if done then gave (record_stage u (writing w)) by.Control t.max One [] whole whole
+    else (heard whole (Some answer.Stall), record_stage u (writing w)))
+heeds_write t u w true =
+    rw (nat_le-true 0 t.max (omega arith)) (λ f. cc f, λ free miss. false_true (sym miss))
+heeds_write t u w false = (λ f. cc f, λ free miss. false_true (sym miss))
+
+heeds_stage : (t : Target) (awaited : Toggle) (u : State) → Ready t awaited u
     → Heeds t awaited u (in_stage_law u u.stage t.max whole whole)
-heeds_stage t awaited u (data_stage text wanted n e r some short) =
+heeds_stage t awaited u (writes_on w e h) =
+    subst (λ st. Heeds t awaited (record_stage u st)
+    (in_stage_law (record_stage u st) st t.max whole whole)) (sym h)
+    (rw e (heeds_write t u w (is_done w)))
+heeds_stage t awaited u (reads_on (data_stage text wanted n e r some short)) =
     subst (λ st. Heeds t awaited (record_stage u st)
     (in_stage_law (record_stage u st) st t.max whole whole)) (sym r.stage)
     (heeds_read t awaited u text wanted r.known short
     (elim r.near [ inl f ↦ inl (e ∙ ap toggle_at f) | inr f ↦ inr (e ∙ ap toggle_at f.0) ])
     (packet_at (max_packet u.spec) wanted text r.known) refl
     (elim r.near [ inl f ↦ rw (← f) some | inr f ↦ f.1 ]))
-heeds_stage t awaited u (status a h e) =
+heeds_stage t awaited u (reads_on (status a h e)) =
     subst (λ st. Heeds t awaited (record_stage u st)
     (in_stage_law (record_stage u st) st t.max whole whole)) (sym h)
     (rw (e, nat_le-true 0 t.max (omega arith)) (λ f. cc f, λ free miss. false_true (sym miss)))
-heeds_stage t awaited u (refusal h) =
+heeds_stage t awaited u (reads_on (refusal h)) =
     subst (λ st. Heeds t awaited (record_stage u st)
     (in_stage_law (record_stage u st) st t.max whole whole)) (sym h)
     (λ f. cc f, λ free miss. false_true (sym miss))
 
 heeds_whole : (t : Target) (awaited : Toggle) (u : State) (row : List PortState)
-    → HasNext t awaited u → Heeds t awaited u (in_law u row 0 t.max whole whole whole)
+    → Ready t awaited u → Heeds t awaited u (in_law u row 0 t.max whole whole whole)
 heeds_whole t awaited u row h = pick (is_busy u) refl
   where
     pick : (b : Bool) → is_busy u ≡ b
@@ -650,23 +663,25 @@ naks_none_left u free = grind (arith, nat_tests)
 
 -- what is next is so until it comes
 next_kept : (t : Target) (awaited : Toggle) (place : Location) (u v : State)
-    → InReadResult t awaited None u v → Listens t place u → HasNext t awaited u → Listens t place v
-    × HasNext t awaited v
-next_kept t awaited place u v x l (data_stage text wanted n e r some short) =
+    → InResult t awaited u Nothing v → Listens t place u → Ready t awaited u
+    → Listens t place v × Ready t awaited v
+next_kept t awaited place u v x l (reads_on (data_stage text wanted n e r some short)) =
     let q = x.reading l.at text wanted n e r in
     let spec : v.spec ≡ u.spec = ap (λ z. z.spec) x.frame in (
       listens_on t place u v spec q.1 l,
-      data_stage text wanted n e q.0 (rw spec some) (rw spec short),
+      reads_on (data_stage text wanted n e q.0 (rw spec some) (rw spec short)),
     )
-next_kept t awaited place u v x l (status a h e) = let q = x.status l.at e a h in
-    (listens_on t place u v (ap (λ z. z.spec) x.frame) q.1 l, status a q.0 e)
-next_kept t awaited place u v x l (refusal h) = let q = x.refuses h in
-    (listens_on t place u v (ap (λ z. z.spec) x.frame) q.1 l, refusal q.0)
+next_kept t awaited place u v x l (reads_on (status a h e)) = let q = x.status l.at e a h in
+    (listens_on t place u v (ap (λ z. z.spec) x.frame) q.1 l, reads_on (status a q.0 e))
+next_kept t awaited place u v x l (reads_on (refusal h)) = let q = x.refuses h in
+    (listens_on t place u v (ap (λ z. z.spec) x.frame) q.1 l, reads_on (refusal q.0))
+next_kept t awaited place u v x l (writes_on w e h) = let q = x.written l.at e w h in
+    (listens_on t place u v (ap (λ z. z.spec) x.frame) q.1 l, writes_on w e q.0)
 
 -- A device that has what is next, over attempts that go on: it waits no longer than it has NAKs,
 -- but for repeats, which come no more after an attempt that is not damaged
 
-module _ (t : Target) (awaited : Toggle) (old : World) (never : NoThreeDamaged old) (j : Location)
+module _ (t : Target) (awaited : Toggle) (old : World) (three : NoThreeDamaged old) (j : Location)
     (s : State) where
   abbrev a : Attempt
   a = in_attempt t 0
@@ -674,7 +689,7 @@ module _ (t : Target) (awaited : Toggle) (old : World) (never : NoThreeDamaged o
   abbrev hear : Outcome → HeardOutcome
   hear = heard_as awaited
 
-  heeds_in : (w : World) (u v : State) → DidIn a w j u v → Listens t j u × HasNext t awaited u
+  heeds_in : (w : World) (u v : State) → DidIn a w j u v → Listens t j u × Ready t awaited u
       → damage_in w ≡ None → (hear (outcome_in a w) ≢ Lost)
       × (is_busy u ≡ false → fits awaited u.stage ≡ false → fits awaited v.stage ≡ true)
   heeds_in w u v d i sound =
@@ -683,10 +698,9 @@ module _ (t : Target) (awaited : Toggle) (old : World) (never : NoThreeDamaged o
       (sym (as_whole x.1 sound i.0 (in_law u x.0 0 t.max))) (heeds_whole t awaited u x.0 i.1))
 
   stays : (w : World) (u v : State) → DidIn a w j u v → IsNoEnd (hear (outcome_in a w))
-      → Listens t j u × HasNext t awaited u → Listens t j v × HasNext t awaited v
+      → Listens t j u × Ready t awaited u → Listens t j v × Ready t awaited v
   stays w u v d n i = next_kept t awaited j u v
-      (subst (λ c. InReadResult t awaited c u v) (no_packet (hear (outcome_in a w)) n)
-      (did_step t awaited w j u v d)) i.0 i.1
+      (quiet t awaited u v (outcome_in a w) n (did_step t awaited w j u v d)) i.0 i.1
 
   record Waits (outcomes : List Outcome) (w : World) (u : State) : Type 0 where
     few : waits_in hear outcomes + u.naks ≤ s.naks + 3
@@ -702,7 +716,7 @@ module _ (t : Target) (awaited : Toggle) (old : World) (never : NoThreeDamaged o
   }
 
   one_more : (outcomes : List Outcome) (w : World) (u v : State) → AttemptLog a old outcomes w
-      → Made w (after (attempt a) w) → Listens t j u × HasNext t awaited u → u.spec.busy ≡ false
+      → Made w (after (attempt a) w) → Listens t j u × Ready t awaited u → u.spec.busy ≡ false
       → Waits outcomes w u → DidIn a w j u v
       → IsNoEnd (hear (outcome_in a w)) → Waits (outcome_in a w ∷ outcomes) (after (attempt a) w) v
   unfolding waits_in
@@ -737,7 +751,7 @@ module _ (t : Target) (awaited : Toggle) (old : World) (never : NoThreeDamaged o
           let more : _ = one_wait (hear (outcome_in a w)) (waits_in hear outcomes) in
           let left : v.naks ≤ u.naks = (did_step t awaited w j u v d).naks in
           record {
-            few = omega (arith, more, left, q.2, run_short old q.0 w.attempts never q.1);
+            few = omega (arith, more, left, q.2, run_short old q.0 w.attempts three q.1);
             behind = λ still. (
               q.0 + 1,
               damaged_more trail made q.0 (λ sound. false_true (sym still
@@ -747,33 +761,25 @@ module _ (t : Target) (awaited : Toggle) (old : World) (never : NoThreeDamaged o
             );
           }
 
-  too_many : (outcomes : List Outcome) (w : World) (u v : State)
-      → Waits (outcome_in a w ∷ outcomes) (after (attempt a) w) v
-      → waits_in hear (outcome_in a w ∷ outcomes) ≡ 256 → s.naks ≤ 200 → ⊥
-  too_many outcomes w u v x full few = omega (arith, x.few, full, few)
+  -- it answers, and waits no longer
+  module _ (result : Result (List ℕ) TransFault) (new : World) (v : State)
+      (run : Through (DidIn a) a hear result old new j s v) (l : Listens t j s)
+      (h : Ready t awaited s) where
+    answered : result ≢ Err NoAnswer
+    answered = heeded (Moves hear) result run (λ u. Listens t j u × Ready t awaited u) stays (l, h)
+        three
+        (λ w u y d i sound. (heeds_in w u y d i sound).0)
 
-  -- where it does not answer, or waits too long
-  why : (result : Result (List ℕ) TransFault) (new : World) (v : State)
-      → Through (DidIn a) a hear result old new j s v → ControlInFailure t awaited result j s v
-  why result new v run = record {
-    answered = λ l h silent. heeded (λ u. Listens t j u × HasNext t awaited u) stays (l, h) never
-        (λ w u y d i sound. (heeds_in w u y d i sound).0) (ending (Err NoAnswer) silent);
-    waited = λ l h calm few busy.
-        at_end hear (λ outcomes w u. (Listens t j u × HasNext t awaited u) × (u.spec.busy ≡ false)
-        × Waits outcomes w u) ((l, h), calm, waits_none)
-        (λ outcomes w u y trail made i d n. (
+    waited : s.spec.busy ≡ false → s.naks ≤ 200 → result ≢ Err Busy
+    waited calm few =
+        never (Moves hear) result run (λ u. (Listens t j u × Ready t awaited u)
+        × (u.spec.busy ≡ false)) (λ w u y d n i. (
           stays w u y d n i.0,
           ap (λ z. z.spec.busy) (did_step t awaited w j u y d).frame ∙ i.1,
-          one_more outcomes w u y trail made i.0 i.1 i.2 d n,
-        )) (λ y. ⊥) v
-        (λ outcomes w u trail i d end told. too_many outcomes w u v
-        (one_more outcomes w u v trail (told (λ g. g tt)).0 i.0 i.1 i.2 d end.0) end.1 few)
-        (λ gave outcomes w i. gave tt) (ending (Err Busy) busy);
-  }
-    where
-      ending : (r : Result (List ℕ) TransFault) → result ≡ r → Through (DidIn a) a hear r old new j
-          s v
-      ending r e = subst (λ y. Through (DidIn a) a hear y old new j s v) e run
+        )) ((l, h), calm) Waits waits_none
+        (λ outcomes w u y trail made i so d n. one_more outcomes w u y trail made i.0 i.1 so d n)
+        (Err Busy) tt (λ outcomes. waits_in hear outcomes ≡ 256) (λ o outcomes end. end)
+        (λ outcomes w so full. omega (arith, so.few, full, few))
 
 -- Each device
 
@@ -783,9 +789,9 @@ pub control_leaves : (t : Target) (awaited : Toggle) (result : Result (List ℕ)
     → EachWas (ControlIn t awaited result) old new
 control_leaves t awaited result old new settled x single j v on there =
     let was = over_in t 0 old new settled single (heard_as awaited) result x j v on there tt in
-    was_then was (control_in t awaited result j was.before v
+    was_then was (control_in t awaited result old new j was.before v was.so
     (λ at e. stalled (subst (λ r. Transacted (heard_as awaited) (in_attempt t 0) old r new) e x)
-    was.before was.stands at) old new was.so)
+    was.before was.stands at))
   where
     stalled : TransactionDone (heard_as awaited) (in_attempt t 0) old (Err Stalled) new
         → (s : State) → state_on old.roots j ≡ Some s → is_at s t ≡ true
@@ -799,283 +805,47 @@ pub control_in_leaves : (t : Target) (awaited : Toggle) (result : Result (List �
 control_in_leaves t awaited result old new settled e =
     control_leaves t awaited result old new settled (as_transacted result e)
 
+pub reading_leaves : (t : Target) (awaited : Toggle) (result : Result (List ℕ) TransFault)
+    (old new : World) → IsSettled old.roots
+    → Transacted (heard_as awaited) (in_attempt t 0) old result new → new.shared ≡ false
+    → EachWas (λ j s v. StaysReading s v) old new
+reading_leaves t awaited result old new settled x single =
+    each_device _ (λ j s v. StaysReading s v) old new
+    (λ j s v run. (whole_in t awaited result old new j s v run).3.stays)
+    (over_in t 0 old new settled single (heard_as awaited) result x)
+
 pub control_in_why : (t : Target) (awaited : Toggle) (result : Result (List ℕ) TransFault)
     (old new : World) → IsSettled old.roots → NoThreeDamaged old
     → TransactionDone (heard_as awaited) (in_attempt t 0) old result new → new.shared ≡ false
     → EachWas (ControlInFailure t awaited result) old new
-control_in_why t awaited result old new settled never e single =
+control_in_why t awaited result old new settled three e single =
     each_device _ (ControlInFailure t awaited result) old new
-    (λ j s v run. why t awaited old never j s result new v run)
+    (λ j s v run. record {
+      answered = λ l h. answered t awaited old three j s result new v run l (reads_on h);
+      waited = λ l h. waited t awaited old three j s result new v run l (reads_on h);
+    })
     (over_in t 0 old new settled single (heard_as awaited) result (as_transacted result e))
 
--- OUT that ends a control read: one attempt with one device
+pub write_status_leaves : (t : Target) (result : Result (List ℕ) TransFault) (old new : World)
+    → IsSettled old.roots → Transacted (heard_as One) (in_attempt t 0) old result new
+    → new.shared ≡ false → EachWas (WriteStatusIn t result) old new
+write_status_leaves t result old new settled x single =
+    each_device _ (WriteStatusIn t result) old new
+    (λ j s v run. record {
+      status = λ at. status_in t One result old new j s v run at refl;
+      rests = λ at before w so.
+          ((whole_in t One result old new j s v run).3.written at refl w so.stage).1;
+    })
+    (over_in t 0 old new settled single (heard_as One) result x)
 
--- the stage stays, or a control read is over with it
-abbrev StageMoves : State → State → Type 0
-StageMoves s v = (v.stage ≡ s.stage) ⊎ (IsRead v × IsInRead s)
-
-record ControlKept (s v : State) : Type 0 where
-  frame : OnlyStage s v
-  moves : StageMoves s v
-  naks : v.naks ≤ s.naks
-
--- what an outcome says of the device that was so before the attempt and is so after it
-abbrev SaysOut : Spec → State → State → Outcome → Type 0
-SaysOut spec s v (Payload given bytes) = ⊥
-SaysOut spec s v Ack = (spec.silent ≡ false) × (spec.busy ≡ false) × IsRead v × IsInRead s
-SaysOut spec s v Nak = (spec.silent ≡ false) × (spec.busy ≡ false → v.naks + 1 ≤ s.naks)
-SaysOut spec s v Stall = (spec.silent ≡ false) × (spec.busy ≡ false) × (IsInRead s → ⊥)
-SaysOut spec s v Nothing = Unit {0}
-
-abbrev Does : State → Outcome → State → Type 0
-Does s o v = ControlKept s v × SaysOut s.spec s v o
-
-unmoved_out : (s : State) (m : RememberedPacket) (o : Outcome)
-    → SaysOut s.spec s (record s { memory = m }) o → Does s o (record s { memory = m })
-unmoved_out s m o x = (record { frame = refl; moves = inl refl; naks = omega arith }, x)
-
-abbrev is_of_read : Stage → Bool
-is_of_read (reading answer wanted known) = true
-is_of_read read = true
-is_of_read g = false
-
-in_no_read : (g : Stage) (s : State) → s.stage ≡ g → is_of_read g ≡ false → IsInRead s → ⊥
-in_no_read g s e f (in_stage answer wanted known r) = cc (sym f ∙ ap is_of_read (sym e ∙ r))
-in_no_read g s e f (over r) = cc (sym f ∙ ap is_of_read (sym e ∙ r))
-
-module _ (max : ℕ) (s : State) (loud : s.spec.silent ≡ false) where
-  done : s.spec.busy ≡ false → IsInRead s → Does s Ack (forgotten (record s { stage = read }))
-  done calm h = (
-    record { frame = refl; moves = inr (refl, h); naks = omega arith },
-    (loud, calm, refl, h),
-  )
-
-  row_does : (g : Stage) → s.stage ≡ g → s.spec.busy ≡ false
-      → Does s (got max (out_row s g One []).0) (forgotten (out_row s g One []).1)
-  row_does refused e calm = unmoved_out s _ Stall (loud, calm, in_no_read refused s e refl)
-  row_does (reading answer wanted k) e calm = done calm (in_stage answer wanted k e)
-  row_does read e calm = done calm (over e)
-  row_does (writing w) e calm = unmoved_out s _ Stall (loud, calm, in_no_read (writing w) s e refl)
-  row_does _ e calm = unmoved_out s _ Nothing tt
-
-  abbrev row_if : Bool → Reply
-  row_if b = if b then nak_row s else out_row s s.stage One []
-
-  busy_does : (b : Bool) → is_busy s ≡ b → Does s (got max (row_if b).0) (forgotten (row_if b).1)
-  busy_does true e = (
-    record { frame = refl; moves = inl refl; naks = omega arith },
-    (loud, λ calm. omega (arith, positive s e calm)),
-  )
-  busy_does false e = row_does s.stage refl (not_busy s e)
-
-  abbrev GivesOut : Reply → Type 0
-  GivesOut r = Does s (got max r.0) r.1
-
-  law_does : (x y z : Way) → GivesOut (out_law s 0 One [] x y z)
-  law_does x y z =
-      let r : Reply = row_if (is_busy s) in
-      elim (is_whole x && is_whole y)
-      as (λ b. GivesOut (if b then (heard z r.0, forgotten r.1) else (None, s))) [
-        | true ↦ elim (is_whole z) as (λ b. GivesOut (if b then r.0 else None, forgotten r.1))
-            [ true ↦ busy_does (is_busy s) refl | false ↦ ((busy_does (is_busy s) refl).0, tt) ]
-        | false ↦ unmoved_out s s.memory Nothing tt
-      ]
-
-did : (t : Target) (w : World) (j : Location) (s v : State)
-    → DidOut (out_attempt t 0 One []) One [] w j s v → is_at s t ≡ true
-    → Does s (outcome_in (out_attempt t 0 One []) w) v
-did t w j s v (DidOut.other d e) at = false_true (sym d ∙ at)
-did t w j s v (DidOut.silent d q o e) at = rw (o, e) (unmoved_out s s.memory Nothing tt)
-did t w j s v (DidOut.asked d q x o e) at = rw (o, e) (law_does t.max s q x.first x.second x.third)
-
--- one that comes whole is answered
-answers : (max : ℕ) (s : State) (b : Bool) → IsInRead s
-    → heard_when_sent (got max (if b then nak_row s else out_row s s.stage One []).0) ≢ Lost
-answers max s true h e = cc e
-answers max s false (in_stage answer wanted known h) e =
-    cc (sym (ap (λ g. heard_when_sent (got max (out_row s g One []).0)) h) ∙ e)
-answers max s false (over h) e =
-    cc (sym (ap (λ g. heard_when_sent (got max (out_row s g One []).0)) h) ∙ e)
-
-heeds : (t : Target) (w : World) (j : Location) (s v : State)
-    → DidOut (out_attempt t 0 One []) One [] w j s v → Listens t j s → IsInRead s
-    → damage_in w ≡ None → heard_when_sent (outcome_in (out_attempt t 0 One []) w) ≢ Lost
-heeds t w j s v d l h quiet e =
-    let q : _ = delivered_out t 0 One [] w j s v d l.at in
-    answers t.max s (is_busy s) h (sym (ap (λ r. heard_when_sent (got t.max r.0))
-    (as_whole q quiet l (out_law s 0 One []))) ∙ sym (ap heard_when_sent q.gave) ∙ e)
-
--- A device over the attempts
-
--- one that stands where another stands is in a control read if the other is
-as_other : (s u : State) → u.stage ≡ s.stage → IsInRead u → IsInRead s
-as_other s u e (in_stage answer wanted known h) = in_stage answer wanted known (sym e ∙ h)
-as_other s u e (over h) = over (sym e ∙ h)
-
-was_in : (s u : State) → StageMoves s u → IsInRead u → IsInRead s
-was_in s u (inl e) h = as_other s u e h
-was_in s u (inr x) h = x.1
-
-is_in_read-moves : (s u : State) → StageMoves s u → IsInRead s → IsInRead u
-is_in_read-moves s u (inl e) h = as_other u s (sym e) h
-is_in_read-moves s u (inr x) h = over x.0
-
-moves_twice : (s u v : State) → StageMoves s u → StageMoves u v → StageMoves s v
-moves_twice s u v m (inl e) = subst (λ g. (g ≡ s.stage) ⊎ ((g ≡ read) × IsInRead s)) (sym e) m
-moves_twice s u v m (inr x) = inr (x.0, was_in s u m x.1)
-
-only_moved : (s v : State) → StageMoves s v → (v.stage ≡ s.stage) ⊎ IsRead v
-only_moved s v (inl e) = inl e
-only_moved s v (inr x) = inr x.0
-
-kept_twice : (s u v : State) → ControlKept s u → ControlKept u v → ControlKept s v
-kept_twice s u v x y = record {
-  frame = y.frame ∙ ap {A = State} (λ z. record z {
-    memory = v.memory;
-    naks = v.naks;
-    stage = v.stage;
-  }) x.frame;
-  moves = moves_twice s u v x.moves y.moves;
-  naks = omega (arith, x.naks, y.naks);
-}
-
-control_kept_none : (s : State) → ControlKept s s
-control_kept_none s = (unmoved_out s s.memory Nothing tt).0
-
-onward : (t : Target) (s : State) → is_at s t ≡ true → (w : World) (j : Location) (u v : State)
-    → DidOut (out_attempt t 0 One []) One [] w j u v → ControlKept s u
-    → ControlKept s v × SaysOut s.spec u v (outcome_in (out_attempt t 0 One []) w)
-onward t s at w j u v d k =
-    let x : Does u (outcome_in (out_attempt t 0 One []) w) v =
-    did t w j u v d (ap (λ z. is_at z t) k.frame ∙ at) in (
-      kept_twice s u v k x.0,
-      subst (λ d. SaysOut d u v (outcome_in (out_attempt t 0 One []) w))
-          (ap (λ z. z.spec) k.frame) x.1,
-    )
-
--- only one that is not silent makes the host wait
-loud_more : (spec : Spec) (s v : State) (o : Outcome) (outcomes : List Outcome) → SaysOut spec s v o
-    → (0 < waits_in heard_when_sent outcomes → spec.silent ≡ false)
-    → 0 < waits_in heard_when_sent (o ∷ outcomes) → spec.silent ≡ false
-unfolding waits_in
-loud_more spec s v (Payload given bytes) outcomes x l lt = l lt
-loud_more spec s v Nothing outcomes x l lt = l lt
-loud_more spec s v _ outcomes x l lt = x.0
-
--- each wait is one NAK fewer of one that is not always busy
-waits_fewer : (spec : Spec) (s v : State) (o : Outcome) (n : ℕ) → SaysOut spec s v o
-    → spec.busy ≡ false → v.naks ≤ s.naks → waits_with (heard_when_sent o) n + v.naks ≤ n + s.naks
-waits_fewer spec s v Nak n x calm less = omega (arith, x.1 calm)
-waits_fewer spec s v _ n x calm less = omega arith
-
--- What a transaction leaves
-
--- what an answer says of it
-abbrev OutTold : State → Result (List ℕ) TransFault → State → Type 0
-OutTold s result v = ((bytes : List ℕ) → result ≡ Ok bytes → IsRead v × IsInRead s)
-    × (IsInRead s → result ≢ Err Stalled) × CanAnswer s.spec result
-
-out_told : (s u v : State) (o : Outcome) (outcomes : List Outcome) → StageMoves s u
-    → SaysOut s.spec u v o → (0 < waits_in heard_when_sent (o ∷ outcomes) → s.spec.silent ≡ false)
-    → (result : Result (List ℕ) TransFault)
-    → IsEnd heard_when_sent result o outcomes → OutTold s result v
-out_told s u v o outcomes m x loud (Ok bytes) e =
-    let y : SaysOut s.spec u v Ack = subst (SaysOut s.spec u v) (sent_last o (packed bytes) e) x in
-    (λ b h. (y.2, was_in s u m y.3), λ h r. cc r, (y.0, y.1))
-out_told s u v o outcomes m x loud (Err Stalled) e =
-    let y : SaysOut s.spec u v Stall = subst (SaysOut s.spec u v) e x in
-    (λ b h. cc h, λ h r. y.2 (is_in_read-moves s u m h), (y.0, y.1))
-out_told s u v o outcomes m x loud (Err Busy) e =
-    (λ b h. cc h, λ h r. cc r, loud (omega (arith, e.1)))
-out_told s u v o outcomes m x loud _ e = (λ b h. cc h, λ h r. cc r, tt)
-
-module _ (t : Target) (result : Result (List ℕ) TransFault) (old new : World) where
-  abbrev Over : Location → State → State → Type 0
-  Over = Through (DidOut (out_attempt t 0 One []) One []) (out_attempt t 0 One []) heard_when_sent
-      result old new
-
-  read_status : (j : Location) (s v : State) → Over j s v → ReadStatus t result j s v
-  unfolding waits_in
-  read_status j s v x = pick (decided (is_at s t))
-    where
-      left : is_at s t ≡ true → ControlKept s v → OutTold s result v → ReadStatus t result j s v
-      left at k y = record {
-        others = λ h. mine t s at h;
-        frame = k.frame;
-        kept = only_moved s v k.moves;
-        done = λ h. y.0;
-        stalled = λ h. y.1;
-        could = λ h. y.2;
-        naks = k.naks;
-      }
-
-      pick : (is_at s t ≡ true) ⊎ (is_at s t ≡ false) → ReadStatus t result j s v
-      pick (inl at) =
-          at_end heard_when_sent (λ outcomes w u. ControlKept s u
-          × (0 < waits_in heard_when_sent outcomes → s.spec.silent ≡ false))
-          (control_kept_none s, λ lt. absurd (omega (arith, lt)))
-          (λ outcomes w u y trail made i d n.
-          let z : _ = onward t s at w j u y d i.0 in
-          (z.0, loud_more s.spec u y (outcome_in (out_attempt t 0 One []) w) outcomes z.1 i.1))
-          (ReadStatus t result j s) v
-          (λ outcomes w u trail i d end told.
-          let z : _ = onward t s at w j u v d i.0 in
-          left at z.0 (out_told s u v (outcome_in (out_attempt t 0 One []) w) outcomes i.0.moves z.1
-          (loud_more s.spec u v (outcome_in (out_attempt t 0 One []) w) outcomes z.1 i.1)
-          result end))
-          (λ gave outcomes w i. left at i.0 (of_bus (λ r. OutTold s r v)
-          (λ fault. (λ b h. cc h, λ h r. cc r, tt)) result gave)) x
-      pick (inr away) =
-          subst (ReadStatus t result j s)
-          (sym (stays_away t (λ w. out_others t 0 One [] w j) x away))
-          (record {
-            others = λ h. refl;
-            frame = refl;
-            kept = inl refl;
-            done = λ at. mine t s at away;
-            stalled = λ at. mine t s at away;
-            could = λ at. mine t s at away;
-            naks = omega arith;
-          })
-
-  -- one that hears the host, in such a read, answers; and it waits only so long
-  why_status : NoThreeDamaged old → (j : Location) (s v : State) → Over j s v
-      → StatusReadFailure t result j s v
-  why_status three j s v x = record {
-    answered = λ l h r. heeded (ControlKept s) (λ w u y d n k. (onward t s l.at w j u y d k).0)
-        (control_kept_none s) three
-        (λ w u y d k. heeds t w j u y d (listens_on t j s u (ap (λ z. z.spec) k.frame)
-        (ap (λ z. z.registers) k.frame) l) (is_in_read-moves s u k.moves h))
-        (ends NoAnswer r);
-    waited = λ l h calm few r. spared (ControlKept s)
-        (λ w u y d n k. (onward t s l.at w j u y d k).0) (control_kept_none s) (λ u. u.naks)
-        (λ w u y d k n. let z : _ = did t w j u y d (ap (λ z. is_at z t) k.frame ∙ l.at) in
-        waits_fewer u.spec u y (outcome_in (out_attempt t 0 One []) w) n z.1
-        (ap (λ z. z.spec.busy) k.frame ∙ calm) z.0.naks)
-        (omega (arith, few)) (ends Busy r);
-  }
-    where
-      ends : (fault : TransFault) → result ≡ Err fault
-          → Through (DidOut (out_attempt t 0 One []) One []) (out_attempt t 0 One [])
-          heard_when_sent
-          (Err fault) old new j s v
-      ends fault r = subst (λ q. Through (DidOut (out_attempt t 0 One []) One [])
-          (out_attempt t 0 One []) heard_when_sent q old new j s v) r x
-
--- each device
-
-pub status_leaves : (t : Target) (result : Result (List ℕ) TransFault) (old new : World)
-    → IsSettled old.roots
-    → Transacted heard_when_sent (out_attempt t 0 One []) old result new → new.shared ≡ false
-    → EachWas (ReadStatus t result) old new
-status_leaves t result old new settled x single =
-    each_device _ (ReadStatus t result) old new (read_status t result old new)
-    (over_out t 0 One [] old new settled single heard_when_sent result x)
-
-pub read_status_why : (t : Target) (result : Result (List ℕ) TransFault) (old new : World)
+pub write_status_why : (t : Target) (result : Result (List ℕ) TransFault) (old new : World)
     → IsSettled old.roots → NoThreeDamaged old
-    → TransactionDone heard_when_sent (out_attempt t 0 One []) old result new → new.shared ≡ false
-    → EachWas (StatusReadFailure t result) old new
-read_status_why t result old new settled never e single =
-    each_device _ (StatusReadFailure t result) old new (why_status t result old new never)
-    (over_out t 0 One [] old new settled single heard_when_sent result (as_transacted result e))
+    → TransactionDone (heard_as One) (in_attempt t 0) old result new → new.shared ≡ false
+    → EachWas (WriteStatusFailure t result) old new
+write_status_why t result old new settled three e single =
+    each_device _ (WriteStatusFailure t result) old new
+    (λ j s v run. record {
+      answered = λ l w h. answered t One old three j s result new v run l (writes_on w refl h);
+      waited = λ l w h. waited t One old three j s result new v run l (writes_on w refl h);
+    })
+    (over_in t 0 old new settled single (heard_as One) result (as_transacted result e))

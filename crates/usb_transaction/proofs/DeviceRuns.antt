@@ -5,18 +5,20 @@ use Rattle.std.proofs.Common.{◌≡◌, ◌≢◌, ◌⊎◌, inl, inr, ◌&&�
 use Rattle.std.proofs.Common.{◌+◌, ◌<◌, ◌≤◌, ◌==◌, List, [], ◌∷◌, true, false, Option, None, Some}
 use Rattle.std.proofs.Common.{Result, Ok, Err, refl, sym, subst, ap, ◌∙◌, arith}
 use Rattle.usb_packet.specs.{Toggle, Zero, One, other}
-use Rattle.usb_device.specs.{State, Reply, is_busy, Way, in_law, out_law, row_of, Location}
+use Rattle.usb_device.specs.{Spec, State, Reply, is_busy, Way, in_law, out_law, row_of, Location}
 use Rattle.usb_device.specs.{reach_on, state_on}
 use Rattle.usb_device.specs.Attempt.{whole, broken}
 use Rattle.usb_port.specs.{PortState}
 use Rattle.usb_world.specs.{Attempt, BusFault, Outcome, IsMade, got, World, Made, attempt, after}
 use Rattle.usb_world.specs.{outcome_in, damage_in, Relation, Was, EachWas, DidIn, DidOut}
-use Rattle.usb_world.specs.declared.types.Outcome.TheVariants.{Nak, Stall}
+use Rattle.usb_world.specs.declared.types.Outcome.TheVariants.{Nak, Stall, Nothing}
 use Rattle.usb_tree.specs.{IsSettled, deep_at, address_of}
 use Rattle.usb_world.proofs.Interface.{AttemptCut, cut_or_same, each_in, each_out, made_of}
 use Rattle.usb_world.proofs.Interface.{made_unshared, made_whole, unmade}
 use Rattle.usb_tree.proofs.Interface.{decided, neither, false_true}
 use Rattle.usb_transaction.specs.{Target, HeardOutcome, Moved, Lost, TransFault, Stalled, Busy}
+use Rattle.usb_transaction.specs.{CanAnswer, NotReady, Refused, heard_as}
+use Rattle.usb_transaction.proofs.LastOutcomes.{no_packet, packet_heard, packet_in, packet_of}
 use Rattle.usb_transaction.specs.{NoAnswer, Bus, polled_as, NoThreeDamaged, Listens, IsNotOfBus}
 use Rattle.usb_transaction.specs.{is_at, AttemptLog, start, next, waits_with, errors_running}
 use Rattle.usb_transaction.specs.{waits_in, IsNoEnd, KeepsTrying, LastOutcome, TransactionDone}
@@ -80,22 +82,32 @@ pub data RunThrough (Did : Deeds) (a : Attempt) (hear : Outcome → HeardOutcome
   stopped : {outcomes : List Outcome} {w : World} → GaveUp → Run Did a old j s outcomes w v
       → KeepsTrying hear outcomes → RunThrough Did a hear Last GaveUp old new j s v
 
--- what an answer says of the last outcome and those before it; of the attempt that the bus gave up
--- nothing is known
+-- what an answer says of the last outcome and those before it, by what is so of one that is done;
+-- of the attempt that the bus gave up nothing is known
+abbrev pub End : {A : Type 0} → (A → Outcome → Type 0) → (Outcome → HeardOutcome)
+    → Result A TransFault → Outcome → List Outcome → Type 0
+End Done hear (Ok x) o outcomes = Done x o
+End Done hear (Err Stalled) o outcomes = o ≡ Stall
+End Done hear (Err Busy) o outcomes = IsNoEnd (hear o) × (waits_in hear (o ∷ outcomes) ≡ 256)
+End Done hear (Err NoAnswer) o outcomes =
+    IsNoEnd (hear o) × (errors_running hear (o ∷ outcomes) ≡ 3)
+End Done hear (Err (Bus fault)) o outcomes = Unit {0}
+
+abbrev pub Moves : (Outcome → HeardOutcome) → List ℕ → Outcome → Type 0
+Moves hear bytes o = hear o ≡ Moved (packed bytes)
+
 abbrev pub IsEnd : (Outcome → HeardOutcome) → Result (List ℕ) TransFault → Outcome → List Outcome
     → Type 0
-IsEnd hear (Ok bytes) o outcomes = hear o ≡ Moved (packed bytes)
-IsEnd hear (Err Stalled) o outcomes = o ≡ Stall
-IsEnd hear (Err Busy) o outcomes = IsNoEnd (hear o) × (waits_in hear (o ∷ outcomes) ≡ 256)
-IsEnd hear (Err NoAnswer) o outcomes = IsNoEnd (hear o) × (errors_running hear (o ∷ outcomes) ≡ 3)
-IsEnd hear (Err (Bus fault)) o outcomes = Unit {0}
+IsEnd hear result o outcomes = End (Moves hear) hear result o outcomes
 
 -- a poll's, of which a NAK is one
+abbrev pub PollGot : Toggle → Option (List ℕ) → Outcome → Type 0
+PollGot toggle None o = o ≡ Nak
+PollGot toggle (Some bytes) o = Moves (polled_as toggle) bytes o
+
 abbrev pub IsPollEnd : Toggle → Result (Option (List ℕ)) TransFault → Outcome → List Outcome
     → Type 0
-IsPollEnd toggle (Ok None) o outcomes = o ≡ Nak
-IsPollEnd toggle (Ok (Some bytes)) o outcomes = IsEnd (polled_as toggle) (Ok bytes) o outcomes
-IsPollEnd toggle (Err fault) o outcomes = IsEnd (polled_as toggle) (Err fault) o outcomes
+IsPollEnd toggle result o outcomes = End (PollGot toggle) (polled_as toggle) result o outcomes
 
 abbrev pub IsOfBus : {A : Type 0} → Result A TransFault → Type 0
 IsOfBus result = IsNotOfBus result → ⊥
@@ -218,6 +230,31 @@ module _ {Did : Deeds} {a : Attempt} {old : World} {j : Location} {s : State} (h
   at_end E v final cut (last {outcomes} w u t r g d is told) =
       final outcomes w u t (along r g) d is told
   at_end E v final cut (stopped {outcomes} {w} gave r g) = cut gave outcomes w (along r g)
+
+-- One induction: what an attempt with an outcome leaves of a device, attempts leave one behind the
+-- other, if those that go on leave what nothing would
+module _ {Did : Deeds} {a : Attempt} {hear : Outcome → HeardOutcome} {Last : Outcome → List Outcome
+    → Type 0} {GaveUp : Type 0} {old new : World} {j : Location} {s v : State}
+    (x : RunThrough Did a hear Last GaveUp old new j s v)
+    (up : GaveUp → (outcomes : List Outcome) → Last Nothing outcomes) (Is : State → Type 0)
+    (Gave : State → Outcome → State → Type 0)
+    (did : (w : World) (u y : State) → Did w j u y → Is u → Gave u (outcome_in a w) y × Is y)
+    (joined : (s u y : State) (o : Outcome) → Gave s Nothing u → Gave u o y → Gave s o y)
+    (quiet : (s y : State) (o : Outcome) → IsNoEnd (hear o) → Gave s o y → Gave s Nothing y)
+  where
+    -- the last outcome, and what it left
+    abbrev pub Summed : State → Type 0
+    Summed y = (o : Outcome) × (outcomes : List Outcome) × Last o outcomes × Gave s o y
+
+    pub summed : Is s → Gave s Nothing s → Summed v
+    summed is begun =
+        at_end hear (λ outcomes w u. Is u × Gave s Nothing u) (is, begun)
+        (λ outcomes w u y trail made i d n.
+        let g = did w u y d i.0 in
+        (g.1, quiet s y (outcome_in a w) n (joined s u y (outcome_in a w) i.1 g.0))) Summed v
+        (λ outcomes w u trail i d l told.
+        (outcome_in a w, outcomes, l, joined s u v (outcome_in a w) i.1 (did w u v d i.0).0))
+        (λ gave outcomes w i. (Nothing, outcomes, up gave outcomes, i.1)) x
 
 -- A device is at the target's address, or not
 
@@ -361,54 +398,56 @@ out_others t ep toggle bytes w j u v (DidOut.asked d q x o e) away = false_true 
 
 -- each device over a transaction of IN, of OUT, over a poll, and over attempts of IN or OUT
 
-module _ (t : Target) (ep : ℕ) (old new : World) (settled : IsSettled old.roots)
-    (single : new.shared ≡ false) where
+module _ (t : Target) (ep : ℕ) where
   abbrev a_in : Attempt
   a_in = in_attempt t ep
 
-  does_in : (w : World) → IsMade a_in w → (after (attempt a_in) w).shared ≡ false
-      → EachIf Any (DidIn a_in w) w (after (attempt a_in) w)
-  does_in w made u j v on there h = each_in a_in w made (record { kind = refl; payload = refl }) u j
-      v on there
+  pub does_in : (P : State → Type 0) (w : World) → IsMade a_in w
+      → (after (attempt a_in) w).shared ≡ false
+      → EachIf P (DidIn a_in w) w (after (attempt a_in) w)
+  does_in P w made u j v on there h =
+      each_in a_in w made (record { kind = refl; payload = refl }) u j v on there
 
-  pub over_in : (hear : Outcome → HeardOutcome) (result : Result (List ℕ) TransFault)
-      → Transacted hear a_in old result new
-      → EachIf Any (Through (DidIn a_in) a_in hear result old new) old new
-  over_in hear result x = over_transaction (DidIn a_in) a_in Any (λ w j u v d h. tt) does_in old
-      settled hear new single result x
+  module _ (old new : World) (settled : IsSettled old.roots) (single : new.shared ≡ false) where
+    pub over_in : (hear : Outcome → HeardOutcome) (result : Result (List ℕ) TransFault)
+        → Transacted hear a_in old result new
+        → EachIf Any (Through (DidIn a_in) a_in hear result old new) old new
+    over_in hear = over_transaction (DidIn a_in) a_in Any (λ w j u v d h. tt) (does_in Any) old
+        settled hear new single
 
-  pub over_polled : (toggle : Toggle) (result : Result (Option (List ℕ)) TransFault)
-      → Polled toggle a_in old result new
-      → EachIf Any (RunThrough (DidIn a_in) a_in (polled_as toggle) (IsPollEnd toggle result)
-      (IsOfBus result) old new) old new
-  over_polled toggle result x = over_poll (DidIn a_in) a_in Any (λ w j u v d h. tt) does_in old
-      settled toggle new single result x
+    pub over_polled : (toggle : Toggle) (result : Result (Option (List ℕ)) TransFault)
+        → Polled toggle a_in old result new
+        → EachIf Any (RunThrough (DidIn a_in) a_in (polled_as toggle) (IsPollEnd toggle result)
+        (IsOfBus result) old new) old new
+    over_polled toggle = over_poll (DidIn a_in) a_in Any (λ w j u v d h. tt) (does_in Any) old
+        settled toggle new single
 
-  pub over_in_trail : {outcomes : List Outcome} → AttemptLog a_in old outcomes new
-      → EachIf Any (λ j s v. Run (DidIn a_in) a_in old j s outcomes new v) old new
-  over_in_trail x = over_trail (DidIn a_in) a_in Any (λ w j u v d h. tt) does_in old settled x
-      single
+    pub over_in_trail : {outcomes : List Outcome} → AttemptLog a_in old outcomes new
+        → EachIf Any (λ j s v. Run (DidIn a_in) a_in old j s outcomes new v) old new
+    over_in_trail x = over_trail (DidIn a_in) a_in Any (λ w j u v d h. tt) (does_in Any) old settled
+        x single
 
-module _ (t : Target) (ep : ℕ) (toggle : Toggle) (bytes : List ℕ) (old new : World)
-    (settled : IsSettled old.roots) (single : new.shared ≡ false) where
+module _ (t : Target) (ep : ℕ) (toggle : Toggle) (bytes : List ℕ) where
   abbrev a_out : Attempt
   a_out = out_attempt t ep toggle bytes
 
-  does_out : (w : World) → IsMade a_out w → (after (attempt a_out) w).shared ≡ false
-      → EachIf Any (DidOut a_out toggle bytes w) w (after (attempt a_out) w)
-  does_out w made u j v on there h = each_out a_out w toggle bytes made
+  pub does_out : (P : State → Type 0) (w : World) → IsMade a_out w
+      → (after (attempt a_out) w).shared ≡ false
+      → EachIf P (DidOut a_out toggle bytes w) w (after (attempt a_out) w)
+  does_out P w made u j v on there h = each_out a_out w toggle bytes made
       (record { kind = refl; payload = refl }) u j v on there
 
-  pub over_out : (hear : Outcome → HeardOutcome) (result : Result (List ℕ) TransFault)
-      → Transacted hear a_out old result new
-      → EachIf Any (Through (DidOut a_out toggle bytes) a_out hear result old new) old new
-  over_out hear result x = over_transaction (DidOut a_out toggle bytes) a_out Any
-      (λ w j u v d h. tt) does_out old settled hear new single result x
+  module _ (old new : World) (settled : IsSettled old.roots) (single : new.shared ≡ false) where
+    pub over_out : (hear : Outcome → HeardOutcome) (result : Result (List ℕ) TransFault)
+        → Transacted hear a_out old result new
+        → EachIf Any (Through (DidOut a_out toggle bytes) a_out hear result old new) old new
+    over_out hear = over_transaction (DidOut a_out toggle bytes) a_out Any (λ w j u v d h. tt)
+        (does_out Any) old settled hear new single
 
-  pub over_out_trail : {outcomes : List Outcome} → AttemptLog a_out old outcomes new
-      → EachIf Any (λ j s v. Run (DidOut a_out toggle bytes) a_out old j s outcomes new v) old new
-  over_out_trail x = over_trail (DidOut a_out toggle bytes) a_out Any (λ w j u v d h. tt) does_out
-      old settled x single
+    pub over_out_trail : {outcomes : List Outcome} → AttemptLog a_out old outcomes new
+        → EachIf Any (λ j s v. Run (DidOut a_out toggle bytes) a_out old j s outcomes new v) old new
+    over_out_trail x = over_trail (DidOut a_out toggle bytes) a_out Any (λ w j u v d h. tt)
+        (does_out Any) old settled x single
 
 pub one_wait : (h : HeardOutcome) (n : ℕ) → waits_with h n ≤ n + 1
 one_wait h n = grind arith
@@ -457,57 +496,96 @@ stands_on hear awaited {a} {old} {w} three trail made n turn (inr y) =
 -- Why a transaction with a device of a kind fails: what is of the kind stays so over attempts that
 -- go on
 
-module _ {Did : Deeds} {a : Attempt} {hear : Outcome → HeardOutcome} {old new : World}
-    {j : Location} {s v : State} (Is : State → Type 0)
-    (stays : (w : World) (u x : State) → Did w j u x → IsNoEnd (hear (outcome_in a w)) → Is u
-    → Is x) (is : Is s) where
+-- a device of this description made the host hear this: only one that is not silent is heard, and
+-- only one that is not always busy says more than that
+abbrev pub OutcomeOfSpec : Spec → HeardOutcome → Type 0
+OutcomeOfSpec spec h = (h ≡ Lost) ⊎ ((spec.silent ≡ false) × ((h ≡ NotReady) ⊎ (spec.busy ≡ false)))
+
+says_free : (spec : Spec) (h : HeardOutcome) → OutcomeOfSpec spec h → h ≢ Lost → h ≢ NotReady
+    → (spec.silent ≡ false) × (spec.busy ≡ false)
+says_free spec h (inl e) some ready = absurd (some e)
+says_free spec h (inr x) some ready =
+    elim x.1 [ inl e ↦ absurd (ready e) | inr calm ↦ (x.0, calm) ]
+
+-- what an answer says of its description; the first wait was heard
+abbrev Waited : Spec → ℕ → Type 0
+Waited spec n = (n ≡ 0) ⊎ (spec.silent ≡ false)
+
+one_waited : (spec : Spec) (h : HeardOutcome) (n : ℕ) → OutcomeOfSpec spec h → Waited spec n
+    → Waited spec (waits_with h n)
+one_waited spec h n (inl e) waits = rw e waits
+one_waited spec h n (inr x) waits = inr x.0
+
+could_answer : {A : Type 0} (Done : A → Outcome → Type 0) (hear : Outcome → HeardOutcome)
+    (spec : Spec) → hear Stall ≡ Refused
+    → ((x : A) (o : Outcome) → Done x o → (hear o ≢ Lost) × (hear o ≢ NotReady))
+    → (r : Result A TransFault) (o : Outcome) (outcomes : List Outcome)
+    → OutcomeOfSpec spec (hear o) → Waited spec (waits_in hear (o ∷ outcomes))
+    → End Done hear r o outcomes → CanAnswer spec r
+could_answer Done hear spec refuses done (Ok x) o outcomes says waits e =
+    says_free spec (hear o) says (done x o e).0 (done x o e).1
+could_answer Done hear spec refuses done (Err Stalled) o outcomes says waits e =
+    let same = ap hear e ∙ refuses in
+    says_free spec (hear o) says (λ f. cc (sym same ∙ f)) (λ f. cc (sym same ∙ f))
+could_answer Done hear spec refuses done (Err Busy) o outcomes says waits e =
+    elim waits [ inl unwaited ↦ absurd (omega (arith, unwaited, e.1)) | inr loud ↦ loud ]
+could_answer Done hear spec refuses done r o outcomes says waits e = tt
+
+module _ {A : Type 0} (Done : A → Outcome → Type 0) (result : Result A TransFault) {Did : Deeds}
+    {a : Attempt} {hear : Outcome → HeardOutcome} {old new : World} {j : Location} {s v : State}
+    (ran : RunThrough Did a hear (End Done hear result) (IsOfBus result) old new j s v)
+    (Is : State → Type 0) (stays : (w : World) (u x : State) → Did w j u x
+    → IsNoEnd (hear (outcome_in a w)) → Is u → Is x) (is : Is s) where
+  abbrev Ran : Result A TransFault → Type 0
+  Ran r = RunThrough Did a hear (End Done hear r) (IsOfBus r) old new j s v
+
+  -- what is so at first, and after each attempt that goes on, is so at the end: it refutes an
+  -- answer that tells of an outcome too many
+  pub never : (Holds : List Outcome → World → State → Type 0) → Holds [] old s
+      → ((outcomes : List Outcome) (w : World) (u x : State) → AttemptLog a old outcomes w
+      → Made w (after (attempt a) w) → Is u → Holds outcomes w u → Did w j u x
+      → IsNoEnd (hear (outcome_in a w)) → Holds (outcome_in a w ∷ outcomes) (after (attempt a) w) x)
+      → (r : Result A TransFault) → IsNotOfBus r → (Full : List Outcome → Type 0)
+      → ((o : Outcome) (outcomes : List Outcome) → End Done hear r o outcomes
+      → IsNoEnd (hear o) × Full (o ∷ outcomes))
+      → ((outcomes : List Outcome) (w : World) → Holds outcomes w v → Full outcomes → ⊥)
+      → result ≢ r
+  never Holds first step r sound Full ends refutes e =
+      at_end hear (λ outcomes w u. Is u × Holds outcomes w u) (is, first)
+      (λ outcomes w u y t made i d n. (
+        stays w u y d n i.0,
+        step outcomes w u y t made i.0 i.1 d n,
+      )) (λ y. ⊥) v
+      (λ outcomes w u t i d end told.
+      let x = ends (outcome_in a w) outcomes end in
+      refutes (outcome_in a w ∷ outcomes) (after (attempt a) w)
+      (step outcomes w u v t (told (λ g. g sound)).0 i.0 i.1 d x.0) x.1)
+      (λ gave outcomes w i. gave sound) (subst Ran e ran)
+
   -- where an attempt that is not damaged is no error, three errors run only over three damaged
   -- attempts
   pub heeded : NoThreeDamaged old → ((w : World) (u x : State) → Did w j u x → Is u
-      → damage_in w ≡ None → hear (outcome_in a w) ≢ Lost)
-      → Through Did a hear (Err NoAnswer) old new j s v → ⊥
+      → damage_in w ≡ None → hear (outcome_in a w) ≢ Lost) → result ≢ Err NoAnswer
   unfolding errors_running
-  heeded three heeds x =
-      at_end hear (λ outcomes w u. Is u × LostRun old.damages (errors_running hear outcomes)
-      w.attempts) (is, none_lost)
-      (λ outcomes w u y t made i d n. (
-        stays w u y d n i.0,
-        lost_more t made hear (heeds w u y d i.0) i.1,
-      )) (λ y. ⊥) v
-      (λ outcomes w u t i d end told.
-      let run : _ = lost_more t (told (λ g. g tt)).0 hear (heeds w u v d i.0) i.1 in
-      omega (
-        arith,
-        end.1,
-        run_short old (errors_running hear (outcome_in a w ∷ outcomes))
-            (after (attempt a) w).attempts three run,
-      ))
-      (λ gave outcomes w i. gave tt) x
-    where
-      none_lost : LostRun old.damages (errors_running hear []) old.attempts
-      none_lost = lost_run_none old.damages old.attempts
+  heeded three heeds =
+      never (λ outcomes w u. LostRun old.damages (errors_running hear outcomes) w.attempts)
+      (lost_run_none old.damages old.attempts)
+      (λ outcomes w u y t made i run d n. lost_more t made hear (heeds w u y d i) run)
+      (Err NoAnswer) tt (λ outcomes. errors_running hear outcomes ≡ 3) (λ o outcomes end. end)
+      (λ outcomes w run full.
+      omega (arith, full, run_short old (errors_running hear outcomes) w.attempts three run))
 
   -- where each wait is one fewer of those it has left, there are no more
   pub spared : (left : State → ℕ) → ((w : World) (u x : State) → Did w j u x → Is u → (n : ℕ)
       → waits_with (hear (outcome_in a w)) n + left x ≤ n + left u) → left s < 256
-      → Through Did a hear (Err Busy) old new j s v → ⊥
+      → result ≢ Err Busy
   unfolding waits_in
-  spared left spares few x =
-      at_end hear (λ outcomes w u. Is u × (waits_in hear outcomes + left u ≤ left s))
-      (is, none_left)
-      (λ outcomes w u y t made i d n. (
-        stays w u y d n i.0,
-        one_left outcomes (outcome_in a w)
-            (left u) (left y) i.1 (spares w u y d i.0 (waits_in hear outcomes)),
-      )) (λ y. ⊥) v
-      (λ outcomes w u t i d end told. omega (
-        arith,
-        end.1,
-        few,
-        one_left outcomes (outcome_in a w)
-            (left u) (left v) i.1 (spares w u v d i.0 (waits_in hear outcomes)),
-      ))
-      (λ gave outcomes w i. gave tt) x
+  spared left spares few =
+      never (λ outcomes w u. waits_in hear outcomes + left u ≤ left s) none_left
+      (λ outcomes w u y t made i so d n. one_left outcomes (outcome_in a w) (left u) (left y) so
+      (spares w u y d i (waits_in hear outcomes)))
+      (Err Busy) tt (λ outcomes. waits_in hear outcomes ≡ 256) (λ o outcomes end. end)
+      (λ outcomes w so full. omega (arith, so, full, few))
     where
       none_left : waits_in hear [] + left s ≤ left s
       none_left = omega arith
@@ -522,23 +600,60 @@ module _ {Did : Deeds} {a : Attempt} {hear : Outcome → HeardOutcome} {old new 
   pub few_repeats : (awaited : Toggle) (given : State → Toggle) → NoThreeDamaged old
       → ((w : World) (u x : State) → Did w j u x → Is u → IsNoEnd (hear (outcome_in a w))
       → Turns awaited (given u) (given x) (hear (outcome_in a w)) (damage_in w ≢ None))
-      → Through Did a hear (Err Busy) old new j s v → ⊥
+      → result ≢ Err Busy
   unfolding waits_in
-  few_repeats awaited given three turns x =
-      at_end hear (λ outcomes w u. Is u
-      × Stands awaited old (given u) (waits_in hear outcomes) w)
-      (is, first (either (given s) awaited))
-      (λ outcomes w u y t made i d n. (
-        stays w u y d n i.0,
-        stands_on hear awaited three t made (waits_in hear outcomes) (turns w u y d i.0 n) i.1,
-      )) (λ y. ⊥) v
-      (λ outcomes w u t i d end told.
-      let stands : Stands awaited old (given v) (waits_in hear (outcome_in a w ∷ outcomes))
-      (after (attempt a) w) = stands_on hear awaited three t (told (λ g. g tt)).0
-      (waits_in hear outcomes) (turns w u v d i.0 end.0) i.1 in
-      omega (arith, end.1, stands_most awaited old (given v) _ (after (attempt a) w) three stands))
-      (λ gave outcomes w i. gave tt) x
+  few_repeats awaited given three turns =
+      never (λ outcomes w u. Stands awaited old (given u) (waits_in hear outcomes) w)
+      (first (either (given s) awaited))
+      (λ outcomes w u y t made i so d n.
+      stands_on hear awaited three t made (waits_in hear outcomes) (turns w u y d i n) so)
+      (Err Busy) tt (λ outcomes. waits_in hear outcomes ≡ 256) (λ o outcomes end. end)
+      (λ outcomes w so full. omega (
+        arith,
+        full,
+        stands_most awaited old (given v) (waits_in hear outcomes) w three so,
+      ))
     where
       first : (given s ≡ awaited) ⊎ (given s ≡ other awaited) → Stands awaited old (given s) 0 old
       first (inl e) = inl (e, omega arith)
       first (inr e) = inr (e, (0, lost_run_none old.damages old.attempts, omega arith))
+
+  -- a device of the kind could answer so
+  pub could : (spec : Spec) → hear Stall ≡ Refused
+      → ((x : A) (o : Outcome) → Done x o → (hear o ≢ Lost) × (hear o ≢ NotReady))
+      → ((w : World) (u x : State) → Did w j u x → Is u
+      → OutcomeOfSpec spec (hear (outcome_in a w))) → CanAnswer spec result
+  unfolding waits_in
+  could spec refuses done says =
+      at_end hear (λ outcomes w u. Is u × Waited spec (waits_in hear outcomes)) (is, inl refl)
+      (λ outcomes w u y t made i d n. (
+        stays w u y d n i.0,
+        one_waited spec (hear (outcome_in a w)) (waits_in hear outcomes) (says w u y d i.0) i.1,
+      )) (λ y. CanAnswer spec result) v
+      (λ outcomes w u t i d end told.
+      could_answer Done hear spec refuses done result (outcome_in a w) outcomes (says w u v d i.0)
+      (one_waited spec (hear (outcome_in a w)) (waits_in hear outcomes) (says w u v d i.0) i.1)
+      end)
+      (λ gave outcomes w i. of_bus (λ r. CanAnswer spec r) (λ fault. tt) result gave) ran
+
+-- The packet that came with an answer
+
+pub result_of : {A : Type 0} (got : A → Option (List ℕ)) (P : Option (List ℕ) → Type 0)
+    (F : Result A TransFault → Type 0) → ((x : A) → P (got x) → F (Ok x))
+    → (P None → F (Err Stalled) × F (Err Busy) × F (Err NoAnswer))
+    → ((fault : BusFault) (c : Option (List ℕ)) → P c → F (Err (Bus fault)))
+    → (result : Result A TransFault) (c : Option (List ℕ))
+    → (IsNotOfBus result → c ≡ packet_of got result) → P c → F result
+result_of got P F some nil cut (Ok x) c e h = some x (subst P (e tt) h)
+result_of got P F some nil cut (Err Stalled) c e h = (nil (subst P (e tt) h)).0
+result_of got P F some nil cut (Err Busy) c e h = (nil (subst P (e tt) h)).1
+result_of got P F some nil cut (Err NoAnswer) c e h = (nil (subst P (e tt) h)).2
+result_of got P F some nil cut (Err (Bus fault)) c e h = cut fault c h
+
+pub brought : (awaited : Toggle) (result : Result (List ℕ) TransFault) (o : Outcome)
+    (outcomes : List Outcome) → IsEnd (heard_as awaited) result o outcomes → IsNotOfBus result
+    → packet_heard (heard_as awaited o) ≡ packet_in result
+brought awaited (Ok bytes) o outcomes e n = ap packet_heard e
+brought awaited (Err Stalled) o outcomes e n = ap (λ x. packet_heard (heard_as awaited x)) e
+brought awaited (Err (Bus fault)) o outcomes e n = absurd n
+brought awaited (Err fault) o outcomes e n = no_packet (heard_as awaited o) e.0

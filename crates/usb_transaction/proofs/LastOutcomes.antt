@@ -63,6 +63,9 @@ no_packet (Moved b) n = elim n [ ]
 no_packet h n = refl
 
 -- the packet that came with an answer
+abbrev pub packet_of : {A : Type 0} → (A → Option (List ℕ)) → Result A TransFault → Option (List ℕ)
+packet_of got (Ok x) = got x
+packet_of got (Err fault) = None
+
 abbrev pub packet_in : Result (List ℕ) TransFault → Option (List ℕ)
-packet_in (Ok bytes) = Some bytes
-packet_in (Err fault) = None
+packet_in result = packet_of (λ bytes. Some bytes) result

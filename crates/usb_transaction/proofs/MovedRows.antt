@@ -93,14 +93,6 @@ module _ (t : Target) (ep : ℕ) (to : Destination) (is : in_packet to ≡ in_at
         settled = trail_settled x.heard.trail r.settled;
       }
 
-  pub run_went : {n : ℕ} {got : List ℕ} {now : World} {text : Option (List ℕ)}
-      → FullCame to first old before n got now text → StepRun n old before now text
-  run_went c = (full_run c).went
-
-  pub run_settled : {n : ℕ} {got : List ℕ} {now : World} {text : Option (List ℕ)}
-      → FullCame to first old before n got now text → IsSettled now.roots
-  run_settled c = (full_run c).settled
-
   -- all that were asked for
   pub row_whole : {n most : ℕ} {got : List ℕ} {toggle : Toggle} {now : World}
       {text : Option (List ℕ)} → FullCame to first old before n got now text → n ≡ most → 1 ≤ most
@@ -122,37 +114,6 @@ module _ (t : Target) (ep : ℕ) (to : Destination) (is : in_packet to ≡ in_at
         count = refl;
         turned = turned;
       }
-
-  module _ {n most : ℕ} {got : List ℕ} {toggle : Toggle} {mid new : World} {text : Option (List ℕ)}
-      (c : FullCame to first old before n got mid text) (few : n < most) where
-    -- one came after them
-    pub row_came : {last bytes : List ℕ} → AsksIn t ep (flips n first) mid (Ok last) new
-        → bytes ≡ got ++ last → toggle ≡ flips (n + 1) first
-        → RowCame t ep first most old (n + 1) bytes toggle new
-    row_came {last} x kept turned = record {
-      full = n;
-      few = few;
-      got = got;
-      mid = mid;
-      before = (full_run c).asked;
-      last = last;
-      came = x;
-      kept = kept;
-      count = refl;
-      turned = turned;
-    }
-
-    pub row_lost : (fault : TransFault) → AsksIn t ep (flips n first) mid (Err fault) new
-        → toggle ≡ flips n first → RowLost t ep first most old fault toggle new
-    row_lost fault x turned = record {
-      full = n;
-      few = few;
-      got = got;
-      mid = mid;
-      before = (full_run c).asked;
-      lost = x;
-      turned = turned;
-    }
 
 -- A row of INs as the bus tells it, and the transaction that went on
 
@@ -196,13 +157,28 @@ module _ (t : Target) (ep : ℕ) (to : Destination) (is : in_packet to ≡ in_at
       (λ outcome. is_full to.max (flips done.moved first) outcome ≡ false) end m.mid m.between now
       text
 
+  so_far : FullRun t ep first old before done.moved got m.mid m.between
+  so_far = full_run t ep to is fits first settled m.came
+
+  row_lost : {next : Toggle} {new : World} (fault : TransFault) → done.moved < most
+      → AsksIn t ep (flips done.moved first) m.mid (Err fault) new
+      → next ≡ flips done.moved first → RowLost t ep first most old fault next new
+  row_lost fault few x same = record {
+    full = done.moved;
+    few = few;
+    got = got;
+    mid = m.mid;
+    before = so_far.asked;
+    lost = x;
+    turned = same;
+  }
+
   pub ins_whole : done.end ≡ Whole → 1 ≤ most → RowCame t ep first most old done.moved got toggle now
       × StepRun (transaction_bound * done.moved) old before now text
   ins_whole end some =
-      let e : Ends Whole = subst Ends end m.ends in
-      let went = run_went t ep to is fits first settled m.came in (
+      let e : Ends Whole = subst Ends end m.ends in (
         rw e.1 (row_whole t ep to is fits first settled m.came e.0 some turned),
-        went_wider done.moved (transaction_bound * done.moved) (rw (e.1, e.2) went)
+        went_wider done.moved (transaction_bound * done.moved) (rw (e.1, e.2) so_far.went)
             (omega arith),
       )
 
@@ -212,12 +188,11 @@ module _ (t : Target) (ep : ℕ) (to : Destination) (is : in_packet to ≡ in_at
   ins_cut {fault} end =
       let e : Ends (Faulted fault) = subst Ends end m.ends in
       let made = rw is at e.1 in
-      let calm = run_settled t ep to is fits first settled m.came in
-      let x = asks_in t ep (flips done.moved first) m.mid now calm refl (Err (Bus fault))
+      let x = asks_in t ep (flips done.moved first) m.mid now so_far.settled refl (Err (Bus fault))
       (cut_at_once fits made) tt in (
-        row_lost t ep to is fits first settled m.came e.0 (Bus fault) x turned,
+        row_lost (Bus fault) e.0 x turned,
         went_wider (done.moved + 1) (transaction_bound * most)
-            (went_then done.moved 1 (run_went t ep to is fits first settled m.came)
+            (went_then done.moved 1 so_far.went
             (record { spends = made.counts.spends; traced = attempted _ _ fits still made }))
             (omega (arith, e.0)),
       )
@@ -230,14 +205,13 @@ module _ (t : Target) (ep : ℕ) (to : Destination) (is : in_packet to ≡ in_at
     answered_ends = subst Ends end m.ends
 
     answered_says : StepRun transaction_bound m.mid m.between new written
-        × AsksIn t ep toggle m.mid result new
-    answered_says = says m.mid m.between (run_settled t ep to is fits first settled m.came)
-        (rw is at answered_ends.2)
+        × AsksIn t ep (flips done.moved first) m.mid result new
+    answered_says = let x = says m.mid m.between so_far.settled (rw is at answered_ends.2) in
+        (x.0, subst (λ z. AsksIn t ep z m.mid result new) turned x.1)
 
     answered_went : {n : ℕ} → done.moved + transaction_bound ≤ n → StepRun n old before new written
     answered_went {n} le = went_wider (done.moved + transaction_bound) n
-        (went_then done.moved transaction_bound (run_went t ep to is fits first settled m.came)
-        answered_says.0) le
+        (went_then done.moved transaction_bound so_far.went answered_says.0) le
 
   pub ins_came : {o : Outcome} → done.end ≡ Answered o → {last bytes : List ℕ} {new : World}
       {written : Option (List ℕ)} {next : Toggle} → AfterFirst (in_attempt t ep) o now text
@@ -245,26 +219,31 @@ module _ (t : Target) (ep : ℕ) (to : Destination) (is : in_packet to ≡ in_at
       → bytes ≡ got ++ last → next ≡ other toggle
       → RowCame t ep first most old (done.moved + 1) bytes next new
       × StepRun (transaction_bound * (done.moved + 1)) old before new written
-  ins_came end {last} {new = new} {next = next} says kept flip =
-      let x = answered_says end says in
-      let asked = subst (λ z. AsksIn t ep z m.mid (Ok last) new) turned x.1 in (
-        row_came t ep to is fits first settled m.came (answered_ends end says).0 asked kept
-            (flips_more done.moved first toggle next turned flip),
-        answered_went end says (omega arith),
-      )
+  ins_came end {last} {next = next} says kept flip = (
+    record {
+      full = done.moved;
+      few = (answered_ends end says).0;
+      got = got;
+      mid = m.mid;
+      before = so_far.asked;
+      last = last;
+      came = (answered_says end says).1;
+      kept = kept;
+      count = refl;
+      turned = flips_more done.moved first toggle next turned flip;
+    },
+    answered_went end says (omega arith),
+  )
 
   pub ins_lost : {o : Outcome} → done.end ≡ Answered o → {fault : TransFault} {new : World}
       {written : Option (List ℕ)} {next : Toggle} → AfterFirst (in_attempt t ep) o now text
       (λ w x. StepRun transaction_bound w x new written × AsksIn t ep toggle w (Err fault) new)
       → next ≡ toggle → RowLost t ep first most old fault next new
       × StepRun (transaction_bound * most) old before new written
-  ins_lost end {fault} {new} says same =
-      let x = answered_says end says in
-      let few = (answered_ends end says).0 in
-      let asked = subst (λ z. AsksIn t ep z m.mid (Err fault) new) turned x.1 in (
-        row_lost t ep to is fits first settled m.came few fault asked (same ∙ turned),
-        answered_went end says (omega (arith, few)),
-      )
+  ins_lost end {fault} says same = let few = (answered_ends end says).0 in (
+    row_lost fault few (answered_says end says).1 (same ∙ turned),
+    answered_went end says (omega (arith, few)),
+  )
 
 -- OUTs
 
@@ -296,14 +275,6 @@ module _ (t : Target) (ep : ℕ) (to : Destination) (max : to.max ≡ t.max)
         settled = trail_settled x.heard.trail r.settled;
       }
 
-  pub sent_went : {n : ℕ} {sent : List ℕ} {now : World} {text : Option (List ℕ)}
-      → AllTaken to first old before n sent now text → StepRun n old before now text
-  sent_went c = (sent_run c).went
-
-  pub sent_settled : {n : ℕ} {sent : List ℕ} {now : World} {text : Option (List ℕ)}
-      → AllTaken to first old before n sent now text → IsSettled now.roots
-  sent_settled c = (sent_run c).settled
-
   -- all of the bytes
   pub row_all_gone : {n : ℕ} {total : List ℕ} {toggle : Toggle} {now : World}
       {text : Option (List ℕ)} → AllTaken to first old before n total now text → 0 < length total
@@ -330,43 +301,6 @@ module _ (t : Target) (ep : ℕ) (to : Destination) (max : to.max ≡ t.max)
         count = refl;
         turned = turned;
       }
-
-  module _ {n : ℕ} {total sent : List ℕ} (rest : List ℕ) {mid : World} {text : Option (List ℕ)}
-      (c : AllTaken to first old before n sent mid text) (split : total ≡ sent ++ rest)
-      (size : length sent ≡ n * to.max) (some : 0 < length rest) where
-    abbrev so_far : RowSent t ep first total old n mid
-    so_far = record {
-      sent = sent;
-      rest = rest;
-      split = split;
-      size = size ∙ ap (λ k. n * k) max;
-      some = some;
-      before = (sent_run c).went_all;
-    }
-
-    -- one went after full ones
-    pub row_gone : {toggle : Toggle} {new : World}
-        → SendsOut t ep (flips n first) (take t.max rest) mid (Ok []) new
-        → toggle ≡ flips (n + 1) first → RowGone t ep first total old (n + 1) toggle new
-    row_gone x turned = record {
-      full = n;
-      mid = mid;
-      so_far = so_far;
-      went = x;
-      count = refl;
-      turned = turned;
-    }
-
-    pub row_kept : {toggle : Toggle} {new : World} (fault : TransFault)
-        → SendsOut t ep (flips n first) (take t.max rest) mid (Err fault) new
-        → toggle ≡ flips n first → RowKept t ep first total old fault toggle new
-    row_kept fault x turned = record {
-      full = n;
-      mid = mid;
-      so_far = so_far;
-      lost = x;
-      turned = turned;
-    }
 
 -- A row of OUTs as the bus tells it
 
@@ -405,11 +339,29 @@ module _ (t : Target) (ep : ℕ) (to : Destination) (max : to.max ≡ t.max)
   out_next = ap (λ k. out_packet to (flips done.moved first) (take k m.rest)) max
       ∙ is (flips done.moved first) (take t.max m.rest)
 
-  outs_went : StepRun done.moved old before m.mid m.between
-  outs_went = sent_went t ep to max is fits first settled m.taken
+  so_sent : SentRun t ep first old before done.moved m.sent m.mid m.between
+  so_sent = sent_run t ep to max is fits first settled m.taken
 
-  outs_settled : IsSettled m.mid.roots
-  outs_settled = sent_settled t ep to max is fits first settled m.taken
+  abbrev row_so_far : 0 < length m.rest → RowSent t ep first total old done.moved m.mid
+  row_so_far some = record {
+    sent = m.sent;
+    rest = m.rest;
+    split = m.split;
+    size = m.full some ∙ ap (λ k. done.moved * k) max;
+    some = some;
+    before = so_sent.went_all;
+  }
+
+  row_kept : {next : Toggle} {new : World} (fault : TransFault) → 0 < length m.rest
+      → SendsOut t ep (flips done.moved first) (take t.max m.rest) m.mid (Err fault) new
+      → next ≡ flips done.moved first → RowKept t ep first total old fault next new
+  row_kept fault some x same = record {
+    full = done.moved;
+    mid = m.mid;
+    so_far = row_so_far some;
+    lost = x;
+    turned = same;
+  }
 
   pub outs_whole : done.end ≡ Whole → 0 < length total → RowGone t ep first total old done.moved toggle now
       × StepRun (transaction_bound * done.moved) old before now text
@@ -420,7 +372,7 @@ module _ (t : Target) (ep : ℕ) (to : Destination) (max : to.max ≡ t.max)
       let taken = subst (λ z. AllTaken to first old before done.moved z m.mid m.between) all m.taken
       in (
         rw e.1 (row_all_gone t ep to max is fits first settled taken some turned),
-        went_wider done.moved (transaction_bound * done.moved) (rw (e.1, e.2) outs_went)
+        went_wider done.moved (transaction_bound * done.moved) (rw (e.1, e.2) so_sent.went)
             (omega arith),
       )
 
@@ -454,12 +406,12 @@ module _ (t : Target) (ep : ℕ) (to : Destination) (max : to.max ≡ t.max)
       let fit = fits (flips done.moved first) packet short in
       let made = subst (λ a. Attempts a m.mid m.between (Err fault) now text) out_next e.1 in
       let few = outs_few e.0 least in
-      let x = sends_out t ep (flips done.moved first) packet m.mid now outs_settled (Err (Bus fault))
+      let x = sends_out t ep (flips done.moved first) packet m.mid now so_sent.settled
+      (Err (Bus fault))
       (cut_at_once fit made) in (
-        row_kept t ep to max is fits first settled m.rest m.taken m.split (m.full e.0) e.0
-            (Bus fault) x turned,
+        row_kept (Bus fault) e.0 x turned,
         went_wider (done.moved + 1) (transaction_bound * div_ceil (length total) t.max)
-            (went_then done.moved 1 outs_went
+            (went_then done.moved 1 so_sent.went
             (record { spends = made.counts.spends; traced = attempted _ _ fit still made }))
             (omega (arith, few)),
       )
@@ -485,7 +437,7 @@ module _ (t : Target) (ep : ℕ) (to : Destination) (max : to.max ≡ t.max)
       outs_say : StepRun transaction_bound m.mid m.between new written
           × SendsOut t ep (flips done.moved first) (take t.max m.rest) m.mid result new
       outs_say =
-          let x = says m.mid m.between outs_settled outs_made in
+          let x = says m.mid m.between so_sent.settled outs_made in
           let y = subst (λ z. SendsOut t ep z packet m.mid result new) turned x.1 in (
             x.0,
             subst (λ z. SendsOut t ep (flips done.moved first) z m.mid result new)
@@ -494,7 +446,7 @@ module _ (t : Target) (ep : ℕ) (to : Destination) (max : to.max ≡ t.max)
 
       outs_more : {n : ℕ} → done.moved + transaction_bound ≤ n → StepRun n old before new written
       outs_more {n} le = went_wider (done.moved + transaction_bound) n
-          (went_then done.moved transaction_bound outs_went outs_say.0) le
+          (went_then done.moved transaction_bound so_sent.went outs_say.0) le
 
   pub outs_gone : {o : Outcome} → done.end ≡ Answered o → {packet : List ℕ}
       → packet ≡ take t.max (drop (done.moved * t.max) total) → {given : List ℕ} {new : World}
@@ -509,8 +461,14 @@ module _ (t : Target) (ep : ℕ) (to : Destination) (max : to.max ≡ t.max)
       let x = outs_say end front says in
       let gone = subst (λ z. SendsOut t ep (flips done.moved first) (take t.max m.rest) m.mid (Ok z)
       new) x.1.nothing x.1 in (
-        row_gone t ep to max is fits first settled m.rest m.taken m.split (m.full e.0) e.0 gone
-            (flips_more done.moved first toggle next turned flip),
+        record {
+          full = done.moved;
+          mid = m.mid;
+          so_far = row_so_far e.0;
+          went = gone;
+          count = refl;
+          turned = flips_more done.moved first toggle next turned flip;
+        },
         outs_more end front says (omega arith),
       )
 
@@ -525,7 +483,6 @@ module _ (t : Target) (ep : ℕ) (to : Destination) (max : to.max ≡ t.max)
   outs_kept least end front {fault} says same =
       let e = outs_ends end front says in
       let x = outs_say end front says in (
-        row_kept t ep to max is fits first settled m.rest m.taken m.split (m.full e.0) e.0 fault x.1
-            (same ∙ turned),
+        row_kept fault e.0 x.1 (same ∙ turned),
         outs_more end front says (omega (arith, outs_few e.0 least)),
       )

@@ -32,7 +32,7 @@ use Rattle.usb_transaction.specs.{in_attempt}
 use Rattle.usb_transaction.proofs.DeviceRuns.{AttemptDelivered, IsOfBus, IsPollEnd, RunThrough}
 use Rattle.usb_transaction.proofs.DeviceRuns.{AttemptLeft, as_whole, asked_in, at_end, each_device}
 use Rattle.usb_transaction.proofs.DeviceRuns.{Turns, few_repeats, heeded, in_others, listens_on}
-use Rattle.usb_transaction.proofs.DeviceRuns.{of_bus, over_polled, stays_away}
+use Rattle.usb_transaction.proofs.DeviceRuns.{PollGot, of_bus, over_polled, stays_away}
 use Rattle.usb_transaction.proofs.LastOutcomes.{polled_last}
 
 -- the bytes of some bits are no more than a packet of the hub has (11.12.4)
@@ -473,11 +473,11 @@ module _ (t : Target) (ep : ℕ) (toggle : Toggle) (old : World) (j : Location) 
         (λ outcomes w u r i d end made. (step w u v i.0 d).unstalled i.1 end)
         (λ gave outcomes w i. gave tt) run
     answers quiet Busy sound new v run =
-        few_repeats Answers (λ w u y d n i. stays w u y d i) (refl, quiet) toggle
-        (λ u. u.changes.toggle) three (λ w u y d i n. turns w u y d i n) run
+        few_repeats (PollGot toggle) (Err Busy) run Answers (λ w u y d n i. stays w u y d i)
+        (refl, quiet) toggle (λ u. u.changes.toggle) three (λ w u y d i n. turns w u y d i n) refl
     answers quiet NoAnswer sound new v run =
-        heeded Answers (λ w u y d n i. stays w u y d i) (refl, quiet) three
-        (λ w u y d i none. heeds w u y d i none) run
+        heeded (PollGot toggle) (Err NoAnswer) run Answers (λ w u y d n i. stays w u y d i)
+        (refl, quiet) three (λ w u y d i none. heeds w u y d i none) refl
     answers quiet (Bus fault) sound new v run = sound
 
 -- Each device

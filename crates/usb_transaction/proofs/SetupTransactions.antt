@@ -28,7 +28,7 @@ use Rattle.usb_transaction.specs.{SetupFailure, set_up_as, is_at, CanAccept, Acc
 use Rattle.usb_transaction.specs.{AcceptedSince, SetupDone, IsSpared, EachSpared, AttemptLog}
 use Rattle.usb_transaction.specs.{TransactionDone, Transacted, waits_in, setup_attempt}
 use Rattle.usb_transaction.proofs.DeviceRuns.{IsEnd, IsOfBus, AttemptLeft, at_end, each_if-joined}
-use Rattle.usb_transaction.proofs.DeviceRuns.{heeded, listens_at, of_bus, over_end, Through}
+use Rattle.usb_transaction.proofs.DeviceRuns.{Moves, heeded, listens_at, of_bus, over_end, Through}
 use Rattle.usb_transaction.proofs.DeviceRuns.{was_then, over_transaction, stays_away}
 
 -- A request asks the same once it was accepted
@@ -376,12 +376,9 @@ pub set_up_why : (t : Target) (bytes : List ℕ) (result : Result (List ℕ) Tra
 set_up_why t bytes result old new eight settled three x single =
     spared_wider t (setup_of bytes) _ (SetupFailure t result)
     (λ j s v run. record {
-      answered = λ l e.
-          heeded (Listens t j) (λ w u y d n k. listens_at t j u y d.same.spec d.same.address k) l
-          three (λ w u y d k none q. cc (sym (ap set_up_as (d.heeds k none)) ∙ q))
-          (subst (λ r. Through (SetupResult t bytes) (setup_attempt t bytes) set_up_as r old new j s
-          v)
-          e run);
+      answered = λ l. heeded (Moves set_up_as) result run (Listens t j)
+          (λ w u y d n k. listens_at t j u y d.same.spec d.same.address k) l
+          three (λ w u y d k none q. cc (sym (ap set_up_as (d.heeds k none)) ∙ q));
     }) old new
     (over_end (SetupResult t bytes) (setup_attempt t bytes) (IsSpared t (setup_of bytes))
     (λ w j u v d. was_spared t (setup_of bytes) u v d.others) (accepting t bytes eight) old

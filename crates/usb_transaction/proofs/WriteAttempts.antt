@@ -1,34 +1,30 @@
--- One attempt of a control write: what the device that it is for answers, and what that leaves of
--- its NAKs and of what it expects.
-use Rattle.std.proofs.Common.{◌≡◌, ◌≢◌, inl, inr, ℕ, ◌+◌, ◌≤◌, nat_le, nat_lt, if◌then◌else◌, Bool}
-use Rattle.std.proofs.Common.{true, false, List, [], length, Option, None, Some, refl, sym, subst}
-use Rattle.std.proofs.Common.{ap, ◌∙◌, arith}
+-- One OUT of endpoint 0: what the device that it is for answers, and what that leaves of its NAKs,
+-- of its stage and of what it expects.
+use Rattle.std.proofs.Common.{◌≡◌, ◌≢◌, inl, inr, ℕ, ◌+◌, ◌≤◌, nat_lt, if◌then◌else◌, Bool, true}
+use Rattle.std.proofs.Common.{false, List, [], length, Option, Some, refl, sym, subst, ap, ◌∙◌}
+use Rattle.std.proofs.Common.{arith, ◌⊎◌}
 use Rattle.std.proofs.lemmas.Bool.Decides.{nat_tests}
 use Rattle.usb_packet.specs.{Toggle, One}
-use Rattle.usb_port.specs.{PortState}
-use Rattle.usb_device.specs.declared.answer.Answer.TheVariants as answer
-use Rattle.usb_device.specs.{Answer, State, Reply, Stage, Location, Write, WriteData, written_on}
-use Rattle.usb_device.specs.{reading, read, writing, is_done, max_packet, forgotten}
-use Rattle.usb_device.specs.{is_busy, nak_row, out_row, status_row, write_row, Way, heard, gave}
-use Rattle.usb_device.specs.{in_stage_law, in_law, out_law, Wrong, TooLong, Repeat, Next}
-use Rattle.usb_device.specs.declared.transfer.InEndpoint.TheVariants as by
+use Rattle.usb_device.specs.{Answer, State, Reply, Stage, Write, WriteData, written_on, reading}
+use Rattle.usb_device.specs.{read, writing, max_packet, forgotten, is_busy, nak_row, out_row}
+use Rattle.usb_device.specs.{status_row, write_row, Way, heard, out_law, Wrong, TooLong, Repeat}
+use Rattle.usb_device.specs.{Next, IsRead, OnlyStage, refused}
 use Rattle.usb_device.specs.Attempt.{whole}
-use Rattle.usb_world.specs.{Outcome, World, DidOut, got, outcome_in}
-use Rattle.usb_tree.proofs.Interface.{false_true}
-use Rattle.usb_transaction.specs.{Target, Lost, heard_as, heard_when_sent, waits_with}
-use Rattle.usb_transaction.specs.{Expects, data_write, refused_write, IsNoEnd, is_at, out_attempt}
-use Rattle.usb_transaction.proofs.ControlTransactions.{ControlGave, OutcomeOfSpec}
-use Rattle.usb_transaction.proofs.DeviceRuns.{not_busy, positive}
+use Rattle.usb_world.specs.{Outcome, got}
+use Rattle.usb_transaction.specs.{Lost, heard_when_sent, waits_with, Expects, data_write}
+use Rattle.usb_transaction.specs.{refused_write, IsInRead, over}
+use Rattle.usb_transaction.proofs.DeviceRuns.{not_busy, positive, OutcomeOfSpec}
+use Rattle.usb_transaction.specs.Leaves.{data_stage as in_stage}
+use Rattle.usb_world.specs.declared.types.Outcome.TheVariants.{Ack, Stall}
+use Rattle.usb_device.specs.declared.answer.Answer.TheVariants as answer
 
 -- OUT with data
 
 -- silence, an ACK or a STALL
 abbrev IsNoNak : Option Answer → Type 0
-IsNoNak None = Unit {0}
-IsNoNak (Some answer.Ack) = Unit {0}
 IsNoNak (Some answer.Nak) = ⊥
-IsNoNak (Some answer.Stall) = Unit {0}
 IsNoNak (Some (answer.Data u b)) = ⊥
+IsNoNak a = Unit {0}
 
 module _ (u : State) (toggle : Toggle) (bytes : List ℕ) where
   -- a device that is not busy answers so, and its NAKs are as they were
@@ -49,7 +45,7 @@ module _ (u : State) (toggle : Toggle) (bytes : List ℕ) where
   no_nak_row read = no_nak_status toggle bytes
   no_nak_row g = (tt, refl)
 
-  abbrev row_of_busy : Bool → Reply
+  abbrev pub row_of_busy : Bool → Reply
   row_of_busy busy = if busy then nak_row u else out_row u u.stage toggle bytes
 
   -- it has no more NAKs to give than before
@@ -68,7 +64,7 @@ module _ (u : State) (toggle : Toggle) (bytes : List ℕ) where
   says_by max loud whole false e = inr (loud, inr (not_busy u e))
   says_by max loud t3 busy e = inl refl
 
-  law_says : (max : ℕ) → u.spec.silent ≡ false → (t1 t2 t3 : Way)
+  pub law_says : (max : ℕ) → u.spec.silent ≡ false → (t1 t2 t3 : Way)
       → OutcomeOfSpec u.spec (heard_when_sent (got max (out_law u 0 toggle bytes t1 t2 t3).0))
   law_says max loud whole whole t3 = says_by max loud t3 (is_busy u) refl
   law_says max loud t1 t2 t3 = inl refl
@@ -76,10 +72,7 @@ module _ (u : State) (toggle : Toggle) (bytes : List ℕ) where
   -- a wait is a NAK fewer
   no_wait : (max : ℕ) (t3 : Way) (a : Option Answer) → IsNoNak a → (n : ℕ)
       → waits_with (heard_when_sent (got max (heard t3 a))) n ≡ n
-  no_wait max whole None p n = refl
-  no_wait max whole (Some answer.Ack) p n = refl
   no_wait max whole (Some answer.Nak) p n = absurd p
-  no_wait max whole (Some answer.Stall) p n = refl
   no_wait max whole (Some (answer.Data v b)) p n = absurd p
   no_wait max t3 a p n = refl
 
@@ -153,64 +146,78 @@ module _ (u : State) (toggle : Toggle) (bytes : List ℕ) where
       → heard_when_sent (got max (out_law u 0 toggle bytes whole whole whole).0) ≢ Lost
   whole_heard max x = answered_by max x (is_busy u)
 
-pub out_says : (t : Target) (toggle : Toggle) (bytes : List ℕ) (w : World) (j : Location)
-    (u v : State) → DidOut (out_attempt t 0 toggle bytes) toggle bytes w j u v
-    → is_at u t ≡ true
-    → OutcomeOfSpec u.spec (heard_when_sent (outcome_in (out_attempt t 0 toggle bytes) w))
-out_says t toggle bytes w j u v (DidOut.other d e) at = false_true (sym d ∙ at)
-out_says t toggle bytes w j u v (DidOut.silent d q o e) at = inl (ap heard_when_sent o)
-out_says t toggle bytes w j u v (DidOut.asked d q x o e) at =
-    rw o (law_says u toggle bytes t.max q x.first x.second x.third)
+-- OUT of no bytes with DATA1, which ends a control read
 
--- The IN of its status stage
+-- the stage stays, or a control read is over with it
+abbrev pub StageMoves : State → State → Type 0
+StageMoves s v = (v.stage ≡ s.stage) ⊎ (IsRead v × IsInRead s)
 
-module _ (u : State) (w : Write) (at : u.stage ≡ writing w) where
-  -- it stays in the write till that is over
-  pub record StaysInWrite (v : State) : Type 0 where
-    pub stage : v.stage ≡ writing w
-    pub spec : v.spec ≡ u.spec
-    pub registers : v.registers ≡ u.registers
+-- what an outcome says of the device that was so before the attempt and is so after it
+abbrev pub SaysOut : State → Outcome → State → Type 0
+SaysOut s Ack v = IsRead v × IsInRead s
+SaysOut s Stall v = IsInRead s → ⊥
+SaysOut s o v = Unit {0}
 
-  pub stays_in_write : (o : Outcome) (v : State) → ControlGave u o v → IsNoEnd (heard_as One o)
-      → StaysInWrite v
-  stays_in_write o v (ControlGave.silence k few) n =
-      record { stage = at; spec = refl; registers = refl }
-  stays_in_write o v (ControlGave.a_nak busy) n =
-      record { stage = at; spec = refl; registers = refl }
-  stays_in_write o v (ControlGave.a_stall free h) n = absurd n
-  stays_in_write o v (ControlGave.a_packet free text bytes wanted k m z h) n = cc (sym h ∙ at)
-  stays_in_write o v (ControlGave.a_status free a x h given frame naks) n = cc (sym h ∙ at)
-  stays_in_write o v (ControlGave.a_written free x m st h done is) n = absurd n
+abbrev is_of_read : Stage → Bool
+is_of_read (reading answer wanted known) = true
+is_of_read read = true
+is_of_read g = false
 
-  pub status_waits : (o : Outcome) (v : State) → ControlGave u o v → u.spec.busy ≡ false → (n : ℕ)
-      → waits_with (heard_as One o) n + v.naks ≤ n + u.naks
-  status_waits o v (ControlGave.silence k few) calm n = omega (arith, few)
-  status_waits o v (ControlGave.a_nak busy) calm n = omega (arith, positive u busy calm)
-  status_waits o v (ControlGave.a_stall free h) calm n = omega arith
-  status_waits o v (ControlGave.a_packet free text bytes wanted k m z h) calm n = cc (sym h ∙ at)
-  status_waits o v (ControlGave.a_status free a x h given frame naks) calm n = cc (sym h ∙ at)
-  status_waits o v (ControlGave.a_written free x m st h done is) calm n = omega arith
+in_no_read : (g : Stage) (s : State) → s.stage ≡ g → is_of_read g ≡ false → IsInRead s → ⊥
+in_no_read g s e f (in_stage answer wanted known r) = cc (sym f ∙ ap is_of_read (sym e ∙ r))
+in_no_read g s e f (over r) = cc (sym f ∙ ap is_of_read (sym e ∙ r))
 
-  -- it answers
-  module _ (max : ℕ) where
-    abbrev IsHeard : Reply → Type 0
-    IsHeard r = heard_as One (got max r.0) ≢ Lost
+module _ (max : ℕ) (s : State) where
+  abbrev EndsOut : Outcome → State → Type 0
+  EndsOut o v = OnlyStage s v × StageMoves s v × SaysOut s o v
 
-    fits_nothing : nat_le 0 max ≡ true
-    fits_nothing = grind (arith, nat_tests)
+  ends_row : (g : Stage) → s.stage ≡ g
+      → EndsOut (got max (out_row s g One []).0) (forgotten (out_row s g One []).1)
+  ends_row refused e = (refl, inl refl, in_no_read refused s e refl)
+  ends_row (reading text wanted k) e =
+      let h = in_stage text wanted k e in (refl, inr (refl, h), (refl, h))
+  ends_row read e = (refl, inr (refl, over e), (refl, over e))
+  ends_row (writing w) e = (refl, inl refl, in_no_read (writing w) s e refl)
+  ends_row g e = (refl, inl refl, tt)
 
-    status_by : (done : Bool) → IsHeard (if done then gave u by.Control max One [] whole whole
-        else (heard whole (Some answer.Stall), u))
-    status_by true = rw fits_nothing (λ e. cc e)
-    status_by false = λ e. cc e
+  ends_by : (busy : Bool) → EndsOut (got max (row_of_busy s One [] busy).0)
+      (forgotten (row_of_busy s One [] busy).1)
+  ends_by true = (refl, inl refl, tt)
+  ends_by false = ends_row s.stage refl
 
-    heard_by_busy : (busy : Bool) → IsHeard
-        (if busy then (heard whole (Some answer.Nak), (nak_row u).1)
-        else in_stage_law u u.stage max whole whole)
-    heard_by_busy true = λ e. cc e
-    heard_by_busy false = subst (λ g. IsHeard (in_stage_law u g max whole whole)) (sym at)
-        (status_by (is_done w))
+  pub ends_law : (t1 t2 t3 : Way) → EndsOut (got max (out_law s 0 One [] t1 t2 t3).0)
+      (out_law s 0 One [] t1 t2 t3).1
+  ends_law whole whole whole = ends_by (is_busy s)
+  ends_law whole whole t3 = let x = ends_by (is_busy s) in (x.0, x.1, tt)
+  ends_law t1 t2 t3 = (refl, inl refl, tt)
 
-    pub status_heard : (row : List PortState) → heard_as One
-        (got max (in_law u row 0 max whole whole whole).0) ≢ Lost
-    status_heard row = heard_by_busy (is_busy u)
+  -- one that comes whole is answered
+  pub ends_heard : IsInRead s → (busy : Bool)
+      → heard_when_sent (got max (row_of_busy s One [] busy).0) ≢ Lost
+  ends_heard h true e = cc e
+  ends_heard (in_stage text wanted known h) false e =
+      cc (sym (ap (λ g. heard_when_sent (got max (out_row s g One []).0)) h) ∙ e)
+  ends_heard (over h) false e =
+      cc (sym (ap (λ g. heard_when_sent (got max (out_row s g One []).0)) h) ∙ e)
+
+-- one that stands where another stands is in a control read if the other is
+as_other : (s u : State) → u.stage ≡ s.stage → IsInRead u → IsInRead s
+as_other s u e (in_stage answer wanted known h) = in_stage answer wanted known (sym e ∙ h)
+as_other s u e (over h) = over (sym e ∙ h)
+
+was_in : (s u : State) → StageMoves s u → IsInRead u → IsInRead s
+was_in s u (inl e) h = as_other s u e h
+was_in s u (inr x) h = x.1
+
+pub is_in_read-moves : (s u : State) → StageMoves s u → IsInRead s → IsInRead u
+is_in_read-moves s u (inl e) h = as_other u s (sym e) h
+is_in_read-moves s u (inr x) h = over x.0
+
+pub moves_twice : (s u v : State) → StageMoves s u → StageMoves u v → StageMoves s v
+moves_twice s u v m (inl e) = subst (λ g. (g ≡ s.stage) ⊎ ((g ≡ read) × IsInRead s)) (sym e) m
+moves_twice s u v m (inr x) = inr (x.0, was_in s u m x.1)
+
+pub says_from : (s u v : State) (o : Outcome) → StageMoves s u → SaysOut u o v → SaysOut s o v
+says_from s u v Ack m x = (x.0, was_in s u m x.1)
+says_from s u v Stall m x = λ h. x (is_in_read-moves s u m h)
+says_from s u v o m x = tt
