@@ -128,6 +128,10 @@ explains_set_on A B C t m n old mid new f = explained_on HearsSet (λ t p s h. h
     A B C t m n old mid new f
 
 -- an error that is handed on
+pub failed : {A E : Type 0} {why : E} (r : Result A E) → IsErrAnd r (λ e. e ≡ why) → r ≡ Err why
+failed (Ok x) same = absurd same
+failed (Err e) same = ap (λ e. Err e) same
+
 pub handed_match : {A E : Type 0} (r : Result A E) (P : A → Type 0) (Q : E → Type 0) (why : E)
     → IsErrAnd r (λ e. e ≡ why) → Q why → MatchResult r P Q
 handed_match (Ok x) P Q why same q = absurd same

@@ -16,6 +16,7 @@ use Rattle.usb_enum.proofs.readings.TextLengths.{texts_none}
 use Rattle.usb_enum.proofs.readings.Values.{values_differ-push}
 use Rattle.usb_enum.proofs.courses.LastRequests.{leads_none, leads_went}
 use Rattle.usb_enum.proofs.stops.Reasons.{texts_told}
+use Rattle.usb_enum.proofs.refusals.Refusals.{failed}
 use Rattle.usb_enum.proofs.configurations.read_configurations.Goals as goal
 
 pub loop-index-init : goal.loop-index-init
@@ -63,96 +64,109 @@ loop-index-preserved g c =
       works = λ known none. (c.in_ok-text.ensures.works known) (before.works known none);
     }
 
-pub returns-clause-read : goal.returns-clause-read
-returns-clause-read g c known =
+pub returns : goal.returns
+returns g c =
     let all : c.loop-index.index ≡ c.args.count = omega
     (arith, c.loop-index.auto.index-end, c.loop-index-test.false) in
     record {
-      steps = steps_times _ 255 configuration_bound (c.loop-index.invariant.steps known)
-          (omega (arith, c.loop-index.auto.index-end, c.ranges.count.fits));
-      ends = record {
-        told = c.loop-index.invariant.asked known;
-        so = rw all at (c.loop-index.invariant.learned known);
+      any_bus = search rules;
+      all = (
+        c.loop-index.invariant.read ∙ omega
+            (arith, c.loop-index.auto.index-end, c.loop-index-test.false),
+        c.loop-index.invariant.differ,
+        c.loop-index.invariant.within,
+      );
+      read = λ known. record {
+        steps = steps_times _ 255 configuration_bound (c.loop-index.invariant.steps known)
+            (omega (arith, c.loop-index.auto.index-end, c.ranges.count.fits));
+        ends = record {
+          told = c.loop-index.invariant.asked known;
+          so = rw all at (c.loop-index.invariant.learned known);
+        };
       };
+      few = λ known. texts_ended c.args.target c.loop-index.index _ _
+          (c.loop-index.invariant.counted known);
+      works = search rules;
     }
 
-pub returns-in_err-text-clause-read : goal.returns-in_err-text-clause-read
-returns-in_err-text-clause-read g c known =
+pub returns-in_err-text : goal.returns-in_err-text
+returns-in_err-text g c =
     let before = c.loop-index.invariant in
-    let steps = before.steps known in
-    let text = c.in_err-text.ensures.read known in
-    part_fails _ _ c.from_residual.ensures.1
-    (steps_more _ 255 configuration_bound asking steps text.steps
-    (omega (arith, c.loop-index-test.true, c.ranges.count.fits)))
-    (record {
-      told = texts_told c.args.budget c.loop-index.room c.args.target c.loop-index.texts
-          c.loop-index.index _ _ _ _ before.left before.read (before.asked known)
-          (leads_went steps.went) text.ends.told;
-      so = explains_on _ _ _ _ _ _ _ _ _ (first_refused c.args.target c.args.budget
-          c.loop-index.room c.loop-index.index c.args.count c.loop-index.texts before.left
-          c.loop-index-test.true c.in_err-text.field-0.0)
-          (before.learned known) steps.went text.steps.went text.ends.so;
+    rw (failed c.from_residual.result c.from_residual.ensures.1) (record {
+      any_bus = search rules;
+      all = search rules;
+      read = λ known.
+          let steps = before.steps known in
+          let text = c.in_err-text.ensures.read known in
+          record {
+            steps = steps_more _ 255 configuration_bound asking steps text.steps
+                (omega (arith, c.loop-index-test.true, c.ranges.count.fits));
+            ends = record {
+              told = texts_told c.args.budget c.loop-index.room c.args.target c.loop-index.texts
+                  c.loop-index.index _ _ _ _ before.left before.read (before.asked known)
+                  (leads_went steps.went) text.ends.told;
+              so = explains_on _ _ _ _ _ _ _ _ _ (first_refused c.args.target c.args.budget
+                  c.loop-index.room c.loop-index.index c.args.count c.loop-index.texts before.left
+                  c.loop-index-test.true c.in_err-text.field-0.0) (before.learned known) steps.went
+                  text.steps.went text.ends.so;
+            };
+          };
+      few = λ known. texts_failed c.args.target c.loop-index.index _ _ _ _ c.read_text.result
+          (c.loop-index.invariant.counted known) (c.in_err-text.ensures.read known).steps.went
+          (c.read_text.ensures.count known);
+      works = search rules;
     })
 
-pub returns-then-has_value-clause-read : goal.returns-then-has_value-clause-read
-returns-then-has_value-clause-read g c known =
+pub returns-then-has_value : goal.returns-then-has_value
+returns-then-has_value g c =
     let before = c.loop-index.invariant in
-    let text = c.in_ok-text.ensures.read known in
     let again = rw c.value.ensures at (sym c.has_value.ensures ∙ c.if-has_value.true) in
     record {
-      steps = steps_more _ 255 configuration_bound asking (before.steps known) text.steps
-          (omega (arith, c.loop-index-test.true, c.ranges.count.fits));
-      ends = record {
-        told = inr (repeated _ _ c.loop-index.texts c.in_ok-text.text (leads_none _)
-            (before.asked known) before.read text.ends.told again);
-        so = repeated_refused c.args.target c.args.budget c.loop-index.room c.loop-index.index
-            c.args.count c.loop-index.texts before.left c.loop-index-test.true _ c.in_ok-text.text
-            _ _ _ again (before.learned known) text.steps.went text.ends.so;
-      };
+      any_bus = search rules;
+      all = search rules;
+      read = λ known.
+          let text = c.in_ok-text.ensures.read known in
+          record {
+            steps = steps_more _ 255 configuration_bound asking (before.steps known) text.steps
+                (omega (arith, c.loop-index-test.true, c.ranges.count.fits));
+            ends = record {
+              told = inr (repeated _ _ c.loop-index.texts c.in_ok-text.text (leads_none _)
+                  (before.asked known) before.read text.ends.told again);
+              so = repeated_refused c.args.target c.args.budget c.loop-index.room c.loop-index.index
+                  c.args.count c.loop-index.texts before.left c.loop-index-test.true _
+                  c.in_ok-text.text _ _ _ again (before.learned known) text.steps.went text.ends.so;
+            };
+          };
+      few = λ known. texts_ended c.args.target (c.loop-index.index + 1) _ _ (texts_read_more
+          c.args.target c.loop-index.index _ _ _ _ c.in_ok-text.text
+          (c.loop-index.invariant.counted known) (c.in_ok-text.ensures.read known).steps.went
+          (c.in_ok-text.ensures.count known));
+      works = search rules;
     }
 
-pub returns-in_err-push-clause-read : goal.returns-in_err-push-clause-read
-returns-in_err-push-clause-read g c known =
+pub returns-in_err-push : goal.returns-in_err-push
+returns-in_err-push g c =
     let before = c.loop-index.invariant in
-    let text = c.in_ok-text.ensures.read known in
-    part_fails _ _ c.from_residual-in_err-push.ensures.1 (steps_more _ 255 configuration_bound
-    asking (before.steps known) text.steps (omega (
-      arith,
-      c.loop-index-test.true,
-      c.ranges.count.fits,
-    ))) (record {
-      told = tt;
-      so = fault_explains (λ spec. ⊤) _ (λ spec. first_fault c.args.budget spec c.args.count) Memory
-          (g.B.Bus.world c.args.bus.now) (g.B.Bus.world c.read_text.new.bus) (learns_on _ _
-          (λ spec. ⊤) _ _ _ _ _ (λ spec a b. tt) (before.learned known) text.steps.went
-          text.ends.so);
+    rw (failed c.from_residual-in_err-push.result c.from_residual-in_err-push.ensures.1) (record {
+      any_bus = search rules;
+      all = search rules;
+      read = λ known.
+          let text = c.in_ok-text.ensures.read known in
+          record {
+            steps = steps_more _ 255 configuration_bound asking (before.steps known) text.steps
+                (omega (arith, c.loop-index-test.true, c.ranges.count.fits));
+            ends = record {
+              told = tt;
+              so = fault_explains (λ spec. ⊤) _
+                  (λ spec. first_fault c.args.budget spec c.args.count) Memory
+                  (g.B.Bus.world c.args.bus.now) (g.B.Bus.world c.read_text.new.bus) (learns_on _ _
+                  (λ spec. ⊤) _ _ _ _ _ (λ spec a b. tt) (before.learned known) text.steps.went
+                  text.ends.so);
+            };
+          };
+      few = λ known. texts_ended c.args.target (c.loop-index.index + 1) _ _ (texts_read_more
+          c.args.target c.loop-index.index _ _ _ _ c.in_ok-text.text
+          (c.loop-index.invariant.counted known) (c.in_ok-text.ensures.read known).steps.went
+          (c.in_ok-text.ensures.count known));
+      works = search rules;
     })
-
-pub returns-in_err-text-clause-few : goal.returns-in_err-text-clause-few
-returns-in_err-text-clause-few g c known =
-    texts_failed c.args.target c.loop-index.index _ _ _ _ c.read_text.result
-    (c.loop-index.invariant.counted known) (c.in_err-text.ensures.read known).steps.went
-    (c.read_text.ensures.count known)
-
-pub returns-then-has_value-clause-few : goal.returns-then-has_value-clause-few
-returns-then-has_value-clause-few g c known =
-    texts_ended c.args.target (c.loop-index.index + 1) _ _ (texts_read_more c.args.target
-    c.loop-index.index _ _ _ _ c.in_ok-text.text (c.loop-index.invariant.counted known)
-    (c.in_ok-text.ensures.read known).steps.went (c.in_ok-text.ensures.count known))
-
-pub returns-in_err-push-clause-few : goal.returns-in_err-push-clause-few
-returns-in_err-push-clause-few g c known =
-    texts_ended c.args.target (c.loop-index.index + 1) _ _ (texts_read_more c.args.target
-    c.loop-index.index _ _ _ _ c.in_ok-text.text (c.loop-index.invariant.counted known)
-    (c.in_ok-text.ensures.read known).steps.went (c.in_ok-text.ensures.count known))
-
-pub returns-clause-few : goal.returns-clause-few
-returns-clause-few g c known =
-    texts_ended c.args.target c.loop-index.index _ _ (c.loop-index.invariant.counted known)
-
-pub returns-clause-all : goal.returns-clause-all
-returns-clause-all g c = (
-  c.loop-index.invariant.read ∙ omega (arith, c.loop-index.auto.index-end, c.loop-index-test.false),
-  c.loop-index.invariant.differ,
-  c.loop-index.invariant.within,
-)

@@ -1,3 +1,4 @@
+use Rattle.std.proofs.Common.{rules}
 use Rattle.usb_enum.proofs.stops.PlainStops.{answered_plain}
 use Rattle.usb_enum.specs.{bad_total, Stalled}
 use Rattle.std.proofs.Common.{◌∙◌, ap, refl, sym}
@@ -13,6 +14,7 @@ use Rattle.usb_enum.proofs.stops.Reasons.{read_stop_told, was_read}
 use Rattle.usb_enum.proofs.stops.ReportedFaults.{answered_reported}
 use Rattle.usb_enum.proofs.stops.ToldFailures.{handed_on}
 use Rattle.usb_enum.proofs.courses.Counts.{read_spends}
+use Rattle.usb_enum.proofs.refusals.Refusals.{failed}
 use Rattle.usb_enum.proofs.configurations.total_length.Goals as goal
 
 pub returns-in-Ok-clause-read : goal.returns-in-Ok-clause-read
@@ -43,19 +45,31 @@ returns-in-Ok-clause-read g c known room =
       };
     }
 
-pub returns-in_err-head-clause-read : goal.returns-in_err-head-clause-read
-returns-in_err-head-clause-read g c known room =
+pub returns-in_err-head : goal.returns-in_err-head
+returns-in_err-head g c =
     let old = g.B.Bus.world c.args.bus.now in
     let new = g.B.Bus.world c.get_config.new.bus in
     let answer = c.get_config.ensures in
-    let asked = answer.asked known in
-    let what = answer.what known in
-    part_fails _ _ c.from_residual.ensures.1 (steps_asked
-    (config_given c.args.index) 9 c.requires.max (answer.uses.steps known) asked what
-    (answer.keeps known)) (record {
-      told = read_stop_told Config _ (c.args.index, (9, refl)) c.in_err-head.ensures asked;
-      so = config_refused room c.args.target c.args.index 9 c.get_config.result _ old new
-          c.in_err-head.ensures c.requires.max what (answer.why known);
+    rw (failed c.from_residual.result c.from_residual.ensures.1) (record {
+      any_bus = (
+        read_spends c.args.target.max 9 c.requires.max c.get_config.ensures.uses,
+        answered_reported _ (Stalled Config) _ _ c.get_config.ensures.uses.told.told
+            c.in_err-head.ensures,
+      );
+      fits = answered_plain (Stalled Config) _ _ tt c.in_err-head.ensures;
+      read = λ known room.
+          let asked = answer.asked known in
+          let what = answer.what known in
+          record {
+            steps = steps_asked (config_given c.args.index) 9 c.requires.max
+                (answer.uses.steps known) asked what (answer.keeps known);
+            ends = record {
+              told = read_stop_told Config _ (c.args.index, (9, refl)) c.in_err-head.ensures asked;
+              so = config_refused room c.args.target c.args.index 9 c.get_config.result _ old new
+                  c.in_err-head.ensures c.requires.max what (answer.why known);
+            };
+          };
+      works = search rules;
     })
 
 pub returns-clause-read : goal.returns-clause-read
@@ -79,15 +93,3 @@ returns-clause-read g c known room =
             old new c.in_ok-head.ensures bad what;
       };
     }
-
-pub returns-in_err-head-clause-fits : goal.returns-in_err-head-clause-fits
-returns-in_err-head-clause-fits g c =
-    handed_match _ _ _ _ c.from_residual.ensures.1 (answered_plain (Stalled Config) _ _ tt
-    c.in_err-head.ensures)
-
-pub returns-in_err-head-clause-any_bus : goal.returns-in_err-head-clause-any_bus
-returns-in_err-head-clause-any_bus g c = (
-  read_spends c.args.target.max 9 c.requires.max c.get_config.ensures.uses,
-  handed_on _ _ _ c.from_residual.ensures.1 (answered_reported _ (Stalled Config) _ _
-      c.get_config.ensures.uses.told.told c.in_err-head.ensures),
-)

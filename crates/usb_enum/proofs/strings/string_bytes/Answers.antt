@@ -1,3 +1,4 @@
+use Rattle.std.proofs.Common.{rules}
 use Rattle.std.proofs.Common.{inl, ◌∙◌, Err, None, Some, ap, option_map, sym, take}
 use Rattle.usb_enum.specs.{AtMaximum, HasString, Refuses, given, no_fault, refused}
 use Rattle.usb_enum.proofs.refusals.Refusals.{failure_explains}
@@ -49,35 +50,34 @@ returns-in-None-clause-read g c known =
       };
     }
 
-pub returns-in-Some-clause-read : goal.returns-in-Some-clause-read
-returns-in-Some-clause-read g c known =
+pub returns-in-Some : goal.returns-in-Some
+returns-in-Some g c =
     let old = g.B.Bus.world c.args.bus.now in
     let new = g.B.Bus.world c.get_string.new.bus in
     let string = c.get_string.ensures in
-    let asked = string.asked known in
-    let what = string.what known in
     let some = sym c.stop_of.ensures ∙ c.in-Some.is in
     record {
-      steps = steps_asked (string_given c.args.index) 255 c.requires.max (string.uses.steps known)
-          asked what (string.keeps known);
-      ends = record {
-        told = string_told c.args.target (get_string_descriptor c.args.index c.args.language)
-            c.get_string.result c.in-Err.fault c.in-Some.stop old new c.in-Err.is some asked.stages
-            asked.ends;
-        so = failure_explains _ _ _ _ _ old new what c.requires.max (string.why known)
-            (Refuses c.args.target no_fault c.in-Some.stop) c.in-Err.fault c.in-Err.is
-            (λ spec fails r. never_stop c.args.target c.args.index spec r c.in-Err.fault
-            c.in-Some.stop some (fails (inl r.max)));
-      };
+      any_bus = (
+        read_spends c.args.target.max 255 c.requires.max c.get_string.ensures.uses,
+        stop_reported _ c.in-Err.fault c.in-Some.stop c.in-Err.ensures.uses.told
+            (sym c.stop_of.ensures ∙ c.in-Some.is),
+      );
+      plain = stop_plain c.in-Err.fault c.in-Some.stop (sym c.stop_of.ensures ∙ c.in-Some.is);
+      read = λ known.
+          let asked = string.asked known in
+          let what = string.what known in
+          record {
+            steps = steps_asked (string_given c.args.index) 255 c.requires.max
+                (string.uses.steps known) asked what (string.keeps known);
+            ends = record {
+              told = string_told c.args.target (get_string_descriptor c.args.index c.args.language)
+                  c.get_string.result c.in-Err.fault c.in-Some.stop old new c.in-Err.is some
+                  asked.stages asked.ends;
+              so = failure_explains _ _ _ _ _ old new what c.requires.max (string.why known)
+                  (Refuses c.args.target no_fault c.in-Some.stop) c.in-Err.fault c.in-Err.is (
+                  λ spec fails r. never_stop c.args.target c.args.index spec r c.in-Err.fault
+                  c.in-Some.stop some (fails (inl r.max)));
+            };
+          };
+      works = search rules;
     }
-
-pub returns-in-Some-clause-plain : goal.returns-in-Some-clause-plain
-returns-in-Some-clause-plain g c = stop_plain c.in-Err.fault c.in-Some.stop
-    (sym c.stop_of.ensures ∙ c.in-Some.is)
-
-pub returns-in-Some-clause-any_bus : goal.returns-in-Some-clause-any_bus
-returns-in-Some-clause-any_bus g c = (
-  read_spends c.args.target.max 255 c.requires.max c.get_string.ensures.uses,
-  stop_reported _ c.in-Err.fault c.in-Some.stop c.in-Err.ensures.uses.told
-      (sym c.stop_of.ensures ∙ c.in-Some.is),
-)
