@@ -1,3 +1,4 @@
+use Rattle.std.proofs.Common.{rules}
 use Rattle.usb_enum.specs.{HearsSet}
 use Rattle.std.proofs.Common.{◌≤◌, inl, inr, arith, refl, sym}
 use Rattle.usb_enum.proofs.devices.Frames.{tells_asked}
@@ -12,14 +13,41 @@ use Rattle.usb_enum.proofs.courses.LastRequests.{leads_went}
 use Rattle.usb_enum.proofs.stops.Reasons.{at_start, hub_after}
 use Rattle.usb_enum.proofs.hub.start_hub.Goals as goal
 
-pub returns-clause-facts : goal.returns-clause-facts
-returns-clause-facts g c =
-    let tested : c.status_length.result ≤ c.in-Some.max =
-    omega (arith, c.if-max-status_length.false) in
+pub returns : goal.returns
+returns g c =
+    let tested : c.status_length.result ≤ c.in-Some.max = omega
+    (arith, c.if-max-status_length.false) in
     let fits = rw c.status_length.ensures at tested in
-    can_serve c.args.wide c.args.text.now _ c.in-Some.max c.in_ok-ports.ports
-    c.in-Some.ensures.value c.in_ok-supply.supply fits c.in_ok-ports.ensures.count.0
-    c.in_ok-ports.ensures.count.1 c.in_ok-supply.ensures.said
+    let holds = status_holds c.args.wide c.args.text.now _ c.in-Some.max c.in_ok-ports.ports
+    c.in-Some.ensures.value fits in
+    record {
+      any_bus = search rules;
+      facts = can_serve c.args.wide c.args.text.now _ c.in-Some.max c.in_ok-ports.ports
+          c.in-Some.ensures.value c.in_ok-supply.supply fits c.in_ok-ports.ensures.count.0
+          c.in_ok-ports.ensures.count.1 c.in_ok-supply.ensures.said;
+      part = λ known.
+          let count = c.in_ok-ports.ensures.read known in
+          let supply = c.in_ok-supply.ensures.read known c.args.wide in
+          let power = c.in_ok-power_ports.ensures.part known c.args.wide in
+          record {
+            steps = steps_then (telling _)
+                (steps_as (tells_asked _) (steps_joined asking count.steps supply.steps))
+                power.steps (omega (arith, c.in_ok-ports.ensures.count.0.1));
+            ends = record {
+              told = record {
+                counted = _;
+                count = count.ends.told;
+                asked = _;
+                supply = supply.ends.told;
+                powered = power.ends;
+              };
+              so = hub_learned c.args.wide c.args.target c.args.text.now c.in_ok-ports.ports
+                  c.in_ok-supply.supply _ _ _ _ _ _ holds count.ends.so supply.steps.went
+                  supply.ends.so power.steps.went power.steps.keeps.devices;
+            };
+          };
+      works = search rules;
+    }
 
 pub returns-in_default-clause-part : goal.returns-in_default-clause-part
 returns-in_default-clause-part g c known =
@@ -52,34 +80,6 @@ returns-then-max-status_length-clause-part g c known =
         );
         so = small_explains c.args.wide c.args.text.now c.args.target c.in_ok-ports.ports
             (g.B.Bus.world c.args.bus.now) (g.B.Bus.world c.port_count.new.bus) small count.ends.so;
-      };
-    }
-
-pub returns-clause-part : goal.returns-clause-part
-returns-clause-part g c known =
-    let count = c.in_ok-ports.ensures.read known in
-    let supply = c.in_ok-supply.ensures.read known c.args.wide in
-    let power = c.in_ok-power_ports.ensures.part known c.args.wide in
-    let tested : c.status_length.result ≤ c.in-Some.max =
-    omega (arith, c.if-max-status_length.false) in
-    let fits = rw c.status_length.ensures at tested in
-    let holds = status_holds c.args.wide c.args.text.now _ c.in-Some.max c.in_ok-ports.ports
-    c.in-Some.ensures.value fits in
-    record {
-      steps = steps_then (telling _) (steps_as (tells_asked _)
-          (steps_joined asking count.steps supply.steps)) power.steps
-          (omega (arith, c.in_ok-ports.ensures.count.0.1));
-      ends = record {
-        told = record {
-          counted = _;
-          count = count.ends.told;
-          asked = _;
-          supply = supply.ends.told;
-          powered = power.ends;
-        };
-        so = hub_learned c.args.wide c.args.target c.args.text.now c.in_ok-ports.ports
-            c.in_ok-supply.supply _ _ _ _ _ _ holds count.ends.so supply.steps.went supply.ends.so
-            power.steps.went power.steps.keeps.devices;
       };
     }
 

@@ -11,6 +11,7 @@ use Rattle.usb_enum.proofs.devices.ReachedDevices.{occupied_on}
 use Rattle.usb_enum.proofs.stops.StopReasons.{misses_none, misses_then, stops_then, thrice_missed}
 use Rattle.usb_enum.proofs.courses.LastRequests.{leads_went}
 use Rattle.usb_enum.proofs.stops.Reasons.{at_after, descriptor_after, silent_after}
+use Rattle.usb_enum.proofs.refusals.Refusals.{failed}
 use Rattle.usb_enum.proofs.passes.passes.Goals as goal
 
 pub loop-pass-init : goal.loop-pass-init
@@ -56,44 +57,71 @@ loop-pass-preserved g c =
       works = λ known none. (c.in_ok-device.ensures.works known) (before.works known none);
     }
 
-pub returns-in-Some-clause-part : goal.returns-in-Some-clause-part
-returns-in-Some-clause-part g c known =
-    let steps = c.loop-pass.invariant.steps known in
-    let one = rw c.in-Some.is at (c.in_ok-device.ensures.part known) in
-    let taken = one.ends.so in
-    record {
-      steps = steps_more _ 3 (pass_bound c.args.port) (enumerating _ _) steps one.steps
-          c.loop-pass-test.true;
-      ends = record {
-        told = descriptor_after (leads_went steps.went) one.ends.told;
-        so = record {
-          address = taken.address;
-          pre = taken.pre;
-          takes = takes_after _ _ _ _ _ steps.keeps.within taken.takes;
-          still = taken.still;
-          found = record {
-            found = λ f p is t order. taken.found.found f p is (steps.keeps.within.stays f p is t)
-                (went_regular _ _ _ steps.went order);
-          };
-          reaches = record {
-            reached = λ f p is t order occupied none.
-                let at = steps.keeps.only.at f p is t (went_sound _ _ _ one.steps.went none) in
-                taken.reaches.reached f p is (steps.keeps.within.stays f p is t)
-                (went_in_order _ _ _ steps.went order) (occupied_on p at.spares occupied) none;
+pub returns-in-Some : goal.returns-in-Some
+returns-in-Some g c = record {
+  any_bus = search rules;
+  addressed = rw c.in-Some.is at c.in_ok-device.ensures.addressed;
+  part = λ known.
+      let steps = c.loop-pass.invariant.steps known in
+      let one = rw c.in-Some.is at (c.in_ok-device.ensures.part known) in
+      let taken = one.ends.so in
+      record {
+        steps = steps_more _ 3 (pass_bound c.args.port) (enumerating _ _) steps one.steps
+            c.loop-pass-test.true;
+        ends = record {
+          told = descriptor_after (leads_went steps.went) one.ends.told;
+          so = record {
+            address = taken.address;
+            pre = taken.pre;
+            takes = takes_after _ _ _ _ _ steps.keeps.within taken.takes;
+            still = taken.still;
+            found = record {
+              found = λ f p is t order. taken.found.found f p is (steps.keeps.within.stays f p is t)
+                  (went_regular _ _ _ steps.went order);
+            };
+            reaches = record {
+              reached = λ f p is t order occupied none.
+                  let at = steps.keeps.only.at f p is t (went_sound _ _ _ one.steps.went none) in
+                  taken.reaches.reached f p is (steps.keeps.within.stays f p is t)
+                  (went_in_order _ _ _ steps.went order) (occupied_on p at.spares occupied) none;
+            };
           };
         };
       };
-    }
+  said = λ known.
+      let steps = c.loop-pass.invariant.steps known in
+      let one = c.in_ok-device.ensures.part known in
+      said_then c.args.port c.args.address _ _ _ (said_on c.args.port c.args.address _ _
+      (c.loop-pass.invariant.said known) (leads_went one.steps.went)) (said_after c.args.port
+      c.args.address _ _ _ steps.went steps.keeps.within (c.in_ok-device.ensures.said known));
+  works = search rules;
+}
 
-pub returns-in_err-device-clause-part : goal.returns-in_err-device-clause-part
-returns-in_err-device-clause-part g c known =
-    let steps = c.loop-pass.invariant.steps known in
-    let one = c.in_err-device.ensures.part known in
-    part_fails _ _ c.from_residual.ensures.1 (steps_more _ 3
-    (pass_bound c.args.port) (enumerating _ _) steps one.steps c.loop-pass-test.true) (record {
-      told = at_after _ c.args.port c.args.address _ _ _ (leads_went steps.went) one.ends.told;
-      so = stops_then _ _ _ _ _ steps.went one.steps.went steps.keeps one.steps.keeps
-          (c.loop-pass.invariant.missed known) addressed_fault _ one.ends.so;
+pub returns-in_err-device : goal.returns-in_err-device
+returns-in_err-device g c =
+    rw (failed c.from_residual.result c.from_residual.ensures.1) (record {
+      any_bus = search rules;
+      addressed = search rules;
+      part = λ known.
+          let steps = c.loop-pass.invariant.steps known in
+          let one = c.in_err-device.ensures.part known in
+          record {
+            steps = steps_more _ 3 (pass_bound c.args.port) (enumerating _ _) steps one.steps
+                c.loop-pass-test.true;
+            ends = record {
+              told = at_after _ c.args.port c.args.address _ _ _ (leads_went steps.went)
+                  one.ends.told;
+              so = stops_then _ _ _ _ _ steps.went one.steps.went steps.keeps one.steps.keeps
+                  (c.loop-pass.invariant.missed known) addressed_fault _ one.ends.so;
+            };
+          };
+      said = λ known.
+          let steps = c.loop-pass.invariant.steps known in
+          let one = c.in_err-device.ensures.part known in
+          said_then c.args.port c.args.address _ _ _ (said_on c.args.port c.args.address _ _
+          (c.loop-pass.invariant.said known) (leads_went one.steps.went)) (said_after c.args.port
+          c.args.address _ _ _ steps.went steps.keeps.within (c.in_err-device.ensures.said known));
+      works = search rules;
     })
 
 pub returns-clause-part : goal.returns-clause-part
@@ -118,27 +146,6 @@ returns-clause-part g c known =
     silent (inl none) =
         absurd (omega (arith, none, c.loop-pass-test.false, c.loop-pass.auto._pass-end))
     silent (inr told) = answered told.target told.is told.failed
-
-pub returns-in-Some-clause-addressed : goal.returns-in-Some-clause-addressed
-returns-in-Some-clause-addressed g c = rw c.in-Some.is at c.in_ok-device.ensures.addressed
-
-pub returns-in-Some-clause-said : goal.returns-in-Some-clause-said
-returns-in-Some-clause-said g c known =
-    let steps = c.loop-pass.invariant.steps known in
-    let one = c.in_ok-device.ensures.part known in
-    said_then c.args.port c.args.address _ _ _
-    (said_on c.args.port c.args.address _ _ (c.loop-pass.invariant.said known)
-    (leads_went one.steps.went)) (said_after c.args.port c.args.address _ _ _ steps.went
-    steps.keeps.within (c.in_ok-device.ensures.said known))
-
-pub returns-in_err-device-clause-said : goal.returns-in_err-device-clause-said
-returns-in_err-device-clause-said g c known =
-    let steps = c.loop-pass.invariant.steps known in
-    let one = c.in_err-device.ensures.part known in
-    said_then c.args.port c.args.address _ _ _
-    (said_on c.args.port c.args.address _ _ (c.loop-pass.invariant.said known)
-    (leads_went one.steps.went)) (said_after c.args.port c.args.address _ _ _ steps.went
-    steps.keeps.within (c.in_err-device.ensures.said known))
 
 pub returns-clause-said : goal.returns-clause-said
 returns-clause-said g c known = c.loop-pass.invariant.said known
