@@ -10,7 +10,7 @@ use Rattle.usb_device.specs.{row_of, Location, reach_on, state_on}
 use Rattle.usb_world.specs.{Relation, Attempt, Outcome, is_harmless, IsMade, AttemptAnswerer}
 use Rattle.usb_world.specs.{IsSetup, got, hears_attempt, token_way, payload_way, answer_way, World}
 use Rattle.usb_world.specs.{at_attempt, damage_in, outcome_in, with_attempt, attempt, after, Course}
-use Rattle.usb_world.specs.{here, Was, DidIn, DidOut}
+use Rattle.usb_world.specs.{here, Was, DidIn, DidOut, EachWas}
 use Rattle.usb_tree.specs.{address_of, IsSettled, deep_at}
 use Rattle.usb_world.proofs.Interface.{course_then, due_back, given_by, got_given, holder_in, in_in}
 use Rattle.usb_world.proofs.Interface.{is_state, made_is, made_of, made_unshared, one_answers}
@@ -359,6 +359,15 @@ brings_nothing : (hear : Outcome → HeardOutcome) (a : Attempt)
 brings_nothing hear a empty old new (Ok bytes) x = empty x.last bytes x.tells
 brings_nothing hear a empty old new (Err fault) x = tt
 
+-- what is so of each device, with what else is so of it where a premise is
+each_three : (R S T U : Relation) (P Q : Type 0)
+    → ((j : Location) (s v : State) → R j s v → (P → S j s v) → (Q → T j s v) → U j s v)
+    → (old new : World) → EachWas R old new → (P → EachWas S old new) → (Q → EachWas T old new)
+    → EachWas U old new
+each_three R S T U P Q f old new x y = each_beside (λ j s v. R j s v × (P → S j s v)) T U Q
+    (λ j s v b. f j s v b.0 b.1) old new
+    (each_beside R S (λ j s v. R j s v × (P → S j s v)) P (λ j s v b c. (b, c)) old new x y)
+
 -- IN
 
 module _ (t : Target) (ep : ℕ) (awaited : Toggle) (old new : World) (settled : IsSettled old.roots)
@@ -378,14 +387,6 @@ module _ (t : Target) (ep : ℕ) (awaited : Toggle) (old new : World) (settled :
         trail_answered t ep answer.Stall old new settled x.trail (ap given_by x.tells)
     means_in result x = tt
 
-    abbrev SourceOrControl : Result (List ℕ) TransFault → Relation
-    SourceOrControl result j s v = SourceIn t ep awaited result j s v
-        × (ep ≡ 0 → ControlIn t awaited result j s v)
-
-    abbrev SourceOrControlFailure : Result (List ℕ) TransFault → Relation
-    SourceOrControlFailure result j s v = SourceInFailure t ep awaited result j s v
-        × (ep ≡ 0 → ControlInFailure t awaited result j s v)
-
     pub asks_in : {toggle : Toggle} → toggle ≡ awaited → (result : Result (List ℕ) TransFault)
         → Transacted (heard_as toggle) (in_attempt t ep) old result new
         → IfOk result (λ bytes. length bytes ≤ t.max) → AsksIn t ep awaited old result new
@@ -395,27 +396,24 @@ module _ (t : Target) (ep : ℕ) (awaited : Toggle) (old new : World) (settled :
           heard = x;
           ends = ends_of (heard_as awaited) (in_attempt t ep) old new result x;
           short = short;
-          what = λ single. each_beside (SourceOrControl result) (WriteStatusIn t result)
-              (InLeaves t ep awaited result) ((ep ≡ 0) × (awaited ≡ One))
-              (λ j s v b c. record { control = b.1; write = λ f g. c (f, g); bulk = b.0 })
-              old new (each_beside (SourceIn t ep awaited result) (ControlIn t awaited result)
-              (SourceOrControl result) (ep ≡ 0) (λ j s v b c. (b, c))
-              old new (source_leaves t ep awaited result old new settled x single)
+          what = λ single. each_three (SourceIn t ep awaited result) (ControlIn t awaited result)
+              (WriteStatusIn t result) (InLeaves t ep awaited result) (ep ≡ 0)
+              ((ep ≡ 0) × (awaited ≡ One))
+              (λ j s v b c w. record { control = c; write = λ f g. w (f, g); bulk = b }) old new
+              (source_leaves t ep awaited result old new settled x single)
               (λ z. control_leaves t awaited result old new settled
               (subst (λ k. Transacted (heard_as awaited) (in_attempt t k) old result new) z x)
-              single))
+              single)
               (λ z. write_status_leaves t result old new settled (rw (z.0, z.1) at x) single);
           why = λ u. let e = ended_of result x u.whole in
-              each_beside (SourceOrControlFailure result) (WriteStatusFailure t result)
-              (InFailure t ep awaited result) ((ep ≡ 0) × (awaited ≡ One))
-              (λ j s v b c. record { control = b.1; write = λ f g. c (f, g); bulk = b.0 })
-              old new (each_beside (SourceInFailure t ep awaited result)
-              (ControlInFailure t awaited result) (SourceOrControlFailure result) (ep ≡ 0)
-              (λ j s v b c. (b, c))
-              old new (source_why t ep awaited result old new settled u.few e u.single)
+              each_three (SourceInFailure t ep awaited result) (ControlInFailure t awaited result)
+              (WriteStatusFailure t result) (InFailure t ep awaited result) (ep ≡ 0)
+              ((ep ≡ 0) × (awaited ≡ One))
+              (λ j s v b c w. record { control = c; write = λ f g. w (f, g); bulk = b }) old new
+              (source_why t ep awaited result old new settled u.few e u.single)
               (λ z. control_in_why t awaited result old new settled u.few
               (subst (λ k. TransactionDone (heard_as awaited) (in_attempt t k) old result new) z e)
-              u.single))
+              u.single)
               (λ z. write_status_why t result old new settled u.few (rw (z.0, z.1) at e) u.single);
           who = who_in result x;
           means = means_in result x;
@@ -449,14 +447,6 @@ module _ (t : Target) (ep : ℕ) (toggle : Toggle) (bytes : List ℕ) (old new :
       took t ep toggle bytes answer.Stall old new settled x.trail (ap given_by x.tells)
   means_out result x = tt
 
-  abbrev SinkOrStatus : Result (List ℕ) TransFault → Relation
-  SinkOrStatus result j s v = SinkOut t ep toggle bytes result j s v
-      × (EndsRead ep toggle bytes → ReadStatus t result j s v)
-
-  abbrev SinkOrStatusFailure : Result (List ℕ) TransFault → Relation
-  SinkOrStatusFailure result j s v = SinkOutFailure t ep toggle bytes result j s v
-      × (EndsRead ep toggle bytes → StatusReadFailure t result j s v)
-
   pub sends_out : (result : Result (List ℕ) TransFault)
       → Transacted heard_when_sent (out_attempt t ep toggle bytes) old result new
       → SendsOut t ep toggle bytes old result new
@@ -465,23 +455,21 @@ module _ (t : Target) (ep : ℕ) (toggle : Toggle) (bytes : List ℕ) (old new :
     ends = ends_of heard_when_sent (out_attempt t ep toggle bytes) old new result x;
     nothing = brings_nothing heard_when_sent (out_attempt t ep toggle bytes) sent_empty old new
         result x;
-    what = λ single. each_beside (SinkOrStatus result) (WriteOut t toggle bytes result)
-        (OutLeaves t ep toggle bytes result) (ep ≡ 0)
-        (λ j s v b c. record { control = λ f g h. b.1 (f, g, h); write = c; bulk = b.0 }) old new
-        (each_beside (SinkOut t ep toggle bytes result) (ReadStatus t result)
-        (SinkOrStatus result) (EndsRead ep toggle bytes) (λ j s v b c. (b, c)) old new
+    what = λ single. each_three (SinkOut t ep toggle bytes result) (ReadStatus t result)
+        (WriteOut t toggle bytes result) (OutLeaves t ep toggle bytes result)
+        (EndsRead ep toggle bytes) (ep ≡ 0)
+        (λ j s v b c w. record { control = λ f g h. c (f, g, h); write = w; bulk = b }) old new
         (sink_leaves t ep toggle bytes result old new settled x single)
-        (λ z. status_leaves t result old new settled (status_out result x z) single))
+        (λ z. status_leaves t result old new settled (status_out result x z) single)
         (λ z. write_leaves t toggle bytes result old new settled (rw z at x) single);
     why = λ u. let e = ended_of result x u.whole in
-        each_beside (SinkOrStatusFailure result) (WriteOutFailure t bytes result)
-        (OutFailure t ep toggle bytes result) (ep ≡ 0)
-        (λ j s v b c. record { control = λ f g h. b.1 (f, g, h); write = c; bulk = b.0 }) old new
-        (each_beside (SinkOutFailure t ep toggle bytes result) (StatusReadFailure t result)
-        (SinkOrStatusFailure result) (EndsRead ep toggle bytes) (λ j s v b c. (b, c)) old new
+        each_three (SinkOutFailure t ep toggle bytes result) (StatusReadFailure t result)
+        (WriteOutFailure t bytes result) (OutFailure t ep toggle bytes result)
+        (EndsRead ep toggle bytes) (ep ≡ 0)
+        (λ j s v b c w. record { control = λ f g h. c (f, g, h); write = w; bulk = b }) old new
         (sink_why t ep toggle bytes result old new settled u.few e u.single)
         (λ z. read_status_why t result old new settled u.few
-        (ended_of result (status_out result x z) u.whole) u.single))
+        (ended_of result (status_out result x z) u.whole) u.single)
         (λ z. write_out_why t toggle bytes result old new settled u.few (rw z at e) u.single);
     who = who_out result x;
     means = means_out result x;
