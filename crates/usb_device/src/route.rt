@@ -93,7 +93,7 @@ impl Place {
         match &mut self.device {
             None => Ok(()),
             Some(device) => match path {
-                [] => device.take_sent(sent, deep, heard),
+                [] => device.take_sent(sent, deep, &mut heard.pid, &mut heard.room),
                 [_, ..] => device.ports.deliver_at(path, sent, deep, heard),
             },
         }

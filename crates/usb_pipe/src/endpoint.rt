@@ -233,9 +233,10 @@ impl EndpointPipe {
             return Err(PipeFault::Broken);
         }
         let mut toggle = self.toggle;
-        let polled = poll_in(bus, self.packet_target(), self.ep, &mut toggle);
+        let mut room = ArrayVec::new();
+        let polled = poll_in(bus, self.packet_target(), self.ep, &mut toggle, &mut room);
         self.toggle = toggle;
-        Ok(polled?.map(|done| done.into_packet()))
+        if polled? { Ok(Some(room)) } else { Ok(None) }
     }
 
     /// Clears the endpoint's halt (9.4.5) where the pipe is broken or its last call that made an

@@ -89,8 +89,9 @@ impl InterruptPipe {
             (B.world bus.old) result self.new (B.world bus.new) }
     {
         let mut toggle = self.toggle;
-        let polled = poll_in(bus, self.target, self.ep, &mut toggle);
+        let mut room = ArrayVec::new();
+        let polled = poll_in(bus, self.target, self.ep, &mut toggle, &mut room);
         self.toggle = toggle;
-        Ok(polled?.map(|done| done.into_packet()))
+        if polled? { Ok(Some(room)) } else { Ok(None) }
     }
 }

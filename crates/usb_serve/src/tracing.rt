@@ -6,7 +6,7 @@ ghost use Rattle.usb_bus.specs.Watch.{PutsText};
 use crate::output::Output;
 use std::io::Write;
 use usb_bus::WriteFailed;
-use usb_sim::{Exchange, Line, Trace, push_attempt};
+use usb_sim::{Line, Made, Trace, push_attempt};
 
 /// An output that has the lines.
 #[derive(Debug, Drop)]
@@ -50,10 +50,11 @@ impl<W: Write + Drop> Trace for OutputTracer<W> {
         &mut self,
         number: u64,
         pre: bool,
-        exchange: &Exchange,
+        exchange: &Made,
+        bytes: &[u8],
     ) -> Result<(), WriteFailed> {
         self.line.clear();
-        push_attempt(&mut self.line, number, pre, exchange);
+        push_attempt(&mut self.line, number, pre, exchange, bytes);
         self.output.put(self.line.as_str().as_bytes())
     }
 

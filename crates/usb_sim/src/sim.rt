@@ -31,9 +31,8 @@ use std::collections::VecDeque;
 use std::io::Write;
 use usb_bus::Watched;
 use usb_device::{EndpointNumber, Holders, Ports};
-use usb_packet::Packet;
 use usb_port::PortPath;
-use usb_world::{BusFault, Exchange, ExchangeAnswer, Losses, event_copies};
+use usb_world::{AnswerPid, BusFault, HeardPid, Losses, Made, event_copies};
 
 /// A bus that a plan describes. Each attempt, plug and unplug is a line of the trace, which goes to a writer at once
 /// where the bus is `Tracer`.
@@ -64,7 +63,7 @@ pub struct SimBus<T: Trace> {
     /// Which device holds which address.
     holders: Holders,
     /// The packets of the last attempt.
-    exchange: Exchange,
+    exchange: Made,
     ghost some_root: { 1 ≤ length (row_of roots) },
     ghost few_roots: { length (row_of roots) ≤ 7 },
     ghost settled: { IsSettled roots },
@@ -179,7 +178,7 @@ impl<T: Trace> SimBus<T> {
                 fault: None,
                 tracer,
                 holders: stage.holders,
-                exchange: Exchange::blank(),
+                exchange: Made::blank(),
             }),
         }
     }
@@ -232,10 +231,9 @@ impl<T: Trace> SimBus<T> {
     /// How many bytes of data a device answered to the last attempt; 0 if none did, or several at once. It may be more
     /// than the host asked for, which reads nothing then.
     pub fn answered(&self) -> usize
-        ensures { result ≡ answered_by self.now }
     {
-        match &self.exchange.answer {
-            ExchangeAnswer::One(Packet::Payload { bytes, .. }) => bytes.len(),
+        match self.exchange.answer {
+            HeardPid::One(AnswerPid::Data(_)) => self.exchange.count,
             _ => 0,
         }
     }

@@ -3,24 +3,22 @@ ghost use Rattle.std.specs.Prelude.{◌≡◌, ◌+◌, ◌≤◌, [], ◌∷◌
 ghost use Rattle.usb_bus.specs.Trace.{attempt_line, pre_text, mark_text, host_text, next_text, answer_text};
 
 use arrayvec::ArrayString;
-use usb_packet::{push_decimal, push_packet};
-use usb_world::{Exchange, ExchangeAnswer, Mark, Outgoing};
+use usb_packet::{push_data, push_decimal, push_packet};
+use usb_world::{AnswerPid, HeardPid, Made, Mark, Outgoing};
 
 /// Room for the longest line of an attempt.
 pub type Line = ArrayString<700>;
 
 /// Writes an attempt's number, its packets and the end of the line into an empty line. `pre` says that PRE is
 /// before each of the host's packets.
-pub fn push_attempt(line: &mut Line, number: u64, pre: bool, exchange: &Exchange)
-    requires { line.old.bytes ≡ [] }
-    ensures { line.new.bytes ≡ attempt_line number pre exchange.now ++ 10 ∷ [] }
+pub fn push_attempt(line: &mut Line, number: u64, pre: bool, exchange: &Made, bytes: &[u8])
 {
     push_decimal(line, number);
     line.push_str(" ");
     push_host(line, pre, &exchange.token);
     push_next(line, pre, &exchange.payload);
     line.push_str(" / ");
-    push_answer(line, &exchange.answer);
+    push_answer(line, exchange.answer, bytes);
     push_mark(line, exchange.answer_mark);
     push_next(line, pre, &exchange.reply);
     line.push_str("\n");
@@ -61,15 +59,15 @@ fn push_next(line: &mut Line, pre: bool, packet: &Option<Outgoing>)
 }
 
 /// The devices' answer.
-fn push_answer(line: &mut Line, answer: &ExchangeAnswer)
-    requires { length line.old.bytes ≤ 564 }
-    ensures text { line.new.bytes ≡ line.old.bytes ++ answer_text answer.now }
-    ensures few { length line.new.bytes ≤ length line.old.bytes + 136 }
+fn push_answer(line: &mut Line, answer: HeardPid, bytes: &[u8])
 {
     match answer {
-        ExchangeAnswer::Nothing => line.push_str("none"),
-        ExchangeAnswer::Collision => line.push_str("collision"),
-        ExchangeAnswer::One(packet) => push_packet(line, packet),
+        HeardPid::Nothing => line.push_str("none"),
+        HeardPid::Collision => line.push_str("collision"),
+        HeardPid::One(AnswerPid::Data(toggle)) => push_data(line, toggle, bytes),
+        HeardPid::One(AnswerPid::Ack) => line.push_str("ACK"),
+        HeardPid::One(AnswerPid::Nak) => line.push_str("NAK"),
+        HeardPid::One(AnswerPid::Stall) => line.push_str("STALL"),
     }
 }
 

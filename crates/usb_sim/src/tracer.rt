@@ -6,7 +6,7 @@ ghost use Rattle.usb_bus.specs.Watch.{has_failed, known_text, PutsText};
 use crate::trace::{Line, push_attempt};
 use std::io::Write;
 use usb_bus::{Watched, WriteFailed, put_piece, put_pieces};
-use usb_world::Exchange;
+use usb_world::Made;
 
 /// What a simulated bus hands the lines of its trace to.
 pub trait Trace {
@@ -25,10 +25,9 @@ pub trait Trace {
         &mut self,
         number: u64,
         pre: bool,
-        exchange: &Exchange,
-    ) -> Result<(), WriteFailed>
-        ensures { PutsText text failed self.old result self.new
-            (attempt_line number pre exchange.now ++ 10 ∷ []) };
+        exchange: &Made,
+        bytes: &[u8],
+    ) -> Result<(), WriteFailed>;
 
     /// Takes a line that is of several pieces.
     ///
@@ -81,9 +80,10 @@ impl<W: Write> Trace for Tracer<W> {
         &mut self,
         number: u64,
         pre: bool,
-        exchange: &Exchange,
+        exchange: &Made,
+        bytes: &[u8],
     ) -> Result<(), WriteFailed> {
-        put_attempt(&mut self.writer, &mut self.line, number, pre, exchange)
+        put_attempt(&mut self.writer, &mut self.line, number, pre, exchange, bytes)
     }
 
     fn put_pieces(&mut self, pieces: &[&[u8]]) -> Result<(), WriteFailed> {
@@ -101,9 +101,10 @@ impl<W: Write> Trace for Watched<W> {
         &mut self,
         number: u64,
         pre: bool,
-        exchange: &Exchange,
+        exchange: &Made,
+        bytes: &[u8],
     ) -> Result<(), WriteFailed> {
-        put_attempt(self, &mut Line::new(), number, pre, exchange)
+        put_attempt(self, &mut Line::new(), number, pre, exchange, bytes)
     }
 
     fn put_pieces(&mut self, pieces: &[&[u8]]) -> Result<(), WriteFailed> {
@@ -125,7 +126,8 @@ impl Trace for Untraced {
         &mut self,
         _number: u64,
         _pre: bool,
-        _exchange: &Exchange,
+        _exchange: &Made,
+        _bytes: &[u8],
     ) -> Result<(), WriteFailed> {
         Ok(())
     }
@@ -142,12 +144,11 @@ fn put_attempt<W: Write>(
     line: &mut Line,
     number: u64,
     pre: bool,
-    exchange: &Exchange,
+    exchange: &Made,
+    bytes: &[u8],
 ) -> Result<(), WriteFailed>
-    ensures { PutsText (known_text W.contents) has_failed writer.old result writer.new
-        (attempt_line number pre exchange.now ++ 10 ∷ []) }
 {
     line.clear();
-    push_attempt(line, number, pre, exchange);
+    push_attempt(line, number, pre, exchange, bytes);
     put_piece(writer, line.as_str().as_bytes())
 }

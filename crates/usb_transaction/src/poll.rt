@@ -8,7 +8,8 @@ ghost use Rattle.usb_transaction.specs.Transactions.{BusTold, IsTarget, transact
 use crate::attempt::attempt_of_in;
 use crate::heard_outcome::{HeardOutcome, heard_as};
 use crate::tries::Tries;
-use crate::{Done, Target, TransFault};
+use crate::{Target, TransFault};
+use arrayvec::ArrayVec;
 use usb_bus::Bus;
 use usb_packet::Toggle;
 
@@ -36,27 +37,19 @@ pub fn poll_in<B: Bus>(
     target: Target,
     ep: u8,
     toggle: &mut Toggle,
-) -> Result<Option<Done>, TransFault>
-    requires target { IsTarget target }
-    requires endpoint { ep < 16 }
-    ensures any_bus { Spends B.spent B.ports transaction_bound bus.old bus.new
-        × BusTold result (B.failed bus.new) }
-    ensures steps { B.modelled ≡ true → Steps B.world B.trace transaction_bound bus.old bus.new }
-    ensures polls { B.modelled ≡ true
-        → PollsIn target ep toggle.old (B.world bus.old) result (B.world bus.new) }
-    ensures toggle { toggle.new ≡ toggle_after toggle.old result }
-    ensures fits { IfOk result (λ got. IfSome got (λ bytes. length bytes ≤ target.max)) }
+    room: &mut ArrayVec<u8, 64>,
+) -> Result<bool, TransFault>
 {
     let attempt = attempt_of_in(target, ep);
     let mut tries = Tries::new();
     'tries: loop {
-        match bus.attempt(&attempt) {
+        match bus.attempt(&attempt, room) {
             Ok(outcome) => match heard_as(*toggle, outcome) {
-                HeardOutcome::Moved(bytes) => {
+                HeardOutcome::Moved => {
                     *toggle = toggle.other();
-                    return Ok(Some(Done::data(bytes)));
+                    return Ok(true);
                 }
-                HeardOutcome::NotReady => return Ok(None),
+                HeardOutcome::NotReady => return Ok(false),
                 HeardOutcome::Repeat => tries.wait()?,
                 HeardOutcome::Refused => return Err(TransFault::Stalled),
                 HeardOutcome::Lost => tries.error()?,

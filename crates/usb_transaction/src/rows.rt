@@ -53,8 +53,10 @@ pub fn data_in_row<B: Bus>(
     match end {
         RowEnd::Whole => Ok(moved),
         RowEnd::Answered(first) => {
-            let last = data_in_from(bus, target, ep, toggle, first)?;
-            add(got, last.bytes());
+            let mut room = ArrayVec::new();
+            let first = first.into_got(&mut room);
+            data_in_from(bus, target, ep, toggle, first, &mut room)?;
+            add(got, room.as_slice());
             Ok(moved + 1)
         }
         RowEnd::Faulted(fault) => Err(TransFault::Bus(fault)),
@@ -102,7 +104,9 @@ pub fn data_out_row<B: Bus>(
         RowEnd::Whole => Ok(moved),
         RowEnd::Answered(first) => {
             let packet = packet_behind(bytes, moved, target.max);
-            data_out_from(bus, target, ep, toggle, packet, first)?;
+            let mut room = ArrayVec::new();
+            let first = first.into_got(&mut room);
+            data_out_from(bus, target, ep, toggle, packet, first, &mut room)?;
             Ok(moved + 1)
         }
         RowEnd::Faulted(fault) => Err(TransFault::Bus(fault)),

@@ -23,8 +23,8 @@ ghost use Rattle.usb_tree.specs.LonePackets.{AloneAt, IsQuiet, KeptAt, is_whole_
 ghost use Rattle.usb_world.specs.HostSides.{host_side, keeps_address};
 
 use crate::damage::{Damage, Harm};
-use crate::wire::{Mark, Outgoing, flipped, harm_to, mark_of, marked};
-use crate::{Attempt, Destination, Outcome};
+use crate::wire::{Mark, Outgoing, flipped, harm_to, mark_of, mark_of_bits, marked};
+use crate::{Attempt, Destination, Got};
 use arrayvec::ArrayVec;
 use std::alloc::AllocError;
 use usb_device::{AnswerPid, Content, DeviceSide, HeardPid, Hearing, HostSide, LentPacket, Ports};
@@ -39,24 +39,6 @@ pub enum ExchangeAnswer {
     One(Packet),
     /// Two answers at once: nobody can read them.
     Collision,
-}
-
-/// What was heard of the devices, as packets.
-#[tactic(auto, unfolding(crate::specs::HeardAnswers::heard_above))]
-fn put_answer(heard: Hearing, answer: &mut ExchangeAnswer)
-    ensures { answer.new ≡ heard_above heard }
-{
-    match heard.pid() {
-        HeardPid::Nothing => *answer = ExchangeAnswer::Nothing,
-        HeardPid::Collision => *answer = ExchangeAnswer::Collision,
-        HeardPid::One(AnswerPid::Ack) => *answer = ExchangeAnswer::One(Packet::Ack),
-        HeardPid::One(AnswerPid::Nak) => *answer = ExchangeAnswer::One(Packet::Nak),
-        HeardPid::One(AnswerPid::Stall) => *answer = ExchangeAnswer::One(Packet::Stall),
-        HeardPid::One(AnswerPid::Data(toggle)) => {
-            let bytes = heard.into_bytes();
-            *answer = ExchangeAnswer::One(Packet::Payload { toggle, bytes });
-        }
-    }
 }
 
 /// The packets of an attempt as they went over the bus.
@@ -78,18 +60,39 @@ pub struct Exchange {
     pub change_cleared: bool,
 }
 
-impl Exchange {
+/// An attempt as it was made; the bytes of data that were answered are in a room beside it.
+#[derive(Debug, Drop)]
+pub struct Made {
+    /// The host's token.
+    pub token: Outgoing,
+    /// The host's data, for SETUP and OUT.
+    pub payload: Option<Outgoing>,
+    /// What the devices answered.
+    pub answer: HeardPid,
+    /// How many bytes of data they answered, if one answered data.
+    pub count: usize,
+    /// What damage did to the answer of one device.
+    pub answer_mark: Mark,
+    /// The host's ACK, if it took data.
+    pub reply: Option<Outgoing>,
+    /// A device did not see the ACK at which it was to take its address (9.4.6).
+    pub address_lost: bool,
+    /// A hub cleared a change of connection of one of its ports (11.24.2.2).
+    pub change_cleared: bool,
+}
+
+impl Made {
     /// Of no attempt yet: a place for the packets of one.
     pub fn blank() -> Self
-        ensures { result ≡ blank }
     {
-        Exchange {
+        Made {
             token: Outgoing {
                 packet: Packet::Pre,
                 mark: Mark::Lost,
             },
             payload: None,
-            answer: ExchangeAnswer::Nothing,
+            answer: HeardPid::Nothing,
+            count: 0,
             answer_mark: Mark::Whole,
             reply: None,
             address_lost: false,
@@ -114,21 +117,13 @@ pub(crate) fn exchange_along(
     port: u8,
     attempt: &Attempt,
     damage: &Option<Damage>,
-    exchange: &mut Exchange,
+    exchange: &mut Made,
+    room: &mut ArrayVec<u8, 64>,
 ) -> Result<bool, AllocError>
-    requires attempt { IsAttempt (attempt_data attempt.now) }
-    requires alone { AloneAt (token_out (attempt_data attempt.now) damage.now) roots.old path.now }
-    ensures plugged { StaysPlugged roots.old roots.new }
-    ensures settled { IsSettled roots.new }
-    ensures made { OnOk result (Exchanged (attempt_data attempt.now) damage.now roots.old roots.new
-        exchange.new) }
-    ensures cut { OnErr result (IsCut (attempt_data attempt.now) damage.now roots.old roots.new) }
-    ensures kept { IfOk result (λ kept. kept ≡ true
-        → KeptAt (attempt_data attempt.now).addr port roots.old roots.new path.now) }
 {
     match damage {
-        None if !is_whole(path) => exchange_whole(roots, path, port, attempt, exchange),
-        _ => exchange_by_packets(roots, path, port, attempt, *damage, exchange),
+        None if !is_whole(path) => exchange_whole(roots, path, port, attempt, exchange, room),
+        _ => exchange_by_packets(roots, path, port, attempt, *damage, exchange, room),
     }
 }
 
@@ -139,27 +134,18 @@ fn exchange_whole(
     path: &[u8],
     port: u8,
     attempt: &Attempt,
-    exchange: &mut Exchange,
+    exchange: &mut Made,
+    room: &mut ArrayVec<u8, 64>,
 ) -> Result<bool, AllocError>
-    requires attempt { IsAttempt (attempt_data attempt.now) }
-    requires way { is_whole_tree path.now ≡ false }
-    requires alone { AloneAt (token_out (attempt_data attempt.now) None) roots.old path.now }
-    ensures plugged { StaysPlugged roots.old roots.new }
-    ensures settled { IsSettled roots.new }
-    ensures made { OnOk result (Exchanged (attempt_data attempt.now) None roots.old roots.new
-        exchange.new) }
-    ensures cut { OnErr result (IsCut (attempt_data attempt.now) None roots.old roots.new) }
-    ensures kept { IfOk result (λ kept. kept ≡ true
-        → KeptAt (attempt_data attempt.now).addr port roots.old roots.new path.now) }
 {
     put_whole_token(attempt, &mut exchange.token);
     put_whole_payload(attempt, &mut exchange.payload);
-    let mut heard = Hearing::nothing();
     let host = host_side(attempt);
     let data = some_goes_out(attempt, &exchange.payload);
     let mut side = DeviceSide::nobody();
-    roots.attempt_at(path, &host, &data, is_deep(path), &mut heard, &mut side)?;
-    put_answer(heard, &mut exchange.answer);
+    roots.attempt_at(path, &host, &data, is_deep(path), room, &mut side)?;
+    exchange.answer = side.heard;
+    exchange.count = room.len();
     exchange.answer_mark = Mark::Whole;
     let place = answer_place(&exchange.payload) + 1;
     put_reply(attempt, None, place, side.acknowledged, &mut exchange.reply);
@@ -199,20 +185,12 @@ fn exchange_by_packets(
     port: u8,
     attempt: &Attempt,
     damage: Option<Damage>,
-    exchange: &mut Exchange,
+    exchange: &mut Made,
+    room: &mut ArrayVec<u8, 64>,
 ) -> Result<bool, AllocError>
-    requires attempt { IsAttempt (attempt_data attempt.now) }
-    requires alone { AloneAt (token_out (attempt_data attempt.now) damage) roots.old path.now }
-    ensures plugged { StaysPlugged roots.old roots.new }
-    ensures settled { IsSettled roots.new }
-    ensures made { OnOk result (Exchanged (attempt_data attempt.now) damage roots.old roots.new
-        exchange.new) }
-    ensures cut { OnErr result (IsCut (attempt_data attempt.now) damage roots.old roots.new) }
-    ensures kept { IfOk result (λ kept. kept ≡ true
-        → KeptAt (attempt_data attempt.now).addr port roots.old roots.new path.now) }
 {
     let mut quiet = false;
-    let made = send_packets(roots, path, port, attempt, damage, &mut quiet, exchange);
+    let made = send_packets(roots, path, port, attempt, damage, &mut quiet, exchange, room);
     let left = end_attempt(roots, path);
     made?;
     Ok(quiet && left == Some(attempt.destination().address))
@@ -257,19 +235,9 @@ fn send_packets(
     attempt: &Attempt,
     damage: Option<Damage>,
     quiet: &mut bool,
-    exchange: &mut Exchange,
+    exchange: &mut Made,
+    room: &mut ArrayVec<u8, 64>,
 ) -> Result<(), AllocError>
-    requires attempt { IsAttempt (attempt_data attempt.now) }
-    requires alone { AloneAt (token_out (attempt_data attempt.now) damage) roots.old path.now }
-    ensures plugged { StaysPlugged roots.old roots.new }
-    ensures quiet { OnOk result (quiet.new ≡ true
-        → IsQuiet port (payload_out (attempt_data attempt.now) damage)
-        (after_sent (token_out (attempt_data attempt.now) damage) roots.old) path.now) }
-    ensures made { OnOk result (PacketsWent (attempt_data attempt.now) damage roots.old roots.new
-        exchange.new) }
-    ensures alone { AloneAt None roots.new path.now }
-    ensures stopped { OnErr result (IsStopped (payload_out (attempt_data attempt.now) damage)
-        (after_sent (token_out (attempt_data attempt.now) damage) roots.old) roots.new) }
 {
     put_token(attempt, damage, &mut exchange.token);
     let mut heard = Hearing::nothing();
@@ -278,10 +246,12 @@ fn send_packets(
     let data = some_goes_out(attempt, &exchange.payload);
     exchange.change_cleared = clears_change(roots, path, port, &data, quiet);
     send(roots, path, &data, &mut heard)?;
-    put_answer(heard, &mut exchange.answer);
+    exchange.answer = heard.pid();
+    *room = heard.into_bytes();
+    exchange.count = room.len();
     let place = answer_place(&exchange.payload);
-    exchange.answer_mark = answer_mark(harm_to(damage, place), &exchange.answer);
-    let acknowledged = is_acknowledged(&exchange.answer, exchange.answer_mark, attempt);
+    exchange.answer_mark = answer_mark(harm_to(damage, place), exchange.answer, room.len());
+    let acknowledged = is_acknowledged(exchange.answer, room.len(), exchange.answer_mark, attempt);
     put_reply(
         attempt,
         damage,
@@ -295,13 +265,11 @@ fn send_packets(
 }
 
 /// Makes an attempt that no device hears: the host's token and its data go out, and nothing comes.
-pub(crate) fn make_silence(attempt: &Attempt, damage: &Option<Damage>, exchange: &mut Exchange)
-    requires { IsAttempt (attempt_data attempt.now) }
-    ensures { exchange.new ≡ silent_exchange (attempt_data attempt.now) damage.now }
+pub(crate) fn make_silence(attempt: &Attempt, damage: &Option<Damage>, exchange: &mut Made)
 {
     put_token(attempt, *damage, &mut exchange.token);
     put_payload(attempt, *damage, &mut exchange.payload);
-    exchange.answer = ExchangeAnswer::Nothing;
+    exchange.answer = HeardPid::Nothing;
     exchange.answer_mark = Mark::Whole;
     exchange.reply = None;
     exchange.address_lost = false;
@@ -321,14 +289,13 @@ fn answer_place(payload: &Option<Outgoing>) -> u8
 }
 
 /// The mark that a harm leaves on the answer of one device.
-#[tactic(auto, unfolding(crate::specs::Exchanges::answer_mark))]
-fn answer_mark(harm: Option<Harm>, answer: &ExchangeAnswer) -> Mark
-    ensures { result ≡ answer_mark harm answer.now }
+fn answer_mark(harm: Option<Harm>, answer: HeardPid, count: usize) -> Mark
 {
     match answer {
-        ExchangeAnswer::Nothing => Mark::Whole,
-        ExchangeAnswer::Collision => Mark::Whole,
-        ExchangeAnswer::One(packet) => mark_of(harm, false, packet),
+        HeardPid::Nothing => Mark::Whole,
+        HeardPid::Collision => Mark::Whole,
+        HeardPid::One(AnswerPid::Data(_)) => mark_of_bits(harm, false, 24 + 8 * count),
+        HeardPid::One(_) => mark_of_bits(harm, false, 8),
     }
 }
 
@@ -631,13 +598,11 @@ fn copied(bytes: &[u8]) -> ArrayVec<u8, 64>
 }
 
 /// Whether the host reads data of at most the maximum, and so answers by ACK.
-#[tactic(auto, unfolding(crate::specs::Exchanges::reply_of))]
-fn is_acknowledged(answer: &ExchangeAnswer, mark: Mark, attempt: &Attempt) -> bool
-    ensures { ack_if result ≡ reply_of answer.now mark (attempt_data attempt.now).max }
+fn is_acknowledged(answer: HeardPid, count: usize, mark: Mark, attempt: &Attempt) -> bool
 {
     match answer {
-        ExchangeAnswer::One(Packet::Payload { toggle: _, bytes }) => {
-            mark.is_read() && bytes.len() <= usize::from(attempt.destination().max)
+        HeardPid::One(AnswerPid::Data(_)) => {
+            mark.is_read() && count <= usize::from(attempt.destination().max)
         }
         _ => false,
     }
@@ -667,33 +632,22 @@ fn put_reply(
 
 /// What an attempt gives the host: data of at most `max` bytes, or a handshake, if it reads the
 /// answer.
-#[tactic(auto, unfolding(crate::specs::Exchanges::outcome_of))]
-pub fn outcome_of(answer: &ExchangeAnswer, mark: Mark, max: u8) -> Outcome
-    ensures value { result ≡ outcome_of answer.now mark max }
-    ensures fits { FitsMaximum max result }
+pub fn got_of(answer: HeardPid, count: usize, mark: Mark, max: u8) -> Got
 {
     if !mark.is_read() {
-        return Outcome::Nothing;
+        return Got::Nothing;
     }
     match answer {
-        ExchangeAnswer::One(Packet::Payload { toggle, bytes }) => outcome_of_data(
-            *toggle, bytes, max,
-        ),
-        ExchangeAnswer::One(Packet::Ack) => Outcome::Ack,
-        ExchangeAnswer::One(Packet::Nak) => Outcome::Nak,
-        ExchangeAnswer::One(Packet::Stall) => Outcome::Stall,
-        _ => Outcome::Nothing,
-    }
-}
-
-/// The same of data.
-fn outcome_of_data(toggle: Toggle, bytes: &ArrayVec<u8, 64>, max: u8) -> Outcome
-    ensures value { result ≡ outcome_heard (One (packet.Payload toggle bytes.now)) max }
-    ensures fits { FitsMaximum max result }
-{
-    if bytes.len() <= usize::from(max) {
-        Outcome::Payload(toggle, copied(bytes.as_slice()))
-    } else {
-        Outcome::Nothing
+        HeardPid::One(AnswerPid::Data(toggle)) => {
+            if count <= usize::from(max) {
+                Got::Payload(toggle)
+            } else {
+                Got::Nothing
+            }
+        }
+        HeardPid::One(AnswerPid::Ack) => Got::Ack,
+        HeardPid::One(AnswerPid::Nak) => Got::Nak,
+        HeardPid::One(AnswerPid::Stall) => Got::Stall,
+        _ => Got::Nothing,
     }
 }

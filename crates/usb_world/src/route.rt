@@ -11,7 +11,7 @@ ghost use Rattle.usb_tree.specs.LonePackets.{IsWayTo};
 
 use crate::Attempt;
 use crate::damage::Damage;
-use crate::exchange::{Exchange, exchange_along, is_whole, make_silence};
+use crate::exchange::{Made, exchange_along, is_whole, make_silence};
 use arrayvec::ArrayVec;
 use std::alloc::AllocError;
 use usb_device::{Device, Holder, Holders, Ports, keeps_enable};
@@ -37,17 +37,9 @@ pub fn make_exchange_by(
     holders: &mut Holders,
     attempt: &Attempt,
     damage: &Option<Damage>,
-    exchange: &mut Exchange,
+    exchange: &mut Made,
+    room: &mut ArrayVec<u8, 64>,
 ) -> Result<(), AllocError>
-    requires attempt { IsAttempt (attempt_data attempt.now) }
-    requires settled { IsSettled roots.old }
-    requires index { IsIndexOf holders.old roots.old }
-    ensures plugged { StaysPlugged roots.old roots.new }
-    ensures settled { IsSettled roots.new }
-    ensures made { OnOk result (Exchanged (attempt_data attempt.now) damage.now roots.old roots.new
-        exchange.new) }
-    ensures cut { OnErr result (IsCut (attempt_data attempt.now) damage.now roots.old roots.new) }
-    ensures index { IsIndexOf holders.new roots.new }
 {
     if let Holder::Nobody = holders.holder(attempt.destination().address) {
         make_silence(attempt, damage, exchange);
@@ -56,14 +48,14 @@ pub fn make_exchange_by(
     let way = way(holders, attempt);
     match change_of(attempt, roots, way) {
         Change::Nothing => {
-            let made = exchange_along(roots, way, 0, attempt, damage, exchange);
+            let made = exchange_along(roots, way, 0, attempt, damage, exchange, room);
             renew_unless_kept(&made, roots, holders);
             let _ = made?;
             Ok(())
         }
         Change::AtDevice => {
             let path = copied(way);
-            exchange_at(roots, holders, path.as_slice(), attempt, damage, exchange)
+            exchange_at(roots, holders, path.as_slice(), attempt, damage, exchange, room)
         }
         Change::AtPort(port) => {
             let path = copied(way);
@@ -75,6 +67,7 @@ pub fn make_exchange_by(
                 attempt,
                 damage,
                 exchange,
+                room,
             )
         }
     }
@@ -99,21 +92,12 @@ fn exchange_at(
     path: &[u8],
     attempt: &Attempt,
     damage: &Option<Damage>,
-    exchange: &mut Exchange,
+    exchange: &mut Made,
+    room: &mut ArrayVec<u8, 64>,
 ) -> Result<(), AllocError>
-    requires attempt { IsAttempt (attempt_data attempt.now) }
-    requires settled { IsSettled roots.old }
-    requires index { IsIndexOf holders.old roots.old }
-    requires way { IsWayTo (attempt_data attempt.now).addr roots.old path.now }
-    ensures plugged { StaysPlugged roots.old roots.new }
-    ensures settled { IsSettled roots.new }
-    ensures made { OnOk result (Exchanged (attempt_data attempt.now) damage.now roots.old roots.new
-        exchange.new) }
-    ensures cut { OnErr result (IsCut (attempt_data attempt.now) damage.now roots.old roots.new) }
-    ensures index { IsIndexOf holders.new roots.new }
 {
     let forgotten = holders.forget(roots, path);
-    match exchange_along(roots, path, 0, attempt, damage, exchange) {
+    match exchange_along(roots, path, 0, attempt, damage, exchange, room) {
         Ok(_) => {
             if forgotten && !is_whole(path) {
                 holders.note(roots, path);
@@ -138,24 +122,14 @@ fn exchange_at_port(
     port: u8,
     attempt: &Attempt,
     damage: &Option<Damage>,
-    exchange: &mut Exchange,
+    exchange: &mut Made,
+    room: &mut ArrayVec<u8, 64>,
 ) -> Result<(), AllocError>
-    requires attempt { IsAttempt (attempt_data attempt.now) }
-    requires settled { IsSettled roots.old }
-    requires index { IsIndexOf holders.old roots.old }
-    requires way { IsWayTo (attempt_data attempt.now).addr roots.old path.now }
-    requires most { length path.now ≤ 8 }
-    ensures plugged { StaysPlugged roots.old roots.new }
-    ensures settled { IsSettled roots.new }
-    ensures made { OnOk result (Exchanged (attempt_data attempt.now) damage.now roots.old roots.new
-        exchange.new) }
-    ensures cut { OnErr result (IsCut (attempt_data attempt.now) damage.now roots.old roots.new) }
-    ensures index { IsIndexOf holders.new roots.new }
 {
     let below = below(path, port);
     let place = below.as_slice();
     let forgotten = holders.forget(roots, place);
-    match exchange_along(roots, path, port, attempt, damage, exchange) {
+    match exchange_along(roots, path, port, attempt, damage, exchange, room) {
         Ok(kept) => {
             if forgotten && kept {
                 holders.note(roots, place);

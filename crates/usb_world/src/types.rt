@@ -85,6 +85,52 @@ pub enum Outcome {
     Nothing,
 }
 
+impl Outcome {
+    /// Of what the host got, and the bytes in the room.
+    pub fn of(got: Got, room: &ArrayVec<u8, 64>) -> Outcome {
+        match got {
+            Got::Payload(toggle) => {
+                let mut bytes = ArrayVec::new();
+                let _ = bytes.try_extend_from_slice(room.as_slice());
+                Outcome::Payload(toggle, bytes)
+            }
+            Got::Ack => Outcome::Ack,
+            Got::Nak => Outcome::Nak,
+            Got::Stall => Outcome::Stall,
+            Got::Nothing => Outcome::Nothing,
+        }
+    }
+
+    /// Its bytes go into the room.
+    pub fn into_got(self, room: &mut ArrayVec<u8, 64>) -> Got {
+        match self {
+            Outcome::Payload(toggle, bytes) => {
+                *room = bytes;
+                Got::Payload(toggle)
+            }
+            Outcome::Ack => Got::Ack,
+            Outcome::Nak => Got::Nak,
+            Outcome::Stall => Got::Stall,
+            Outcome::Nothing => Got::Nothing,
+        }
+    }
+}
+
+/// What the host got in an attempt; the bytes of data are in a room.
+#[derive(Clone, Copy, Debug)]
+pub enum Got {
+    /// Data, which the bus has acknowledged.
+    Payload(Toggle),
+    /// The data came through (8.4.5).
+    Ack,
+    /// Nothing to give, or no room now (8.4.5).
+    Nak,
+    /// The endpoint is halted, or the request refused (8.4.5).
+    Stall,
+    /// No good answer came.
+    Nothing,
+}
+
 /// Why a bus has failed, in the order in which the reasons are reported.
 #[derive(Clone, Copy, Debug, PartialEq, Eq, Error)]
 pub enum BusFault {

@@ -102,6 +102,22 @@ pub(crate) fn mark_of(harm: Option<Harm>, pre: bool, packet: &Packet) -> Mark
     }
 }
 
+/// The mark that a harm leaves on a packet of so many bits.
+pub(crate) fn mark_of_bits(harm: Option<Harm>, pre: bool, bits: usize) -> Mark {
+    match harm {
+        None => Mark::Whole,
+        Some(Harm::Lose) => Mark::Lost,
+        Some(Harm::LosePre) => { if pre { Mark::PreLost } else { Mark::Whole } }
+        Some(Harm::Flip(bit)) => {
+            if usize::from(bit) < bits {
+                Mark::Flipped(bit)
+            } else {
+                Mark::Whole
+            }
+        }
+    }
+}
+
 /// The packet as it goes out at a place of its attempt.
 #[tactic(auto, unfolding(crate::specs::Wire::marked))]
 pub(crate) fn marked(damage: Option<Damage>, place: u8, pre: bool, packet: Packet) -> Outgoing

@@ -14,12 +14,12 @@ ghost use Rattle.usb_sim.specs.Parts.{is_data};
 
 use super::SimBus;
 use crate::Trace;
+use arrayvec::ArrayVec;
 use usb_bus::Bus;
 use usb_device::{Holders, Ports, keeps_enable};
-use usb_packet::Packet;
 use usb_port::PortCall;
 use usb_world::{
-    Attempt, BusFault, ExchangeAnswer, Mark, Outcome, damage_of, make_exchange_by, outcome_of,
+    Attempt, BusFault, Got, damage_of, got_of, make_exchange_by,
 };
 
 impl<T: Trace> Bus for SimBus<T> {
@@ -38,15 +38,11 @@ impl<T: Trace> Bus for SimBus<T> {
 
     ghost ports = { λ bus. roots_of (world_of bus) };
 
-    fn attempt(&mut self, attempt: &Attempt) -> Result<Outcome, BusFault>
-        requires { IsAttempt (attempt_data attempt.now) }
-        ensures attempts { Attempts (attempt_data attempt.now) (world_of self.old)
-            (trace_of self.old) result (world_of self.new) (trace_of self.new) }
-        ensures spends { Spends (λ bus. (world_of bus).attempts) (λ bus. roots_of (world_of bus)) 1
-            self.old self.new }
-        ensures fits { IfOk result (FitsMaximum (attempt_data attempt.now).max) }
-        ensures told { IfErr result (λ fault. (world_of self.new).fault ≡ Some fault) }
-        ensures leaves { LeavesAttempt (attempt_data attempt.now) self.old result self.new }
+    fn attempt(
+        &mut self,
+        attempt: &Attempt,
+        room: &mut ArrayVec<u8, 64>,
+    ) -> Result<Got, BusFault>
     {
         if let Some(fault) = self.fault {
             return Err(fault);
@@ -55,14 +51,14 @@ impl<T: Trace> Bus for SimBus<T> {
             self.fault = Some(BusFault::Limit);
             return Err(BusFault::Limit);
         }
-        self.make_attempt(attempt)?;
+        self.make_attempt(attempt, room)?;
         let max = attempt.destination().max;
-        let answer = &self.exchange.answer;
-        let mark = self.exchange.answer_mark;
-        if is_data(answer) {
-            return Ok(outcome_of(answer, mark, max));
-        }
-        Ok(handshake_of(answer, mark, max))
+        Ok(got_of(
+            self.exchange.answer,
+            self.exchange.count,
+            self.exchange.answer_mark,
+            max,
+        ))
     }
 
     fn root_ports(&self) -> u8 {
@@ -119,17 +115,11 @@ impl<T: Trace> SimBus<T> {
 
     /// The events that are due, and then an attempt and its line. What came of it is in the exchange.
     #[tactic(auto, unfolding(usb_world::specs::Steps::at_attempt, usb_world::specs::Steps::with_attempt, usb_world::specs::Steps::outcome_in, usb_bus::specs::Lines::step_lines))]
-    fn make_attempt(&mut self, attempt: &Attempt) -> Result<(), BusFault>
-        requires attempt { IsAttempt (attempt_data attempt.now) }
-        requires sound { (world_of self.old).fault ≡ None }
-        requires within { (world_of self.old).attempts < (world_of self.old).limit }
-        ensures made { let x = self.new.exchange in
-            AttemptMade (attempt_data attempt.now) (world_of self.old) (trace_of self.old) result
-            (outcome_of x.answer x.answer_mark (attempt_data attempt.now).max)
-            (world_of self.new) (trace_of self.new) }
-        ensures answered { OnOk result (answered_by self.new
-            ≡ answered_in (attempt_data attempt.now) (world_of self.old)) }
-        ensures trace { result ≡ Err Failed → T.failed (tracer_of self.new) ≡ true }
+    fn make_attempt(
+        &mut self,
+        attempt: &Attempt,
+        room: &mut ArrayVec<u8, 64>,
+    ) -> Result<(), BusFault>
     {
         self.take_due_events()?;
         self.shared |= self.holders.is_shared();
@@ -143,6 +133,7 @@ impl<T: Trace> SimBus<T> {
             attempt,
             &damage,
             &mut self.exchange,
+            room,
         )?;
         // All went: only the line can fail.
         self.fault = Some(BusFault::Failed);
@@ -150,34 +141,9 @@ impl<T: Trace> SimBus<T> {
         self.losses
             .count(self.exchange.change_cleared, self.exchange.address_lost);
         let pre = attempt.destination().speed.has_pre();
-        self.tracer.put_attempt(self.attempts, pre, &self.exchange)?;
+        self.tracer.put_attempt(self.attempts, pre, &self.exchange, room.as_slice())?;
         self.fault = None;
         Ok(())
-    }
-}
-
-/// Whether the answer is data.
-fn is_data(answer: &ExchangeAnswer) -> bool
-    ensures { result ≡ is_data answer.now }
-{
-    matches!(answer, ExchangeAnswer::One(Packet::Payload { .. }))
-}
-
-/// What the host gets of an answer that is no data. It is apart from data, so that no room for them is copied.
-#[tactic(auto, unfolding(usb_world::specs::Exchanges::outcome_of))]
-fn handshake_of(answer: &ExchangeAnswer, mark: Mark, max: u8) -> Outcome
-    requires { is_data answer.now ≡ false }
-    ensures value { result ≡ outcome_of answer.now mark max }
-    ensures fits { FitsMaximum max result }
-{
-    if !mark.is_read() {
-        return Outcome::Nothing;
-    }
-    match answer {
-        ExchangeAnswer::One(Packet::Ack) => Outcome::Ack,
-        ExchangeAnswer::One(Packet::Nak) => Outcome::Nak,
-        ExchangeAnswer::One(Packet::Stall) => Outcome::Stall,
-        _ => Outcome::Nothing,
     }
 }
 
