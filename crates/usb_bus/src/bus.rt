@@ -55,7 +55,7 @@ pub trait Bus {
     /// Every later attempt reports the same fault again.
     fn attempt(
         &mut self,
-        attempt: &Attempt,
+        attempt: &Attempt<'_>,
         room: &mut ArrayVec<u8, 64>,
     ) -> Result<Got, BusFault>;
 

@@ -56,14 +56,13 @@ pub(crate) fn add_full(
 }
 
 /// OUT with a packet of a row.
-pub(crate) fn out_attempt(to: Destination, toggle: Toggle, packet: &[u8]) -> Attempt
-    requires endpoint { IsDestination to }
-    requires short { length packet.now ≤ to.max }
-    ensures { attempt_data result ≡ out_packet to toggle packet.now }
+pub(crate) fn out_attempt<'a>(to: Destination, toggle: Toggle, packet: &'a [u8]) -> Attempt<'a>
 {
-    let mut bytes = ArrayVec::new();
-    bytes.try_extend_from_slice(packet).unwrap();
-    Attempt::Out { to, toggle, bytes }
+    Attempt::Out {
+        to,
+        toggle,
+        bytes: packet,
+    }
 }
 
 pub(crate) fn is_ack(outcome: Got) -> bool

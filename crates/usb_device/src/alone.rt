@@ -10,24 +10,24 @@ use crate::answer::AnswerPid;
 use crate::device::Device;
 use crate::effect::Effect;
 use crate::hearing::HeardPid;
-use crate::lent_packet::LentPacket;
 use crate::ports::{Place, Ports};
 use arrayvec::ArrayVec;
 use std::alloc::AllocError;
-use usb_packet::TokenKind;
+use usb_packet::{Toggle, TokenKind};
 
 /// What the host has to say in an attempt, of which nothing is damaged.
 ///
 /// `low` says that its token and its ACK are at low speed, `pre` that PRE goes before each of them.
 /// It takes data of at most `max` bytes, and then answers by its ACK. Its own data are beside.
 #[derive(Clone, Copy, Debug)]
-pub struct HostSide {
+pub struct HostSide<'a> {
     pub low: bool,
     pub pre: bool,
     pub kind: TokenKind,
     pub addr: u8,
     pub ep: u8,
     pub max: u8,
+    pub data: Option<(Toggle, &'a [u8])>,
 }
 
 /// What became of an attempt at a device.
@@ -59,6 +59,14 @@ impl DeviceSide {
     }
 }
 
+/// What is heard where one more answer comes.
+fn joined(heard: HeardPid, pid: AnswerPid) -> HeardPid {
+    match heard {
+        HeardPid::Nothing => HeardPid::One(pid),
+        HeardPid::One(_) | HeardPid::Collision => HeardPid::Collision,
+    }
+}
+
 /// What is heard of one answer.
 fn heard_pid(pid: Option<AnswerPid>) -> HeardPid
     ensures { result ≡ heard_pid pid }
@@ -78,7 +86,7 @@ fn is_taken(heard: HeardPid, room: &ArrayVec<u8, 64>, max: u8) -> bool
     }
 }
 
-impl HostSide {
+impl<'a> HostSide<'a> {
     /// Whether a device of a speed hears its token and its ACK; it is `deep` on a port of a hub.
     fn is_heard(&self, deep: bool, low: bool) -> bool
         ensures { result ≡ is_heard (token_sent self.now) deep low }
@@ -96,7 +104,7 @@ impl Device {
     #[tactic(auto, unfolding(crate::specs::Delivery::answer_of), using(crate::proofs::AloneAttempts::calm))]
     fn take_token(
         &mut self,
-        attempt: &HostSide,
+        attempt: &HostSide<'_>,
         deep: bool,
         room: &mut ArrayVec<u8, 64>,
         side: &mut DeviceSide,
@@ -119,27 +127,29 @@ impl Device {
     /// The host's data, if it sends some; what the device asks of its ports is reported.
     fn take_data(
         &mut self,
-        payload: &Option<LentPacket<'_>>,
+        attempt: &HostSide<'_>,
         deep: bool,
-        room: &mut ArrayVec<u8, 64>,
         side: &mut DeviceSide,
     ) -> Result<(), AllocError>
     {
-        match payload {
-            None => {
-                side.effect = Effect::Leaves;
+        side.effect = Effect::Leaves;
+        match attempt.data {
+            None => Ok(()),
+            Some((toggle, bytes)) => {
+                if attempt.is_heard(deep, self.is_low()) {
+                    side.effect = self.own.asks_data(toggle, bytes);
+                    if let Some(pid) = self.take_payload(toggle, bytes)? {
+                        side.heard = joined(side.heard, pid);
+                    }
+                }
                 Ok(())
-            }
-            Some(sent) => {
-                side.effect = self.effect(sent, deep);
-                self.take_sent(sent, deep, &mut side.heard, room)
             }
         }
     }
 
     /// The host's ACK.
     #[tactic(auto, unfolding(crate::specs::Delivery::answer_of, crate::specs::Rows::received), using(crate::proofs::AloneAttempts::calm))]
-    fn take_ack(&mut self, attempt: &HostSide, deep: bool)
+    fn take_ack(&mut self, attempt: &HostSide<'_>, deep: bool)
         ensures { self.new ≡ (taken_sent (ack_sent attempt.now) deep self.old).1 }
     {
         if attempt.is_heard(deep, self.is_low()) {
@@ -151,15 +161,14 @@ impl Device {
     #[tactic(auto, unfolding(crate::specs::AloneAttempts::heard_of_both, crate::specs::AloneAttempts::after_reply, crate::specs::AloneAttempts::side_of))]
     fn exchange(
         &mut self,
-        attempt: &HostSide,
-        payload: &Option<LentPacket<'_>>,
+        attempt: &HostSide<'_>,
         deep: bool,
         room: &mut ArrayVec<u8, 64>,
         side: &mut DeviceSide,
     ) -> Result<(), AllocError>
     {
         self.take_token(attempt, deep, room, side);
-        self.take_data(payload, deep, room, side)?;
+        self.take_data(attempt, deep, side)?;
         let acknowledged = is_taken(side.heard, room, attempt.max);
         if acknowledged {
             self.take_ack(attempt, deep);
@@ -173,14 +182,13 @@ impl Device {
     /// The same, and its end.
     fn attempt(
         &mut self,
-        attempt: &HostSide,
-        payload: &Option<LentPacket<'_>>,
+        attempt: &HostSide<'_>,
         deep: bool,
         room: &mut ArrayVec<u8, 64>,
         side: &mut DeviceSide,
     ) -> Result<(), AllocError>
     {
-        let made = self.exchange(attempt, payload, deep, room, side);
+        let made = self.exchange(attempt, deep, room, side);
         self.own.attempt_over();
         made
     }
@@ -206,8 +214,7 @@ impl Ports {
     pub fn attempt_at(
         &mut self,
         path: &[u8],
-        attempt: &HostSide,
-        payload: &Option<LentPacket<'_>>,
+        attempt: &HostSide<'_>,
         deep: bool,
         room: &mut ArrayVec<u8, 64>,
         side: &mut DeviceSide,
@@ -222,7 +229,7 @@ impl Ports {
             unheard(side);
             return Ok(());
         }
-        self.places[i - 1].attempt_at(rest, attempt, payload, deep, room, side)
+        self.places[i - 1].attempt_at(rest, attempt, deep, room, side)
     }
 }
 
@@ -232,8 +239,7 @@ impl Place {
     fn attempt_at(
         &mut self,
         path: &[u8],
-        attempt: &HostSide,
-        payload: &Option<LentPacket<'_>>,
+        attempt: &HostSide<'_>,
         deep: bool,
         room: &mut ArrayVec<u8, 64>,
         side: &mut DeviceSide,
@@ -245,10 +251,10 @@ impl Place {
                 Ok(())
             }
             Some(device) => match path {
-                [] => device.attempt(attempt, payload, deep, room, side),
+                [] => device.attempt(attempt, deep, room, side),
                 [_, ..] => device
                     .ports
-                    .attempt_at(path, attempt, payload, deep, room, side),
+                    .attempt_at(path, attempt, deep, room, side),
             },
         }
     }

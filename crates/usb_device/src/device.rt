@@ -17,7 +17,7 @@ use arrayvec::ArrayVec;
 use std::alloc::{AllocError, Global};
 use std::marker::Model;
 use std::rc::Rc;
-use usb_packet::{Packet, decode};
+use usb_packet::{Packet, Toggle, decode};
 
 /// A plugged device, with the devices on its ports: it takes one packet after the other, and
 /// answers some of them (8.5).
@@ -175,6 +175,18 @@ impl Device {
     {
         let mut effect = Effect::Leaves;
         let pid = self.own.received(&self.ports, packet, room, &mut effect)?;
+        self.act(effect);
+        Ok(pid)
+    }
+
+    /// The host's data at the device itself.
+    pub(crate) fn take_payload(
+        &mut self,
+        toggle: Toggle,
+        bytes: &[u8],
+    ) -> Result<Option<AnswerPid>, AllocError> {
+        let mut effect = Effect::Leaves;
+        let pid = self.own.take_payload(&self.ports, toggle, bytes, &mut effect)?;
         self.act(effect);
         Ok(pid)
     }

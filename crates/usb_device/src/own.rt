@@ -475,6 +475,26 @@ impl FunctionState {
         }
     }
 
+    /// The host's data at the device, as `received` takes them if they are for it.
+    pub(crate) fn take_payload(
+        &mut self,
+        ports: &Ports,
+        toggle: Toggle,
+        bytes: &[u8],
+        effect: &mut Effect,
+    ) -> Result<Option<AnswerPid>, AllocError> {
+        *effect = Effect::Leaves;
+        if self.spec.is_silent() {
+            return Ok(None);
+        }
+        if awaits_data(self.memory) {
+            self.payload(ports, toggle, bytes, effect)
+        } else {
+            self.attempt_over();
+            Ok(None)
+        }
+    }
+
     /// A token at the device, as `received` takes it: no sink grows.
     #[tactic(auto, unfolding(crate::specs::Rows::received))]
     pub fn take_token(
@@ -807,6 +827,15 @@ impl FunctionState {
                 self.asks_by_data(*toggle, bytes.as_slice())
             }
             _ => Effect::Leaves,
+        }
+    }
+
+    /// The same of the host's data.
+    pub(crate) fn asks_data(&self, toggle: Toggle, bytes: &[u8]) -> Effect {
+        if self.spec.is_silent() {
+            Effect::Leaves
+        } else {
+            self.asks_by_data(toggle, bytes)
         }
     }
 

@@ -219,7 +219,7 @@ impl<T: Trace> FarEnd<T> {
     }
 
     /// Makes an attempt.
-    fn attempt(&mut self, attempt: &Attempt) -> Result<Answer, FarFault>
+    fn attempt(&mut self, attempt: &Attempt<'_>) -> Result<Answer, FarFault>
         requires { IsAttempt (attempt_data attempt.now) }
         ensures done { IfOk result (λ answer.
             IsDone (attempt_done (attempt_data attempt.now) (far_of self.old)) (played_of self.old) answer

@@ -76,7 +76,7 @@ impl<R: Read, W: Write, B: Begun> Bus for CourseBus<R, W, B> {
 
     fn attempt(
         &mut self,
-        attempt: &Attempt,
+        attempt: &Attempt<'_>,
         room: &mut ArrayVec<u8, 64>,
     ) -> Result<Got, BusFault>
     {

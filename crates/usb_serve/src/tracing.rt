@@ -5,7 +5,7 @@ ghost use Rattle.usb_bus.specs.Watch.{PutsText};
 
 use crate::output::Output;
 use std::io::Write;
-use usb_bus::WriteFailed;
+use usb_bus::{Attempt, WriteFailed};
 use usb_sim::{Line, Made, Trace, push_attempt};
 
 /// An output that has the lines.
@@ -49,12 +49,12 @@ impl<W: Write + Drop> Trace for OutputTracer<W> {
     fn put_attempt(
         &mut self,
         number: u64,
-        pre: bool,
+        attempt: &Attempt<'_>,
         exchange: &Made,
         bytes: &[u8],
     ) -> Result<(), WriteFailed> {
         self.line.clear();
-        push_attempt(&mut self.line, number, pre, exchange, bytes);
+        push_attempt(&mut self.line, number, attempt, exchange, bytes);
         self.output.put(self.line.as_str().as_bytes())
     }
 

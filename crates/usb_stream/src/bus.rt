@@ -96,7 +96,7 @@ impl<R: Read, W: Write> Bus for StreamBus<R, W> {
     /// Limit where no more questions are left, Failed at any other fault.
     fn attempt(
         &mut self,
-        attempt: &Attempt,
+        attempt: &Attempt<'_>,
         room: &mut ArrayVec<u8, 64>,
     ) -> Result<Got, BusFault>
     {

@@ -71,7 +71,7 @@ pub(crate) fn data_out_from<B: Bus>(
 /// Makes the attempt of an OUT, whose first outcome was this, until its packet is acknowledged.
 fn send_on<B: Bus>(
     bus: &mut B,
-    attempt: &Attempt,
+    attempt: &Attempt<'_>,
     toggle: &mut Toggle,
     first: Got,
     room: &mut ArrayVec<u8, 64>,

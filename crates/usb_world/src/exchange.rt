@@ -23,7 +23,7 @@ ghost use Rattle.usb_tree.specs.LonePackets.{AloneAt, IsQuiet, KeptAt, is_whole_
 ghost use Rattle.usb_world.specs.HostSides.{host_side, keeps_address};
 
 use crate::damage::{Damage, Harm};
-use crate::wire::{Mark, Outgoing, flipped, harm_to, mark_of, mark_of_bits, marked};
+use crate::wire::{Mark, Outgoing, flipped, harm_to, mark_of_bits, marked};
 use crate::{Attempt, Destination, Got};
 use arrayvec::ArrayVec;
 use std::alloc::AllocError;
@@ -60,21 +60,21 @@ pub struct Exchange {
     pub change_cleared: bool,
 }
 
-/// An attempt as it was made; the bytes of data that were answered are in a room beside it.
-#[derive(Debug, Drop)]
+/// What became of an attempt; the bytes of data that were answered are in a room beside it.
+#[derive(Clone, Copy, Debug)]
 pub struct Made {
-    /// The host's token.
-    pub token: Outgoing,
-    /// The host's data, for SETUP and OUT.
-    pub payload: Option<Outgoing>,
+    /// What damage did to the host's token.
+    pub token: Mark,
+    /// What damage did to the host's data, for SETUP and OUT.
+    pub payload: Mark,
     /// What the devices answered.
     pub answer: HeardPid,
     /// How many bytes of data they answered, if one answered data.
     pub count: usize,
     /// What damage did to the answer of one device.
     pub answer_mark: Mark,
-    /// The host's ACK, if it took data.
-    pub reply: Option<Outgoing>,
+    /// What damage did to the host's ACK, if it took data.
+    pub reply: Option<Mark>,
     /// A device did not see the ACK at which it was to take its address (9.4.6).
     pub address_lost: bool,
     /// A hub cleared a change of connection of one of its ports (11.24.2.2).
@@ -82,15 +82,12 @@ pub struct Made {
 }
 
 impl Made {
-    /// Of no attempt yet: a place for the packets of one.
+    /// Of no attempt yet.
     pub fn blank() -> Self
     {
         Made {
-            token: Outgoing {
-                packet: Packet::Pre,
-                mark: Mark::Lost,
-            },
-            payload: None,
+            token: Mark::Lost,
+            payload: Mark::Whole,
             answer: HeardPid::Nothing,
             count: 0,
             answer_mark: Mark::Whole,
@@ -115,7 +112,7 @@ pub(crate) fn exchange_along(
     roots: &mut Ports,
     path: &[u8],
     port: u8,
-    attempt: &Attempt,
+    attempt: &Attempt<'_>,
     damage: &Option<Damage>,
     exchange: &mut Made,
     room: &mut ArrayVec<u8, 64>,
@@ -133,22 +130,24 @@ fn exchange_whole(
     roots: &mut Ports,
     path: &[u8],
     port: u8,
-    attempt: &Attempt,
+    attempt: &Attempt<'_>,
     exchange: &mut Made,
     room: &mut ArrayVec<u8, 64>,
 ) -> Result<bool, AllocError>
 {
-    put_whole_token(attempt, &mut exchange.token);
-    put_whole_payload(attempt, &mut exchange.payload);
     let host = host_side(attempt);
-    let data = some_goes_out(attempt, &exchange.payload);
     let mut side = DeviceSide::nobody();
-    roots.attempt_at(path, &host, &data, is_deep(path), room, &mut side)?;
+    roots.attempt_at(path, &host, is_deep(path), room, &mut side)?;
+    exchange.token = Mark::Whole;
+    exchange.payload = Mark::Whole;
     exchange.answer = side.heard;
     exchange.count = room.len();
     exchange.answer_mark = Mark::Whole;
-    let place = answer_place(&exchange.payload) + 1;
-    put_reply(attempt, None, place, side.acknowledged, &mut exchange.reply);
+    exchange.reply = if side.acknowledged {
+        Some(Mark::Whole)
+    } else {
+        None
+    };
     exchange.address_lost = side.address_lost;
     exchange.change_cleared = side.effect.clears_change();
     Ok(keeps_address(port, &side, attempt))
@@ -156,15 +155,13 @@ fn exchange_whole(
 
 /// Whether a device that was at an attempt's address still is, and asked nothing of its ports that changes who is
 /// reached. Those on its port of a number are excepted.
-fn keeps_address(port: u8, side: &DeviceSide, attempt: &Attempt) -> bool
-    ensures { result ≡ keeps_address port side.now (attempt_data attempt.now).addr }
+fn keeps_address(port: u8, side: &DeviceSide, attempt: &Attempt<'_>) -> bool
 {
     side.effect.keeps_others(port) && side.address == Some(attempt.destination().address)
 }
 
 /// What the host has to say beside its data.
-fn host_side(attempt: &Attempt) -> HostSide
-    ensures { result ≡ host_side (attempt_data attempt.now) }
+fn host_side<'a>(attempt: &'a Attempt<'_>) -> HostSide<'a>
 {
     let to = attempt.destination();
     HostSide {
@@ -174,6 +171,7 @@ fn host_side(attempt: &Attempt) -> HostSide
         addr: to.address,
         ep: to.number,
         max: to.max,
+        data: attempt.data(),
     }
 }
 
@@ -183,7 +181,7 @@ fn exchange_by_packets(
     roots: &mut Ports,
     path: &[u8],
     port: u8,
-    attempt: &Attempt,
+    attempt: &Attempt<'_>,
     damage: Option<Damage>,
     exchange: &mut Made,
     room: &mut ArrayVec<u8, 64>,
@@ -232,43 +230,50 @@ fn send_packets(
     roots: &mut Ports,
     path: &[u8],
     port: u8,
-    attempt: &Attempt,
+    attempt: &Attempt<'_>,
     damage: Option<Damage>,
     quiet: &mut bool,
     exchange: &mut Made,
     room: &mut ArrayVec<u8, 64>,
 ) -> Result<(), AllocError>
 {
-    put_token(attempt, damage, &mut exchange.token);
+    let token = token_out(attempt, damage);
+    exchange.token = token.mark;
     let mut heard = Hearing::nothing();
-    send(roots, path, &goes_out(attempt, &exchange.token), &mut heard)?;
-    put_payload(attempt, damage, &mut exchange.payload);
-    let data = some_goes_out(attempt, &exchange.payload);
+    send(roots, path, &goes_out(attempt, &token), &mut heard)?;
+    let payload = payload_out(attempt, damage);
+    exchange.payload = mark_in(&payload);
+    let data = some_goes_out(attempt, &payload);
     exchange.change_cleared = clears_change(roots, path, port, &data, quiet);
     send(roots, path, &data, &mut heard)?;
     exchange.answer = heard.pid();
     *room = heard.into_bytes();
     exchange.count = room.len();
-    let place = answer_place(&exchange.payload);
+    let place = answer_place(&payload);
     exchange.answer_mark = answer_mark(harm_to(damage, place), exchange.answer, room.len());
     let acknowledged = is_acknowledged(exchange.answer, room.len(), exchange.answer_mark, attempt);
-    put_reply(
-        attempt,
-        damage,
-        place + 1,
-        acknowledged,
-        &mut exchange.reply,
-    );
-    let address_lost = send_reply(roots, path, attempt, &exchange.reply)?;
+    let reply = reply_out(attempt, damage, place + 1, acknowledged);
+    exchange.reply = match &reply {
+        Some(reply) => Some(reply.mark),
+        None => None,
+    };
+    let address_lost = send_reply(roots, path, attempt, &reply)?;
     exchange.address_lost = address_lost;
     Ok(())
 }
 
 /// Makes an attempt that no device hears: the host's token and its data go out, and nothing comes.
-pub(crate) fn make_silence(attempt: &Attempt, damage: &Option<Damage>, exchange: &mut Made)
+pub(crate) fn make_silence(attempt: &Attempt<'_>, damage: &Option<Damage>, exchange: &mut Made)
 {
-    put_token(attempt, *damage, &mut exchange.token);
-    put_payload(attempt, *damage, &mut exchange.payload);
+    exchange.token = Mark::Whole;
+    exchange.payload = Mark::Whole;
+    if let Some(damage) = damage {
+        let pre = attempt.destination().speed.has_pre();
+        exchange.token = mark_of_bits(harm_to(Some(*damage), 1), pre, 24);
+        if let Some((_, bytes)) = attempt.data() {
+            exchange.payload = mark_of_bits(harm_to(Some(*damage), 2), pre, 24 + 8 * bytes.len());
+        }
+    }
     exchange.answer = HeardPid::Nothing;
     exchange.answer_mark = Mark::Whole;
     exchange.reply = None;
@@ -300,7 +305,7 @@ fn answer_mark(harm: Option<Harm>, answer: HeardPid, count: usize) -> Mark
 }
 
 /// A packet as damage leaves it, on its way to the devices; None if it is lost.
-fn goes_out<'a>(attempt: &Attempt, packet: &'a Outgoing) -> Option<LentPacket<'a>>
+fn goes_out<'a>(attempt: &Attempt<'_>, packet: &'a Outgoing) -> Option<LentPacket<'a>>
     requires fields { HasFields packet.now.packet }
     requires bit { has_its_bit packet.now.mark packet.now.packet ≡ true }
     ensures { result ≡ sent_as (attempt_data attempt.now).low (attempt_data attempt.now).pre
@@ -331,7 +336,7 @@ fn broken<'a>(speed: Speed, packet: &Packet, bit: u16) -> LentPacket<'a>
 }
 
 /// The same, if there is a packet.
-fn some_goes_out<'a>(attempt: &Attempt, packet: &'a Option<Outgoing>) -> Option<LentPacket<'a>>
+fn some_goes_out<'a>(attempt: &Attempt<'_>, packet: &'a Option<Outgoing>) -> Option<LentPacket<'a>>
     requires fields { IfSome packet.now (λ s. HasFields s.packet) }
     requires bit { IfSome packet.now (λ s. has_its_bit s.mark s.packet ≡ true) }
     ensures { result ≡ goes_out (attempt_data attempt.now) packet.now }
@@ -411,7 +416,7 @@ fn has_loss(roots: &Ports, path: &[u8]) -> bool
 fn send_reply(
     roots: &mut Ports,
     path: &[u8],
-    attempt: &Attempt,
+    attempt: &Attempt<'_>,
     reply: &Option<Outgoing>,
 ) -> Result<bool, AllocError>
     requires fields { IfSome reply.now (λ s. HasFields s.packet) }
@@ -436,7 +441,7 @@ fn send_reply(
 fn acknowledge(
     roots: &mut Ports,
     path: &[u8],
-    attempt: &Attempt,
+    attempt: &Attempt<'_>,
     packet: &Outgoing,
 ) -> Result<bool, AllocError>
     requires fields { HasFields packet.now.packet }
@@ -466,110 +471,31 @@ fn acknowledge(
 }
 
 /// The token as damage leaves it.
-#[tactic(auto, unfolding(crate::specs::Exchanges::token_of, crate::specs::Wire::marked))]
-fn put_token(attempt: &Attempt, damage: Option<Damage>, token: &mut Outgoing)
-    requires { IsAttempt (attempt_data attempt.now) }
-    ensures value { token.new ≡ marked damage 1 (attempt_data attempt.now).pre
-        (token_of (attempt_data attempt.now)) }
-    ensures fields { HasFields token.new.packet }
-    ensures bit { has_its_bit token.new.mark token.new.packet ≡ true }
+fn token_out(attempt: &Attempt<'_>, damage: Option<Damage>) -> Outgoing
 {
     let to = attempt.destination();
-    token.packet = Packet::Token {
+    let packet = Packet::Token {
         kind: attempt.kind(),
         addr: to.address,
         ep: to.number,
     };
-    token.mark = mark_of(harm_to(damage, 1), to.speed.has_pre(), &token.packet);
+    marked(damage, 1, to.speed.has_pre(), packet)
 }
 
-/// The token, if it is not damaged.
-#[tactic(auto, unfolding(crate::specs::Exchanges::token_of, crate::specs::Wire::marked, crate::specs::Wire::harm_to, crate::specs::Wire::mark_of))]
-fn put_whole_token(attempt: &Attempt, token: &mut Outgoing)
-    requires { IsAttempt (attempt_data attempt.now) }
-    ensures value { token.new ≡ marked None 1 (attempt_data attempt.now).pre
-        (token_of (attempt_data attempt.now)) }
+/// What damage did to a packet, if there is one.
+fn mark_in(packet: &Option<Outgoing>) -> Mark
 {
-    let to = attempt.destination();
-    match &mut token.packet {
-        Packet::Token { kind, addr, ep } => {
-            *kind = attempt.kind();
-            *addr = to.address;
-            *ep = to.number;
-        }
-        packet => {
-            *packet = Packet::Token {
-                kind: attempt.kind(),
-                addr: to.address,
-                ep: to.number,
-            };
-        }
-    }
-    token.mark = Mark::Whole;
-}
-
-/// The host's data, if it sends some and they are not damaged.
-#[tactic(auto, unfolding(crate::specs::Exchanges::payload_of, crate::specs::Wire::marked_some, crate::specs::Wire::marked, crate::specs::Wire::harm_to, crate::specs::Wire::mark_of, crate::specs::Wire::has_its_bit))]
-fn put_whole_payload(attempt: &Attempt, payload: &mut Option<Outgoing>)
-    ensures value { payload.new ≡ marked_some None 2 (attempt_data attempt.now).pre
-        (payload_of (attempt_data attempt.now)) }
-    ensures fields { IfSome payload.new (λ s. HasFields s.packet) }
-    ensures bit { IfSome payload.new (λ s. has_its_bit s.mark s.packet ≡ true) }
-{
-    match attempt {
-        Attempt::Setup { to: _, bytes } => *payload = Some(whole_data(Toggle::Zero, bytes)),
-        Attempt::Out {
-            to: _,
-            toggle,
-            bytes,
-        } => *payload = Some(whole_data(*toggle, bytes.as_slice())),
-        Attempt::In { .. } => put_none(payload),
-    }
-}
-
-/// No packet goes out. Where there is none, nothing is stored: a store clears the room for data.
-fn put_none(packet: &mut Option<Outgoing>)
-    ensures { packet.new ≡ None }
-{
-    if packet.is_some() {
-        *packet = None;
-    }
-}
-
-/// A data packet of the host that is not damaged.
-fn whole_data(toggle: Toggle, bytes: &[u8]) -> Outgoing
-    requires { length bytes.now ≤ 64 }
-    ensures packet { result.packet ≡ packet.Payload toggle (record { items = bytes.now }) }
-    ensures fields { HasFields result.packet }
-    ensures mark { result.mark ≡ Whole }
-{
-    let packet = Packet::Payload {
-        toggle,
-        bytes: copied(bytes),
-    };
-    Outgoing {
-        packet,
-        mark: Mark::Whole,
+    match packet {
+        Some(packet) => packet.mark,
+        None => Mark::Whole,
     }
 }
 
 /// The host's data as damage leaves them, if it sends some.
-#[tactic(auto, unfolding(crate::specs::Exchanges::payload_of, crate::specs::Wire::marked_some))]
-fn put_payload(attempt: &Attempt, damage: Option<Damage>, payload: &mut Option<Outgoing>)
-    ensures value { payload.new ≡ marked_some damage 2 (attempt_data attempt.now).pre
-        (payload_of (attempt_data attempt.now)) }
-    ensures fields { IfSome payload.new (λ s. HasFields s.packet) }
-    ensures bit { IfSome payload.new (λ s. has_its_bit s.mark s.packet ≡ true) }
+fn payload_out(attempt: &Attempt<'_>, damage: Option<Damage>) -> Option<Outgoing>
 {
-    match attempt {
-        Attempt::Setup { to, bytes } => {
-            *payload = Some(data_out(*to, damage, Toggle::Zero, bytes));
-        }
-        Attempt::Out { to, toggle, bytes } => {
-            *payload = Some(data_out(*to, damage, *toggle, bytes.as_slice()));
-        }
-        Attempt::In { .. } => *payload = None,
-    }
+    let (toggle, bytes) = attempt.data()?;
+    Some(data_out(attempt.destination(), damage, toggle, bytes))
 }
 
 /// A data packet of the host as damage leaves it.
@@ -598,7 +524,7 @@ fn copied(bytes: &[u8]) -> ArrayVec<u8, 64>
 }
 
 /// Whether the host reads data of at most the maximum, and so answers by ACK.
-fn is_acknowledged(answer: HeardPid, count: usize, mark: Mark, attempt: &Attempt) -> bool
+fn is_acknowledged(answer: HeardPid, count: usize, mark: Mark, attempt: &Attempt<'_>) -> bool
 {
     match answer {
         HeardPid::One(AnswerPid::Data(_)) => {
@@ -609,24 +535,18 @@ fn is_acknowledged(answer: HeardPid, count: usize, mark: Mark, attempt: &Attempt
 }
 
 /// The host's ACK as damage leaves it, if it answers by one.
-#[tactic(auto, unfolding(crate::specs::Wire::marked_some))]
-fn put_reply(
-    attempt: &Attempt,
+fn reply_out(
+    attempt: &Attempt<'_>,
     damage: Option<Damage>,
     place: u8,
     acknowledged: bool,
-    reply: &mut Option<Outgoing>,
-)
-    ensures value { reply.new ≡ marked_some damage place (attempt_data attempt.now).pre
-        (ack_if acknowledged) }
-    ensures fields { IfSome reply.new (λ s. HasFields s.packet) }
-    ensures bit { IfSome reply.new (λ s. has_its_bit s.mark s.packet ≡ true) }
+) -> Option<Outgoing>
 {
     if acknowledged {
         let speed = attempt.destination().speed;
-        *reply = Some(marked(damage, place, speed.has_pre(), Packet::Ack));
+        Some(marked(damage, place, speed.has_pre(), Packet::Ack))
     } else {
-        put_none(reply);
+        None
     }
 }
 

@@ -22,7 +22,7 @@ pub struct Destination {
 
 /// One transaction attempt (8.5).
 #[derive(Debug, Drop)]
-pub enum Attempt {
+pub enum Attempt<'a> {
     /// SETUP, with setup data in DATA0 (8.5.3).
     Setup {
         /// Where it goes.
@@ -37,7 +37,7 @@ pub enum Attempt {
         /// DATA0 or DATA1.
         toggle: Toggle,
         /// The data, no more than the endpoint's maximum packet.
-        bytes: ArrayVec<u8, 64>,
+        bytes: &'a [u8],
     },
     /// IN: it asks for data (8.5.1).
     In {
@@ -46,7 +46,7 @@ pub enum Attempt {
     },
 }
 
-impl Attempt {
+impl<'a> Attempt<'a> {
     ghost use Rattle.usb_world.specs.PlainAttempts.{attempt_kind, destination_of};
 
     /// The token that it begins with.
@@ -57,6 +57,15 @@ impl Attempt {
             Attempt::Setup { .. } => TokenKind::SetupTok,
             Attempt::Out { .. } => TokenKind::OutTok,
             Attempt::In { .. } => TokenKind::InTok,
+        }
+    }
+
+    /// The data that the host sends, if it sends some.
+    pub fn data(&self) -> Option<(Toggle, &[u8])> {
+        match self {
+            Attempt::Setup { bytes, .. } => Some((Toggle::Zero, bytes)),
+            Attempt::Out { toggle, bytes, .. } => Some((*toggle, *bytes)),
+            Attempt::In { .. } => None,
         }
     }
 

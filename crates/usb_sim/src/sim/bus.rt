@@ -40,7 +40,7 @@ impl<T: Trace> Bus for SimBus<T> {
 
     fn attempt(
         &mut self,
-        attempt: &Attempt,
+        attempt: &Attempt<'_>,
         room: &mut ArrayVec<u8, 64>,
     ) -> Result<Got, BusFault>
     {
@@ -117,7 +117,7 @@ impl<T: Trace> SimBus<T> {
     #[tactic(auto, unfolding(usb_world::specs::Steps::at_attempt, usb_world::specs::Steps::with_attempt, usb_world::specs::Steps::outcome_in, usb_bus::specs::Lines::step_lines))]
     fn make_attempt(
         &mut self,
-        attempt: &Attempt,
+        attempt: &Attempt<'_>,
         room: &mut ArrayVec<u8, 64>,
     ) -> Result<(), BusFault>
     {
@@ -140,8 +140,7 @@ impl<T: Trace> SimBus<T> {
         self.attempts += 1;
         self.losses
             .count(self.exchange.change_cleared, self.exchange.address_lost);
-        let pre = attempt.destination().speed.has_pre();
-        self.tracer.put_attempt(self.attempts, pre, &self.exchange, room.as_slice())?;
+        self.tracer.put_attempt(self.attempts, attempt, &self.exchange, room.as_slice())?;
         self.fault = None;
         Ok(())
     }
