@@ -4,7 +4,7 @@ ghost use Rattle.usb_bus.specs.Trace.{attempt_line, pre_text, mark_text, host_te
 
 use arrayvec::ArrayString;
 use usb_packet::{push_data, push_decimal, push_token};
-use usb_world::{AnswerPid, Attempt, HeardPid, Made, Mark};
+use usb_world::{AnswerPid, Attempt, HeardPid, Made, Mark, Marks};
 
 /// Room for the longest line of an attempt.
 pub type Line = ArrayString<700>;
@@ -21,25 +21,29 @@ pub fn push_attempt(
 {
     let to = attempt.destination();
     let pre = to.speed.has_pre();
+    let marks = match exchange.marks {
+        Some(marks) => marks,
+        None => Marks::whole(),
+    };
     push_decimal(line, number);
     line.push_str(" ");
     push_pre(line, pre);
     push_token(line, attempt.kind(), to.address, to.number);
-    push_mark(line, exchange.token);
+    push_mark(line, marks.token);
     if let Some((toggle, sent)) = attempt.data() {
         line.push_str(" / ");
         push_pre(line, pre);
         push_data(line, toggle, sent);
-        push_mark(line, exchange.payload);
+        push_mark(line, marks.payload);
     }
     line.push_str(" / ");
     push_answer(line, exchange.answer, bytes);
-    push_mark(line, exchange.answer_mark);
-    if let Some(mark) = exchange.reply {
+    push_mark(line, marks.answer);
+    if exchange.acknowledged {
         line.push_str(" / ");
         push_pre(line, pre);
         line.push_str("ACK");
-        push_mark(line, mark);
+        push_mark(line, marks.reply);
     }
     line.push_str("\n");
 }

@@ -63,22 +63,43 @@ pub struct Exchange {
 /// What became of an attempt; the bytes of data that were answered are in a room beside it.
 #[derive(Clone, Copy, Debug)]
 pub struct Made {
-    /// What damage did to the host's token.
-    pub token: Mark,
-    /// What damage did to the host's data, for SETUP and OUT.
-    pub payload: Mark,
+    /// What damage did to the packets; None if it did nothing.
+    pub marks: Option<Marks>,
     /// What the devices answered.
     pub answer: HeardPid,
-    /// How many bytes of data they answered, if one answered data.
-    pub count: usize,
-    /// What damage did to the answer of one device.
-    pub answer_mark: Mark,
-    /// What damage did to the host's ACK, if it took data.
-    pub reply: Option<Mark>,
+    /// The host took data, and sent its ACK.
+    pub acknowledged: bool,
     /// A device did not see the ACK at which it was to take its address (9.4.6).
     pub address_lost: bool,
     /// A hub cleared a change of connection of one of its ports (11.24.2.2).
     pub change_cleared: bool,
+    /// How many bytes of data were answered, if one device answered data.
+    pub count: usize,
+}
+
+/// What damage did to the packets of an attempt.
+#[derive(Clone, Copy, Debug)]
+pub struct Marks {
+    /// To the host's token.
+    pub token: Mark,
+    /// To the host's data, for SETUP and OUT.
+    pub payload: Mark,
+    /// To the answer of one device.
+    pub answer: Mark,
+    /// To the host's ACK.
+    pub reply: Mark,
+}
+
+impl Marks {
+    /// Of packets to which nothing was done.
+    pub fn whole() -> Self {
+        Marks {
+            token: Mark::Whole,
+            payload: Mark::Whole,
+            answer: Mark::Whole,
+            reply: Mark::Whole,
+        }
+    }
 }
 
 impl Made {
@@ -86,14 +107,12 @@ impl Made {
     pub fn blank() -> Self
     {
         Made {
-            token: Mark::Lost,
-            payload: Mark::Whole,
+            marks: None,
             answer: HeardPid::Nothing,
-            count: 0,
-            answer_mark: Mark::Whole,
-            reply: None,
+            acknowledged: false,
             address_lost: false,
             change_cleared: false,
+            count: 0,
         }
     }
 }
@@ -138,16 +157,10 @@ fn exchange_whole(
     let host = host_side(attempt);
     let mut side = DeviceSide::nobody();
     roots.attempt_at(path, &host, is_deep(path), room, &mut side)?;
-    exchange.token = Mark::Whole;
-    exchange.payload = Mark::Whole;
+    exchange.marks = None;
     exchange.answer = side.heard;
+    exchange.acknowledged = side.acknowledged;
     exchange.count = room.len();
-    exchange.answer_mark = Mark::Whole;
-    exchange.reply = if side.acknowledged {
-        Some(Mark::Whole)
-    } else {
-        None
-    };
     exchange.address_lost = side.address_lost;
     exchange.change_cleared = side.effect.clears_change();
     Ok(keeps_address(port, &side, attempt))
@@ -238,11 +251,12 @@ fn send_packets(
 ) -> Result<(), AllocError>
 {
     let token = token_out(attempt, damage);
-    exchange.token = token.mark;
+    let mut marks = Marks::whole();
+    marks.token = token.mark;
     let mut heard = Hearing::nothing();
     send(roots, path, &goes_out(attempt, &token), &mut heard)?;
     let payload = payload_out(attempt, damage);
-    exchange.payload = mark_in(&payload);
+    marks.payload = mark_in(&payload);
     let data = some_goes_out(attempt, &payload);
     exchange.change_cleared = clears_change(roots, path, port, &data, quiet);
     send(roots, path, &data, &mut heard)?;
@@ -250,13 +264,12 @@ fn send_packets(
     *room = heard.into_bytes();
     exchange.count = room.len();
     let place = answer_place(&payload);
-    exchange.answer_mark = answer_mark(harm_to(damage, place), exchange.answer, room.len());
-    let acknowledged = is_acknowledged(exchange.answer, room.len(), exchange.answer_mark, attempt);
+    marks.answer = answer_mark(harm_to(damage, place), exchange.answer, room.len());
+    let acknowledged = is_acknowledged(exchange.answer, room.len(), marks.answer, attempt);
     let reply = reply_out(attempt, damage, place + 1, acknowledged);
-    exchange.reply = match &reply {
-        Some(reply) => Some(reply.mark),
-        None => None,
-    };
+    marks.reply = mark_in(&reply);
+    exchange.acknowledged = acknowledged;
+    exchange.marks = Some(marks);
     let address_lost = send_reply(roots, path, attempt, &reply)?;
     exchange.address_lost = address_lost;
     Ok(())
@@ -265,18 +278,18 @@ fn send_packets(
 /// Makes an attempt that no device hears: the host's token and its data go out, and nothing comes.
 pub(crate) fn make_silence(attempt: &Attempt<'_>, damage: &Option<Damage>, exchange: &mut Made)
 {
-    exchange.token = Mark::Whole;
-    exchange.payload = Mark::Whole;
+    exchange.marks = None;
     if let Some(damage) = damage {
         let pre = attempt.destination().speed.has_pre();
-        exchange.token = mark_of_bits(harm_to(Some(*damage), 1), pre, 24);
+        let mut marks = Marks::whole();
+        marks.token = mark_of_bits(harm_to(Some(*damage), 1), pre, 24);
         if let Some((_, bytes)) = attempt.data() {
-            exchange.payload = mark_of_bits(harm_to(Some(*damage), 2), pre, 24 + 8 * bytes.len());
+            marks.payload = mark_of_bits(harm_to(Some(*damage), 2), pre, 24 + 8 * bytes.len());
         }
+        exchange.marks = Some(marks);
     }
     exchange.answer = HeardPid::Nothing;
-    exchange.answer_mark = Mark::Whole;
-    exchange.reply = None;
+    exchange.acknowledged = false;
     exchange.address_lost = false;
     exchange.change_cleared = false;
 }
@@ -550,11 +563,20 @@ fn reply_out(
     }
 }
 
+/// Whether nothing was done to the answer that keeps the host from reading it.
+fn is_read(marks: Option<Marks>) -> bool {
+    match marks {
+        None => true,
+        Some(marks) => marks.answer.is_read(),
+    }
+}
+
 /// What an attempt gives the host: data of at most `max` bytes, or a handshake, if it reads the
 /// answer.
-pub fn got_of(answer: HeardPid, count: usize, mark: Mark, max: u8) -> Got
+pub fn got_of(made: &Made, max: u8) -> Got
 {
-    if !mark.is_read() {
+    let Made { answer, count, marks, .. } = *made;
+    if !is_read(marks) {
         return Got::Nothing;
     }
     match answer {

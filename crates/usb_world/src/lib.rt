@@ -24,7 +24,7 @@ mod wire;
 
 pub use damage::{Damage, Damages, Harm};
 pub use event::{Action, Ask, Change, Event, Events, SentBytes, WriteRequest, event_copies};
-pub use exchange::{Exchange, ExchangeAnswer, Made, got_of};
+pub use exchange::{Exchange, ExchangeAnswer, Made, Marks, got_of};
 pub use usb_device::{AnswerPid, HeardPid};
 pub use laws::{
     a_port_rests_or_is_pending, control_courses_keep_addresses, devices_have_their_ports,

@@ -53,12 +53,7 @@ impl<T: Trace> Bus for SimBus<T> {
         }
         self.make_attempt(attempt, room)?;
         let max = attempt.destination().max;
-        Ok(got_of(
-            self.exchange.answer,
-            self.exchange.count,
-            self.exchange.answer_mark,
-            max,
-        ))
+        Ok(got_of(&self.exchange, max))
     }
 
     fn root_ports(&self) -> u8 {
