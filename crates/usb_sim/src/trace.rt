@@ -19,12 +19,25 @@ pub fn push_attempt(
     bytes: &[u8],
 )
 {
+    if exchange.damaged {
+        push_marked(line, number, attempt, exchange, bytes, exchange.marks);
+    } else {
+        push_marked(line, number, attempt, exchange, bytes, Marks::whole());
+    }
+}
+
+/// The same, with these marks.
+fn push_marked(
+    line: &mut Line,
+    number: u64,
+    attempt: &Attempt<'_>,
+    exchange: &Made,
+    bytes: &[u8],
+    marks: Marks,
+)
+{
     let to = attempt.destination();
     let pre = to.speed.has_pre();
-    let marks = match exchange.marks {
-        Some(marks) => marks,
-        None => Marks::whole(),
-    };
     push_decimal(line, number);
     line.push_str(" ");
     push_pre(line, pre);

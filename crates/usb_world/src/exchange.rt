@@ -63,8 +63,10 @@ pub struct Exchange {
 /// What became of an attempt; the bytes of data that were answered are in a room beside it.
 #[derive(Clone, Copy, Debug)]
 pub struct Made {
-    /// What damage did to the packets; None if it did nothing.
-    pub marks: Option<Marks>,
+    /// Whether damage may have done something to a packet.
+    pub damaged: bool,
+    /// What it did then.
+    pub marks: Marks,
     /// What the devices answered.
     pub answer: HeardPid,
     /// The host took data, and sent its ACK.
@@ -107,7 +109,8 @@ impl Made {
     pub fn blank() -> Self
     {
         Made {
-            marks: None,
+            damaged: false,
+            marks: Marks::whole(),
             answer: HeardPid::Nothing,
             acknowledged: false,
             address_lost: false,
@@ -157,7 +160,7 @@ fn exchange_whole(
     let host = host_side(attempt);
     let mut side = DeviceSide::nobody();
     roots.attempt_at(path, &host, is_deep(path), room, &mut side)?;
-    exchange.marks = None;
+    exchange.damaged = false;
     exchange.answer = side.heard;
     exchange.acknowledged = side.acknowledged;
     exchange.count = room.len();
@@ -269,7 +272,8 @@ fn send_packets(
     let reply = reply_out(attempt, damage, place + 1, acknowledged);
     marks.reply = mark_in(&reply);
     exchange.acknowledged = acknowledged;
-    exchange.marks = Some(marks);
+    exchange.damaged = true;
+    exchange.marks = marks;
     let address_lost = send_reply(roots, path, attempt, &reply)?;
     exchange.address_lost = address_lost;
     Ok(())
@@ -278,7 +282,7 @@ fn send_packets(
 /// Makes an attempt that no device hears: the host's token and its data go out, and nothing comes.
 pub(crate) fn make_silence(attempt: &Attempt<'_>, damage: &Option<Damage>, exchange: &mut Made)
 {
-    exchange.marks = None;
+    exchange.damaged = false;
     if let Some(damage) = damage {
         let pre = attempt.destination().speed.has_pre();
         let mut marks = Marks::whole();
@@ -286,7 +290,8 @@ pub(crate) fn make_silence(attempt: &Attempt<'_>, damage: &Option<Damage>, excha
         if let Some((_, bytes)) = attempt.data() {
             marks.payload = mark_of_bits(harm_to(Some(*damage), 2), pre, 24 + 8 * bytes.len());
         }
-        exchange.marks = Some(marks);
+        exchange.damaged = true;
+    exchange.marks = marks;
     }
     exchange.answer = HeardPid::Nothing;
     exchange.acknowledged = false;
@@ -564,19 +569,16 @@ fn reply_out(
 }
 
 /// Whether nothing was done to the answer that keeps the host from reading it.
-fn is_read(marks: Option<Marks>) -> bool {
-    match marks {
-        None => true,
-        Some(marks) => marks.answer.is_read(),
-    }
+fn is_read(made: &Made) -> bool {
+    !made.damaged || made.marks.answer.is_read()
 }
 
 /// What an attempt gives the host: data of at most `max` bytes, or a handshake, if it reads the
 /// answer.
 pub fn got_of(made: &Made, max: u8) -> Got
 {
-    let Made { answer, count, marks, .. } = *made;
-    if !is_read(marks) {
+    let Made { answer, count, .. } = *made;
+    if !is_read(made) {
         return Got::Nothing;
     }
     match answer {
