@@ -5,13 +5,17 @@ ghost use Rattle.usb_wire.specs.Questions.{IsQuestion};
 ghost use Rattle.usb_far.specs.FarEnd.{destination_at};
 ghost use Rattle.usb_bench.specs.Attempts.{attempt_asked, out_asked, outcome_of};
 
+use arrayvec::ArrayVec;
 use usb_far::Came;
 use usb_packet::{Speed, Toggle};
 use usb_wire::{Endpoint, Question};
 use usb_world::{Attempt, Destination, Outcome};
 
 /// The attempt that a question asks for, of a row its first one; None if it asks for none.
-pub(crate) fn attempt_of<'a>(question: &'a Question) -> Option<Attempt<'a>>
+pub(crate) fn attempt_of(question: &Question) -> Option<Attempt>
+    requires { IsQuestion question.now }
+    ensures asked { result ≡ attempt_asked question.now }
+    ensures small { IfSome result (λ attempt. (destination_of attempt).number < 16) }
 {
     match question {
         Question::Setup {
@@ -55,12 +59,16 @@ pub(crate) fn attempt_of<'a>(question: &'a Question) -> Option<Attempt<'a>>
 }
 
 /// The OUT of a packet of at most 64 bytes, to an endpoint whose maximum packet is taken as 64.
-fn out<'a>(speed: Speed, endpoint: Endpoint, toggle: Toggle, packet: &'a [u8]) -> Attempt<'a>
+fn out(speed: Speed, endpoint: Endpoint, toggle: Toggle, packet: &[u8]) -> Attempt
+    requires { length packet.now ≤ 64 }
+    ensures { result ≡ out_asked speed endpoint toggle packet.now }
 {
+    let mut bytes = ArrayVec::new();
+    bytes.try_extend_from_slice(packet).unwrap();
     Attempt::Out {
         to: destination(speed, endpoint, 64),
         toggle,
-        bytes: packet,
+        bytes,
     }
 }
 

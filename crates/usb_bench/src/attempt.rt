@@ -25,13 +25,18 @@ use usb_world::Attempt;
 
 impl Judge {
     /// Writes what is wrong with what a question asks for, before that is done.
-    pub(crate) fn before<'q, T: Trace>(
+    pub(crate) fn before<T: Trace>(
         &mut self,
         alloc: Global,
         far: &mut FarEnd<T>,
         last: u64,
-        question: &'q Question,
-    ) -> Result<Option<Coming<'q>>, BenchFault>
+        question: &Question,
+    ) -> Result<Option<Coming>, BenchFault>
+        requires { IsQuestion question.now }
+        ensures foreseen { IfOk result (λ coming. Foreseen last question.now self.old
+            (played_of far.old) coming self.new (played_of far.new)) }
+        ensures fault { IfErr result
+            (IsUnforeseen last question.now (played_of far.old) (played_of far.new)) }
     {
         match attempt_of(question) {
             Some(_) if far.bus().attempts() >= last => Err(BenchFault::NoRest),
@@ -55,9 +60,12 @@ impl Judge {
         &mut self,
         alloc: Global,
         far: &mut FarEnd<T>,
-        coming: &Coming<'_>,
+        coming: &Coming,
         came: Came,
     ) -> Result<(), BenchFault>
+        ensures judged { OnOk result (Judged (Some coming.now) came self.old (played_of far.old)
+            self.new (played_of far.new)) }
+        ensures fault { IfErr result (IsUnsaid (played_of far.new)) }
     {
         let taken = taken_at(far.bus(), &coming.holder, &coming.attempt);
         let babble = babbled(&coming.attempt, far.bus().answered());
@@ -76,7 +84,7 @@ impl Judge {
         alloc: Global,
         far: &mut FarEnd<T>,
         number: u64,
-        attempt: &Attempt<'_>,
+        attempt: &Attempt,
         first: Option<Remark>,
         second: Option<Remark>,
     ) -> Result<(), BenchFault>
@@ -98,7 +106,7 @@ impl Judge {
         alloc: Global,
         far: &mut FarEnd<T>,
         number: u64,
-        attempt: &Attempt<'_>,
+        attempt: &Attempt,
         remark: Option<Remark>,
     ) -> Result<(), BenchFault>
         ensures said { OnOk result (Says (played_of far.old) (remark_lines number attempt.now remark)
@@ -120,11 +128,9 @@ impl Judge {
 }
 
 /// An attempt, seen before it is made.
-fn look_at<'q, T: Trace>(
-    alloc: Global,
-    bus: &SimBus<T>,
-    attempt: Attempt<'q>,
-) -> Result<Coming<'q>, AllocError>
+fn look_at<T: Trace>(alloc: Global, bus: &SimBus<T>, attempt: Attempt) -> Result<Coming, AllocError>
+    requires { (destination_of attempt).number < 16 }
+    ensures { IfOk result (IsSeen attempt (world_of bus.now)) }
 {
     let devices = plugged(alloc, bus)?;
     let holder = holder_in(devices.as_slice(), attempt.destination().address);
@@ -139,7 +145,7 @@ fn look_at<'q, T: Trace>(
 }
 
 /// `Babble` of an IN that was answered by more data than the host asked for.
-fn babbled(attempt: &Attempt<'_>, answered: usize) -> Option<Remark>
+fn babbled(attempt: &Attempt, answered: usize) -> Option<Remark>
     ensures { result ≡ babbled attempt.now answered }
 {
     match attempt {
@@ -162,7 +168,7 @@ pub(crate) fn holder_in(devices: &[PluggedDevice<'_>], address: u8) -> Option<Po
 }
 
 /// How many bytes the OUT endpoint of an attempt has taken, of the device at a port.
-fn taken_at<T: Trace>(bus: &SimBus<T>, path: &Option<PortPath>, attempt: &Attempt<'_>) -> usize
+fn taken_at<T: Trace>(bus: &SimBus<T>, path: &Option<PortPath>, attempt: &Attempt) -> usize
     requires { (destination_of attempt.now).number < 16 }
     ensures { result ≡ taken_on (world_of bus.now) path.now attempt.now }
 {

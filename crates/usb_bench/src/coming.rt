@@ -8,8 +8,8 @@ use usb_world::Attempt;
 
 /// An attempt that is about to be made.
 #[derive(Debug, Drop)]
-pub(crate) struct Coming<'a> {
-    pub(crate) attempt: Attempt<'a>,
+pub(crate) struct Coming {
+    pub(crate) attempt: Attempt,
     /// The port of the device that holds its address; None if none does.
     pub(crate) holder: Option<PortPath>,
     /// How many bytes the device's OUT endpoint of its number has taken.

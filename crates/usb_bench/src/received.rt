@@ -229,7 +229,7 @@ fn source_at<'a, T: Trace>(bus: &'a SimBus<T>, path: &PortPath) -> &'a [u8]
 
 /// What an attempt says of where data go on. A device that gets its address may be a new one at its
 /// port. Toggles begin anew where a device is configured, or its interface is set (9.4.7, 9.4.10).
-pub(crate) fn begin_anew(receipts: &mut [Receipt], attempt: &Attempt<'_>)
+pub(crate) fn begin_anew(receipts: &mut [Receipt], attempt: &Attempt)
     ensures { receipts.new ≡ begun_anew attempt.now receipts.old }
 {
     if let Attempt::Setup { bytes, .. } = attempt {

@@ -237,7 +237,7 @@ impl Judge {
         &mut self,
         alloc: Global,
         far: &mut FarEnd<T>,
-        coming: &Option<Coming<'_>>,
+        coming: &Option<Coming>,
         came: Came,
     ) -> Result<(), BenchFault>
         ensures judged { OnOk result (Judged coming.now came self.old (played_of far.old) self.new

@@ -11,7 +11,7 @@ ghost use Rattle.usb_bus.specs.Traces.{Attempts, Spends};
 ghost use Rattle.usb_bus.specs.Rows.{InsMade, OutsMade, IsDestination, CountsRow, RowTold, row_attempts};
 
 use crate::rows::{add_full, is_ack, out_attempt};
-use crate::{Attempt, BusFault, Destination, Got, Outcome, ROW_ROOM, RowDone, RowEnd};
+use crate::{Attempt, BusFault, Destination, Outcome, ROW_ROOM, RowDone, RowEnd};
 use arrayvec::ArrayVec;
 use usb_packet::Toggle;
 
@@ -53,11 +53,13 @@ pub trait Bus {
     /// - `Failed`: the bus itself failed.
     ///
     /// Every later attempt reports the same fault again.
-    fn attempt(
-        &mut self,
-        attempt: &Attempt<'_>,
-        room: &mut ArrayVec<u8, 64>,
-    ) -> Result<Got, BusFault>;
+    fn attempt(&mut self, attempt: &Attempt) -> Result<Outcome, BusFault>
+        requires { IsAttempt (attempt_data attempt.now) }
+        ensures attempts { modelled ≡ true → Attempts (attempt_data attempt.now)
+            (world self.old) (trace self.old) result (world self.new) (trace self.new) }
+        ensures spends { Spends spent ports 1 self.old self.new }
+        ensures fits { IfOk result (FitsMaximum (attempt_data attempt.now).max) }
+        ensures told { IfErr result (λ fault. failed self.new ≡ Some fault) };
 
     /// Makes INs of one endpoint, one after the other, until one is not answered by a full packet of the toggle that is
     /// due.
@@ -87,16 +89,15 @@ pub trait Bus {
         ensures told { RowTold result.end (failed self.new) }
     {
         got.clear();
-        let mut room = ArrayVec::new();
         let attempt = Attempt::In { to };
         let mut due = toggle;
         'packets: for moved in 0..most {
-            match self.attempt(&attempt, &mut room) {
-                Ok(told) => {
-                    if !add_full(got, to.max, due, told, &room) {
+            match self.attempt(&attempt) {
+                Ok(outcome) => {
+                    if !add_full(got, to.max, due, &outcome) {
                         return RowDone {
                             moved,
-                            end: RowEnd::Answered(Outcome::of(told, &room)),
+                            end: RowEnd::Answered(outcome),
                         };
                     }
                     due = due.other();
@@ -135,18 +136,17 @@ pub trait Bus {
         ensures told { RowTold result.end (failed self.new) }
     {
         let mut rest = bytes;
-        let mut room = ArrayVec::new();
         let mut due = toggle;
         let mut moved = 0;
         'packets: while !rest.is_empty() {
             let (packet, after) = rest.split_at(rest.len().min(usize::from(to.max)));
             let attempt = out_attempt(to, due, packet);
-            match self.attempt(&attempt, &mut room) {
-                Ok(told) => {
-                    if !is_ack(told) {
+            match self.attempt(&attempt) {
+                Ok(outcome) => {
+                    if !is_ack(&outcome) {
                         return RowDone {
                             moved,
-                            end: RowEnd::Answered(Outcome::of(told, &room)),
+                            end: RowEnd::Answered(outcome),
                         };
                     }
                     rest = after;

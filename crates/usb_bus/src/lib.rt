@@ -16,5 +16,5 @@ mod watched;
 pub use bus::Bus;
 pub use rows::{ROW_PACKETS, ROW_ROOM, RowDone, RowEnd};
 pub use usb_packet::{Speed, Toggle};
-pub use usb_world::{Attempt, BusFault, Destination, Got, Outcome};
+pub use usb_world::{Attempt, BusFault, Destination, Outcome};
 pub use watched::{Watched, WriteFailed, put_piece, put_pieces};

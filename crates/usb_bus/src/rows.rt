@@ -4,7 +4,7 @@ ghost use Rattle.usb_world.specs.declared.types.Outcome.TheVariants.{Ack as ack}
 ghost use Rattle.usb_world.specs.PlainAttempts.{attempt_data};
 ghost use Rattle.usb_bus.specs.Rows.{AddsFull, IsDestination, out_packet};
 
-use crate::{Attempt, BusFault, Destination, Got, Outcome};
+use crate::{Attempt, BusFault, Destination, Outcome};
 use arrayvec::ArrayVec;
 use usb_packet::Toggle;
 
@@ -39,36 +39,40 @@ pub(crate) fn add_full(
     got: &mut ArrayVec<u8, ROW_ROOM>,
     max: u8,
     due: Toggle,
-    outcome: Got,
-    bytes: &ArrayVec<u8, 64>,
+    outcome: &Outcome,
 ) -> bool
+    requires { length got.old.items + max ≤ 4096 }
+    ensures { AddsFull max due outcome.now got.old.items result got.new.items }
 {
     match outcome {
-        Got::Payload(given) => {
-            let is_full = due.is_same(given) && bytes.len() == usize::from(max);
+        Outcome::Payload(given, bytes) => {
+            let is_full = due.is_same(*given) && bytes.len() == usize::from(max);
             if is_full {
                 got.try_extend_from_slice(bytes.as_slice()).unwrap();
             }
             is_full
         }
-        Got::Ack | Got::Nak | Got::Stall | Got::Nothing => false,
+        Outcome::Ack | Outcome::Nak | Outcome::Stall | Outcome::Nothing => false,
     }
 }
 
 /// OUT with a packet of a row.
-pub(crate) fn out_attempt<'a>(to: Destination, toggle: Toggle, packet: &'a [u8]) -> Attempt<'a>
+pub(crate) fn out_attempt(to: Destination, toggle: Toggle, packet: &[u8]) -> Attempt
+    requires endpoint { IsDestination to }
+    requires short { length packet.now ≤ to.max }
+    ensures { attempt_data result ≡ out_packet to toggle packet.now }
 {
-    Attempt::Out {
-        to,
-        toggle,
-        bytes: packet,
-    }
+    let mut bytes = ArrayVec::new();
+    bytes.try_extend_from_slice(packet).unwrap();
+    Attempt::Out { to, toggle, bytes }
 }
 
-pub(crate) fn is_ack(outcome: Got) -> bool
+pub(crate) fn is_ack(outcome: &Outcome) -> bool
+    ensures yes { result ≡ true → outcome.now ≡ ack }
+    ensures no { result ≡ false → outcome.now ≢ ack }
 {
     match outcome {
-        Got::Ack => true,
-        Got::Payload(_) | Got::Nak | Got::Stall | Got::Nothing => false,
+        Outcome::Ack => true,
+        Outcome::Payload(_, _) | Outcome::Nak | Outcome::Stall | Outcome::Nothing => false,
     }
 }

@@ -21,7 +21,7 @@ use usb_world::Attempt;
 ///   configuration that the device has (9.6.6). If that has no such endpoint, nothing is wrong.
 ///
 /// At another speed, the length is not judged.
-pub fn judge_attempt(plugged: &[PluggedDevice<'_>], attempt: &Attempt<'_>) -> Option<Remark>
+pub fn judge_attempt(plugged: &[PluggedDevice<'_>], attempt: &Attempt) -> Option<Remark>
     ensures { result ≡ judged plugged.now attempt.now }
 {
     let address = attempt.destination().address;
@@ -35,7 +35,7 @@ pub fn judge_attempt(plugged: &[PluggedDevice<'_>], attempt: &Attempt<'_>) -> Op
 }
 
 /// What is wrong with an attempt that one device gets.
-fn judge_at(device: &PluggedDevice<'_>, attempt: &Attempt<'_>) -> Option<Remark>
+fn judge_at(device: &PluggedDevice<'_>, attempt: &Attempt) -> Option<Remark>
     ensures { result ≡ judged_at attempt.now device.now }
 {
     let to = attempt.destination();
@@ -49,7 +49,7 @@ fn judge_at(device: &PluggedDevice<'_>, attempt: &Attempt<'_>) -> Option<Remark>
 }
 
 /// How many bytes an OUT sends; 0 of another attempt.
-fn sent_bytes(attempt: &Attempt<'_>) -> usize
+fn sent_bytes(attempt: &Attempt) -> usize
     ensures { result ≡ sent_bytes attempt.now }
 {
     match attempt {

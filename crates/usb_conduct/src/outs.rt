@@ -52,7 +52,7 @@ impl Outs {
     /// - `SkippedRetry`: an OUT right after one to the same endpoint that had no answer has the
     ///   other toggle, and no SETUP went to the address between. A packet without an answer is sent
     ///   again with its toggle (8.6.4).
-    pub fn before(&self, attempt: &Attempt<'_>) -> Option<Remark>
+    pub fn before(&self, attempt: &Attempt) -> Option<Remark>
         ensures { result ≡ told_before self.now attempt.now }
     {
         if skips_retry(self.left.as_slice(), attempt) {
@@ -80,7 +80,7 @@ impl Outs {
     /// Memory was refused.
     pub fn after(
         &mut self,
-        attempt: &Attempt<'_>,
+        attempt: &Attempt,
         outcome: &Outcome,
         taken_before: usize,
         taken_after: usize,

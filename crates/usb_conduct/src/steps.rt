@@ -50,7 +50,7 @@ fn has_skipped(left: &[Unanswered], to: Destination, toggle: Toggle) -> bool
 }
 
 /// Whether an OUT has another toggle than the packet before it that had no answer (8.6.4).
-pub(crate) fn skips_retry(left: &[Unanswered], attempt: &Attempt<'_>) -> bool
+pub(crate) fn skips_retry(left: &[Unanswered], attempt: &Attempt) -> bool
     ensures { result ≡ skips_retry left.now attempt.now }
 {
     match attempt {
@@ -81,7 +81,7 @@ fn is_sure(left: &[Unanswered], to: Destination) -> bool
 /// (8.6).
 pub(crate) fn is_dropped(
     left: &[Unanswered],
-    attempt: &Attempt<'_>,
+    attempt: &Attempt,
     outcome: &Outcome,
     took: bool,
 ) -> bool
@@ -98,7 +98,7 @@ pub(crate) fn is_dropped(
 /// Notes an attempt and its outcome.
 pub(crate) fn note(
     left: &mut Vec<Unanswered>,
-    attempt: &Attempt<'_>,
+    attempt: &Attempt,
     outcome: &Outcome,
 ) -> Result<(), AllocError>
     ensures { OnOk result
@@ -109,7 +109,7 @@ pub(crate) fn note(
 }
 
 /// Notes a SETUP, which may begin the toggles of a device anew.
-fn note_token(left: &mut Vec<Unanswered>, attempt: &Attempt<'_>)
+fn note_token(left: &mut Vec<Unanswered>, attempt: &Attempt)
     ensures { left.new.items ≡ after_token left.old.items attempt.now }
 {
     if let Attempt::Setup { to, .. } = attempt {
@@ -160,7 +160,7 @@ fn note_answer(
 }
 
 /// The endpoint that an attempt leaves without an answer, if it is one that is kept.
-fn left_by(attempt: &Attempt<'_>) -> Option<Unanswered>
+fn left_by(attempt: &Attempt) -> Option<Unanswered>
     ensures { result ≡ left_by attempt.now }
 {
     match attempt {

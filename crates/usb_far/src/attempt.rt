@@ -5,13 +5,17 @@ ghost use Rattle.usb_world.specs.PlainAttempts.{attempt_data};
 ghost use Rattle.usb_world.specs.Worlds.{IsAttempt};
 ghost use Rattle.usb_far.specs.FarEnd.{attempt_of_in, destination_at, is_poll, attempt_of_out, outcome_answer, attempt_of_setup, packet_of};
 
+use arrayvec::ArrayVec;
 use usb_bus::{Attempt, Destination, Outcome};
 use usb_packet::{Speed, Toggle};
 use usb_request::Setup;
 use usb_wire::{Answer, DataPacket, Endpoint};
 
 /// The attempt that sends setup data (8.5.3).
-pub(crate) fn setup_attempt<'a>(speed: Speed, endpoint: Endpoint, setup: Setup) -> Attempt<'a>
+pub(crate) fn setup_attempt(speed: Speed, endpoint: Endpoint, setup: Setup) -> Attempt
+    requires { IsEndpoint endpoint }
+    ensures value { attempt_data result ≡ attempt_of_setup speed endpoint setup }
+    ensures fits { IsAttempt (attempt_data result) }
 {
     Attempt::Setup {
         to: destination(speed, endpoint, 8),
@@ -20,28 +24,43 @@ pub(crate) fn setup_attempt<'a>(speed: Speed, endpoint: Endpoint, setup: Setup) 
 }
 
 /// The attempt that sends data (8.5.1).
-pub(crate) fn out_attempt<'a>(speed: Speed, endpoint: Endpoint, sent: &'a DataPacket) -> Attempt<'a>
+pub(crate) fn out_attempt(speed: Speed, endpoint: Endpoint, sent: &DataPacket) -> Attempt
+    requires { IsEndpoint endpoint }
+    ensures value { attempt_data result ≡ attempt_of_out speed endpoint sent.now }
+    ensures fits { IsAttempt (attempt_data result) }
 {
     packet_attempt(speed, endpoint, sent.toggle, sent.bytes.as_slice())
 }
 
 /// The attempt that sends these bytes.
-pub(crate) fn packet_attempt<'a>(
+pub(crate) fn packet_attempt(
     speed: Speed,
     endpoint: Endpoint,
     toggle: Toggle,
-    packet: &'a [u8],
-) -> Attempt<'a>
+    packet: &[u8],
+) -> Attempt
+    requires endpoint { IsEndpoint endpoint }
+    requires few { length packet.now ≤ 64 }
+    ensures value { attempt_data result
+        ≡ attempt_of_out speed endpoint (packet_of toggle packet.now) }
+    ensures fits { IsAttempt (attempt_data result) }
 {
+    let mut bytes = ArrayVec::new();
+    bytes.try_extend_from_slice(packet).unwrap();
     Attempt::Out {
         to: destination(speed, endpoint, 64),
         toggle,
-        bytes: packet,
+        bytes,
     }
 }
 
 /// The attempt that asks for data (8.5.1).
-pub(crate) fn in_attempt<'a>(speed: Speed, endpoint: Endpoint, most: u8) -> Attempt<'a>
+pub(crate) fn in_attempt(speed: Speed, endpoint: Endpoint, most: u8) -> Attempt
+    requires endpoint { IsEndpoint endpoint }
+    requires least { 1 ≤ most }
+    requires most { most ≤ 64 }
+    ensures value { attempt_data result ≡ attempt_of_in speed endpoint most }
+    ensures fits { IsAttempt (attempt_data result) }
 {
     Attempt::In {
         to: destination(speed, endpoint, most),
@@ -62,7 +81,7 @@ fn destination(speed: Speed, endpoint: Endpoint, max: u8) -> Destination
 
 /// Whether it is an IN of an endpoint other than 0 that brought nothing, as the poll of a hub without a change: its
 /// answer was NAK, or was lost.
-pub(crate) fn is_poll(attempt: &Attempt<'_>, outcome: &Outcome) -> bool
+pub(crate) fn is_poll(attempt: &Attempt, outcome: &Outcome) -> bool
     ensures { result ≡ is_poll (attempt_data attempt.now) outcome.now }
 {
     match attempt {

@@ -18,7 +18,7 @@ use crate::wanted::{Sending, due_wanted, next_part};
 use arrayvec::ArrayVec;
 use std::alloc::{AllocError, Global};
 use std::io::Write;
-use usb_bus::{Attempt, Bus, Outcome, Watched};
+use usb_bus::{Attempt, Bus, Watched};
 use usb_port::PortCall;
 use usb_request::feature::{
     C_PORT_CONNECTION, C_PORT_ENABLE, C_PORT_RESET, PORT_ENABLE, PORT_POWER, PORT_RESET,
@@ -219,7 +219,7 @@ impl<T: Trace> FarEnd<T> {
     }
 
     /// Makes an attempt.
-    fn attempt(&mut self, attempt: &Attempt<'_>) -> Result<Answer, FarFault>
+    fn attempt(&mut self, attempt: &Attempt) -> Result<Answer, FarFault>
         requires { IsAttempt (attempt_data attempt.now) }
         ensures done { IfOk result (λ answer.
             IsDone (attempt_done (attempt_data attempt.now) (far_of self.old)) (played_of self.old) answer
@@ -228,9 +228,8 @@ impl<T: Trace> FarEnd<T> {
             IsGivenUp (attempt_data attempt.now) (played_of self.old) fault (played_of self.new)) }
     {
         let taken = self.bus.events_taken();
-        let mut room = ArrayVec::new();
-        let outcome = match self.bus.attempt(attempt, &mut room) {
-            Ok(got) => Outcome::of(got, &room),
+        let outcome = match self.bus.attempt(attempt) {
+            Ok(outcome) => outcome,
             Err(fault) => return Err(FarFault::Bus(fault)),
         };
         let poll = is_poll(attempt, &outcome);

@@ -10,7 +10,7 @@ use crate::stage::{Stage, stage_behind, stage_of};
 use arrayvec::ArrayVec;
 use std::io::{Read, Write};
 use std::marker::{Brand, PhantomData};
-use usb_bus::{Attempt, Bus, BusFault, Destination, Got, ROW_ROOM, RowDone, Toggle, Watched};
+use usb_bus::{Attempt, Bus, BusFault, Destination, Outcome, ROW_ROOM, RowDone, Toggle, Watched};
 use usb_run::Item;
 use usb_serve::number_of;
 use usb_stream::{LiveFault, StreamBus};
@@ -74,14 +74,22 @@ impl<R: Read, W: Write, B: Begun> Bus for CourseBus<R, W, B> {
 
     ghost ports = { λ bus. (kept_of bus.bus).roots };
 
-    fn attempt(
-        &mut self,
-        attempt: &Attempt<'_>,
-        room: &mut ArrayVec<u8, 64>,
-    ) -> Result<Got, BusFault>
+    fn attempt(&mut self, attempt: &Attempt) -> Result<Outcome, BusFault>
+        requires { IsAttempt (attempt_data attempt.now) }
+        ensures again { (f : AFault) → (kept_of self.old.bus).fault ≡ Some f
+            → (result ≡ Err (bus_fault f)) × (self.new.bus ≡ self.old.bus) }
+        ensures asks { (kept_of self.old.bus).fault ≡ None → AttemptsByLine attempt.now
+            (streams (unread_of R.remaining self.old.bus) (unread_of R.remaining self.new.bus)
+            (written_of W.contents self.old.bus) (written_of W.contents self.new.bus))
+            (kept_of self.old.bus) result (kept_of self.new.bus) }
+        ensures fits { IfOk result (FitsMaximum (attempt_data attempt.now).max) }
+        ensures spends { Spends (λ bus. (kept_of bus.bus).attempts)
+            (λ bus. (kept_of bus.bus).roots) 1 self.old self.new }
+        ensures told { IfErr result (λ fault.
+            option_map bus_fault (kept_of self.new.bus).fault ≡ Some fault) }
     {
         self.stage = Stage::Asks;
-        self.bus.attempt(attempt, room)
+        self.bus.attempt(attempt)
     }
 
     fn attempt_ins(

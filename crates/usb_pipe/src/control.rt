@@ -6,7 +6,6 @@ ghost use Rattle.usb_transaction.specs.Transactions.{IsTarget};
 ghost use Rattle.usb_pipe.specs.Control.{BusToldIt, control_bound, write_bound};
 ghost use Rattle.usb_pipe.specs.Transfers.{ControlRead, ControlWrite, DataWrite};
 
-use arrayvec::ArrayVec;
 use crate::PipeFault;
 use crate::packets::send_packets;
 use crate::stage::data_stage;
@@ -49,11 +48,10 @@ pub fn control_in<B: Bus>(
         (B.world bus.old) result (B.world bus.new) }
 {
     let request = setup.to_bytes();
-    let mut room = ArrayVec::new();
-    send_setup(bus, target, request, &mut room)?;
+    send_setup(bus, target, request)?;
     let bytes = data_stage(alloc, bus, target, setup.length)?;
     let mut toggle = Toggle::One;
-    data_out(bus, target, 0, &mut toggle, &[], &mut room)?;
+    data_out(bus, target, 0, &mut toggle, &[])?;
     Ok(bytes)
 }
 
@@ -80,10 +78,9 @@ pub fn control_none<B: Bus>(bus: &mut B, target: Target, setup: Setup) -> Result
     ensures transfer { B.modelled ≡ true → ControlWrite target setup
         (B.world bus.old) result (B.world bus.new) }
 {
-    let mut room = ArrayVec::new();
-    send_setup(bus, target, setup.to_bytes(), &mut room)?;
+    send_setup(bus, target, setup.to_bytes())?;
     let mut toggle = Toggle::One;
-    data_in(bus, target, 0, &mut toggle, &mut room)?;
+    data_in(bus, target, 0, &mut toggle)?;
     Ok(())
 }
 
@@ -122,11 +119,10 @@ pub fn control_out<B: Bus>(
         (B.world bus.old) result (B.world bus.new) }
 {
     let first = setup.to_bytes();
-    let mut room = ArrayVec::new();
-    send_setup(bus, target, first, &mut room)?;
+    send_setup(bus, target, first)?;
     let mut data = Toggle::One;
     send_packets(bus, target, 0, &mut data, bytes)?;
     let mut status = Toggle::One;
-    data_in(bus, target, 0, &mut status, &mut room)?;
+    data_in(bus, target, 0, &mut status)?;
     Ok(())
 }

@@ -233,10 +233,9 @@ impl EndpointPipe {
             return Err(PipeFault::Broken);
         }
         let mut toggle = self.toggle;
-        let mut room = ArrayVec::new();
-        let polled = poll_in(bus, self.packet_target(), self.ep, &mut toggle, &mut room);
+        let polled = poll_in(bus, self.packet_target(), self.ep, &mut toggle);
         self.toggle = toggle;
-        if polled? { Ok(Some(room)) } else { Ok(None) }
+        Ok(polled?.map(|done| done.into_packet()))
     }
 
     /// Clears the endpoint's halt (9.4.5) where the pipe is broken or its last call that made an

@@ -89,9 +89,8 @@ impl InterruptPipe {
             (B.world bus.old) result self.new (B.world bus.new) }
     {
         let mut toggle = self.toggle;
-        let mut room = ArrayVec::new();
-        let polled = poll_in(bus, self.target, self.ep, &mut toggle, &mut room);
+        let polled = poll_in(bus, self.target, self.ep, &mut toggle);
         self.toggle = toggle;
-        if polled? { Ok(Some(room)) } else { Ok(None) }
+        Ok(polled?.map(|done| done.into_packet()))
     }
 }

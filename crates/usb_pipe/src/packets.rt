@@ -6,7 +6,6 @@ ghost use Rattle.usb_transaction.specs.Transactions.{IsTarget, transaction_bound
 ghost use Rattle.usb_pipe.specs.Control.{BusToldIt};
 ghost use Rattle.usb_pipe.specs.Packets.{PacketsSent, PacketsReceived};
 
-use arrayvec::ArrayVec;
 use crate::PipeFault;
 use std::alloc::Global;
 use usb_packet::Toggle;
@@ -32,10 +31,9 @@ pub(crate) fn send_packets<B: Bus>(
         (B.world bus.old) result toggle.new (B.world bus.new) }
 {
     let mut rest = bytes;
-    let mut room = ArrayVec::new();
     'packets: while !rest.is_empty() {
         let (packet, after) = rest.split_at(rest.len().min(usize::from(target.max)));
-        data_out(bus, target, ep, toggle, packet, &mut room)?;
+        data_out(bus, target, ep, toggle, packet)?;
         rest = after;
     }
     Ok(())
@@ -63,11 +61,10 @@ pub(crate) fn receive_packets<B: Bus>(
         (B.world bus.old) result toggle.new (B.world bus.new) }
 {
     let mut bytes = Vec::new(alloc);
-    let mut room = ArrayVec::new();
     'packets: for _taken in 0..wanted {
-        data_in(bus, target, ep, toggle, &mut room)?;
-        bytes.extend_from_slice(room.as_slice())?;
-        if room.len() < usize::from(target.max) {
+        let packet = data_in(bus, target, ep, toggle)?;
+        bytes.extend_from_slice(packet.bytes())?;
+        if packet.bytes().len() < usize::from(target.max) {
             return Ok(bytes);
         }
     }

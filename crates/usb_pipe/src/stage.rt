@@ -5,7 +5,6 @@ ghost use Rattle.usb_transaction.specs.Transactions.{IsTarget, AttemptsMade, tra
 ghost use Rattle.usb_pipe.specs.Control.{BusToldIt, FaultAfter, byte_bound, ends_stage};
 ghost use Rattle.usb_pipe.specs.Stages.{DataEnds};
 
-use arrayvec::ArrayVec;
 use crate::PipeFault;
 use std::alloc::{AllocError, Global};
 use usb_packet::Toggle;
@@ -35,11 +34,10 @@ pub(crate) fn data_stage<B: Bus>(
 {
     let mut bytes = Vec::new(alloc);
     let mut toggle = Toggle::One;
-    let mut room = ArrayVec::new();
     'packets: loop {
-        data_in(bus, target, 0, &mut toggle, &mut room)?;
-        keep(&mut bytes, room.as_slice(), wanted)?;
-        if last(room.len(), target.max, bytes.len(), wanted) {
+        let packet = data_in(bus, target, 0, &mut toggle)?;
+        keep(&mut bytes, packet.bytes(), wanted)?;
+        if last(packet.bytes().len(), target.max, bytes.len(), wanted) {
             return Ok(bytes);
         }
     }

@@ -31,7 +31,7 @@ pub struct Try {
 
 impl Try {
     /// That of an attempt.
-    pub fn of(attempt: &Attempt<'_>) -> Try
+    pub fn of(attempt: &Attempt) -> Try
         ensures { result ≡ try_of attempt.now }
     {
         let (to, token) = match attempt {

@@ -49,7 +49,7 @@ impl<W: Write + Drop> Trace for OutputTracer<W> {
     fn put_attempt(
         &mut self,
         number: u64,
-        attempt: &Attempt<'_>,
+        attempt: &Attempt,
         exchange: &Made,
         bytes: &[u8],
     ) -> Result<(), WriteFailed> {

@@ -26,6 +26,7 @@ use self::descriptions::Descriptions;
 pub use self::follow::FollowFault;
 use crate::shown::{ShownName, shown_names};
 use crate::{Damage, Event, Plan, Trace, Tracer, Untraced};
+use arrayvec::ArrayVec;
 use std::alloc::{AllocError, Global};
 use std::collections::VecDeque;
 use std::io::Write;
@@ -64,6 +65,8 @@ pub struct SimBus<T: Trace> {
     holders: Holders,
     /// The packets of the last attempt.
     exchange: Made,
+    /// The bytes of the last answer, if it was data.
+    room: ArrayVec<u8, 64>,
     ghost some_root: { 1 ≤ length (row_of roots) },
     ghost few_roots: { length (row_of roots) ≤ 7 },
     ghost settled: { IsSettled roots },
@@ -179,6 +182,7 @@ impl<T: Trace> SimBus<T> {
                 tracer,
                 holders: stage.holders,
                 exchange: Made::blank(),
+                room: ArrayVec::new(),
             }),
         }
     }

@@ -14,7 +14,7 @@ pub type Line = ArrayString<700>;
 pub fn push_attempt(
     line: &mut Line,
     number: u64,
-    attempt: &Attempt<'_>,
+    attempt: &Attempt,
     exchange: &Made,
     bytes: &[u8],
 )

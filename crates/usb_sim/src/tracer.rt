@@ -24,7 +24,7 @@ pub trait Trace {
     fn put_attempt(
         &mut self,
         number: u64,
-        attempt: &Attempt<'_>,
+        attempt: &Attempt,
         exchange: &Made,
         bytes: &[u8],
     ) -> Result<(), WriteFailed>;
@@ -79,7 +79,7 @@ impl<W: Write> Trace for Tracer<W> {
     fn put_attempt(
         &mut self,
         number: u64,
-        attempt: &Attempt<'_>,
+        attempt: &Attempt,
         exchange: &Made,
         bytes: &[u8],
     ) -> Result<(), WriteFailed> {
@@ -100,7 +100,7 @@ impl<W: Write> Trace for Watched<W> {
     fn put_attempt(
         &mut self,
         number: u64,
-        attempt: &Attempt<'_>,
+        attempt: &Attempt,
         exchange: &Made,
         bytes: &[u8],
     ) -> Result<(), WriteFailed> {
@@ -125,7 +125,7 @@ impl Trace for Untraced {
     fn put_attempt(
         &mut self,
         _number: u64,
-        _attempt: &Attempt<'_>,
+        _attempt: &Attempt,
         _exchange: &Made,
         _bytes: &[u8],
     ) -> Result<(), WriteFailed> {
@@ -143,7 +143,7 @@ fn put_attempt<W: Write>(
     writer: &mut Watched<W>,
     line: &mut Line,
     number: u64,
-    attempt: &Attempt<'_>,
+    attempt: &Attempt,
     exchange: &Made,
     bytes: &[u8],
 ) -> Result<(), WriteFailed>

@@ -14,7 +14,7 @@ use usb_request::Setup;
 use usb_wire::{Answer, Asked, DataPacket, Endpoint, Question, ROW_LIMIT};
 
 /// The question for an attempt.
-pub(crate) fn question_for(attempt: &Attempt<'_>) -> Question
+pub(crate) fn question_for(attempt: &Attempt) -> Question
     requires { IsAttempt (attempt_data attempt.now) }
     ensures value { result ≡ question_for attempt.now }
     ensures asks { IsQuestion result }
@@ -32,7 +32,7 @@ pub(crate) fn question_for(attempt: &Attempt<'_>) -> Question
             endpoint,
             sent: DataPacket {
                 toggle: *toggle,
-                bytes: copied(bytes),
+                bytes: copied(bytes.as_slice()),
             },
         },
         Attempt::In { to } => Question::In {

@@ -18,7 +18,7 @@ use crate::fault::{LiveFault, bus_fault};
 use arrayvec::ArrayVec;
 use std::io::{Read, Write};
 use usb_bus::{
-    Attempt, Bus, BusFault, Destination, Got, ROW_ROOM, RowDone, RowEnd, Toggle, Watched,
+    Attempt, Bus, BusFault, Destination, Outcome, ROW_ROOM, RowDone, RowEnd, Toggle, Watched,
 };
 use usb_lines::{Line, LineFault, put_lines, read_line};
 use usb_port::PortCall;
@@ -94,14 +94,22 @@ impl<R: Read, W: Write> Bus for StreamBus<R, W> {
     /// # Errors
     ///
     /// Limit where no more questions are left, Failed at any other fault.
-    fn attempt(
-        &mut self,
-        attempt: &Attempt<'_>,
-        room: &mut ArrayVec<u8, 64>,
-    ) -> Result<Got, BusFault>
+    fn attempt(&mut self, attempt: &Attempt) -> Result<Outcome, BusFault>
+        requires { IsAttempt (attempt_data attempt.now) }
+        ensures again { (f : AFault) → (kept_of self.old).fault ≡ Some f
+            → (result ≡ Err (bus_fault f)) × (self.new ≡ self.old) }
+        ensures asks { (kept_of self.old).fault ≡ None → AttemptsByLine attempt.now
+            (streams (unread_of R.remaining self.old) (unread_of R.remaining self.new)
+            (written_of W.contents self.old) (written_of W.contents self.new))
+            (kept_of self.old) result (kept_of self.new) }
+        ensures fits { IfOk result (FitsMaximum (attempt_data attempt.now).max) }
+        ensures spends { Spends (λ bus. (kept_of bus).attempts) (λ bus. (kept_of bus).roots) 1
+            self.old self.new }
+        ensures told { IfErr result (λ fault.
+            option_map bus_fault (kept_of self.new).fault ≡ Some fault) }
     {
         match self.ask(&question_for(attempt)) {
-            Ok(answer) => Ok(outcome_for(attempt.destination().max, answer).into_got(room)),
+            Ok(answer) => Ok(outcome_for(attempt.destination().max, answer)),
             Err(fault) => Err(bus_fault(fault)),
         }
     }

@@ -14,6 +14,7 @@
 #![tactic(auto)]
 
 mod attempt;
+mod done;
 mod fault;
 mod heard_outcome;
 mod laws;
@@ -25,6 +26,7 @@ mod target;
 mod tries;
 mod write;
 
+pub use done::Done;
 pub use fault::TransFault;
 pub use laws::{
     address_losses_of_a_transaction, what_a_transaction_attempts, what_is_so_between_bulk_attempts,

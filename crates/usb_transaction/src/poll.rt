@@ -8,8 +8,7 @@ ghost use Rattle.usb_transaction.specs.Transactions.{BusTold, IsTarget, transact
 use crate::attempt::attempt_of_in;
 use crate::heard_outcome::{HeardOutcome, heard_as};
 use crate::tries::Tries;
-use crate::{Target, TransFault};
-use arrayvec::ArrayVec;
+use crate::{Done, Target, TransFault};
 use usb_bus::Bus;
 use usb_packet::Toggle;
 
@@ -37,19 +36,27 @@ pub fn poll_in<B: Bus>(
     target: Target,
     ep: u8,
     toggle: &mut Toggle,
-    room: &mut ArrayVec<u8, 64>,
-) -> Result<bool, TransFault>
+) -> Result<Option<Done>, TransFault>
+    requires target { IsTarget target }
+    requires endpoint { ep < 16 }
+    ensures any_bus { Spends B.spent B.ports transaction_bound bus.old bus.new
+        × BusTold result (B.failed bus.new) }
+    ensures steps { B.modelled ≡ true → Steps B.world B.trace transaction_bound bus.old bus.new }
+    ensures polls { B.modelled ≡ true
+        → PollsIn target ep toggle.old (B.world bus.old) result (B.world bus.new) }
+    ensures toggle { toggle.new ≡ toggle_after toggle.old result }
+    ensures fits { IfOk result (λ got. IfSome got (λ bytes. length bytes ≤ target.max)) }
 {
     let attempt = attempt_of_in(target, ep);
     let mut tries = Tries::new();
     'tries: loop {
-        match bus.attempt(&attempt, room) {
+        match bus.attempt(&attempt) {
             Ok(outcome) => match heard_as(*toggle, outcome) {
-                HeardOutcome::Moved => {
+                HeardOutcome::Moved(bytes) => {
                     *toggle = toggle.other();
-                    return Ok(true);
+                    return Ok(Some(Done::data(bytes)));
                 }
-                HeardOutcome::NotReady => return Ok(false),
+                HeardOutcome::NotReady => return Ok(None),
                 HeardOutcome::Repeat => tries.wait()?,
                 HeardOutcome::Refused => return Err(TransFault::Stalled),
                 HeardOutcome::Lost => tries.error()?,

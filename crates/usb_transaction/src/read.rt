@@ -10,9 +10,8 @@ ghost use Rattle.usb_world.specs.Worlds.{FitsMaximum};
 use crate::attempt::attempt_of_in;
 use crate::heard_outcome::heard_as;
 use crate::tries::Tries;
-use crate::{Target, TransFault};
-use arrayvec::ArrayVec;
-use usb_bus::{Bus, Got};
+use crate::{Done, Target, TransFault};
+use usb_bus::{Bus, Outcome};
 use usb_packet::Toggle;
 
 /// Asks an endpoint, 0 to 15, for one data packet (8.5), until one of the awaited toggle comes.
@@ -32,11 +31,20 @@ pub fn data_in<B: Bus>(
     target: Target,
     ep: u8,
     toggle: &mut Toggle,
-    room: &mut ArrayVec<u8, 64>,
-) -> Result<(), TransFault>
+) -> Result<Done, TransFault>
+    requires target { IsTarget target }
+    requires endpoint { ep < 16 }
+    ensures any_bus { Spends B.spent B.ports transaction_bound bus.old bus.new
+        × BusTold result (B.failed bus.new) }
+    ensures steps { B.modelled ≡ true → Steps B.world B.trace transaction_bound bus.old bus.new }
+    ensures asks { B.modelled ≡ true
+        → AsksIn target ep toggle.old (B.world bus.old) result (B.world bus.new) }
+    ensures toggle { MatchResult result (λ _. toggle.new ≡ other toggle.old)
+        (λ _. toggle.new ≡ toggle.old) }
+    ensures fits { IfOk result (λ bytes. length bytes ≤ target.max) }
 {
-    match bus.attempt(&attempt_of_in(target, ep), room) {
-        Ok(first) => data_in_from(bus, target, ep, toggle, first, room),
+    match bus.attempt(&attempt_of_in(target, ep)) {
+        Ok(first) => data_in_from(bus, target, ep, toggle, first),
         Err(fault) => Err(TransFault::Bus(fault)),
     }
 }
@@ -47,19 +55,29 @@ pub(crate) fn data_in_from<B: Bus>(
     target: Target,
     ep: u8,
     toggle: &mut Toggle,
-    first: Got,
-    room: &mut ArrayVec<u8, 64>,
-) -> Result<(), TransFault>
+    first: Outcome,
+) -> Result<Done, TransFault>
+    requires endpoint { IsTarget target × (ep < 16) }
+    requires fits { FitsMaximum target.max first }
+    ensures any_bus { Spends B.spent B.ports further_bound bus.old bus.new
+        × BusTold result (B.failed bus.new) }
+    ensures asks { B.modelled ≡ true → AfterFirst (in_attempt target ep) first
+        (B.world bus.old) (B.trace bus.old)
+        (λ old text. StepRun transaction_bound old text (B.world bus.new) (B.trace bus.new)
+        × AsksIn target ep toggle.old old result (B.world bus.new)) }
+    ensures toggle { MatchResult result (λ _. toggle.new ≡ other toggle.old)
+        (λ _. toggle.new ≡ toggle.old) }
+    ensures fits { IfOk result (λ bytes. length bytes ≤ target.max) }
 {
     let attempt = attempt_of_in(target, ep);
     let mut tries = Tries::new();
     let mut outcome = first;
     'tries: loop {
-        if tries.hear(heard_as(*toggle, outcome))? {
+        if let Some(bytes) = tries.hear(heard_as(*toggle, outcome))? {
             *toggle = toggle.other();
-            return Ok(());
+            return Ok(Done::data(bytes));
         }
-        match bus.attempt(&attempt, room) {
+        match bus.attempt(&attempt) {
             Ok(next) => outcome = next,
             Err(fault) => return Err(TransFault::Bus(fault)),
         }

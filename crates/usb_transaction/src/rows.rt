@@ -53,10 +53,8 @@ pub fn data_in_row<B: Bus>(
     match end {
         RowEnd::Whole => Ok(moved),
         RowEnd::Answered(first) => {
-            let mut room = ArrayVec::new();
-            let first = first.into_got(&mut room);
-            data_in_from(bus, target, ep, toggle, first, &mut room)?;
-            add(got, room.as_slice());
+            let last = data_in_from(bus, target, ep, toggle, first)?;
+            add(got, last.bytes());
             Ok(moved + 1)
         }
         RowEnd::Faulted(fault) => Err(TransFault::Bus(fault)),
@@ -104,9 +102,7 @@ pub fn data_out_row<B: Bus>(
         RowEnd::Whole => Ok(moved),
         RowEnd::Answered(first) => {
             let packet = packet_behind(bytes, moved, target.max);
-            let mut room = ArrayVec::new();
-            let first = first.into_got(&mut room);
-            data_out_from(bus, target, ep, toggle, packet, first, &mut room)?;
+            data_out_from(bus, target, ep, toggle, packet, first)?;
             Ok(moved + 1)
         }
         RowEnd::Faulted(fault) => Err(TransFault::Bus(fault)),

@@ -7,8 +7,7 @@ ghost use Rattle.usb_transaction.specs.Transactions.{BusTold, IsTarget, error_li
 use crate::attempt::attempt_of_setup;
 use crate::heard_outcome::is_ack;
 use crate::tries::ERROR_LIMIT;
-use crate::{Target, TransFault};
-use arrayvec::ArrayVec;
+use crate::{Done, Target, TransFault};
 use usb_bus::Bus;
 
 /// Sends setup data (8.5.3), in at most three attempts.
@@ -23,19 +22,20 @@ use usb_bus::Bus;
 /// - `Bus`: the bus has failed.
 ///
 /// It never returns `Stalled` or `Busy`.
-pub fn setup<B: Bus>(
-    bus: &mut B,
-    target: Target,
-    bytes: [u8; 8],
-    room: &mut ArrayVec<u8, 64>,
-) -> Result<(), TransFault>
+pub fn setup<B: Bus>(bus: &mut B, target: Target, bytes: [u8; 8]) -> Result<Done, TransFault>
+    requires { IsTarget target }
+    ensures any_bus { Spends B.spent B.ports error_limit bus.old bus.new
+        × BusTold result (B.failed bus.new) }
+    ensures steps { B.modelled ≡ true → Steps B.world B.trace error_limit bus.old bus.new }
+    ensures sets_up { B.modelled ≡ true
+        → SetsUp target bytes (B.world bus.old) result (B.world bus.new) }
 {
     let attempt = attempt_of_setup(target, bytes);
     for _error in 0..ERROR_LIMIT {
-        match bus.attempt(&attempt, room) {
+        match bus.attempt(&attempt) {
             Ok(outcome) => {
-                if is_ack(outcome) {
-                    return Ok(());
+                if is_ack(&outcome) {
+                    return Ok(Done::nothing());
                 }
             }
             Err(fault) => return Err(TransFault::Bus(fault)),

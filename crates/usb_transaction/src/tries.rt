@@ -6,6 +6,7 @@ ghost use Rattle.usb_transaction.specs.HeardTries.{HearsAs};
 
 use crate::TransFault;
 use crate::heard_outcome::HeardOutcome;
+use arrayvec::ArrayVec;
 
 /// This number of errors in a row ends a transaction.
 pub(crate) const ERROR_LIMIT: u8 = 3;
@@ -34,18 +35,21 @@ impl Tries {
     pub(crate) fn hear(
         &mut self,
         heard: HeardOutcome,
-    ) -> Result<bool, TransFault>
+    ) -> Result<Option<ArrayVec<u8, 64>>, TransFault>
+        requires errors { self.old.errors < error_limit }
+        requires waits { self.old.waits < wait_limit }
+        ensures { HearsAs self.old heard result self.new }
     {
         match heard {
-            HeardOutcome::Moved => Ok(true),
+            HeardOutcome::Moved(bytes) => Ok(Some(bytes)),
             HeardOutcome::NotReady | HeardOutcome::Repeat => {
                 self.wait()?;
-                Ok(false)
+                Ok(None)
             }
             HeardOutcome::Refused => Err(TransFault::Stalled),
             HeardOutcome::Lost => {
                 self.error()?;
-                Ok(false)
+                Ok(None)
             }
         }
     }

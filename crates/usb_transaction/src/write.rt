@@ -13,9 +13,8 @@ ghost use Rattle.usb_world.specs.Worlds.{IsAttempt};
 use crate::attempt::attempt_of_out;
 use crate::heard_outcome::heard_when_sent;
 use crate::tries::Tries;
-use crate::{Target, TransFault};
-use arrayvec::ArrayVec;
-use usb_bus::{Attempt, Bus, Got};
+use crate::{Done, Target, TransFault};
+use usb_bus::{Attempt, Bus, Outcome};
 use usb_packet::Toggle;
 
 /// Sends one data packet of at most the target's maximum to an endpoint, 0 to 15 (8.5), again
@@ -38,12 +37,21 @@ pub fn data_out<B: Bus>(
     ep: u8,
     toggle: &mut Toggle,
     bytes: &[u8],
-    room: &mut ArrayVec<u8, 64>,
-) -> Result<(), TransFault>
+) -> Result<Done, TransFault>
+    requires target { IsTarget target }
+    requires endpoint { ep < 16 }
+    requires short { length bytes.now ≤ target.max }
+    ensures any_bus { Spends B.spent B.ports transaction_bound bus.old bus.new
+        × BusTold result (B.failed bus.new) }
+    ensures steps { B.modelled ≡ true → Steps B.world B.trace transaction_bound bus.old bus.new }
+    ensures sends { B.modelled ≡ true → SendsOut target ep toggle.old bytes.now
+        (B.world bus.old) result (B.world bus.new) }
+    ensures toggle { MatchResult result (λ _. toggle.new ≡ other toggle.old)
+        (λ _. toggle.new ≡ toggle.old) }
 {
     let attempt = attempt_of_out(target, ep, *toggle, bytes);
-    match bus.attempt(&attempt, room) {
-        Ok(first) => send_on(bus, &attempt, toggle, first, room),
+    match bus.attempt(&attempt) {
+        Ok(first) => send_on(bus, &attempt, toggle, first),
         Err(fault) => Err(TransFault::Bus(fault)),
     }
 }
@@ -55,36 +63,52 @@ pub(crate) fn data_out_from<B: Bus>(
     ep: u8,
     toggle: &mut Toggle,
     bytes: &[u8],
-    first: Got,
-    room: &mut ArrayVec<u8, 64>,
-) -> Result<(), TransFault>
+    first: Outcome,
+) -> Result<Done, TransFault>
+    requires endpoint { IsTarget target × (ep < 16) }
+    requires short { length bytes.now ≤ target.max }
+    ensures any_bus { Spends B.spent B.ports further_bound bus.old bus.new
+        × BusTold result (B.failed bus.new) }
+    ensures sends { B.modelled ≡ true → AfterFirst (out_attempt target ep toggle.old bytes.now)
+        first (B.world bus.old) (B.trace bus.old)
+        (λ old text. StepRun transaction_bound old text (B.world bus.new) (B.trace bus.new)
+        × SendsOut target ep toggle.old bytes.now old result (B.world bus.new)) }
+    ensures toggle { MatchResult result (λ _. toggle.new ≡ other toggle.old)
+        (λ _. toggle.new ≡ toggle.old) }
 {
     send_on(
         bus,
         &attempt_of_out(target, ep, *toggle, bytes),
         toggle,
         first,
-        room,
     )
 }
 
 /// Makes the attempt of an OUT, whose first outcome was this, until its packet is acknowledged.
 fn send_on<B: Bus>(
     bus: &mut B,
-    attempt: &Attempt<'_>,
+    attempt: &Attempt,
     toggle: &mut Toggle,
-    first: Got,
-    room: &mut ArrayVec<u8, 64>,
-) -> Result<(), TransFault>
+    first: Outcome,
+) -> Result<Done, TransFault>
+    requires { IsAttempt (attempt_data attempt.now) }
+    ensures any_bus { Spends B.spent B.ports further_bound bus.old bus.new
+        × BusTold result (B.failed bus.new) }
+    ensures sends { B.modelled ≡ true → AfterFirst (attempt_data attempt.now)
+        first (B.world bus.old) (B.trace bus.old)
+        (λ old text. StepRun transaction_bound old text (B.world bus.new) (B.trace bus.new)
+        × Transacted heard_when_sent (attempt_data attempt.now) old result (B.world bus.new)) }
+    ensures toggle { MatchResult result (λ _. toggle.new ≡ other toggle.old)
+        (λ _. toggle.new ≡ toggle.old) }
 {
     let mut tries = Tries::new();
     let mut outcome = first;
     'tries: loop {
-        if tries.hear(heard_when_sent(outcome))? {
+        if tries.hear(heard_when_sent(&outcome))?.is_some() {
             *toggle = toggle.other();
-            return Ok(());
+            return Ok(Done::nothing());
         }
-        match bus.attempt(attempt, room) {
+        match bus.attempt(attempt) {
             Ok(next) => outcome = next,
             Err(fault) => return Err(TransFault::Bus(fault)),
         }

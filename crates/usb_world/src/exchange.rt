@@ -112,7 +112,7 @@ pub(crate) fn exchange_along(
     roots: &mut Ports,
     path: &[u8],
     port: u8,
-    attempt: &Attempt<'_>,
+    attempt: &Attempt,
     damage: &Option<Damage>,
     exchange: &mut Made,
     room: &mut ArrayVec<u8, 64>,
@@ -130,7 +130,7 @@ fn exchange_whole(
     roots: &mut Ports,
     path: &[u8],
     port: u8,
-    attempt: &Attempt<'_>,
+    attempt: &Attempt,
     exchange: &mut Made,
     room: &mut ArrayVec<u8, 64>,
 ) -> Result<bool, AllocError>
@@ -155,13 +155,13 @@ fn exchange_whole(
 
 /// Whether a device that was at an attempt's address still is, and asked nothing of its ports that changes who is
 /// reached. Those on its port of a number are excepted.
-fn keeps_address(port: u8, side: &DeviceSide, attempt: &Attempt<'_>) -> bool
+fn keeps_address(port: u8, side: &DeviceSide, attempt: &Attempt) -> bool
 {
     side.effect.keeps_others(port) && side.address == Some(attempt.destination().address)
 }
 
 /// What the host has to say beside its data.
-fn host_side<'a>(attempt: &'a Attempt<'_>) -> HostSide<'a>
+fn host_side<'a>(attempt: &'a Attempt) -> HostSide<'a>
 {
     let to = attempt.destination();
     HostSide {
@@ -181,7 +181,7 @@ fn exchange_by_packets(
     roots: &mut Ports,
     path: &[u8],
     port: u8,
-    attempt: &Attempt<'_>,
+    attempt: &Attempt,
     damage: Option<Damage>,
     exchange: &mut Made,
     room: &mut ArrayVec<u8, 64>,
@@ -230,7 +230,7 @@ fn send_packets(
     roots: &mut Ports,
     path: &[u8],
     port: u8,
-    attempt: &Attempt<'_>,
+    attempt: &Attempt,
     damage: Option<Damage>,
     quiet: &mut bool,
     exchange: &mut Made,
@@ -263,7 +263,7 @@ fn send_packets(
 }
 
 /// Makes an attempt that no device hears: the host's token and its data go out, and nothing comes.
-pub(crate) fn make_silence(attempt: &Attempt<'_>, damage: &Option<Damage>, exchange: &mut Made)
+pub(crate) fn make_silence(attempt: &Attempt, damage: &Option<Damage>, exchange: &mut Made)
 {
     exchange.token = Mark::Whole;
     exchange.payload = Mark::Whole;
@@ -305,7 +305,7 @@ fn answer_mark(harm: Option<Harm>, answer: HeardPid, count: usize) -> Mark
 }
 
 /// A packet as damage leaves it, on its way to the devices; None if it is lost.
-fn goes_out<'a>(attempt: &Attempt<'_>, packet: &'a Outgoing) -> Option<LentPacket<'a>>
+fn goes_out<'a>(attempt: &Attempt, packet: &'a Outgoing) -> Option<LentPacket<'a>>
     requires fields { HasFields packet.now.packet }
     requires bit { has_its_bit packet.now.mark packet.now.packet ≡ true }
     ensures { result ≡ sent_as (attempt_data attempt.now).low (attempt_data attempt.now).pre
@@ -336,7 +336,7 @@ fn broken<'a>(speed: Speed, packet: &Packet, bit: u16) -> LentPacket<'a>
 }
 
 /// The same, if there is a packet.
-fn some_goes_out<'a>(attempt: &Attempt<'_>, packet: &'a Option<Outgoing>) -> Option<LentPacket<'a>>
+fn some_goes_out<'a>(attempt: &Attempt, packet: &'a Option<Outgoing>) -> Option<LentPacket<'a>>
     requires fields { IfSome packet.now (λ s. HasFields s.packet) }
     requires bit { IfSome packet.now (λ s. has_its_bit s.mark s.packet ≡ true) }
     ensures { result ≡ goes_out (attempt_data attempt.now) packet.now }
@@ -416,7 +416,7 @@ fn has_loss(roots: &Ports, path: &[u8]) -> bool
 fn send_reply(
     roots: &mut Ports,
     path: &[u8],
-    attempt: &Attempt<'_>,
+    attempt: &Attempt,
     reply: &Option<Outgoing>,
 ) -> Result<bool, AllocError>
     requires fields { IfSome reply.now (λ s. HasFields s.packet) }
@@ -441,7 +441,7 @@ fn send_reply(
 fn acknowledge(
     roots: &mut Ports,
     path: &[u8],
-    attempt: &Attempt<'_>,
+    attempt: &Attempt,
     packet: &Outgoing,
 ) -> Result<bool, AllocError>
     requires fields { HasFields packet.now.packet }
@@ -471,7 +471,7 @@ fn acknowledge(
 }
 
 /// The token as damage leaves it.
-fn token_out(attempt: &Attempt<'_>, damage: Option<Damage>) -> Outgoing
+fn token_out(attempt: &Attempt, damage: Option<Damage>) -> Outgoing
 {
     let to = attempt.destination();
     let packet = Packet::Token {
@@ -492,7 +492,7 @@ fn mark_in(packet: &Option<Outgoing>) -> Mark
 }
 
 /// The host's data as damage leaves them, if it sends some.
-fn payload_out(attempt: &Attempt<'_>, damage: Option<Damage>) -> Option<Outgoing>
+fn payload_out(attempt: &Attempt, damage: Option<Damage>) -> Option<Outgoing>
 {
     let (toggle, bytes) = attempt.data()?;
     Some(data_out(attempt.destination(), damage, toggle, bytes))
@@ -524,7 +524,7 @@ fn copied(bytes: &[u8]) -> ArrayVec<u8, 64>
 }
 
 /// Whether the host reads data of at most the maximum, and so answers by ACK.
-fn is_acknowledged(answer: HeardPid, count: usize, mark: Mark, attempt: &Attempt<'_>) -> bool
+fn is_acknowledged(answer: HeardPid, count: usize, mark: Mark, attempt: &Attempt) -> bool
 {
     match answer {
         HeardPid::One(AnswerPid::Data(_)) => {
@@ -536,7 +536,7 @@ fn is_acknowledged(answer: HeardPid, count: usize, mark: Mark, attempt: &Attempt
 
 /// The host's ACK as damage leaves it, if it answers by one.
 fn reply_out(
-    attempt: &Attempt<'_>,
+    attempt: &Attempt,
     damage: Option<Damage>,
     place: u8,
     acknowledged: bool,

@@ -35,7 +35,7 @@ use usb_request::request_type::{DEVICE_OUT, PORT_OUT};
 pub fn make_exchange_by(
     roots: &mut Ports,
     holders: &mut Holders,
-    attempt: &Attempt<'_>,
+    attempt: &Attempt,
     damage: &Option<Damage>,
     exchange: &mut Made,
     room: &mut ArrayVec<u8, 64>,
@@ -90,7 +90,7 @@ fn exchange_at(
     roots: &mut Ports,
     holders: &mut Holders,
     path: &[u8],
-    attempt: &Attempt<'_>,
+    attempt: &Attempt,
     damage: &Option<Damage>,
     exchange: &mut Made,
     room: &mut ArrayVec<u8, 64>,
@@ -120,7 +120,7 @@ fn exchange_at_port(
     holders: &mut Holders,
     path: &[u8],
     port: u8,
-    attempt: &Attempt<'_>,
+    attempt: &Attempt,
     damage: &Option<Damage>,
     exchange: &mut Made,
     room: &mut ArrayVec<u8, 64>,
@@ -158,7 +158,7 @@ enum Change {
 
 /// An IN of endpoint 0 at address 0 may end SET_ADDRESS (9.4.6), and SET_CONFIGURATION resets all
 /// ports off (9.4.7).
-fn change_of(attempt: &Attempt<'_>, roots: &Ports, way: &[u8]) -> Change {
+fn change_of(attempt: &Attempt, roots: &Ports, way: &[u8]) -> Change {
     match attempt {
         Attempt::In { to } if to.address == 0 && to.number == 0 => {
             change_of_status(roots.device_at(way))
@@ -214,7 +214,7 @@ fn copied(path: &[u8]) -> ArrayVec<u8, 8>
 
 /// The path of the one device that holds an attempt's address; the empty path, which stands for the
 /// whole tree, if none is known.
-fn way<'a>(holders: &'a Holders, attempt: &Attempt<'_>) -> &'a [u8]
+fn way<'a>(holders: &'a Holders, attempt: &Attempt) -> &'a [u8]
     ensures value { result.now ≡ way_in holders.now (attempt_data attempt.now).addr }
     ensures most { length result.now ≤ 8 }
 {

@@ -22,7 +22,7 @@ pub struct Destination {
 
 /// One transaction attempt (8.5).
 #[derive(Debug, Drop)]
-pub enum Attempt<'a> {
+pub enum Attempt {
     /// SETUP, with setup data in DATA0 (8.5.3).
     Setup {
         /// Where it goes.
@@ -37,7 +37,7 @@ pub enum Attempt<'a> {
         /// DATA0 or DATA1.
         toggle: Toggle,
         /// The data, no more than the endpoint's maximum packet.
-        bytes: &'a [u8],
+        bytes: ArrayVec<u8, 64>,
     },
     /// IN: it asks for data (8.5.1).
     In {
@@ -46,7 +46,7 @@ pub enum Attempt<'a> {
     },
 }
 
-impl<'a> Attempt<'a> {
+impl Attempt {
     ghost use Rattle.usb_world.specs.PlainAttempts.{attempt_kind, destination_of};
 
     /// The token that it begins with.
@@ -64,7 +64,7 @@ impl<'a> Attempt<'a> {
     pub fn data(&self) -> Option<(Toggle, &[u8])> {
         match self {
             Attempt::Setup { bytes, .. } => Some((Toggle::Zero, bytes)),
-            Attempt::Out { toggle, bytes, .. } => Some((*toggle, *bytes)),
+            Attempt::Out { toggle, bytes, .. } => Some((*toggle, bytes.as_slice())),
             Attempt::In { .. } => None,
         }
     }

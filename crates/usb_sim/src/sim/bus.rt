@@ -14,12 +14,11 @@ ghost use Rattle.usb_sim.specs.Parts.{is_data};
 
 use super::SimBus;
 use crate::Trace;
-use arrayvec::ArrayVec;
 use usb_bus::Bus;
 use usb_device::{Holders, Ports, keeps_enable};
 use usb_port::PortCall;
 use usb_world::{
-    Attempt, BusFault, Got, damage_of, got_of, make_exchange_by,
+    Attempt, BusFault, Outcome, damage_of, got_of, make_exchange_by,
 };
 
 impl<T: Trace> Bus for SimBus<T> {
@@ -40,9 +39,8 @@ impl<T: Trace> Bus for SimBus<T> {
 
     fn attempt(
         &mut self,
-        attempt: &Attempt<'_>,
-        room: &mut ArrayVec<u8, 64>,
-    ) -> Result<Got, BusFault>
+        attempt: &Attempt,
+    ) -> Result<Outcome, BusFault>
     {
         if let Some(fault) = self.fault {
             return Err(fault);
@@ -51,14 +49,15 @@ impl<T: Trace> Bus for SimBus<T> {
             self.fault = Some(BusFault::Limit);
             return Err(BusFault::Limit);
         }
-        self.make_attempt(attempt, room)?;
+        self.make_attempt(attempt)?;
         let max = attempt.destination().max;
-        Ok(got_of(
+        let got = got_of(
             self.exchange.answer,
             self.exchange.count,
             self.exchange.answer_mark,
             max,
-        ))
+        );
+        Ok(Outcome::of(got, &self.room))
     }
 
     fn root_ports(&self) -> u8 {
@@ -117,8 +116,7 @@ impl<T: Trace> SimBus<T> {
     #[tactic(auto, unfolding(usb_world::specs::Steps::at_attempt, usb_world::specs::Steps::with_attempt, usb_world::specs::Steps::outcome_in, usb_bus::specs::Lines::step_lines))]
     fn make_attempt(
         &mut self,
-        attempt: &Attempt<'_>,
-        room: &mut ArrayVec<u8, 64>,
+        attempt: &Attempt,
     ) -> Result<(), BusFault>
     {
         self.take_due_events()?;
@@ -133,14 +131,14 @@ impl<T: Trace> SimBus<T> {
             attempt,
             &damage,
             &mut self.exchange,
-            room,
+            &mut self.room,
         )?;
         // All went: only the line can fail.
         self.fault = Some(BusFault::Failed);
         self.attempts += 1;
         self.losses
             .count(self.exchange.change_cleared, self.exchange.address_lost);
-        self.tracer.put_attempt(self.attempts, attempt, &self.exchange, room.as_slice())?;
+        self.tracer.put_attempt(self.attempts, attempt, &self.exchange, self.room.as_slice())?;
         self.fault = None;
         Ok(())
     }
