@@ -137,8 +137,7 @@ impl Device {
             None => Ok(()),
             Some((toggle, bytes)) => {
                 if attempt.is_heard(deep, self.is_low()) {
-                    side.effect = self.own.asks_data(toggle, bytes);
-                    if let Some(pid) = self.take_payload(toggle, bytes)? {
+                    if let Some(pid) = self.take_payload(toggle, bytes, &mut side.effect)? {
                         side.heard = joined(side.heard, pid);
                     }
                 }

@@ -184,10 +184,10 @@ impl Device {
         &mut self,
         toggle: Toggle,
         bytes: &[u8],
+        effect: &mut Effect,
     ) -> Result<Option<AnswerPid>, AllocError> {
-        let mut effect = Effect::Leaves;
-        let pid = self.own.take_payload(&self.ports, toggle, bytes, &mut effect)?;
-        self.act(effect);
+        let pid = self.own.take_payload(&self.ports, toggle, bytes, effect)?;
+        self.act(*effect);
         Ok(pid)
     }
 

@@ -830,15 +830,6 @@ impl FunctionState {
         }
     }
 
-    /// The same of the host's data.
-    pub(crate) fn asks_data(&self, toggle: Toggle, bytes: &[u8]) -> Effect {
-        if self.spec.is_silent() {
-            Effect::Leaves
-        } else {
-            self.asks_by_data(toggle, bytes)
-        }
-    }
-
     fn asks_by_data(&self, toggle: Toggle, bytes: &[u8]) -> Effect
         ensures { result ≡ asked_by_data self.now self.now.memory toggle bytes.now }
     {

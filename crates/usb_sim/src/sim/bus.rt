@@ -14,11 +14,13 @@ ghost use Rattle.usb_sim.specs.Parts.{is_data};
 
 use super::SimBus;
 use crate::Trace;
+use arrayvec::ArrayVec;
 use usb_bus::Bus;
 use usb_device::{Holders, Ports, keeps_enable};
+use usb_packet::Toggle;
 use usb_port::PortCall;
 use usb_world::{
-    Attempt, BusFault, Outcome, damage_of, got_of, make_exchange_by,
+    AnswerPid, Attempt, BusFault, HeardPid, Mark, Outcome, damage_of, make_exchange_by,
 };
 
 impl<T: Trace> Bus for SimBus<T> {
@@ -51,13 +53,11 @@ impl<T: Trace> Bus for SimBus<T> {
         }
         self.make_attempt(attempt)?;
         let max = attempt.destination().max;
-        let got = got_of(
-            self.exchange.answer,
-            self.exchange.count,
-            self.exchange.answer_mark,
-            max,
-        );
-        Ok(Outcome::of(got, &self.room))
+        let mark = self.exchange.answer_mark;
+        match self.exchange.answer {
+            HeardPid::One(AnswerPid::Data(toggle)) => Ok(data_of(toggle, &self.room, mark, max)),
+            answer => Ok(handshake_of(answer, mark)),
+        }
     }
 
     fn root_ports(&self) -> u8 {
@@ -141,6 +141,32 @@ impl<T: Trace> SimBus<T> {
         self.tracer.put_attempt(self.attempts, attempt, &self.exchange, self.room.as_slice())?;
         self.fault = None;
         Ok(())
+    }
+}
+
+/// What the host gets of data.
+fn data_of(toggle: Toggle, room: &ArrayVec<u8, 64>, mark: Mark, max: u8) -> Outcome
+{
+    if mark.is_read() && room.len() <= usize::from(max) {
+        let mut bytes = ArrayVec::new();
+        let _ = bytes.try_extend_from_slice(room.as_slice());
+        Outcome::Payload(toggle, bytes)
+    } else {
+        Outcome::Nothing
+    }
+}
+
+/// What the host gets of an answer that is no data. It is apart from data, so that no room for them is copied.
+fn handshake_of(answer: HeardPid, mark: Mark) -> Outcome
+{
+    if !mark.is_read() {
+        return Outcome::Nothing;
+    }
+    match answer {
+        HeardPid::One(AnswerPid::Ack) => Outcome::Ack,
+        HeardPid::One(AnswerPid::Nak) => Outcome::Nak,
+        HeardPid::One(AnswerPid::Stall) => Outcome::Stall,
+        _ => Outcome::Nothing,
     }
 }
 
