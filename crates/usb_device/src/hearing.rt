@@ -55,6 +55,21 @@ impl Hearing {
         self.pid
     }
 
+    /// The bytes in the room: they are those of data.
+    #[tactic(auto, using(crate::proofs::packets::Hearings::hearings))]
+    pub fn bytes(&self) -> &ArrayVec<u8, 64>
+        ensures { heard_with (pid_heard self.now) result.now ≡ self.now }
+    {
+        &self.room
+    }
+
+    /// Nothing is heard from here on. What is in the room stays, and does not count.
+    pub fn clear(&mut self)
+        ensures { self.new ≡ NoAnswer }
+    {
+        self.pid = HeardPid::Nothing;
+    }
+
     /// The room: its bytes are those of data.
     #[tactic(auto, using(crate::proofs::packets::Hearings::hearings))]
     pub fn into_bytes(self) -> ArrayVec<u8, 64>
