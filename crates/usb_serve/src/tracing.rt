@@ -6,7 +6,7 @@ ghost use Rattle.usb_bus.specs.Watch.{PutsText};
 use crate::output::Output;
 use std::io::Write;
 use usb_bus::WriteFailed;
-use usb_sim::{Exchange, Line, Trace, push_attempt};
+use usb_sim::{ExchangeRoom, Line, Trace, push_attempt};
 
 /// An output that has the lines.
 #[derive(Debug, Drop)]
@@ -50,7 +50,7 @@ impl<W: Write + Drop> Trace for OutputTracer<W> {
         &mut self,
         number: u64,
         pre: bool,
-        exchange: &Exchange,
+        exchange: &ExchangeRoom,
     ) -> Result<(), WriteFailed> {
         self.line.clear();
         push_attempt(&mut self.line, number, pre, exchange);

@@ -25,6 +25,6 @@ pub use trace::{Line, push_attempt};
 pub use tracer::{Trace, Tracer, Untraced};
 pub use usb_device::EndpointNumber;
 pub use usb_world::{
-    Action, Ask, Change, Damage, Damages, Event, Events, Exchange, Harm, Plan, SentBytes,
+    Action, Ask, Change, Damage, Damages, Event, Events, ExchangeRoom, Harm, Plan, SentBytes,
     WriteRequest,
 };

@@ -30,10 +30,9 @@ use std::alloc::{AllocError, Global};
 use std::collections::VecDeque;
 use std::io::Write;
 use usb_bus::Watched;
-use usb_device::{EndpointNumber, Hearing, Holders, Ports};
-use usb_packet::Packet;
+use usb_device::{AnswerPid, EndpointNumber, HeardPid, Holders, Ports};
 use usb_port::PortPath;
-use usb_world::{BusFault, Exchange, ExchangeAnswer, Losses, event_copies};
+use usb_world::{BusFault, ExchangeRoom, Losses, event_copies};
 
 /// A bus that a plan describes. Each attempt, plug and unplug is a line of the trace, which goes to a writer at once
 /// where the bus is `Tracer`.
@@ -64,9 +63,7 @@ pub struct SimBus<T: Trace> {
     /// Which device holds which address.
     holders: Holders,
     /// The packets of the last attempt.
-    exchange: Exchange,
-    /// Room for what is heard in an attempt.
-    heard: Hearing,
+    exchange: ExchangeRoom,
     ghost some_root: { 1 ≤ length (row_of roots) },
     ghost few_roots: { length (row_of roots) ≤ 7 },
     ghost settled: { IsSettled roots },
@@ -181,8 +178,7 @@ impl<T: Trace> SimBus<T> {
                 fault: None,
                 tracer,
                 holders: stage.holders,
-                exchange: Exchange::blank(),
-                heard: Hearing::nothing(),
+                exchange: ExchangeRoom::blank(),
             }),
         }
     }
@@ -237,8 +233,9 @@ impl<T: Trace> SimBus<T> {
     pub fn answered(&self) -> usize
         ensures { result ≡ answered_by self.now }
     {
-        match &self.exchange.answer {
-            ExchangeAnswer::One(Packet::Payload { bytes, .. }) => bytes.len(),
+        let heard = self.exchange.heard();
+        match heard.pid() {
+            HeardPid::One(AnswerPid::Data(_)) => heard.bytes().len(),
             _ => 0,
         }
     }

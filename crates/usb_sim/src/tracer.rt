@@ -6,7 +6,7 @@ ghost use Rattle.usb_bus.specs.Watch.{has_failed, known_text, PutsText};
 use crate::trace::{Line, push_attempt};
 use std::io::Write;
 use usb_bus::{Watched, WriteFailed, put_piece, put_pieces};
-use usb_world::Exchange;
+use usb_world::ExchangeRoom;
 
 /// What a simulated bus hands the lines of its trace to.
 pub trait Trace {
@@ -25,7 +25,7 @@ pub trait Trace {
         &mut self,
         number: u64,
         pre: bool,
-        exchange: &Exchange,
+        exchange: &ExchangeRoom,
     ) -> Result<(), WriteFailed>
         ensures { PutsText text failed self.old result self.new
             (attempt_line number pre exchange.now ++ 10 ∷ []) };
@@ -81,7 +81,7 @@ impl<W: Write> Trace for Tracer<W> {
         &mut self,
         number: u64,
         pre: bool,
-        exchange: &Exchange,
+        exchange: &ExchangeRoom,
     ) -> Result<(), WriteFailed> {
         put_attempt(&mut self.writer, &mut self.line, number, pre, exchange)
     }
@@ -101,7 +101,7 @@ impl<W: Write> Trace for Watched<W> {
         &mut self,
         number: u64,
         pre: bool,
-        exchange: &Exchange,
+        exchange: &ExchangeRoom,
     ) -> Result<(), WriteFailed> {
         put_attempt(self, &mut Line::new(), number, pre, exchange)
     }
@@ -125,7 +125,7 @@ impl Trace for Untraced {
         &mut self,
         _number: u64,
         _pre: bool,
-        _exchange: &Exchange,
+        _exchange: &ExchangeRoom,
     ) -> Result<(), WriteFailed> {
         Ok(())
     }
@@ -142,7 +142,7 @@ fn put_attempt<W: Write>(
     line: &mut Line,
     number: u64,
     pre: bool,
-    exchange: &Exchange,
+    exchange: &ExchangeRoom,
 ) -> Result<(), WriteFailed>
     ensures { PutsText (known_text W.contents) has_failed writer.old result writer.new
         (attempt_line number pre exchange.now ++ 10 ∷ []) }

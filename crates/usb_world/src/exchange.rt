@@ -1,5 +1,5 @@
 //! One attempt: the host's packets go to the devices, and their answers come together.
-ghost use Rattle.std.specs.Prelude.{◌≡◌, ◌≤◌, length, [], true, false, None, Some, IfOk, IfSome, IsOk, IsSome, OnOk, OnErr};
+ghost use Rattle.std.specs.Prelude.{◌≡◌, ◌≤◌, ℕ, Bool, length, [], true, false, None, Some, IfOk, IfSome, IsOk, IsSome, OnOk, OnErr};
 ghost use Rattle.usb_packet.specs.Speeds.{speed_has_pre, speed_is_low};
 ghost use Rattle.usb_packet.specs.Spelling.{HasFields};
 ghost use Rattle.usb_packet.specs.declared.Packet.TheVariants as packet;
@@ -8,11 +8,10 @@ ghost use Rattle.usb_device.specs.Tree.{device_there};
 ghost use Rattle.usb_device.specs.Delivery.{all_forgotten, has_loss};
 ghost use Rattle.usb_device.specs.Route.{address_by};
 ghost use Rattle.usb_world.specs.PlainAttempts.{attempt_data};
-ghost use Rattle.usb_world.specs.Worlds.{IsAttempt, FitsMaximum};
+ghost use Rattle.usb_world.specs.Worlds.{IsAttempt};
 ghost use Rattle.usb_world.specs.Wire.{has_its_bit, marked, marked_some};
-ghost use Rattle.usb_world.specs.declared.wire.Mark.TheVariants.{Flipped, Whole};
-ghost use Rattle.usb_world.specs.declared.exchange.ExchangeAnswer.TheVariants.{One};
-ghost use Rattle.usb_world.specs.Exchanges.{ack_if, blank, token_of, payload_of, answer_place, answer_mark, reply_of, outcome_heard, outcome_of, goes_out, token_out, payload_out, sent_as, is_lost, clears_at};
+ghost use Rattle.usb_world.specs.declared.wire.Mark.TheVariants.{Flipped};
+ghost use Rattle.usb_world.specs.Exchanges.{ack_if, blank, token_of, payload_of, answer_place, answer_mark, reply_of, goes_out, token_out, payload_out, sent_as, is_lost, clears_at};
 ghost use Rattle.usb_tree.specs.AttemptPackets.{IsSettled, after_sent};
 ghost use Rattle.usb_world.specs.ExchangeEffects.{StaysPlugged, PacketWent, PacketsWent, Exchanged};
 ghost use Rattle.usb_world.specs.CutPackets.{IsStopped};
@@ -23,11 +22,11 @@ ghost use Rattle.usb_tree.specs.LonePackets.{AloneAt, IsQuiet, KeptAt, is_whole_
 ghost use Rattle.usb_world.specs.HostSides.{host_side, keeps_address};
 
 use crate::damage::{Damage, Harm};
-use crate::wire::{Mark, Outgoing, flipped, harm_to, mark_of, marked};
-use crate::{Attempt, Destination, Outcome};
+use crate::wire::{Mark, Outgoing, OutgoingRoom, flipped, harm_to, mark_of, marked};
+use crate::{Attempt, Destination};
 use arrayvec::ArrayVec;
 use std::alloc::AllocError;
-use std::mem;
+use std::marker::Model;
 use usb_device::{AnswerPid, Content, DeviceSide, HeardPid, Hearing, HostSide, LentPacket, Ports};
 use usb_packet::{Packet, Speed, Toggle, encode, one_flipped_bit};
 
@@ -40,24 +39,6 @@ pub enum ExchangeAnswer {
     One(Packet),
     /// Two answers at once: nobody can read them.
     Collision,
-}
-
-/// What was heard of the devices, as packets. Bytes of data are moved out of what was heard.
-#[tactic(auto, unfolding(crate::specs::HeardAnswers::heard_above))]
-fn put_answer(heard: &mut Hearing, answer: &mut ExchangeAnswer)
-    ensures { answer.new ≡ heard_above heard.old }
-{
-    match heard.pid() {
-        HeardPid::Nothing => *answer = ExchangeAnswer::Nothing,
-        HeardPid::Collision => *answer = ExchangeAnswer::Collision,
-        HeardPid::One(AnswerPid::Ack) => *answer = ExchangeAnswer::One(Packet::Ack),
-        HeardPid::One(AnswerPid::Nak) => *answer = ExchangeAnswer::One(Packet::Nak),
-        HeardPid::One(AnswerPid::Stall) => *answer = ExchangeAnswer::One(Packet::Stall),
-        HeardPid::One(AnswerPid::Data(toggle)) => {
-            let bytes = mem::replace(heard, Hearing::nothing()).into_bytes();
-            *answer = ExchangeAnswer::One(Packet::Payload { toggle, bytes });
-        }
-    }
 }
 
 /// The packets of an attempt as they went over the bus.
@@ -79,22 +60,117 @@ pub struct Exchange {
     pub change_cleared: bool,
 }
 
-impl Exchange {
-    /// Of no attempt yet: a place for the packets of one.
+/// Room for the packets of an attempt, which is used again and again: of what was there before, nothing is cleared.
+#[derive(Debug, Drop)]
+pub struct ExchangeRoom {
+    token: Outgoing,
+    payload: OutgoingRoom,
+    heard: Hearing,
+    answer_mark: Mark,
+    reply: OutgoingRoom,
+    address_lost: bool,
+    change_cleared: bool,
+}
+
+impl Model for ExchangeRoom {
+    ghost use Rattle.usb_world.specs.HeardAnswers.{heard_above};
+    ghost use Rattle.usb_world.specs.declared.exchange.Exchange.{Exchange};
+
+    ghost Value = { Exchange };
+
+    ghost view = { λ x. record {
+      token = x.token;
+      payload = x.payload;
+      answer = heard_above x.heard;
+      answer_mark = x.answer_mark;
+      reply = x.reply;
+      address_lost = x.address_lost;
+      change_cleared = x.change_cleared;
+    } };
+}
+
+impl ExchangeRoom {
+    /// Of no attempt yet.
     pub fn blank() -> Self
         ensures { result ≡ blank }
     {
-        Exchange {
+        ExchangeRoom {
             token: Outgoing {
                 packet: Packet::Pre,
                 mark: Mark::Lost,
             },
-            payload: None,
-            answer: ExchangeAnswer::Nothing,
+            payload: OutgoingRoom::empty(),
+            heard: Hearing::nothing(),
             answer_mark: Mark::Whole,
-            reply: None,
+            reply: OutgoingRoom::empty(),
             address_lost: false,
             change_cleared: false,
+        }
+    }
+
+    /// The host's token.
+    pub fn token(&self) -> &Outgoing
+        ensures { result.now ≡ self.now.token }
+    {
+        &self.token
+    }
+
+    /// The host's data, for SETUP and OUT.
+    pub fn payload(&self) -> &OutgoingRoom
+        ensures { result.now ≡ self.now.payload }
+    {
+        &self.payload
+    }
+
+    /// What was heard of the devices.
+    pub fn heard(&self) -> &Hearing
+        ensures { heard_above result.now ≡ self.now.answer }
+    {
+        &self.heard
+    }
+
+    /// What damage did to the answer of one device.
+    pub fn answer_mark(&self) -> Mark
+        ensures { result ≡ self.now.answer_mark }
+    {
+        self.answer_mark
+    }
+
+    /// The host's ACK, if it took data.
+    pub fn reply(&self) -> &OutgoingRoom
+        ensures { result.now ≡ self.now.reply }
+    {
+        &self.reply
+    }
+
+    /// Whether a device did not see the ACK at which it was to take its address (9.4.6).
+    pub fn is_address_lost(&self) -> bool
+        ensures { result ≡ self.now.address_lost }
+    {
+        self.address_lost
+    }
+
+    /// Whether a hub cleared a change of connection of one of its ports (11.24.2.2).
+    pub fn is_change_cleared(&self) -> bool
+        ensures { result ≡ self.now.change_cleared }
+    {
+        self.change_cleared
+    }
+
+    /// What the devices answered, as a packet of its own.
+    fn answer(&self) -> ExchangeAnswer
+        ensures { result ≡ self.now.answer }
+    {
+        match self.heard.pid() {
+            HeardPid::Nothing => ExchangeAnswer::Nothing,
+            HeardPid::Collision => ExchangeAnswer::Collision,
+            HeardPid::One(AnswerPid::Ack) => ExchangeAnswer::One(Packet::Ack),
+            HeardPid::One(AnswerPid::Nak) => ExchangeAnswer::One(Packet::Nak),
+            HeardPid::One(AnswerPid::Stall) => ExchangeAnswer::One(Packet::Stall),
+            HeardPid::One(AnswerPid::Data(toggle)) => {
+                let bytes = copied(self.heard.bytes().as_slice());
+                ExchangeAnswer::One(Packet::Payload { toggle, bytes })
+            }
         }
     }
 }
@@ -102,7 +178,6 @@ impl Exchange {
 /// Makes an attempt: the token, then the data, one of them; then what the host says to the answer. After it no device
 /// remembers a packet, also if memory was refused. Returns whether the devices that are reached, and all their
 /// addresses, are known to be as they were. Those on a port of the device, by its number, and below it are excepted.
-/// `heard` is room for what is heard; what is in it does not count.
 ///
 /// It goes straight to the device at a path, if no other reachable device holds the address. The others have nothing of
 /// it, so it costs the same in a large tree as in a small one. The empty path stands for the whole tree.
@@ -117,8 +192,7 @@ pub(crate) fn exchange_along(
     port: u8,
     attempt: &Attempt,
     damage: &Option<Damage>,
-    heard: &mut Hearing,
-    exchange: &mut Exchange,
+    exchange: &mut ExchangeRoom,
 ) -> Result<bool, AllocError>
     requires attempt { IsAttempt (attempt_data attempt.now) }
     requires alone { AloneAt (token_out (attempt_data attempt.now) damage.now) roots.old path.now }
@@ -131,7 +205,7 @@ pub(crate) fn exchange_along(
         → KeptAt (attempt_data attempt.now).addr port roots.old roots.new path.now) }
 {
     match damage {
-        None if !is_whole(path) => exchange_whole(roots, path, port, attempt, heard, exchange),
+        None if !is_whole(path) => exchange_whole(roots, path, port, attempt, exchange),
         _ => exchange_by_packets(roots, path, port, attempt, *damage, exchange),
     }
 }
@@ -144,8 +218,7 @@ fn exchange_whole(
     path: &[u8],
     port: u8,
     attempt: &Attempt,
-    heard: &mut Hearing,
-    exchange: &mut Exchange,
+    exchange: &mut ExchangeRoom,
 ) -> Result<bool, AllocError>
     requires attempt { IsAttempt (attempt_data attempt.now) }
     requires way { is_whole_tree path.now ≡ false }
@@ -163,11 +236,10 @@ fn exchange_whole(
     let host = host_side(attempt);
     let data = some_goes_out(attempt, &exchange.payload);
     let mut side = DeviceSide::nobody();
+    let heard = &mut exchange.heard;
     roots.attempt_at(path, &host, &data, is_deep(path), heard, &mut side)?;
-    put_answer(heard, &mut exchange.answer);
     exchange.answer_mark = Mark::Whole;
-    let place = answer_place(&exchange.payload) + 1;
-    put_reply(attempt, None, place, side.acknowledged, &mut exchange.reply);
+    put_whole_reply(side.acknowledged, &mut exchange.reply);
     exchange.address_lost = side.address_lost;
     exchange.change_cleared = side.effect.clears_change();
     Ok(keeps_address(port, &side, attempt))
@@ -205,7 +277,7 @@ fn exchange_by_packets(
     port: u8,
     attempt: &Attempt,
     damage: Option<Damage>,
-    exchange: &mut Exchange,
+    exchange: &mut ExchangeRoom,
 ) -> Result<bool, AllocError>
     requires attempt { IsAttempt (attempt_data attempt.now) }
     requires alone { AloneAt (token_out (attempt_data attempt.now) damage) roots.old path.now }
@@ -263,7 +335,7 @@ fn send_packets(
     attempt: &Attempt,
     damage: Option<Damage>,
     quiet: &mut bool,
-    exchange: &mut Exchange,
+    exchange: &mut ExchangeRoom,
 ) -> Result<(), AllocError>
     requires attempt { IsAttempt (attempt_data attempt.now) }
     requires alone { AloneAt (token_out (attempt_data attempt.now) damage) roots.old path.now }
@@ -278,16 +350,21 @@ fn send_packets(
         (after_sent (token_out (attempt_data attempt.now) damage) roots.old) roots.new) }
 {
     put_token(attempt, damage, &mut exchange.token);
-    let mut heard = Hearing::nothing();
-    send(roots, path, &goes_out(attempt, &exchange.token), &mut heard)?;
+    exchange.heard.clear();
+    send(
+        roots,
+        path,
+        &goes_out(attempt, &exchange.token),
+        &mut exchange.heard,
+    )?;
     put_payload(attempt, damage, &mut exchange.payload);
     let data = some_goes_out(attempt, &exchange.payload);
     exchange.change_cleared = clears_change(roots, path, port, &data, quiet);
-    send(roots, path, &data, &mut heard)?;
-    put_answer(&mut heard, &mut exchange.answer);
+    send(roots, path, &data, &mut exchange.heard)?;
+    let answer = exchange.answer();
     let place = answer_place(&exchange.payload);
-    exchange.answer_mark = answer_mark(harm_to(damage, place), &exchange.answer);
-    let acknowledged = is_acknowledged(&exchange.answer, exchange.answer_mark, attempt);
+    exchange.answer_mark = answer_mark(harm_to(damage, place), &answer);
+    let acknowledged = is_acknowledged(&answer, exchange.answer_mark, attempt);
     put_reply(
         attempt,
         damage,
@@ -301,26 +378,26 @@ fn send_packets(
 }
 
 /// Makes an attempt that no device hears: the host's token and its data go out, and nothing comes.
-pub(crate) fn make_silence(attempt: &Attempt, damage: &Option<Damage>, exchange: &mut Exchange)
+pub(crate) fn make_silence(attempt: &Attempt, damage: &Option<Damage>, exchange: &mut ExchangeRoom)
     requires { IsAttempt (attempt_data attempt.now) }
     ensures { exchange.new ≡ silent_exchange (attempt_data attempt.now) damage.now }
 {
     put_token(attempt, *damage, &mut exchange.token);
     put_payload(attempt, *damage, &mut exchange.payload);
-    exchange.answer = ExchangeAnswer::Nothing;
+    exchange.heard.clear();
     exchange.answer_mark = Mark::Whole;
-    exchange.reply = None;
+    exchange.reply.clear();
     exchange.address_lost = false;
     exchange.change_cleared = false;
 }
 
 /// The place of the devices' answer among the packets of an attempt, counted from 1.
 #[tactic(auto, unfolding(crate::specs::Exchanges::answer_place))]
-fn answer_place(payload: &Option<Outgoing>) -> u8
+fn answer_place(payload: &OutgoingRoom) -> u8
     ensures value { result ≡ answer_place payload.now }
     ensures most { result ≤ 3 }
 {
-    match payload {
+    match payload.get() {
         None => 2,
         Some(_) => 3,
     }
@@ -370,12 +447,12 @@ fn broken<'a>(speed: Speed, packet: &Packet, bit: u16) -> LentPacket<'a>
 }
 
 /// The same, if there is a packet.
-fn some_goes_out<'a>(attempt: &Attempt, packet: &'a Option<Outgoing>) -> Option<LentPacket<'a>>
+fn some_goes_out<'a>(attempt: &Attempt, packet: &'a OutgoingRoom) -> Option<LentPacket<'a>>
     requires fields { IfSome packet.now (λ s. HasFields s.packet) }
     requires bit { IfSome packet.now (λ s. has_its_bit s.mark s.packet ≡ true) }
     ensures { result ≡ goes_out (attempt_data attempt.now) packet.now }
 {
-    goes_out(attempt, packet.as_ref()?)
+    goes_out(attempt, packet.get()?)
 }
 
 /// Sends what goes out, down the tree or straight to the device at a path where it is for no other;
@@ -451,7 +528,7 @@ fn send_reply(
     roots: &mut Ports,
     path: &[u8],
     attempt: &Attempt,
-    reply: &Option<Outgoing>,
+    reply: &OutgoingRoom,
 ) -> Result<bool, AllocError>
     requires fields { IfSome reply.now (λ s. HasFields s.packet) }
     requires bit { IfSome reply.now (λ s. has_its_bit s.mark s.packet ≡ true) }
@@ -465,7 +542,7 @@ fn send_reply(
     ensures stopped { OnErr result
         (IsStopped (goes_out (attempt_data attempt.now) reply.now) roots.old roots.new) }
 {
-    match reply {
+    match reply.get() {
         None => Ok(false),
         Some(packet) => acknowledge(roots, path, attempt, packet),
     }
@@ -549,52 +626,26 @@ fn put_whole_token(attempt: &Attempt, token: &mut Outgoing)
 
 /// The host's data, if it sends some and they are not damaged.
 #[tactic(auto, unfolding(crate::specs::Exchanges::payload_of, crate::specs::Wire::marked_some, crate::specs::Wire::marked, crate::specs::Wire::harm_to, crate::specs::Wire::mark_of, crate::specs::Wire::has_its_bit))]
-fn put_whole_payload(attempt: &Attempt, payload: &mut Option<Outgoing>)
+fn put_whole_payload(attempt: &Attempt, payload: &mut OutgoingRoom)
     ensures value { payload.new ≡ marked_some None 2 (attempt_data attempt.now).pre
         (payload_of (attempt_data attempt.now)) }
     ensures fields { IfSome payload.new (λ s. HasFields s.packet) }
     ensures bit { IfSome payload.new (λ s. has_its_bit s.mark s.packet ≡ true) }
 {
     match attempt {
-        Attempt::Setup { to: _, bytes } => *payload = Some(whole_data(Toggle::Zero, bytes)),
+        Attempt::Setup { to: _, bytes } => payload.put_data(Toggle::Zero, bytes),
         Attempt::Out {
             to: _,
             toggle,
             bytes,
-        } => *payload = Some(whole_data(*toggle, bytes.as_slice())),
-        Attempt::In { .. } => put_none(payload),
-    }
-}
-
-/// No packet goes out. Where there is none, nothing is stored: a store clears the room for data.
-fn put_none(packet: &mut Option<Outgoing>)
-    ensures { packet.new ≡ None }
-{
-    if packet.is_some() {
-        *packet = None;
-    }
-}
-
-/// A data packet of the host that is not damaged.
-fn whole_data(toggle: Toggle, bytes: &[u8]) -> Outgoing
-    requires { length bytes.now ≤ 64 }
-    ensures packet { result.packet ≡ packet.Payload toggle (record { items = bytes.now }) }
-    ensures fields { HasFields result.packet }
-    ensures mark { result.mark ≡ Whole }
-{
-    let packet = Packet::Payload {
-        toggle,
-        bytes: copied(bytes),
-    };
-    Outgoing {
-        packet,
-        mark: Mark::Whole,
+        } => payload.put_data(*toggle, bytes.as_slice()),
+        Attempt::In { .. } => payload.clear(),
     }
 }
 
 /// The host's data as damage leaves them, if it sends some.
 #[tactic(auto, unfolding(crate::specs::Exchanges::payload_of, crate::specs::Wire::marked_some))]
-fn put_payload(attempt: &Attempt, damage: Option<Damage>, payload: &mut Option<Outgoing>)
+fn put_payload(attempt: &Attempt, damage: Option<Damage>, payload: &mut OutgoingRoom)
     ensures value { payload.new ≡ marked_some damage 2 (attempt_data attempt.now).pre
         (payload_of (attempt_data attempt.now)) }
     ensures fields { IfSome payload.new (λ s. HasFields s.packet) }
@@ -602,12 +653,12 @@ fn put_payload(attempt: &Attempt, damage: Option<Damage>, payload: &mut Option<O
 {
     match attempt {
         Attempt::Setup { to, bytes } => {
-            *payload = Some(data_out(*to, damage, Toggle::Zero, bytes));
+            payload.put(data_out(*to, damage, Toggle::Zero, bytes));
         }
         Attempt::Out { to, toggle, bytes } => {
-            *payload = Some(data_out(*to, damage, *toggle, bytes.as_slice()));
+            payload.put(data_out(*to, damage, *toggle, bytes.as_slice()));
         }
-        Attempt::In { .. } => *payload = None,
+        Attempt::In { .. } => payload.clear(),
     }
 }
 
@@ -656,7 +707,7 @@ fn put_reply(
     damage: Option<Damage>,
     place: u8,
     acknowledged: bool,
-    reply: &mut Option<Outgoing>,
+    reply: &mut OutgoingRoom,
 )
     ensures value { reply.new ≡ marked_some damage place (attempt_data attempt.now).pre
         (ack_if acknowledged) }
@@ -665,41 +716,21 @@ fn put_reply(
 {
     if acknowledged {
         let speed = attempt.destination().speed;
-        *reply = Some(marked(damage, place, speed.has_pre(), Packet::Ack));
+        reply.put(marked(damage, place, speed.has_pre(), Packet::Ack));
     } else {
-        put_none(reply);
+        reply.clear();
     }
 }
 
-/// What an attempt gives the host: data of at most `max` bytes, or a handshake, if it reads the
-/// answer.
-#[tactic(auto, unfolding(crate::specs::Exchanges::outcome_of))]
-pub fn outcome_of(answer: &ExchangeAnswer, mark: Mark, max: u8) -> Outcome
-    ensures value { result ≡ outcome_of answer.now mark max }
-    ensures fits { FitsMaximum max result }
+/// The host's ACK, if it answers by one and that is not damaged.
+#[tactic(auto, unfolding(crate::specs::Wire::marked_some, crate::specs::Wire::marked, crate::specs::Wire::harm_to, crate::specs::Wire::mark_of))]
+fn put_whole_reply(acknowledged: bool, reply: &mut OutgoingRoom)
+    ensures { (pre : Bool) (place : ℕ) → reply.new ≡ marked_some None place pre
+        (ack_if acknowledged) }
 {
-    if !mark.is_read() {
-        return Outcome::Nothing;
-    }
-    match answer {
-        ExchangeAnswer::One(Packet::Payload { toggle, bytes }) => outcome_of_data(
-            *toggle, bytes, max,
-        ),
-        ExchangeAnswer::One(Packet::Ack) => Outcome::Ack,
-        ExchangeAnswer::One(Packet::Nak) => Outcome::Nak,
-        ExchangeAnswer::One(Packet::Stall) => Outcome::Stall,
-        _ => Outcome::Nothing,
-    }
-}
-
-/// The same of data.
-fn outcome_of_data(toggle: Toggle, bytes: &ArrayVec<u8, 64>, max: u8) -> Outcome
-    ensures value { result ≡ outcome_heard (One (packet.Payload toggle bytes.now)) max }
-    ensures fits { FitsMaximum max result }
-{
-    if bytes.len() <= usize::from(max) {
-        Outcome::Payload(toggle, copied(bytes.as_slice()))
+    if acknowledged {
+        reply.put_ack();
     } else {
-        Outcome::Nothing
+        reply.clear();
     }
 }

@@ -24,7 +24,7 @@ mod wire;
 
 pub use damage::{Damage, Damages, Harm};
 pub use event::{Action, Ask, Change, Event, Events, SentBytes, WriteRequest, event_copies};
-pub use exchange::{Exchange, ExchangeAnswer, outcome_of};
+pub use exchange::{Exchange, ExchangeAnswer, ExchangeRoom};
 pub use laws::{
     a_port_rests_or_is_pending, control_courses_keep_addresses, devices_have_their_ports,
     events_are_pending, one_device_at_most_answers, pending_stays, plugged_is_what_the_events_left,
@@ -35,4 +35,4 @@ pub use losses::Losses;
 pub use plan::Plan;
 pub use route::make_exchange_by;
 pub use types::{Attempt, BusFault, Destination, Outcome};
-pub use wire::{Mark, Outgoing, damage_of};
+pub use wire::{Mark, Outgoing, OutgoingRoom, damage_of};

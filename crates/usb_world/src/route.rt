@@ -11,10 +11,10 @@ ghost use Rattle.usb_tree.specs.LonePackets.{IsWayTo};
 
 use crate::Attempt;
 use crate::damage::Damage;
-use crate::exchange::{Exchange, exchange_along, is_whole, make_silence};
+use crate::exchange::{ExchangeRoom, exchange_along, is_whole, make_silence};
 use arrayvec::ArrayVec;
 use std::alloc::AllocError;
-use usb_device::{Device, Hearing, Holder, Holders, Ports, keeps_enable};
+use usb_device::{Device, Holder, Holders, Ports, keeps_enable};
 use usb_port::PortCall;
 use usb_request::Setup;
 use usb_request::request_code::{CLEAR_FEATURE, SET_CONFIGURATION, SET_FEATURE};
@@ -26,8 +26,7 @@ use usb_request::request_type::{DEVICE_OUT, PORT_OUT};
 /// `holders` is the index of the tree, before the attempt and after it. It goes straight to the
 /// device that holds its address, or to none; if some address is held twice, through the whole
 /// tree. If it is foreseen that the device takes another address, or changes who is reached below
-/// it, the index is written there alone. Else it is made anew if it may have changed. `heard` is room
-/// for what is heard on the way: what is in it does not count.
+/// it, the index is written there alone. Else it is made anew if it may have changed.
 ///
 /// # Errors
 ///
@@ -39,8 +38,7 @@ pub fn make_exchange_by(
     holders: &mut Holders,
     attempt: &Attempt,
     damage: &Option<Damage>,
-    heard: &mut Hearing,
-    exchange: &mut Exchange,
+    exchange: &mut ExchangeRoom,
 ) -> Result<(), AllocError>
     requires attempt { IsAttempt (attempt_data attempt.now) }
     requires settled { IsSettled roots.old }
@@ -59,22 +57,14 @@ pub fn make_exchange_by(
     let way = way(holders, attempt);
     match change_of(attempt, roots, way) {
         Change::Nothing => {
-            let made = exchange_along(roots, way, 0, attempt, damage, heard, exchange);
+            let made = exchange_along(roots, way, 0, attempt, damage, exchange);
             renew_unless_kept(&made, roots, holders);
             let _ = made?;
             Ok(())
         }
         Change::AtDevice => {
             let path = copied(way);
-            exchange_at(
-                roots,
-                holders,
-                path.as_slice(),
-                attempt,
-                damage,
-                heard,
-                exchange,
-            )
+            exchange_at(roots, holders, path.as_slice(), attempt, damage, exchange)
         }
         Change::AtPort(port) => {
             let path = copied(way);
@@ -85,7 +75,6 @@ pub fn make_exchange_by(
                 port,
                 attempt,
                 damage,
-                heard,
                 exchange,
             )
         }
@@ -112,8 +101,7 @@ fn exchange_at(
     path: &[u8],
     attempt: &Attempt,
     damage: &Option<Damage>,
-    heard: &mut Hearing,
-    exchange: &mut Exchange,
+    exchange: &mut ExchangeRoom,
 ) -> Result<(), AllocError>
     requires attempt { IsAttempt (attempt_data attempt.now) }
     requires settled { IsSettled roots.old }
@@ -127,7 +115,7 @@ fn exchange_at(
     ensures index { IsIndexOf holders.new roots.new }
 {
     let forgotten = holders.forget(roots, path);
-    match exchange_along(roots, path, 0, attempt, damage, heard, exchange) {
+    match exchange_along(roots, path, 0, attempt, damage, exchange) {
         Ok(_) => {
             if forgotten && !is_whole(path) {
                 holders.note(roots, path);
@@ -153,8 +141,7 @@ fn exchange_at_port(
     port: u8,
     attempt: &Attempt,
     damage: &Option<Damage>,
-    heard: &mut Hearing,
-    exchange: &mut Exchange,
+    exchange: &mut ExchangeRoom,
 ) -> Result<(), AllocError>
     requires attempt { IsAttempt (attempt_data attempt.now) }
     requires settled { IsSettled roots.old }
@@ -171,7 +158,7 @@ fn exchange_at_port(
     let below = below(path, port);
     let place = below.as_slice();
     let forgotten = holders.forget(roots, place);
-    match exchange_along(roots, path, port, attempt, damage, heard, exchange) {
+    match exchange_along(roots, path, port, attempt, damage, exchange) {
         Ok(kept) => {
             if forgotten && kept {
                 holders.note(roots, place);

@@ -1,11 +1,13 @@
 //! Packets on their way, and what damage does to them.
-ghost use Rattle.std.specs.Prelude.{◌≡◌, ◌*◌, ◌<◌, length, true};
+ghost use Rattle.std.specs.Prelude.{◌≡◌, ◌*◌, ◌<◌, ◌≤◌, length, true};
 ghost use Rattle.usb_packet.specs.Spelling.{HasFields, flipped};
+ghost use Rattle.usb_packet.specs.declared.Packet.TheVariants.{Payload};
 ghost use Rattle.usb_world.specs.Wire.{damage_of, harm_to, bit_count, mark_of, is_read, has_its_bit, marked};
 
 use crate::damage::{Damage, Harm};
 use arrayvec::ArrayVec;
-use usb_packet::Packet;
+use std::marker::Model;
+use usb_packet::{Packet, Toggle};
 
 /// What damage did to a packet on its way.
 #[derive(Clone, Copy, Debug)]
@@ -38,6 +40,118 @@ pub struct Outgoing {
     pub packet: Packet,
     /// What damage did to it.
     pub mark: Mark,
+}
+
+/// Room for a packet of the host that an attempt may have or not. What is put there stands in the place of what was
+/// there before, and nothing else is written.
+#[derive(Debug, Drop)]
+pub struct OutgoingRoom {
+    is_sent: bool,
+    outgoing: Outgoing,
+}
+
+impl Model for OutgoingRoom {
+    ghost use Rattle.std.specs.Prelude.{Option, Some, None, if◌then◌else◌};
+    ghost use Rattle.usb_world.specs.declared.wire.Outgoing.{Outgoing};
+
+    ghost Value = { Option Outgoing };
+
+    ghost view = { λ r. if r.is_sent then Some r.outgoing else None };
+}
+
+impl OutgoingRoom {
+    ghost use Rattle.std.specs.Prelude.{Some, None, option_copied};
+    ghost use Rattle.usb_packet.specs.declared.Packet.TheVariants.{Ack};
+    ghost use Rattle.usb_world.specs.declared.wire.Mark.TheVariants.{Whole};
+
+    /// No packet.
+    pub(crate) fn empty() -> Self
+        ensures { result ≡ None }
+    {
+        OutgoingRoom {
+            is_sent: false,
+            outgoing: Outgoing {
+                packet: Packet::Ack,
+                mark: Mark::Whole,
+            },
+        }
+    }
+
+    /// The packet, if there is one.
+    pub fn get(&self) -> Option<&Outgoing>
+        ensures { option_copied result ≡ self.now }
+    {
+        if self.is_sent {
+            Some(&self.outgoing)
+        } else {
+            None
+        }
+    }
+
+    /// No packet goes out.
+    pub(crate) fn clear(&mut self)
+        ensures { self.new ≡ None }
+    {
+        self.is_sent = false;
+    }
+
+    /// This packet goes out.
+    pub(crate) fn put(&mut self, outgoing: Outgoing)
+        ensures { self.new ≡ Some outgoing }
+    {
+        self.outgoing = outgoing;
+        self.is_sent = true;
+    }
+
+    /// A data packet goes out, and nothing damages it.
+    pub(crate) fn put_data(&mut self, toggle: Toggle, bytes: &[u8])
+        requires { length bytes.now ≤ 64 }
+        ensures { self.new ≡ Some (record {
+          packet = Payload toggle (record { items = bytes.now });
+          mark = Whole;
+        }) }
+    {
+        put_data(toggle, bytes, &mut self.outgoing.packet);
+        self.outgoing.mark = Mark::Whole;
+        self.is_sent = true;
+    }
+
+    /// The host's ACK goes out, and nothing damages it.
+    pub(crate) fn put_ack(&mut self)
+        ensures { self.new ≡ Some (record { packet = Ack; mark = Whole }) }
+    {
+        match &mut self.outgoing.packet {
+            Packet::Ack => {}
+            packet => *packet = Packet::Ack,
+        }
+        self.outgoing.mark = Mark::Whole;
+        self.is_sent = true;
+    }
+}
+
+/// A data packet in the place of another one, whose room for bytes it takes where there is one.
+fn put_data(toggle: Toggle, bytes: &[u8], packet: &mut Packet)
+    requires { length bytes.now ≤ 64 }
+    ensures { packet.new ≡ Payload toggle (record { items = bytes.now }) }
+{
+    match packet {
+        Packet::Payload {
+            toggle: old,
+            bytes: room,
+        } => {
+            *old = toggle;
+            room.clear();
+            room.try_extend_from_slice(bytes).unwrap();
+        }
+        packet => {
+            let mut room = ArrayVec::new();
+            room.try_extend_from_slice(bytes).unwrap();
+            *packet = Packet::Payload {
+                toggle,
+                bytes: room,
+            };
+        }
+    }
 }
 
 /// The damage to the attempt of a number.

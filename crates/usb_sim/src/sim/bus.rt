@@ -16,10 +16,9 @@ use super::SimBus;
 use crate::Trace;
 use arrayvec::ArrayVec;
 use usb_bus::{Bus, OutcomeKind};
-use usb_device::{Holders, Ports, keeps_enable};
-use usb_packet::Packet;
+use usb_device::{AnswerPid, HeardPid, Holders, Ports, keeps_enable};
 use usb_port::PortCall;
-use usb_world::{Attempt, BusFault, ExchangeAnswer, Mark, Outcome, damage_of, make_exchange_by};
+use usb_world::{Attempt, BusFault, ExchangeRoom, Outcome, damage_of, make_exchange_by};
 
 impl<T: Trace> Bus for SimBus<T> {
     ghost use Rattle.usb_sim.specs.Parts.{LeavesAttempt};
@@ -80,7 +79,7 @@ impl<T: Trace> Bus for SimBus<T> {
         }
         self.make_attempt(attempt)?;
         let max = attempt.destination().max;
-        Ok(put_outcome(&self.exchange.answer, self.exchange.answer_mark, max, room))
+        Ok(put_outcome(&self.exchange, max, room))
     }
 
     fn root_ports(&self) -> u8 {
@@ -160,14 +159,15 @@ impl<T: Trace> SimBus<T> {
             &mut self.holders,
             attempt,
             &damage,
-            &mut self.heard,
             &mut self.exchange,
         )?;
         // All went: only the line can fail.
         self.fault = Some(BusFault::Failed);
         self.attempts += 1;
-        self.losses
-            .count(self.exchange.change_cleared, self.exchange.address_lost);
+        self.losses.count(
+            self.exchange.is_change_cleared(),
+            self.exchange.is_address_lost(),
+        );
         let pre = attempt.destination().speed.has_pre();
         self.tracer.put_attempt(self.attempts, pre, &self.exchange)?;
         self.fault = None;
@@ -177,31 +177,29 @@ impl<T: Trace> SimBus<T> {
 
 /// What the host gets of an answer; its data are put into the room.
 #[tactic(auto, unfolding(usb_world::specs::Exchanges::outcome_of))]
-fn put_outcome(
-    answer: &ExchangeAnswer,
-    mark: Mark,
-    max: u8,
-    room: &mut ArrayVec<u8, 64>,
-) -> OutcomeKind
-    ensures value { outcome_with result room.new ≡ outcome_of answer.now mark max }
+fn put_outcome(exchange: &ExchangeRoom, max: u8, room: &mut ArrayVec<u8, 64>) -> OutcomeKind
+    ensures value { outcome_with result room.new
+        ≡ outcome_of exchange.now.answer exchange.now.answer_mark max }
     ensures fits { FitsMaximum max (outcome_with result room.new) }
 {
-    if !mark.is_read() {
+    if !exchange.answer_mark().is_read() {
         return OutcomeKind::Nothing;
     }
-    match answer {
-        ExchangeAnswer::One(Packet::Payload { toggle, bytes }) => {
+    let heard = exchange.heard();
+    match heard.pid() {
+        HeardPid::One(AnswerPid::Data(toggle)) => {
+            let bytes = heard.bytes();
             if bytes.len() > usize::from(max) {
                 return OutcomeKind::Nothing;
             }
             room.clear();
             room.try_extend_from_slice(bytes.as_slice()).unwrap();
-            OutcomeKind::Payload(*toggle)
+            OutcomeKind::Payload(toggle)
         }
-        ExchangeAnswer::One(Packet::Ack) => OutcomeKind::Ack,
-        ExchangeAnswer::One(Packet::Nak) => OutcomeKind::Nak,
-        ExchangeAnswer::One(Packet::Stall) => OutcomeKind::Stall,
-        _ => OutcomeKind::Nothing,
+        HeardPid::One(AnswerPid::Ack) => OutcomeKind::Ack,
+        HeardPid::One(AnswerPid::Nak) => OutcomeKind::Nak,
+        HeardPid::One(AnswerPid::Stall) => OutcomeKind::Stall,
+        HeardPid::Nothing | HeardPid::Collision => OutcomeKind::Nothing,
     }
 }
 

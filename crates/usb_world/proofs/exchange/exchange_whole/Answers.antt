@@ -1,6 +1,6 @@
-use Rattle.std.proofs.Common.{◌+◌, None, refl, ap, sym, ◌∙◌}
+use Rattle.std.proofs.Common.{◌+◌, refl, sym, ◌∙◌}
 use Rattle.usb_device.proofs.Interface.{stopped_on_err}
-use Rattle.usb_world.specs.{marked_some, ack_if, Exchange, Whole, attempt_data}
+use Rattle.usb_world.specs.{Exchange, Whole, attempt_data, answer_place, heard_above}
 use Rattle.usb_world.proofs.attempts.Exchanges.{over_settled}
 use Rattle.usb_world.proofs.ways.OneWalk.{CutShort, Walked, walk_over, walk_cut, walked_made}
 use Rattle.usb_world.proofs.ways.OneWalk.{walked_kept, made_plugged, made_settled, cut_plugged}
@@ -40,11 +40,11 @@ abbrev made : (c : goal.After-keeps_address) → Exchange
 made c = record {
   token = c.put_whole_token.new.token;
   payload = c.put_whole_payload.new.payload;
-  answer = c.put_answer.new.answer;
+  answer = heard_above c.attempt_at.new.heard;
   answer_mark = Whole;
-  reply = c.put_reply.new.reply;
+  reply = c.put_whole_reply.new.reply;
   address_lost = c.attempt_at.new.side.address_lost;
-  change_cleared = c.clears_change-exchange.result;
+  change_cleared = c.clears_change-exchange-inside.result;
 }
 
 walked : (c : goal.After-keeps_address)
@@ -63,16 +63,12 @@ walked c = record {
   heard = c.in_ok-attempt_at.ensures.heard;
   told = c.in_ok-attempt_at.ensures.side;
   ports = c.in_ok-attempt_at.ensures.ok;
-  answer = c.put_answer.ensures;
+  answer = refl;
   mark = refl;
-  reply =
-      c.put_reply.ensures.value
-      ∙ ap
-      (λ n. marked_some None (n + 1) (attempt_data c.args.attempt.now).pre
-      (ack_if c.attempt_at.new.side.acknowledged))
-      c.answer_place-place.ensures.value;
+  reply = c.put_whole_reply.ensures (attempt_data c.args.attempt.now).pre
+      (answer_place c.put_whole_payload.new.payload + 1);
   lost = refl;
-  cleared = c.clears_change-exchange.ensures;
+  cleared = c.clears_change-exchange-inside.ensures;
 }
 
 pub returns-clause-plugged : goal.returns-clause-plugged

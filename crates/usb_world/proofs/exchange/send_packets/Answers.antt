@@ -1,7 +1,7 @@
-use Rattle.std.proofs.Common.{◌∙◌, ◌+◌, Option, sym, subst, ap, ap₂}
+use Rattle.std.proofs.Common.{◌∙◌, ◌+◌, Option, refl, sym, subst, ap, ap₂}
 use Rattle.usb_device.specs.{Sent, both, heard_of}
 use Rattle.usb_world.specs.{harm_to, marked_some, answer_mark, clears_at, goes_out, Outgoing}
-use Rattle.usb_world.specs.{attempt_data}
+use Rattle.usb_world.specs.{attempt_data, heard_above, reply_of}
 use Rattle.usb_world.specs.{IsStopped}
 use Rattle.usb_tree.specs.{after_sent, answers_to, IfOut, IsDataOut, IsAckOut}
 use Rattle.usb_world.proofs.attempts.Exchanges.{Makes, made_exchange, made_ports, plugged_further}
@@ -23,11 +23,11 @@ returns-clause-made c =
     (record {
       token = c.put_token.new.token;
       payload = c.put_payload.new.payload;
-      answer = c.put_answer.new.answer;
-      answer_mark = c.answer_mark-exchange.result;
+      answer = heard_above c.send-2.new.heard;
+      answer_mark = c.answer_mark-exchange-inside.result;
       reply = c.put_reply.new.reply;
       address_lost = c.in_ok-address_lost.address_lost;
-      change_cleared = c.clears_change-exchange.result;
+      change_cleared = c.clears_change-exchange-inside.result;
     }) =
     record {
       first = c.send.new.roots;
@@ -39,24 +39,25 @@ returns-clause-made c =
       token_heard =
           c.in_ok-send.ensures.steps.heard
           ∙ ap (λ h. both h (heard_of (answers_to c.goes_out.result c.args.roots.now)))
-          c.nothing-heard.ensures
+          c.clear.ensures
           ∙ ap (λ q. heard_of (answers_to q c.args.roots.now)) c.goes_out.ensures;
       token_went = c.in_ok-send.ensures.steps.ports
           ∙ ap (λ q. after_sent q c.args.roots.now) c.goes_out.ensures;
       payload = c.put_payload.ensures.value;
-      cleared = c.clears_change-exchange.ensures.clears
+      cleared = c.clears_change-exchange-inside.ensures.clears
           ∙ ap (λ q. clears_at q c.send.new.roots) c.some_goes_out-data.ensures;
       payload_heard = c.in_ok-send-2.ensures.steps.heard
           ∙ ap (λ q. both c.send.new.heard (heard_of (answers_to q c.send.new.roots)))
           c.some_goes_out-data.ensures;
       payload_went = c.in_ok-send-2.ensures.steps.ports
           ∙ ap (λ q. after_sent q c.send.new.roots) c.some_goes_out-data.ensures;
-      answer = c.put_answer.ensures;
-      answer_mark = c.answer_mark-exchange.ensures
-          ∙ ap (λ h. answer_mark h c.put_answer.new.answer) (c.harm_to.ensures
-          ∙ ap (harm_to damage) c.answer_place-place.ensures.value);
+      answer = refl;
+      answer_mark = c.answer_mark-exchange-inside.ensures
+          ∙ ap₂ answer_mark (c.harm_to.ensures
+          ∙ ap (harm_to damage) c.answer_place-place.ensures.value) c.answer-answer.ensures;
       reply = c.put_reply.ensures.value ∙ ap₂ (λ n o. marked_some damage (n + 1) a.pre o)
-          c.answer_place-place.ensures.value c.is_acknowledged-acknowledged.ensures;
+          c.answer_place-place.ensures.value (c.is_acknowledged-acknowledged.ensures
+          ∙ ap (λ h. reply_of h c.answer_mark-exchange-inside.result a.max) c.answer-answer.ensures);
       lost = c.in_ok-address_lost.ensures.lost;
       reply_went = c.in_ok-address_lost.ensures.ports;
     } in
@@ -76,13 +77,13 @@ returns-in_err-address_lost-clause-stopped c =
     let n = c.answer_place-place.result + 1 in
     let reply = c.put_reply.ensures.value ∙ ap (λ o. marked_some c.args.damage n a.pre o)
     c.is_acknowledged-acknowledged.ensures in
-    absurd (reply_not_stopped a c.args.damage n c.put_answer.new.answer
-    c.answer_mark-exchange.result a.max c.put_reply.new.reply c.send-2.new.roots
+    absurd (reply_not_stopped a c.args.damage n c.answer-answer.result
+    c.answer_mark-exchange-inside.result a.max c.put_reply.new.reply c.send-2.new.roots
     c.send_reply.new.roots reply
     c.in_err-address_lost.ensures.stopped)
 
-pub clears_change-exchange-requires : goal.clears_change-exchange-requires
-clears_change-exchange-requires c =
+pub clears_change-exchange-inside-requires : goal.clears_change-exchange-inside-requires
+clears_change-exchange-inside-requires c =
     let a = attempt_data c.args.attempt.now in
     alone_data _ _ _ c.send.ensures.alone
     (subst (IfOut IsDataOut) (sym (c.some_goes_out-data.ensures
@@ -105,5 +106,5 @@ send_reply-requires-clause-alone c =
     c.is_acknowledged-acknowledged.ensures in
     let P : Option Outgoing → Type 0 = λ o. IfOut IsAckOut (goes_out a o) in
     alone_ack _ _ _ c.send-2.ensures.alone
-    (subst P (sym reply) (reply_goes a c.args.damage n c.put_answer.new.answer
-    c.answer_mark-exchange.result a.max))
+    (subst P (sym reply) (reply_goes a c.args.damage n c.answer-answer.result
+    c.answer_mark-exchange-inside.result a.max))
