@@ -28,6 +28,7 @@ use usb_packet::Toggle;
 /// - `Busy`: NAKs and repeats reached 256.
 /// - `NoAnswer`: there were three errors in a row.
 /// - `Bus`: the bus has failed.
+#[inline(always)]
 pub fn data_in<B: Bus>(
     bus: &mut B,
     target: Target,
@@ -78,6 +79,7 @@ pub(crate) fn data_in_from<B: Bus>(
 }
 
 /// The same, where the data of the first outcome are in the room.
+#[inline(always)]
 fn read_on<B: Bus>(
     bus: &mut B,
     target: Target,

@@ -43,7 +43,8 @@ returns-clause-made g c =
     c.make_exchange_by.new.exchange c.make_exchange_by.new.roots c.count.new.self
     c.is_shared.result came.exact came.told (omega (arith, came.spends.later, came.spends.most))
     (c.damage_of-damage.ensures ∙ ap (λ (l : List Damage). damage_of l (mid.attempts + 1))
-    c.deref.ensures.value) made.made made.ports (rw (c.is_change_cleared.ensures, c.is_address_lost.ensures) at c.count.ensures)
+    c.deref.ensures.value) made.made made.ports
+    (rw (c.is_change_cleared.ensures, c.is_address_lost.ensures) at c.count.ensures)
     (c.is_shared.ensures ∙ mid.indexed.1) in
     let pre : c.has_pre-pre.result ≡ a.pre = c.has_pre-pre.ensures
     ∙ ap (λ (d : Destination). speed_has_pre d.speed) c.destination.ensures in
@@ -72,7 +73,8 @@ returns-in_err-put_attempt-clause-made g c =
     c.make_exchange_by.new.exchange c.make_exchange_by.new.roots c.count.new.self
     c.is_shared.result came.exact came.told (omega (arith, came.spends.later, came.spends.most))
     (c.damage_of-damage.ensures ∙ ap (λ (l : List Damage). damage_of l (mid.attempts + 1))
-    c.deref.ensures.value) made.made made.ports (rw (c.is_change_cleared.ensures, c.is_address_lost.ensures) at c.count.ensures)
+    c.deref.ensures.value) made.made made.ports
+    (rw (c.is_change_cleared.ensures, c.is_address_lost.ensures) at c.count.ensures)
     (c.is_shared.ensures ∙ mid.indexed.1) in
     let pre : c.has_pre-pre.result ≡ a.pre = c.has_pre-pre.ensures
     ∙ ap (λ (d : Destination). speed_has_pre d.speed) c.destination.ensures in
@@ -171,6 +173,9 @@ invariant_of-self-2-clause-sane g c = λ _.
     (sane_ports (attempt_data c.args.attempt.now) c.damage_of-damage.result mid.roots
     (mid.sane c.in_ok-take_due_events.ensures.came.told))
 
+pub invariant_of-self-2-clause-ruled : goal.invariant_of-self-2-clause-ruled
+invariant_of-self-2-clause-ruled g c = c.take_due_events.new.self.ruled
+
 pub invariant_of-self-2-clause-lost : goal.invariant_of-self-2-clause-lost
 invariant_of-self-2-clause-lost g c =
     let mid = c.take_due_events.new.self in
@@ -178,7 +183,8 @@ invariant_of-self-2-clause-lost g c =
     mid.losses _
     c.requires.attempt mid.settled (c.damage_of-damage.ensures
     ∙ ap (λ (l : List Damage). damage_of l (mid.attempts + 1)) c.deref.ensures.value)
-    c.in_ok-make_exchange_by.ensures.made.made (rw (c.is_change_cleared.ensures, c.is_address_lost.ensures) at c.count.ensures)
+    c.in_ok-make_exchange_by.ensures.made.made
+    (rw (c.is_change_cleared.ensures, c.is_address_lost.ensures) at c.count.ensures)
     mid.lost
 
 pub invariant_of-self-in-Break-branch-3 : goal.invariant_of-self-in-Break-branch-3
@@ -205,7 +211,8 @@ invariant_of-self-in-Break-branch-3 g c =
           _ c.requires.attempt mid.settled (c.damage_of-damage.ensures
           ∙ ap (λ (l : List Damage). damage_of l (mid.attempts + 1)) c.deref.ensures.value)
           c.in_ok-make_exchange_by.ensures.made.made
-          (rw (c.is_change_cleared.ensures, c.is_address_lost.ensures) at c.count.ensures) mid.lost;
+          (rw (c.is_change_cleared.ensures, c.is_address_lost.ensures) at c.count.ensures)
+          mid.lost;
       at_limit = λ e. absurd (cc e);
       marked = c.in_err-put_attempt.ensures.marked;
       indexed = c.in_ok-make_exchange_by.ensures.index;
