@@ -140,10 +140,10 @@ find_compiler() {
   [ -z "$missing" ]
 }
 
-# Links an object file of the program. False where that fails. Where the C library has archives it is linked statically:
-# a call starts sooner then.
+# Links an object file of the program. False where that fails. Where the C library has archives it is linked statically,
+# for a fixed address: a call starts sooner then, as nothing is relocated.
 link() {
-  "$linker" -static-pie "$1" "${archives[@]}" -lm -o "$2" 2>/dev/null && return
+  "$linker" -static -no-pie -Wl,-z,noseparate-code "$1" "${archives[@]}" -lm -o "$2" 2>/dev/null && return
   "$linker" "$1" "${archives[@]}" -lm -o "$2" 2>>"$room/notes" || {
     missing="'$linker' ended with status $?"
     return 1
