@@ -7,9 +7,8 @@ use Rattle.usb_bus.specs.{AppendsFront}
 use Rattle.usb_table.specs.{tree_after}
 use Rattle.usb_host.specs.{HostState}
 use Rattle.usb_plan.specs.{spelled_plan}
-use Rattle.usb_run.specs.{Item, Listing, Sent, Received, Cleared, Read, Written, Looked, Tree}
-use Rattle.usb_run.specs.{SentTo, ReceivedFrom, Polled, ClearedOf, InterfaceSet}
-use Rattle.usb_run.specs.declared.runs.Item.TheVariants.{News}
+use Rattle.usb_run.specs.{Answer, Item, Listing, Tree}
+use Rattle.usb_run.specs.declared.item.Item.TheVariants.{News}
 use Rattle.usb_run.specs.{ListsRight, item_lines}
 use Rattle.usb_run.specs.{number_of, Opens, RunsTo, listings, never}
 use Rattle.usb_serve.specs.{ServeFault, IsCausedInTree, IsOfRun, IsUnopened, IsUnread, of_run}
@@ -23,23 +22,8 @@ use Rattle.usb_drawing.specs.Drawings.{drawing_lines}
 abbrev pub drawn_lines : Style → PlanData → ℕ → Item → List (List ℕ)
 drawn_lines style plan number (Listing entries taken said) = drawing_lines style number plan.wide
     (tree_after plan taken) entries
-drawn_lines style plan number (Sent path sent) = item_lines number (Sent path sent)
-drawn_lines style plan number (Received path received) = item_lines number (Received path received)
-drawn_lines style plan number (Cleared path cleared) = item_lines number (Cleared path cleared)
-drawn_lines style plan number (Read path read) = item_lines number (Read path read)
-drawn_lines style plan number (Written path written) = item_lines number (Written path written)
-drawn_lines style plan number (Looked path looked) = item_lines number (Looked path looked)
 drawn_lines style plan number (News news) = item_lines number (News news)
-drawn_lines style plan number (SentTo path endpoint sent) =
-    item_lines number (SentTo path endpoint sent)
-drawn_lines style plan number (ReceivedFrom path endpoint received) =
-    item_lines number (ReceivedFrom path endpoint received)
-drawn_lines style plan number (Polled path endpoint polled) =
-    item_lines number (Polled path endpoint polled)
-drawn_lines style plan number (ClearedOf path endpoint cleared) =
-    item_lines number (ClearedOf path endpoint cleared)
-drawn_lines style plan number (InterfaceSet path interface setting set) =
-    item_lines number (InterfaceSet path interface setting set)
+drawn_lines style plan number (Answer path task end) = item_lines number (Answer path task end)
 
 -- the text of an item; those made before it are given, the newest first
 abbrev pub drawn_item : Style → PlanData → List Item → Item → List ℕ

@@ -88,14 +88,6 @@ fn drawn_lines(
         Item::Listing(tree, taken, _) => {
             drawing_lines(alloc, style, number, plan, *taken, tree.entries())
         }
-        Item::Sent(_, _) | Item::Received(_, _) | Item::Cleared(_, _) => {
-            item_lines(alloc, number, item)
-        }
-        Item::Read(_, _) | Item::Written(_, _) | Item::Looked(_, _) | Item::News(_) => {
-            item_lines(alloc, number, item)
-        }
-        Item::SentTo(_, _, _) | Item::ReceivedFrom(_, _, _) => item_lines(alloc, number, item),
-        Item::Polled(_, _, _) | Item::ClearedOf(_, _, _) => item_lines(alloc, number, item),
-        Item::InterfaceSet(_, _, _, _) => item_lines(alloc, number, item),
+        Item::News(_) | Item::Answer(_, _, _) => item_lines(alloc, number, item),
     }
 }

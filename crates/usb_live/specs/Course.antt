@@ -4,7 +4,7 @@ use Rattle.std.specs.Prelude.{List, [], length, Option, Some, None, Result, Ok, 
 use Rattle.std.specs.Global.{Vec}
 use Rattle.std.specs.Str.{bytes_eq}
 use Rattle.usb_enum.specs.{HostOptions, usual_options}
-use Rattle.usb_table.specs.{Entries, TransferFault}
+use Rattle.usb_table.specs.{At, EndpointChoice, Entries, FirstBulk, TransferFault}
 use Rattle.usb_text.specs.{lines_text, listing_lines}
 use Rattle.usb_wire.specs.{Answer, Question}
 use Rattle.usb_wire.specs.declared.answer.Answer.TheVariants as answer
@@ -15,10 +15,10 @@ use Rattle.usb_packet.specs.{Toggle}
 use Rattle.usb_world.specs.{Destination}
 use Rattle.usb_lines.specs.{OutPipe, Pipe}
 use Rattle.usb_resources.specs.{Addresses}
-use Rattle.usb_run.specs.{Item, Listing, Sent, Received, Cleared, Read, Written, Looked}
-use Rattle.usb_run.specs.{SentTo, ReceivedFrom, Polled, ClearedOf, InterfaceSet}
+use Rattle.usb_run.specs.{Done, Item, Listing, Looked, Polled, Received, Sent, Task, TaskEnd}
 use Rattle.usb_run.specs.{item_lines, number_of}
-use Rattle.usb_run.specs.declared.runs.Item.TheVariants.{News}
+use Rattle.usb_run.specs.declared.item.Item.TheVariants as item
+use Rattle.usb_run.specs.declared.item.Task.TheVariants as task
 use Rattle.usb_stream.specs.{AskedWell, AsksNoQuestion, AsksOnce, InsByLine, Kept, OutsByLine}
 use Rattle.usb_stream.specs.{WritesLines, greeted, more_answers}
 use Rattle.usb_stream.specs.{questions, streams, unasked, LiveFault}
@@ -26,6 +26,8 @@ use Rattle.usb_live.specs.declared.end.LiveEnd.{LiveEnd}
 use Rattle.usb_live.specs.declared.end.LiveEnd.TheVariants.{Line, Memory, Rounds}
 use Rattle.usb_live.specs.declared.owed.Owed.{Owed}
 use Rattle.usb_live.specs.declared.owed.Owed.TheVariants as owed
+use Rattle.usb_live.specs.declared.owed.EndOwed.{EndOwed}
+use Rattle.usb_live.specs.declared.owed.EndOwed.TheVariants as ends
 use Rattle.usb_live.specs.declared.stage.Stage.{Stage}
 use Rattle.usb_live.specs.declared.stage.Stage.TheVariants.{Asks, EndWanted, Over}
 
@@ -37,18 +39,25 @@ told_text number item = lines_text (item_lines number item)
 abbrev pub owed_by : Result Answer LiveFault → Owed
 owed_by (Ok answer.Show) = owed.Listing
 owed_by (Ok answer.End) = owed.Listing
-owed_by (Ok (answer.Send path bytes)) = owed.Send path (length bytes.items)
-owed_by (Ok (answer.Receive path packets)) = owed.Receive path
-owed_by (Ok (answer.Clear path)) = owed.Clear path
-owed_by (Ok (answer.SendTo path endpoint bytes)) = owed.SendTo path endpoint (length bytes.items)
-owed_by (Ok (answer.ReceiveFrom path endpoint packets)) = owed.ReceiveFrom path endpoint
-owed_by (Ok (answer.Poll path endpoint)) = owed.Poll path endpoint
-owed_by (Ok (answer.ClearOf path endpoint)) = owed.ClearOf path endpoint
-owed_by (Ok (answer.Interface path interface setting)) = owed.Interface path interface setting
-owed_by (Ok (answer.ControlIn path request)) = owed.Read path request.length
-owed_by (Ok (answer.ControlOut path write)) = owed.Write path (length write.bytes)
-owed_by (Ok (answer.Look path)) = owed.Look path
 owed_by (Ok answer.News) = owed.News
+owed_by (Ok (answer.Send path bytes)) =
+    owed.Answer path (task.Send FirstBulk) (ends.Sent (length bytes.items))
+owed_by (Ok (answer.SendTo path endpoint bytes)) =
+    owed.Answer path (task.Send (At endpoint)) (ends.Sent (length bytes.items))
+owed_by (Ok (answer.Receive path packets)) =
+    owed.Answer path (task.Receive FirstBulk) ends.Received
+owed_by (Ok (answer.ReceiveFrom path endpoint packets)) =
+    owed.Answer path (task.Receive (At endpoint)) ends.Received
+owed_by (Ok (answer.Clear path)) = owed.Answer path task.Clear ends.Done
+owed_by (Ok (answer.ClearOf path endpoint)) = owed.Answer path (task.ClearOf endpoint) ends.Done
+owed_by (Ok (answer.Poll path endpoint)) = owed.Answer path (task.Poll endpoint) ends.Polled
+owed_by (Ok (answer.Interface path interface setting)) =
+    owed.Answer path (task.SetInterface interface setting) ends.Done
+owed_by (Ok (answer.ControlIn path request)) =
+    owed.Answer path task.ControlIn (ends.ReceivedWithin request.length)
+owed_by (Ok (answer.ControlOut path write)) =
+    owed.Answer path task.ControlOut (ends.Sent (length write.bytes))
+owed_by (Ok (answer.Look path)) = owed.Answer path task.Look ends.Looked
 owed_by other = owed.Nothing
 
 abbrev pub is_nothing : Owed → Bool
@@ -63,30 +72,42 @@ abbrev pub is_within : ℕ → Result (Vec ℕ) TransferFault → Bool
 is_within most (Ok bytes) = nat_le (length bytes.items) most
 is_within most (Err fault) = true
 
--- that path, and that endpoint
-abbrev pub is_there : List ℕ → ℕ → List ℕ → ℕ → Bool
-is_there path endpoint at named = bytes_eq path at && (endpoint == named)
+abbrev pub same_choice : EndpointChoice → EndpointChoice → Bool
+same_choice FirstBulk FirstBulk = true
+same_choice (At endpoint) (At named) = endpoint == named
+same_choice choice other = false
 
--- the item is the one that is owed: a listing, or news; a look at that path; that setting of that
--- interface; or that transfer at that path, through that endpoint. If it did not fail, a send or a
--- write moved all bytes, and a read at most those asked for
+-- at that endpoint, or of that setting of that interface
+abbrev pub same_task : Task → Task → Bool
+same_task (task.Send choice) (task.Send used) = same_choice choice used
+same_task (task.Receive choice) (task.Receive used) = same_choice choice used
+same_task task.Clear task.Clear = true
+same_task (task.ClearOf endpoint) (task.ClearOf named) = endpoint == named
+same_task (task.Poll endpoint) (task.Poll named) = endpoint == named
+same_task (task.SetInterface interface setting) (task.SetInterface number chosen) =
+    (interface == number) && (setting == chosen)
+same_task task.ControlIn task.ControlIn = true
+same_task task.ControlOut task.ControlOut = true
+same_task task.Look task.Look = true
+same_task asked other = false
+
+-- a task ended with what it is to end with. If it did not fail, a send or a write moved all bytes,
+-- and a read at most those asked for
+abbrev pub fits : EndOwed → TaskEnd → Bool
+fits (ends.Sent count) (Sent sent) = is_count count sent
+fits ends.Received (Received received) = true
+fits (ends.ReceivedWithin most) (Received received) = is_within most received
+fits ends.Done (Done done) = true
+fits ends.Polled (Polled polled) = true
+fits ends.Looked (Looked looked) = true
+fits o other = false
+
+-- the item is the one that is owed: a listing, news, or how that task at that path ended
 abbrev pub settles : Owed → Item → Bool
 settles owed.Listing (Listing entries taken said) = true
-settles (owed.Send path count) (Sent at sent) = bytes_eq path at && is_count count sent
-settles (owed.Receive path) (Received at received) = bytes_eq path at
-settles (owed.Clear path) (Cleared at cleared) = bytes_eq path at
-settles (owed.SendTo path endpoint count) (SentTo at named sent) =
-    is_there path endpoint at named && is_count count sent
-settles (owed.ReceiveFrom path endpoint) (ReceivedFrom at named received) =
-    is_there path endpoint at named
-settles (owed.Poll path endpoint) (Polled at named polled) = is_there path endpoint at named
-settles (owed.ClearOf path endpoint) (ClearedOf at named cleared) = is_there path endpoint at named
-settles (owed.Interface path interface setting) (InterfaceSet at number chosen done) =
-    bytes_eq path at && (interface == number) && (setting == chosen)
-settles (owed.Read path most) (Read at bytes) = bytes_eq path at && is_within most bytes
-settles (owed.Write path count) (Written at written) = bytes_eq path at && is_count count written
-settles (owed.Look path) (Looked at looked) = bytes_eq path at
-settles owed.News (News news) = true
+settles owed.News (item.News news) = true
+settles (owed.Answer path asked o) (item.Answer at done came) =
+    bytes_eq path at && same_task asked done && fits o came
 settles other item = false
 
 -- what is owed still, behind an item that was told, or a front of it

@@ -1,10 +1,12 @@
 //! What is requested, and was not reported yet.
-ghost use Rattle.std.specs.Prelude.{◌≡◌};
-ghost use Rattle.usb_live.specs.Course.{is_count, is_nothing, is_there, is_within, owed_by, settles};
+ghost use Rattle.std.specs.Prelude.{◌≡◌, Ok};
+ghost use Rattle.usb_run.specs.declared.item.Task.{Task};
+ghost use Rattle.usb_live.specs.declared.owed.EndOwed.{EndOwed};
+ghost use Rattle.usb_live.specs.declared.owed.Owed.{Owed};
+ghost use Rattle.usb_live.specs.Course.{fits, is_count, is_nothing, is_within, owed_by, same_choice, same_task, settles};
 
 use usb_port::PortPath;
-use usb_request::EndpointAddress;
-use usb_run::{Item, TransferFault};
+use usb_run::{EndpointChoice, Item, Task, TaskEnd, TransferFault};
 use usb_stream::LiveFault;
 use usb_wire::Answer;
 
@@ -15,30 +17,27 @@ pub(crate) enum Owed {
     Nothing,
     /// A listing.
     Listing,
-    /// The number of bytes that were sent to the device at a path.
-    Send(PortPath, u64),
-    /// What was received from the device at a path.
-    Receive(PortPath),
-    /// That the halts of the device at a path were cleared.
-    Clear(PortPath),
-    /// The number of bytes that were sent to an endpoint of the device at a path.
-    SendTo(PortPath, EndpointAddress, u64),
-    /// What was received from an endpoint of the device at a path.
-    ReceiveFrom(PortPath, EndpointAddress),
-    /// The packet of an endpoint of the device at a path, or that it had none.
-    Poll(PortPath, EndpointAddress),
-    /// That the halt of an endpoint of the device at a path was cleared.
-    ClearOf(PortPath, EndpointAddress),
-    /// That a setting of an interface of the device at a path was chosen.
-    Interface(PortPath, u8, u8),
-    /// What was read from the device at a path, at most this number of bytes.
-    Read(PortPath, u16),
-    /// The number of bytes that were written to endpoint 0 of the device at a path.
-    Write(PortPath, u64),
-    /// What is found at a port.
-    Look(PortPath),
     /// Which devices left and which arrived.
     News,
+    /// How a task at a path ended.
+    Answer(PortPath, Task, EndOwed),
+}
+
+/// How a task is to end, if it does not fail.
+#[derive(Clone, Copy, Debug, PartialEq, Eq)]
+pub(crate) enum EndOwed {
+    /// This number of bytes is sent.
+    Sent(u64),
+    /// Bytes are received.
+    Received,
+    /// At most this number of bytes is received.
+    ReceivedWithin(u16),
+    /// It is done.
+    Done,
+    /// A packet comes, or none is there.
+    Polled,
+    /// It is known what is listed.
+    Looked,
 }
 
 /// What is owed after an answer to `wait`.
@@ -46,39 +45,70 @@ pub(crate) fn owed_by(answer: &Result<Answer, LiveFault>) -> Owed
     ensures { result ≡ owed_by answer.now }
 {
     match answer {
-        Ok(Answer::Show | Answer::End) => Owed::Listing,
-        Ok(Answer::Send { path, bytes }) => Owed::Send(path.duplicate(), bytes.len() as u64),
-        Ok(Answer::Receive { path, .. }) => Owed::Receive(path.duplicate()),
-        Ok(Answer::Clear(path)) => Owed::Clear(path.duplicate()),
-        Ok(
-            Answer::SendTo {
-                path,
-                endpoint,
-                bytes,
-            },
-        ) => Owed::SendTo(path.duplicate(), *endpoint, bytes.len() as u64),
-        Ok(Answer::ReceiveFrom { path, endpoint, .. }) => {
-            Owed::ReceiveFrom(path.duplicate(), *endpoint)
+        Ok(answer) => owed_for(answer),
+        Err(_) => Owed::Nothing,
+    }
+}
+
+/// What is owed after this answer.
+fn owed_for(answer: &Answer) -> Owed
+    ensures { result ≡ owed_by (Ok answer.now) }
+{
+    match answer {
+        Answer::Show | Answer::End => Owed::Listing,
+        Answer::News => Owed::News,
+        Answer::Send { path, bytes } => sends(path, EndpointChoice::FirstBulk, bytes.len()),
+        Answer::SendTo {
+            path,
+            endpoint,
+            bytes,
+        } => sends(path, EndpointChoice::At(*endpoint), bytes.len()),
+        Answer::Receive { path, .. } => receives(path, EndpointChoice::FirstBulk),
+        Answer::ReceiveFrom { path, endpoint, .. } => {
+            receives(path, EndpointChoice::At(*endpoint))
         }
-        Ok(Answer::Poll { path, endpoint }) => Owed::Poll(path.duplicate(), *endpoint),
-        Ok(Answer::ClearOf { path, endpoint }) => Owed::ClearOf(path.duplicate(), *endpoint),
-        Ok(
-            Answer::Interface {
-                path,
-                interface,
-                setting,
-            },
-        ) => Owed::Interface(path.duplicate(), *interface, *setting),
-        Ok(Answer::ControlIn { path, request }) => {
-            Owed::Read(path.duplicate(), request.setup().length)
+        Answer::Clear(path) => answer_to(path, Task::Clear, EndOwed::Done),
+        Answer::ClearOf { path, endpoint } => {
+            answer_to(path, Task::ClearOf(*endpoint), EndOwed::Done)
         }
-        Ok(Answer::ControlOut { path, request }) => {
-            Owed::Write(path.duplicate(), request.bytes().len() as u64)
+        Answer::Poll { path, endpoint } => answer_to(path, Task::Poll(*endpoint), EndOwed::Polled),
+        Answer::Interface {
+            path,
+            interface,
+            setting,
+        } => answer_to(path, Task::SetInterface(*interface, *setting), EndOwed::Done),
+        Answer::ControlIn { path, request } => {
+            let end = EndOwed::ReceivedWithin(request.setup().length);
+            answer_to(path, Task::ControlIn, end)
         }
-        Ok(Answer::Look(path)) => Owed::Look(path.duplicate()),
-        Ok(Answer::News) => Owed::News,
+        Answer::ControlOut { path, request } => {
+            let end = EndOwed::Sent(request.bytes().len() as u64);
+            answer_to(path, Task::ControlOut, end)
+        }
+        Answer::Look(path) => answer_to(path, Task::Look, EndOwed::Looked),
         _ => Owed::Nothing,
     }
+}
+
+/// What is owed after a request to send this number of bytes.
+fn sends(path: &PortPath, choice: EndpointChoice, count: usize) -> Owed
+    ensures { result ≡ Owed.Answer path.now (Task.Send choice) (EndOwed.Sent count) }
+{
+    answer_to(path, Task::Send(choice), EndOwed::Sent(count as u64))
+}
+
+/// What is owed after a request to receive.
+fn receives(path: &PortPath, choice: EndpointChoice) -> Owed
+    ensures { result ≡ Owed.Answer path.now (Task.Receive choice) EndOwed.Received }
+{
+    answer_to(path, Task::Receive(choice), EndOwed::Received)
+}
+
+/// How a task at a path ended is owed.
+fn answer_to(path: &PortPath, task: Task, end: EndOwed) -> Owed
+    ensures { result ≡ Owed.Answer path.now task end }
+{
+    Owed::Answer(path.duplicate(), task, end)
 }
 
 /// Whether nothing is owed.
@@ -94,50 +124,61 @@ pub(crate) fn settles(owed: &Owed, item: &Item) -> bool
 {
     match (owed, item) {
         (Owed::Listing, Item::Listing(_, _, _)) => true,
-        (Owed::Send(path, count), Item::Sent(at, sent)) => {
-            path.numbers() == at.numbers() && is_count(*count, sent)
-        }
-        (Owed::Receive(path), Item::Received(at, _)) => path.numbers() == at.numbers(),
-        (Owed::Clear(path), Item::Cleared(at, _)) => path.numbers() == at.numbers(),
-        (Owed::SendTo(path, endpoint, count), Item::SentTo(at, named, sent)) => {
-            is_there(path, *endpoint, at, *named) && is_count(*count, sent)
-        }
-        (Owed::ReceiveFrom(path, endpoint), Item::ReceivedFrom(at, named, _)) => {
-            is_there(path, *endpoint, at, *named)
-        }
-        (Owed::Poll(path, endpoint), Item::Polled(at, named, _)) => {
-            is_there(path, *endpoint, at, *named)
-        }
-        (Owed::ClearOf(path, endpoint), Item::ClearedOf(at, named, _)) => {
-            is_there(path, *endpoint, at, *named)
-        }
-        (Owed::Interface(path, interface, setting), Item::InterfaceSet(at, number, chosen, _)) =>
-            path.numbers() == at.numbers() && interface == number && setting == chosen,
-        (Owed::Read(path, most), Item::Read(at, read)) => {
-            path.numbers() == at.numbers() && is_within(*most, read)
-        }
-        (Owed::Write(path, count), Item::Written(at, written)) => {
-            path.numbers() == at.numbers() && is_count(*count, written)
-        }
-        (Owed::Look(path), Item::Looked(at, _)) => path.numbers() == at.numbers(),
         (Owed::News, Item::News(_)) => true,
+        (Owed::Answer(path, task, owed), Item::Answer(at, done, end)) => {
+            path.numbers() == at.numbers() && same_task(*task, *done) && fits(*owed, end)
+        }
         _ => false,
     }
 }
 
-/// Whether a transfer was made through an endpoint of the device at a path.
-fn is_there(
-    path: &PortPath,
-    endpoint: EndpointAddress,
-    at: &PortPath,
-    named: EndpointAddress,
-) -> bool
-    ensures { result ≡ is_there path.now endpoint at.now named }
+/// Whether these are the same task.
+fn same_task(task: Task, done: Task) -> bool
+    ensures { result ≡ same_task task done }
 {
-    path.numbers() == at.numbers() && endpoint.get() == named.get()
+    match (task, done) {
+        (Task::Send(choice), Task::Send(used)) => same_choice(choice, used),
+        (Task::Receive(choice), Task::Receive(used)) => same_choice(choice, used),
+        (Task::ClearOf(endpoint), Task::ClearOf(named)) => endpoint.get() == named.get(),
+        (Task::Poll(endpoint), Task::Poll(named)) => endpoint.get() == named.get(),
+        (Task::SetInterface(interface, setting), Task::SetInterface(number, chosen)) => {
+            interface == number && setting == chosen
+        }
+        (Task::Clear, Task::Clear) | (Task::Look, Task::Look) => true,
+        (Task::ControlIn, Task::ControlIn) | (Task::ControlOut, Task::ControlOut) => true,
+        _ => false,
+    }
 }
 
-/// Whether this number of bytes were sent, if the transfer did not fail.
+/// Whether these are the same choice of an endpoint.
+fn same_choice(choice: EndpointChoice, used: EndpointChoice) -> bool
+    ensures { result ≡ same_choice choice used }
+{
+    match (choice, used) {
+        (EndpointChoice::FirstBulk, EndpointChoice::FirstBulk) => true,
+        (EndpointChoice::At(endpoint), EndpointChoice::At(named)) => {
+            endpoint.get() == named.get()
+        }
+        _ => false,
+    }
+}
+
+/// Whether a task ended as it is to end.
+fn fits(owed: EndOwed, end: &TaskEnd) -> bool
+    ensures { result ≡ fits owed end.now }
+{
+    match (owed, end) {
+        (EndOwed::Sent(count), TaskEnd::Sent(sent)) => is_count(count, sent),
+        (EndOwed::Received, TaskEnd::Received(_)) => true,
+        (EndOwed::ReceivedWithin(most), TaskEnd::Received(read)) => is_within(most, read),
+        (EndOwed::Done, TaskEnd::Done(_)) => true,
+        (EndOwed::Polled, TaskEnd::Polled(_)) => true,
+        (EndOwed::Looked, TaskEnd::Looked(_)) => true,
+        _ => false,
+    }
+}
+
+/// Whether this number of bytes were sent, if the task did not fail.
 fn is_count(count: u64, sent: &Result<u64, TransferFault>) -> bool
     ensures { result ≡ is_count count sent.now }
 {
@@ -147,7 +188,7 @@ fn is_count(count: u64, sent: &Result<u64, TransferFault>) -> bool
     }
 }
 
-/// Whether at most this number of bytes were read, if the transfer did not fail.
+/// Whether at most this number of bytes were read, if the task did not fail.
 fn is_within(most: u16, read: &Result<Vec<u8>, TransferFault>) -> bool
     ensures { result ≡ is_within most read.now }
 {

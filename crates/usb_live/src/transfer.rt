@@ -3,13 +3,16 @@ ghost use Rattle.std.specs.Prelude.{◌≡◌, IfOk, length, true};
 ghost use Rattle.usb_run.specs.Transfers.{Gives};
 ghost use Rattle.usb_world.specs.declared.event.Ask.{Ask};
 ghost use Rattle.usb_live.specs.Course.{IsShown, settles};
+ghost use Rattle.usb_run.specs.declared.item.Task.{Task};
+ghost use Rattle.usb_table.specs.declared.choice.EndpointChoice.TheVariants.{At};
+ghost use Rattle.usb_live.specs.declared.owed.EndOwed.{EndOwed};
 ghost use Rattle.usb_live.specs.declared.owed.Owed.{Owed};
 
 use usb_bus::Bus;
 use usb_host::Host;
 use usb_port::PortPath;
 use usb_request::{EndpointAddress, ReadRequest};
-use usb_run::{Item, RunFault, answered, counted};
+use usb_run::{EndpointChoice, Item, RunFault, Task, TaskEnd, answered, counted};
 use usb_wire::ControlWrite;
 
 /// Reads from endpoint 0 of the device at a path.
@@ -18,13 +21,14 @@ pub(crate) fn read<B: Bus>(
     path: PortPath,
     request: ReadRequest,
 ) -> Result<Item, RunFault>
-    ensures owed { IfOk result (λ item. settles (Owed.Read path request.length) item ≡ true) }
+    ensures owed { IfOk result (λ item.
+        settles (Owed.Answer path Task.ControlIn (EndOwed.ReceivedWithin request.length)) item ≡ true) }
     ensures shown { IfOk result (IsShown host.new.options) }
     ensures options { host.new.options ≡ host.old.options }
     ensures does { B.modelled ≡ true → Gives (Ask.ControlIn path request) host.old result host.new }
 {
     let bytes = answered(host.control_in(&path, request.setup()))?;
-    Ok(Item::Read(path, bytes))
+    Ok(Item::Answer(path, Task::ControlIn, TaskEnd::Received(bytes)))
 }
 
 /// Writes to endpoint 0 of the device at a path.
@@ -33,8 +37,8 @@ pub(crate) fn write<B: Bus>(
     path: PortPath,
     request: &ControlWrite,
 ) -> Result<Item, RunFault>
-    ensures owed { IfOk result (λ item.
-        settles (Owed.Write path (length request.now.bytes)) item ≡ true) }
+    ensures owed { IfOk result (λ item. settles (Owed.Answer path Task.ControlOut
+        (EndOwed.Sent (length request.now.bytes))) item ≡ true) }
     ensures shown { IfOk result (IsShown host.new.options) }
     ensures options { host.new.options ≡ host.old.options }
     ensures does { B.modelled ≡ true → Gives (Ask.ControlOut path
@@ -42,7 +46,8 @@ pub(crate) fn write<B: Bus>(
 {
     let bytes = request.bytes();
     let written = answered(host.control_out(&path, request.setup(), bytes))?;
-    Ok(Item::Written(path, counted(bytes.len(), written)))
+    let end = TaskEnd::Sent(counted(bytes.len(), written));
+    Ok(Item::Answer(path, Task::ControlOut, end))
 }
 
 /// Sends bytes to an endpoint of the device at a path.
@@ -52,14 +57,15 @@ pub(crate) fn send_to<B: Bus>(
     endpoint: EndpointAddress,
     bytes: &[u8],
 ) -> Result<Item, RunFault>
-    ensures owed { IfOk result (λ item.
-        settles (Owed.SendTo path endpoint (length bytes.now)) item ≡ true) }
+    ensures owed { IfOk result (λ item. settles (Owed.Answer path (Task.Send (At endpoint))
+        (EndOwed.Sent (length bytes.now))) item ≡ true) }
     ensures shown { IfOk result (IsShown host.new.options) }
     ensures options { host.new.options ≡ host.old.options }
     ensures does { B.modelled ≡ true → Gives (Ask.SendTo path endpoint bytes.now) host.old result host.new }
 {
     let sent = answered(host.send_to(&path, endpoint, bytes))?;
-    Ok(Item::SentTo(path, endpoint, counted(bytes.len(), sent)))
+    let task = Task::Send(EndpointChoice::At(endpoint));
+    Ok(Item::Answer(path, task, TaskEnd::Sent(counted(bytes.len(), sent))))
 }
 
 /// Receives at most this number of packets from an endpoint of the device at a path.
@@ -69,14 +75,16 @@ pub(crate) fn receive_from<B: Bus>(
     endpoint: EndpointAddress,
     packets: u16,
 ) -> Result<Item, RunFault>
-    ensures owed { IfOk result (λ item. settles (Owed.ReceiveFrom path endpoint) item ≡ true) }
+    ensures owed { IfOk result (λ item.
+        settles (Owed.Answer path (Task.Receive (At endpoint)) EndOwed.Received) item ≡ true) }
     ensures shown { IfOk result (IsShown host.new.options) }
     ensures options { host.new.options ≡ host.old.options }
     ensures does { B.modelled ≡ true
         → Gives (Ask.ReceiveFrom path endpoint packets) host.old result host.new }
 {
     let received = answered(host.receive_from(&path, endpoint, packets))?;
-    Ok(Item::ReceivedFrom(path, endpoint, received))
+    let task = Task::Receive(EndpointChoice::At(endpoint));
+    Ok(Item::Answer(path, task, TaskEnd::Received(received)))
 }
 
 /// Asks an endpoint of the device at a path once for a packet.
@@ -85,13 +93,14 @@ pub(crate) fn poll<B: Bus>(
     path: PortPath,
     endpoint: EndpointAddress,
 ) -> Result<Item, RunFault>
-    ensures owed { IfOk result (λ item. settles (Owed.Poll path endpoint) item ≡ true) }
+    ensures owed { IfOk result (λ item.
+        settles (Owed.Answer path (Task.Poll endpoint) EndOwed.Polled) item ≡ true) }
     ensures shown { IfOk result (IsShown host.new.options) }
     ensures options { host.new.options ≡ host.old.options }
     ensures does { B.modelled ≡ true → Gives (Ask.Poll path endpoint) host.old result host.new }
 {
     let polled = answered(host.poll(&path, endpoint))?;
-    Ok(Item::Polled(path, endpoint, polled))
+    Ok(Item::Answer(path, Task::Poll(endpoint), TaskEnd::Polled(polled)))
 }
 
 /// Clears the halt of an endpoint of the device at a path.
@@ -100,13 +109,14 @@ pub(crate) fn clear_of<B: Bus>(
     path: PortPath,
     endpoint: EndpointAddress,
 ) -> Result<Item, RunFault>
-    ensures owed { IfOk result (λ item. settles (Owed.ClearOf path endpoint) item ≡ true) }
+    ensures owed { IfOk result (λ item.
+        settles (Owed.Answer path (Task.ClearOf endpoint) EndOwed.Done) item ≡ true) }
     ensures shown { IfOk result (IsShown host.new.options) }
     ensures options { host.new.options ≡ host.old.options }
     ensures does { B.modelled ≡ true → Gives (Ask.ClearOf path endpoint) host.old result host.new }
 {
     let cleared = answered(host.clear_halt_of(&path, endpoint))?;
-    Ok(Item::ClearedOf(path, endpoint, cleared))
+    Ok(Item::Answer(path, Task::ClearOf(endpoint), TaskEnd::Done(cleared)))
 }
 
 /// Chooses an alternate setting of an interface of the device at a path.
@@ -117,12 +127,13 @@ pub(crate) fn set_interface<B: Bus>(
     setting: u8,
 ) -> Result<Item, RunFault>
     ensures owed { IfOk result (λ item.
-        settles (Owed.Interface path interface setting) item ≡ true) }
+        settles (Owed.Answer path (Task.SetInterface interface setting) EndOwed.Done) item ≡ true) }
     ensures shown { IfOk result (IsShown host.new.options) }
     ensures options { host.new.options ≡ host.old.options }
     ensures does { B.modelled ≡ true
         → Gives (Ask.SetInterface path interface setting) host.old result host.new }
 {
     let set = answered(host.set_interface(&path, interface, setting))?;
-    Ok(Item::InterfaceSet(path, interface, setting, set))
+    let task = Task::SetInterface(interface, setting);
+    Ok(Item::Answer(path, task, TaskEnd::Done(set)))
 }

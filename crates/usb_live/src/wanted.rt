@@ -7,7 +7,9 @@ use crate::transfer::{clear_of, poll, read, receive_from, send_to, set_interface
 use std::alloc::Global;
 use usb_bus::Bus;
 use usb_host::Host;
-use usb_run::{Item, RunFault, all_news, answered, counted};
+use usb_run::{
+    EndpointChoice, Item, RunFault, Task, TaskEnd, all_news, answered, counted,
+};
 use usb_text::Said;
 use usb_wire::Answer;
 
@@ -37,15 +39,17 @@ pub(crate) fn item_of<B: Bus>(
         },
         Answer::Send { path, bytes } => {
             let sent = answered(host.send(&path, bytes.as_slice()))?;
-            Ok(Some(Item::Sent(path, counted(bytes.len(), sent))))
+            let task = Task::Send(EndpointChoice::FirstBulk);
+            Ok(Some(Item::Answer(path, task, TaskEnd::Sent(counted(bytes.len(), sent)))))
         }
         Answer::Receive { path, packets } => {
             let received = answered(host.receive(&path, packets))?;
-            Ok(Some(Item::Received(path, received)))
+            let task = Task::Receive(EndpointChoice::FirstBulk);
+            Ok(Some(Item::Answer(path, task, TaskEnd::Received(received))))
         }
         Answer::Clear(path) => {
             let cleared = answered(host.clear_halt(&path))?;
-            Ok(Some(Item::Cleared(path, cleared)))
+            Ok(Some(Item::Answer(path, Task::Clear, TaskEnd::Done(cleared))))
         }
         Answer::SendTo {
             path,
@@ -68,7 +72,7 @@ pub(crate) fn item_of<B: Bus>(
         Answer::ControlOut { path, request } => Ok(Some(write(host, path, &request)?)),
         Answer::Look(path) => {
             let looked = answered(host.look(&path))?;
-            Ok(Some(Item::Looked(path, looked)))
+            Ok(Some(Item::Answer(path, Task::Look, TaskEnd::Looked(looked))))
         }
         Answer::News => Ok(Some(Item::News(all_news(alloc, host)?))),
         _ => Ok(None),

@@ -6,7 +6,7 @@ use arrayvec::ArrayVec;
 use std::alloc::Global;
 use usb_driver::{DriverFault, Want};
 use usb_host::{Look, News, TransferFault};
-use usb_run::{Item, counted};
+use usb_run::{EndpointChoice, Item, Task, TaskEnd, counted};
 use usb_serve::item_lines;
 use usb_sim::{Ask, Plan};
 use usb_testdriver::Course;
@@ -89,11 +89,16 @@ impl End<'_> {
         }
     }
 
-    fn bytes(&self, alloc: Global) -> Result<Result<Vec<u8>, TransferFault>, DriverFault> {
-        match fault_of(self.status) {
-            Some(fault) => Ok(Err(fault)),
-            None => Ok(Ok(self.body.to_vec(alloc)?)),
-        }
+    /// With the number of these bytes.
+    fn sent(&self, bytes: &[u8]) -> TaskEnd {
+        TaskEnd::Sent(counted(bytes.len(), self.done()))
+    }
+
+    fn received(&self, alloc: Global) -> Result<TaskEnd, DriverFault> {
+        Ok(TaskEnd::Received(match fault_of(self.status) {
+            Some(fault) => Err(fault),
+            None => Ok(self.body.to_vec(alloc)?),
+        }))
     }
 
     /// A packet; none at the status of a quiet call.
@@ -138,31 +143,45 @@ fn end_of(told: &[u8]) -> Option<End<'_>> {
 
 /// What a call made that ended so.
 fn made(alloc: Global, ask: Ask, end: &End<'_>) -> Result<Item, DriverFault> {
-    Ok(match ask {
-        Ask::Send(path, bytes) => Item::Sent(path, counted(bytes.as_slice().len(), end.done())),
-        Ask::Receive(path, _) => Item::Received(path, end.bytes(alloc)?),
-        Ask::Clear(path) => Item::Cleared(path, end.done()),
+    let (path, task, end) = match ask {
+        Ask::Send(path, bytes) => {
+            let task = Task::Send(EndpointChoice::FirstBulk);
+            (path, task, end.sent(bytes.as_slice()))
+        }
+        Ask::Receive(path, _) => {
+            let task = Task::Receive(EndpointChoice::FirstBulk);
+            (path, task, end.received(alloc)?)
+        }
+        Ask::Clear(path) => (path, Task::Clear, TaskEnd::Done(end.done())),
         Ask::SendTo(path, endpoint, bytes) => {
-            Item::SentTo(path, endpoint, counted(bytes.as_slice().len(), end.done()))
+            let task = Task::Send(EndpointChoice::At(endpoint));
+            (path, task, end.sent(bytes.as_slice()))
         }
         Ask::ReceiveFrom(path, endpoint, _) => {
-            Item::ReceivedFrom(path, endpoint, end.bytes(alloc)?)
+            let task = Task::Receive(EndpointChoice::At(endpoint));
+            (path, task, end.received(alloc)?)
         }
-        Ask::Poll(path, endpoint) => Item::Polled(path, endpoint, end.packet()),
-        Ask::ClearOf(path, endpoint) => Item::ClearedOf(path, endpoint, end.done()),
+        Ask::Poll(path, endpoint) => {
+            (path, Task::Poll(endpoint), TaskEnd::Polled(end.packet()))
+        }
+        Ask::ClearOf(path, endpoint) => {
+            (path, Task::ClearOf(endpoint), TaskEnd::Done(end.done()))
+        }
         Ask::SetInterface(path, interface, setting) => {
-            Item::InterfaceSet(path, interface, setting, end.done())
+            (path, Task::SetInterface(interface, setting), TaskEnd::Done(end.done()))
         }
-        Ask::ControlIn(path, _) => Item::Read(path, end.bytes(alloc)?),
+        Ask::ControlIn(path, _) => (path, Task::ControlIn, end.received(alloc)?),
         Ask::ControlOut(path, request) => {
-            Item::Written(path, counted(request.bytes().len(), end.done()))
+            let sent = end.sent(request.bytes());
+            (path, Task::ControlOut, sent)
         }
         Ask::Look(path) => match end.look() {
-            Some(look) => Item::Looked(path, look),
+            Some(look) => (path, Task::Look, TaskEnd::Looked(look)),
             None => return Err(DriverFault::Kind),
         },
         Ask::Show { .. } | Ask::News => return Err(DriverFault::Kind),
-    })
+    };
+    Ok(Item::Answer(path, task, end))
 }
 
 /// All news of a driver.

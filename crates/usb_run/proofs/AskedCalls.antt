@@ -12,11 +12,11 @@ use Rattle.usb_host.specs.{LookTells, ReportTells, ClearOfTells, InterfaceTells}
 use Rattle.usb_host.specs.{HostState, Look, News, ReportsNews}
 use Rattle.usb_host.specs.{Left, Arrived}
 use Rattle.usb_table.specs.{TransferFault, FirstBulk, At}
-use Rattle.usb_run.specs.{Item, Sent, Received, Cleared, Read, Written, Looked}
-use Rattle.usb_run.specs.{SentTo, ReceivedFrom, Polled, ClearedOf, InterfaceSet}
+use Rattle.usb_run.specs.{Answer, Done, Item, Looked, Polled, Received, Sent}
 use Rattle.usb_run.specs.{RunFault, listing_of}
 use Rattle.usb_run.specs.{AllNews, SomeNewsAre, no_news, one_news, IsItemOf, StopsAt, sent_count}
-use Rattle.usb_run.specs.declared.runs.Item.TheVariants.{News as ToldNews}
+use Rattle.usb_run.specs.declared.item.Item.TheVariants.{News as ToldNews}
+use Rattle.usb_run.specs.declared.item.Task.TheVariants as task
 use Rattle.usb_run.specs.Transfers.{Transfers}
 
 -- no item, a listing, what a transfer or a look came to, or news
@@ -25,44 +25,44 @@ pub data AskAnswered (due : Option Ask) (item : Option Item) (old new : HostStat
   listed : (said : Bool) → due ≡ Some (Show said) → item ≡ Some (listing_of said new) → new ≡ old
       → AskAnswered due item old new
   sent : (path bytes : List ℕ) (told : Result (Unit {0}) TransferFault)
-      → due ≡ Some (Send path bytes) → item ≡ Some (Sent path (sent_count (length bytes) told))
+      → due ≡ Some (Send path bytes) → item ≡ Some (Answer path (task.Send FirstBulk) (Sent (sent_count (length bytes) told)))
       → Transfers (SendTells path FirstBulk bytes) old told new → AskAnswered due item old new
   received : (path : List ℕ) (packets : ℕ) (told : Result (Vec ℕ) TransferFault)
-      → due ≡ Some (Receive path packets) → item ≡ Some (Received path told)
+      → due ≡ Some (Receive path packets) → item ≡ Some (Answer path (task.Receive FirstBulk) (Received told))
       → Transfers (ReceiveTells path FirstBulk packets) old told new → AskAnswered due item old new
   cleared : (path : List ℕ) (told : Result (Unit {0}) TransferFault) → due ≡ Some (Clear path)
-      → item ≡ Some (Cleared path told) → Transfers (ClearTells path) old told new
+      → item ≡ Some (Answer path task.Clear (Done told)) → Transfers (ClearTells path) old told new
       → AskAnswered due item old new
   sent_to : (path : List ℕ) (endpoint : ℕ) (bytes : List ℕ)
       (told : Result (Unit {0}) TransferFault) → due ≡ Some (SendTo path endpoint bytes)
-      → item ≡ Some (SentTo path endpoint (sent_count (length bytes) told))
+      → item ≡ Some (Answer path (task.Send (At endpoint)) (Sent (sent_count (length bytes) told)))
       → Transfers (SendTells path (At endpoint) bytes) old told new → AskAnswered due item old new
   received_from : (path : List ℕ) (endpoint packets : ℕ) (told : Result (Vec ℕ) TransferFault)
       → due ≡ Some (ReceiveFrom path endpoint packets)
-      → item ≡ Some (ReceivedFrom path endpoint told)
+      → item ≡ Some (Answer path (task.Receive (At endpoint)) (Received told))
       → Transfers (ReceiveTells path (At endpoint) packets) old told new
       → AskAnswered due item old new
   polled : (path : List ℕ) (endpoint : ℕ) (told : Result (Option (ArrayVec ℕ)) TransferFault)
-      → due ≡ Some (Poll path endpoint) → item ≡ Some (Polled path endpoint told)
+      → due ≡ Some (Poll path endpoint) → item ≡ Some (Answer path (task.Poll endpoint) (Polled told))
       → Transfers (ReportTells path endpoint) old told new → AskAnswered due item old new
   cleared_of : (path : List ℕ) (endpoint : ℕ) (told : Result (Unit {0}) TransferFault)
-      → due ≡ Some (ClearOf path endpoint) → item ≡ Some (ClearedOf path endpoint told)
+      → due ≡ Some (ClearOf path endpoint) → item ≡ Some (Answer path (task.ClearOf endpoint) (Done told))
       → Transfers (ClearOfTells path endpoint) old told new → AskAnswered due item old new
   interface_set : (path : List ℕ) (interface setting : ℕ) (told : Result (Unit {0}) TransferFault)
       → due ≡ Some (SetInterface path interface setting)
-      → item ≡ Some (InterfaceSet path interface setting told)
+      → item ≡ Some (Answer path (task.SetInterface interface setting) (Done told))
       → Transfers (InterfaceTells path interface setting) old told new
       → AskAnswered due item old new
   read : (path : List ℕ) (request : Setup) (told : Result (Vec ℕ) TransferFault)
-      → IsToHost request → due ≡ Some (ControlIn path request) → item ≡ Some (Read path told)
+      → IsToHost request → due ≡ Some (ControlIn path request) → item ≡ Some (Answer path task.ControlIn (Received told))
       → Transfers (ReadTells path request) old told new → AskAnswered due item old new
   written : (path : List ℕ) (write : Write) (told : Result (Unit {0}) TransferFault)
       → IsWrite write → due ≡ Some (ControlOut path write)
-      → item ≡ Some (Written path (sent_count (length write.bytes) told))
+      → item ≡ Some (Answer path task.ControlOut (Sent (sent_count (length write.bytes) told)))
       → Transfers (WriteTells path write.setup write.bytes) old told new
       → AskAnswered due item old new
   looked : (path : List ℕ) (told : Result Look TransferFault) → due ≡ Some (LookAt path)
-      → item ≡ Some (Looked path told) → Transfers (LookTells path) old told new
+      → item ≡ Some (Answer path task.Look (Looked told)) → Transfers (LookTells path) old told new
       → AskAnswered due item old new
   news : (told : Vec News) → due ≡ Some AskNews → item ≡ Some (ToldNews told)
       → AllNews old told.items new → AskAnswered due item old new

@@ -8,11 +8,10 @@ pub mod Transcript
 pub mod Reports
 pub mod Moments
 -- the words of this crate, wherever one stands
-pub use TransferLines.{done_end, endpoint_text, failed_end, fault_word, look_end, one_news_line}
-pub use TransferLines.{polled_end, received_end, sent_end, setting_text}
-unfoldable pub use TransferLines.{cleared_line, cleared_of_line, interface_line, look_line}
-unfoldable pub use TransferLines.{news_lines, polled_line, read_line, received_from_line}
-unfoldable pub use TransferLines.{received_line, sent_line, sent_to_line, written_line}
+pub use TransferLines.{choice_text, done_end, end_text, endpoint_text, failed_end, fault_word}
+pub use TransferLines.{look_end, one_news_line, place_text, polled_end, received_end, sent_end}
+pub use TransferLines.{setting_text, task_word}
+unfoldable pub use TransferLines.{answer_line, news_lines}
 pub use Run.{IsBegun, IsCaused, RunsOn, Spent, entry_said, items_left, listing_of, round_fault}
 pub use Run.{run_fault, said_if}
 pub use ItemLines.{item_lines, number_of}
@@ -31,10 +30,11 @@ pub use Moments.{ControlIfAsked, ControlTold, InterfaceIfAsked, InterfaceTold, I
 pub use Moments.{ListsPlugged, ListsRight, LookShows, TellsRight, as_answer, table_told}
 pub use declared.mode.Mode.{Mode}
 pub use declared.mode.Mode.TheVariants.{Tree}
-pub use declared.runs.Item.{Item}
-pub use declared.runs.Item.TheVariants.{Cleared, Listing, Looked, Read, Received, Sent}
-pub use declared.runs.Item.TheVariants.{ClearedOf, InterfaceSet, Polled, ReceivedFrom, SentTo}
-pub use declared.runs.Item.TheVariants.{Written}
+pub use declared.item.Item.{Item}
+pub use declared.item.Item.TheVariants.{Answer, Listing}
+pub use declared.item.Task.{Task}
+pub use declared.item.TaskEnd.{TaskEnd}
+pub use declared.item.TaskEnd.TheVariants.{Done, Looked, Polled, Received, Sent}
 pub use declared.runs.Report.{Report}
 pub use declared.runs.RunFault.{RunFault}
 pub use declared.runs.RunFault.TheVariants.{LimitReached, Memory, TraceFailed}

@@ -21,11 +21,10 @@ use Rattle.usb_host.specs.declared.fault.HostFault.TheVariants as host
 use Rattle.usb_run.specs.NewsCalls.{AllNews}
 use Rattle.usb_run.specs.RunSegments.{Knows, Settled}
 use Rattle.usb_run.specs.Transfers.{sent_count, transfer_ended}
-use Rattle.usb_run.specs.declared.runs.Item.{Item}
-use Rattle.usb_run.specs.declared.runs.Item.TheVariants.{Listing, Sent, Received, Cleared}
-use Rattle.usb_run.specs.declared.runs.Item.TheVariants.{Read, Written, Looked, News as ToldNews}
-use Rattle.usb_run.specs.declared.runs.Item.TheVariants.{SentTo, ReceivedFrom, Polled, ClearedOf}
-use Rattle.usb_run.specs.declared.runs.Item.TheVariants as item
+use Rattle.usb_run.specs.declared.item.Item.{Item}
+use Rattle.usb_run.specs.declared.item.Item.TheVariants.{Listing, Answer, News as ToldNews}
+use Rattle.usb_run.specs.declared.item.Task.TheVariants as task
+use Rattle.usb_run.specs.declared.item.TaskEnd.TheVariants.{Sent, Received, Done, Polled, Looked}
 use Rattle.usb_run.specs.declared.runs.Report.{Report}
 
 -- a control transfer was made to a target, the device at a path: that did what this says, any other
@@ -87,35 +86,38 @@ pub record LookShows (path : List ℕ) (old : HostState) (told : Result Look Tra
 -- at its port; and the news are all there were
 abbrev pub TellsRight : Option Ask → Item → HostState → HostState → Type 0
 TellsRight (Some (Show said)) item old new = Settled new
-TellsRight (Some (Send path bytes)) (Sent to told) old new =
+TellsRight (Some (Send path bytes)) (Answer to (task.Send FirstBulk) (Sent told)) old new =
     Delivered path FirstBulk (is_ok told) bytes (table_in old) old.world (table_in new) new.world
-TellsRight (Some (Receive path packets)) (Received from told) old new =
+TellsRight (Some (Receive path packets)) (Answer from (task.Receive FirstBulk) (Received told))
+    old new =
     Collected path FirstBulk (is_ok told) packets (bytes_in told) (table_in old) old.world
     (table_in new) new.world
-TellsRight (Some (Clear path)) (Cleared at told) old new =
+TellsRight (Some (Clear path)) (Answer at task.Clear (Done told)) old new =
     Restarted path (is_ok told) (table_in old) old.world (table_in new) new.world
-TellsRight (Some (SendTo path endpoint bytes)) (SentTo to at told) old new =
+TellsRight (Some (SendTo path endpoint bytes)) (Answer to (task.Send (At at)) (Sent told)) old new =
     Delivered path (At endpoint) (is_ok told) bytes (table_in old) old.world (table_in new)
     new.world
-TellsRight (Some (ReceiveFrom path endpoint packets)) (ReceivedFrom from at told) old new =
+TellsRight (Some (ReceiveFrom path endpoint packets))
+    (Answer from (task.Receive (At at)) (Received told)) old new =
     Collected path (At endpoint) (is_ok told) packets (bytes_in told) (table_in old) old.world
     (table_in new) new.world
-TellsRight (Some (Poll path endpoint)) (Polled from at told) old new =
+TellsRight (Some (Poll path endpoint)) (Answer from (task.Poll at) (Polled told)) old new =
     Reported path endpoint (table_told told) (table_in old) old.world (table_in new) new.world
-TellsRight (Some (ClearOf path endpoint)) (ClearedOf of at told) old new =
+TellsRight (Some (ClearOf path endpoint)) (Answer of (task.ClearOf at) (Done told)) old new =
     RestartedOf path endpoint (is_ok told) (table_in old) old.world (table_in new) new.world
-TellsRight (Some (SetInterface path interface setting)) (item.InterfaceSet of number chosen told)
-    old new =
+TellsRight (Some (SetInterface path interface setting))
+    (Answer of (task.SetInterface number chosen) (Done told)) old new =
     InterfaceIfAsked path interface setting (interface_target path interface setting old.entries)
     old told new
-TellsRight (Some (ControlIn path request)) (Read from told) old new =
+TellsRight (Some (ControlIn path request)) (Answer from task.ControlIn (Received told)) old new =
     ControlIfAsked (ReadMade request) (ReadLeft request) path (control_target path old.entries)
     old.world told new.world
-TellsRight (Some (ControlOut path write)) (Written to count) old new =
+TellsRight (Some (ControlOut path write)) (Answer to task.ControlOut (Sent count)) old new =
     (told : Result (Unit {0}) TransferFault) × (count ≡ sent_count (length write.bytes) told)
     × ControlIfAsked (WriteMade write.setup write.bytes) (WriteLeft write.setup write.bytes) path
     (write_target path write.setup old.entries) old.world told new.world
-TellsRight (Some (LookAt path)) (Looked at told) old new = LookShows path old told new
+TellsRight (Some (LookAt path)) (Answer at task.Look (Looked told)) old new =
+    LookShows path old told new
 TellsRight (Some AskNews) (ToldNews news) old new = AllNews old news.items new
 TellsRight due item old new = ⊥
 
@@ -125,18 +127,8 @@ TellsRight due item old new = ⊥
 abbrev pub IsListingOf : PlanData → Item → Type 0
 IsListingOf plan (Listing tree taken said) =
     Lists (usual_options plan.wide) plan.roots (tree_after plan taken) tree
-IsListingOf plan (Sent path sent) = ⊤
-IsListingOf plan (Received path received) = ⊤
-IsListingOf plan (Cleared path cleared) = ⊤
-IsListingOf plan (Read path read) = ⊤
-IsListingOf plan (Written path written) = ⊤
-IsListingOf plan (Looked path looked) = ⊤
 IsListingOf plan (ToldNews news) = ⊤
-IsListingOf plan (SentTo path endpoint sent) = ⊤
-IsListingOf plan (ReceivedFrom path endpoint received) = ⊤
-IsListingOf plan (Polled path endpoint polled) = ⊤
-IsListingOf plan (ClearedOf path endpoint cleared) = ⊤
-IsListingOf plan (item.InterfaceSet path interface setting set) = ⊤
+IsListingOf plan (Answer path task end) = ⊤
 
 -- each listing of a run is right, whether it stopped at a fault or not, where no three attempts
 -- running are damaged and no address was lost three times up to its last world; and there is a

@@ -5,7 +5,7 @@ use Rattle.usb_world.specs.{PlanData, IsPlan, AtPorts, opening, World}
 use Rattle.usb_bus.specs.{Traced}
 use Rattle.usb_enum.specs.{usual_options}
 use Rattle.usb_host.specs.{HostState, opening_host as host_opening, HostInvariant}
-use Rattle.usb_run.specs.declared.runs.Item.{Item}
+use Rattle.usb_run.specs.declared.item.Item.{Item}
 use Rattle.usb_run.specs.declared.runs.Report.{Report}
 use Rattle.usb_run.specs.declared.runs.RunFault.{RunFault}
 use Rattle.usb_run.specs.declared.runs.RunFault.TheVariants.{Memory, TraceFailed}

@@ -7,8 +7,8 @@ use Rattle.usb_enum.specs.{Finding}
 use Rattle.usb_table.specs.{Table, said_at}
 use Rattle.usb_host.specs.{HostFault, HostState, table_in}
 use Rattle.usb_host.specs.declared.fault.HostFault.TheVariants as host
-use Rattle.usb_run.specs.declared.runs.Item.{Item}
-use Rattle.usb_run.specs.declared.runs.Item.TheVariants.{Listing}
+use Rattle.usb_run.specs.declared.item.Item.{Item}
+use Rattle.usb_run.specs.declared.item.Item.TheVariants.{Listing}
 use Rattle.usb_run.specs.declared.runs.RunFault.{RunFault}
 use Rattle.usb_run.specs.declared.runs.RunFault.TheVariants.{LimitReached, Memory, TraceFailed}
 

@@ -6,7 +6,7 @@ use Rattle.usb_world.specs.declared.event.Ask.{Ask}
 use Rattle.usb_world.specs.{BusFault, PutLine}
 use Rattle.usb_bus.specs.{AppendsFront}
 use Rattle.usb_host.specs.{HostState}
-use Rattle.usb_run.specs.declared.runs.Item.{Item}
+use Rattle.usb_run.specs.declared.item.Item.{Item}
 use Rattle.usb_run.specs.declared.runs.RunFault.{RunFault}
 use Rattle.usb_run.specs.declared.mode.Mode.{Mode}
 use Rattle.usb_run.specs.declared.mode.Mode.TheVariants.{Tree, Run}

@@ -1,4 +1,4 @@
--- The printed lines of transfers, looks and news.
+-- The printed lines of tasks and of news.
 use Rattle.std.specs.Prelude.{ℕ, List, [], ◌∷◌, ◌++◌, Option, None, Some, Result, Ok, Err, codes}
 use Rattle.std.specs.Prelude.{decimal, map}
 use Rattle.std.specs.Global.{Vec}
@@ -12,7 +12,12 @@ use Rattle.usb_table.specs.{TransferFault, NoDevice, NoEndpoint, NoInterface, No
 use Rattle.usb_table.specs.declared.fault.TransferFault.TheVariants.{Stalled as EndpointStalled}
 use Rattle.usb_table.specs.declared.fault.TransferFault.TheVariants.{Busy as EndpointBusy, NoAnswer}
 use Rattle.usb_table.specs.declared.fault.TransferFault.TheVariants.{Broken}
+use Rattle.usb_table.specs.{EndpointChoice, FirstBulk, At}
 use Rattle.usb_text.specs.{cause_text}
+use Rattle.usb_run.specs.declared.item.Task.{Task}
+use Rattle.usb_run.specs.declared.item.Task.TheVariants as task
+use Rattle.usb_run.specs.declared.item.TaskEnd.{TaskEnd}
+use Rattle.usb_run.specs.declared.item.TaskEnd.TheVariants.{Sent, Received, Done, Polled, Looked}
 
 -- why a transfer was not done
 abbrev pub fault_word : TransferFault → List ℕ
@@ -44,21 +49,14 @@ abbrev pub done_end : Result (Unit {0}) TransferFault → List ℕ
 done_end (Ok done) = codes " done"
 done_end (Err fault) = failed_end fault
 
--- send PATH done N, or send PATH failed WORDS
-unfoldable pub sent_line : List ℕ → Result ℕ TransferFault → List ℕ
-sent_line path sent = codes "send " ++ path_text path ++ sent_end sent
-
--- receive PATH done HEX, or receive PATH failed WORDS
-unfoldable pub received_line : List ℕ → Result (Vec ℕ) TransferFault → List ℕ
-received_line path received = codes "receive " ++ path_text path ++ received_end received
-
--- clear PATH done, or clear PATH failed WORDS
-unfoldable pub cleared_line : List ℕ → Result (Unit {0}) TransferFault → List ℕ
-cleared_line path cleared = codes "clear " ++ path_text path ++ done_end cleared
-
 -- an endpoint's address in two digits, behind a path
 abbrev pub endpoint_text : ℕ → List ℕ
 endpoint_text endpoint = codes " " ++ hex_text (endpoint ∷ [])
+
+-- the first bulk endpoint is not named
+abbrev pub choice_text : EndpointChoice → List ℕ
+choice_text FirstBulk = []
+choice_text (At endpoint) = endpoint_text endpoint
 
 -- the packet that an endpoint gave, or that it had none
 abbrev pub polled_end : Result (Option (ArrayVec ℕ)) TransferFault → List ℕ
@@ -66,42 +64,9 @@ polled_end (Ok (Some packet)) = codes " done " ++ hex_text packet.items
 polled_end (Ok None) = codes " nothing"
 polled_end (Err fault) = failed_end fault
 
--- send PATH EP done N, or send PATH EP failed WORDS
-unfoldable pub sent_to_line : List ℕ → ℕ → Result ℕ TransferFault → List ℕ
-sent_to_line path endpoint sent =
-    codes "send " ++ path_text path ++ endpoint_text endpoint ++ sent_end sent
-
--- receive PATH EP done HEX, or receive PATH EP failed WORDS
-unfoldable pub received_from_line : List ℕ → ℕ → Result (Vec ℕ) TransferFault → List ℕ
-received_from_line path endpoint received =
-    codes "receive " ++ path_text path ++ endpoint_text endpoint ++ received_end received
-
--- interrupt PATH EP done HEX, interrupt PATH EP nothing, or interrupt PATH EP failed WORDS
-unfoldable pub polled_line : List ℕ → ℕ → Result (Option (ArrayVec ℕ)) TransferFault → List ℕ
-polled_line path endpoint polled =
-    codes "interrupt " ++ path_text path ++ endpoint_text endpoint ++ polled_end polled
-
--- clear PATH EP done, or clear PATH EP failed WORDS
-unfoldable pub cleared_of_line : List ℕ → ℕ → Result (Unit {0}) TransferFault → List ℕ
-cleared_of_line path endpoint cleared =
-    codes "clear " ++ path_text path ++ endpoint_text endpoint ++ done_end cleared
-
 -- an interface's number and that of its alternate setting, behind a path
 abbrev pub setting_text : ℕ → ℕ → List ℕ
 setting_text interface setting = codes " " ++ decimal interface ++ codes " " ++ decimal setting
-
--- interface PATH I A done, or interface PATH I A failed WORDS
-unfoldable pub interface_line : List ℕ → ℕ → ℕ → Result (Unit {0}) TransferFault → List ℕ
-interface_line path interface setting set =
-    codes "interface " ++ path_text path ++ setting_text interface setting ++ done_end set
-
--- control PATH in done HEX, or control PATH in failed WORDS
-unfoldable pub read_line : List ℕ → Result (Vec ℕ) TransferFault → List ℕ
-read_line path read = codes "control " ++ path_text path ++ codes " in" ++ received_end read
-
--- control PATH out done N, or control PATH out failed WORDS
-unfoldable pub written_line : List ℕ → Result ℕ TransferFault → List ℕ
-written_line path written = codes "control " ++ path_text path ++ codes " out" ++ sent_end written
 
 -- what is listed at a port after a look
 abbrev pub look_end : Result Look TransferFault → List ℕ
@@ -110,9 +75,43 @@ look_end (Ok Found) = codes " found"
 look_end (Ok (Refused cause)) = codes " refused " ++ cause_text cause
 look_end (Err fault) = failed_end fault
 
--- look PATH found, look PATH empty, look PATH refused CAUSE, or look PATH failed WORDS
-unfoldable pub look_line : List ℕ → Result Look TransferFault → List ℕ
-look_line path looked = codes "look " ++ path_text path ++ look_end looked
+-- how a task ended
+abbrev pub end_text : TaskEnd → List ℕ
+end_text (Sent sent) = sent_end sent
+end_text (Received received) = received_end received
+end_text (Done done) = done_end done
+end_text (Polled polled) = polled_end polled
+end_text (Looked looked) = look_end looked
+
+-- the word of a task
+abbrev pub task_word : Task → List ℕ
+task_word (task.Send choice) = codes "send "
+task_word (task.Receive choice) = codes "receive "
+task_word task.Clear = codes "clear "
+task_word (task.ClearOf endpoint) = codes "clear "
+task_word (task.Poll endpoint) = codes "interrupt "
+task_word (task.SetInterface interface setting) = codes "interface "
+task_word task.ControlIn = codes "control "
+task_word task.ControlOut = codes "control "
+task_word task.Look = codes "look "
+
+-- what is named behind the path: an endpoint by its address, an interface with its setting, or the
+-- direction of a control transfer
+abbrev pub place_text : Task → List ℕ
+place_text (task.Send choice) = choice_text choice
+place_text (task.Receive choice) = choice_text choice
+place_text task.Clear = []
+place_text (task.ClearOf endpoint) = endpoint_text endpoint
+place_text (task.Poll endpoint) = endpoint_text endpoint
+place_text (task.SetInterface interface setting) = setting_text interface setting
+place_text task.ControlIn = codes " in"
+place_text task.ControlOut = codes " out"
+place_text task.Look = []
+
+-- the word of a task, its path, the place there, and how it ended
+unfoldable pub answer_line : List ℕ → Task → TaskEnd → List ℕ
+answer_line path task end =
+    task_word task ++ path_text path ++ place_text task ++ end_text end
 
 -- left PATH, or arrived PATH
 abbrev pub one_news_line : News → List ℕ

@@ -12,11 +12,10 @@ use Rattle.usb_host.specs.{HostFault, ClearTells, ReceiveTells, SendTells, ReadT
 use Rattle.usb_host.specs.{LookTells, ReportTells, ClearOfTells, InterfaceTells}
 use Rattle.usb_host.specs.{HostState, Look, News}
 use Rattle.usb_host.specs.declared.fault.HostFault.TheVariants as host
-use Rattle.usb_run.specs.declared.runs.Item.{Item}
-use Rattle.usb_run.specs.declared.runs.Item.TheVariants.{Sent, Received, Cleared}
-use Rattle.usb_run.specs.declared.runs.Item.TheVariants.{Read, Written, Looked, News as ToldNews}
-use Rattle.usb_run.specs.declared.runs.Item.TheVariants.{SentTo, ReceivedFrom, Polled, ClearedOf}
-use Rattle.usb_run.specs.declared.runs.Item.TheVariants.{InterfaceSet}
+use Rattle.usb_run.specs.declared.item.Item.{Item}
+use Rattle.usb_run.specs.declared.item.Item.TheVariants.{Answer, News as ToldNews}
+use Rattle.usb_run.specs.declared.item.Task.TheVariants as task
+use Rattle.usb_run.specs.declared.item.TaskEnd.TheVariants.{Sent, Received, Done, Polled, Looked}
 use Rattle.usb_run.specs.declared.runs.RunFault.{RunFault}
 use Rattle.usb_run.specs.declared.runs.RunFault.TheVariants.{Memory}
 use Rattle.usb_run.specs.NewsCalls.{AllNews, SomeNews}
@@ -61,40 +60,46 @@ IsItemOf None item old new = (item ≡ None) × (new ≡ old)
 IsItemOf (Some (Show said)) item old new = (item ≡ Some (listing_of said new)) × (new ≡ old)
 IsItemOf (Some (Send path bytes)) item old new =
     (told : Result (Unit {0}) TransferFault)
-    × (item ≡ Some (Sent path (sent_count (length bytes) told)))
+    × (item ≡ Some (Answer path (task.Send FirstBulk) (Sent (sent_count (length bytes) told))))
     × Transfers (SendTells path FirstBulk bytes) old told new
 IsItemOf (Some (Receive path packets)) item old new =
-    (told : Result (Vec ℕ) TransferFault) × (item ≡ Some (Received path told))
+    (told : Result (Vec ℕ) TransferFault)
+    × (item ≡ Some (Answer path (task.Receive FirstBulk) (Received told)))
     × Transfers (ReceiveTells path FirstBulk packets) old told new
 IsItemOf (Some (Clear path)) item old new =
-    (told : Result (Unit {0}) TransferFault) × (item ≡ Some (Cleared path told))
+    (told : Result (Unit {0}) TransferFault) × (item ≡ Some (Answer path task.Clear (Done told)))
     × Transfers (ClearTells path) old told new
 IsItemOf (Some (SendTo path endpoint bytes)) item old new =
     (told : Result (Unit {0}) TransferFault)
-    × (item ≡ Some (SentTo path endpoint (sent_count (length bytes) told)))
+    × (item
+    ≡ Some (Answer path (task.Send (At endpoint)) (Sent (sent_count (length bytes) told))))
     × Transfers (SendTells path (At endpoint) bytes) old told new
 IsItemOf (Some (ReceiveFrom path endpoint packets)) item old new =
-    (told : Result (Vec ℕ) TransferFault) × (item ≡ Some (ReceivedFrom path endpoint told))
+    (told : Result (Vec ℕ) TransferFault)
+    × (item ≡ Some (Answer path (task.Receive (At endpoint)) (Received told)))
     × Transfers (ReceiveTells path (At endpoint) packets) old told new
 IsItemOf (Some (Poll path endpoint)) item old new =
     (told : Result (Option (ArrayVec ℕ)) TransferFault)
-    × (item ≡ Some (Polled path endpoint told)) × Transfers (ReportTells path endpoint) old told new
+    × (item ≡ Some (Answer path (task.Poll endpoint) (Polled told)))
+    × Transfers (ReportTells path endpoint) old told new
 IsItemOf (Some (ClearOf path endpoint)) item old new =
-    (told : Result (Unit {0}) TransferFault) × (item ≡ Some (ClearedOf path endpoint told))
+    (told : Result (Unit {0}) TransferFault)
+    × (item ≡ Some (Answer path (task.ClearOf endpoint) (Done told)))
     × Transfers (ClearOfTells path endpoint) old told new
 IsItemOf (Some (SetInterface path interface setting)) item old new =
     (told : Result (Unit {0}) TransferFault)
-    × (item ≡ Some (InterfaceSet path interface setting told))
+    × (item ≡ Some (Answer path (task.SetInterface interface setting) (Done told)))
     × Transfers (InterfaceTells path interface setting) old told new
 IsItemOf (Some (ControlIn path request)) item old new = IsToHost request
-    × ((told : Result (Vec ℕ) TransferFault) × (item ≡ Some (Read path told))
+    × ((told : Result (Vec ℕ) TransferFault)
+    × (item ≡ Some (Answer path task.ControlIn (Received told)))
     × Transfers (ReadTells path request) old told new)
 IsItemOf (Some (ControlOut path write)) item old new = IsWrite write
     × ((told : Result (Unit {0}) TransferFault)
-    × (item ≡ Some (Written path (sent_count (length write.bytes) told)))
+    × (item ≡ Some (Answer path task.ControlOut (Sent (sent_count (length write.bytes) told))))
     × Transfers (WriteTells path write.setup write.bytes) old told new)
 IsItemOf (Some (LookAt path)) item old new =
-    (told : Result Look TransferFault) × (item ≡ Some (Looked path told))
+    (told : Result Look TransferFault) × (item ≡ Some (Answer path task.Look (Looked told)))
     × Transfers (LookTells path) old told new
 IsItemOf (Some AskNews) item old new =
     (told : Vec News) × (item ≡ Some (ToldNews told)) × AllNews old told.items new

@@ -1,23 +1,97 @@
-//! What a run makes of an event that asks for a transfer of endpoint 0 or of an endpoint by its
-//! address, for an alternate setting, for a look, or for news.
-ghost use Rattle.std.specs.Prelude.{◌≡◌, false};
+//! What a run makes of an event that asks for something: one function for each request.
+ghost use Rattle.std.specs.Prelude.{◌≡◌, Some, false};
 ghost use Rattle.usb_world.specs.declared.event.Ask.{Ask};
 ghost use Rattle.usb_host.specs.Ownership.{HostMapHolds};
 ghost use Rattle.usb_run.specs.Run.{RunsOn};
-ghost use Rattle.usb_run.specs.Transfers.{Gives};
+ghost use Rattle.usb_run.specs.Transfers.{Does, Gives};
 
+use crate::item::{Item, Task, TaskEnd};
 use crate::news::all_news;
+use crate::runs::{RunFault, listing};
 use crate::transfer::{answered, counted};
-use crate::{Item, RunFault};
 use std::alloc::Global;
 use usb_host::Host;
 use usb_port::PortPath;
 use usb_request::{EndpointAddress, ReadRequest};
-use usb_sim::{SimBus, Trace};
+use usb_sim::{Ask, SimBus, Trace};
+use usb_table::EndpointChoice;
 use usb_world::WriteRequest;
 
+/// What the run makes of what is asked: a listing, the answer of a transfer or of a look, or news.
+pub(crate) fn asked_item<T: Trace>(
+    alloc: Global,
+    host: &mut Host<SimBus<T>>,
+    ask: Ask,
+) -> Result<Option<Item>, RunFault>
+    requires running { host.old.stopped ≡ false }
+    ensures on { RunsOn (Does (Some ask)) host.old result host.new }
+    ensures owning { HostMapHolds host.old → HostMapHolds host.new }
+{
+    match ask {
+        Ask::Show { said } => Ok(Some(listing(alloc, host, said)?)),
+        Ask::Send(path, bytes) => Ok(Some(send(host, path, bytes.as_slice())?)),
+        Ask::Receive(path, packets) => Ok(Some(receive(host, path, packets)?)),
+        Ask::Clear(path) => Ok(Some(clear(host, path)?)),
+        Ask::SendTo(path, endpoint, bytes) => {
+            Ok(Some(send_to(host, path, endpoint, bytes.as_slice())?))
+        }
+        Ask::ReceiveFrom(path, endpoint, packets) => {
+            Ok(Some(receive_from(host, path, endpoint, packets)?))
+        }
+        Ask::Poll(path, endpoint) => Ok(Some(poll(host, path, endpoint)?)),
+        Ask::ClearOf(path, endpoint) => Ok(Some(clear_of(host, path, endpoint)?)),
+        Ask::SetInterface(path, interface, setting) => {
+            Ok(Some(set_interface(host, path, interface, setting)?))
+        }
+        Ask::ControlIn(path, request) => Ok(Some(read(host, path, request)?)),
+        Ask::ControlOut(path, request) => Ok(Some(write(host, path, &request)?)),
+        Ask::Look(path) => Ok(Some(look(host, path)?)),
+        Ask::News => Ok(Some(news(alloc, host)?)),
+    }
+}
+
+/// Sends bytes to the device at a path.
+fn send<T: Trace>(
+    host: &mut Host<SimBus<T>>,
+    path: PortPath,
+    bytes: &[u8],
+) -> Result<Item, RunFault>
+    requires running { host.old.stopped ≡ false }
+    ensures on { RunsOn (Gives (Ask.Send path bytes.now)) host.old result host.new }
+    ensures owning { HostMapHolds host.old → HostMapHolds host.new }
+{
+    let sent = answered(host.send(&path, bytes))?;
+    let task = Task::Send(EndpointChoice::FirstBulk);
+    Ok(Item::Answer(path, task, TaskEnd::Sent(counted(bytes.len(), sent))))
+}
+
+/// Receives at most this number of packets from the device at a path.
+fn receive<T: Trace>(
+    host: &mut Host<SimBus<T>>,
+    path: PortPath,
+    packets: u16,
+) -> Result<Item, RunFault>
+    requires running { host.old.stopped ≡ false }
+    ensures on { RunsOn (Gives (Ask.Receive path packets)) host.old result host.new }
+    ensures owning { HostMapHolds host.old → HostMapHolds host.new }
+{
+    let received = answered(host.receive(&path, packets))?;
+    let task = Task::Receive(EndpointChoice::FirstBulk);
+    Ok(Item::Answer(path, task, TaskEnd::Received(received)))
+}
+
+/// Clears the halts of the device at a path.
+fn clear<T: Trace>(host: &mut Host<SimBus<T>>, path: PortPath) -> Result<Item, RunFault>
+    requires running { host.old.stopped ≡ false }
+    ensures on { RunsOn (Gives (Ask.Clear path)) host.old result host.new }
+    ensures owning { HostMapHolds host.old → HostMapHolds host.new }
+{
+    let cleared = answered(host.clear_halt(&path))?;
+    Ok(Item::Answer(path, Task::Clear, TaskEnd::Done(cleared)))
+}
+
 /// Reads from endpoint 0 of the device at a path.
-pub(crate) fn read<T: Trace>(
+fn read<T: Trace>(
     host: &mut Host<SimBus<T>>,
     path: PortPath,
     request: ReadRequest,
@@ -27,11 +101,11 @@ pub(crate) fn read<T: Trace>(
     ensures owning { HostMapHolds host.old → HostMapHolds host.new }
 {
     let bytes = answered(host.control_in(&path, request.setup()))?;
-    Ok(Item::Read(path, bytes))
+    Ok(Item::Answer(path, Task::ControlIn, TaskEnd::Received(bytes)))
 }
 
 /// Writes to endpoint 0 of the device at a path.
-pub(crate) fn write<T: Trace>(
+fn write<T: Trace>(
     host: &mut Host<SimBus<T>>,
     path: PortPath,
     request: &WriteRequest,
@@ -42,11 +116,12 @@ pub(crate) fn write<T: Trace>(
 {
     let bytes = request.bytes();
     let written = answered(host.control_out(&path, request.setup(), bytes))?;
-    Ok(Item::Written(path, counted(bytes.len(), written)))
+    let end = TaskEnd::Sent(counted(bytes.len(), written));
+    Ok(Item::Answer(path, Task::ControlOut, end))
 }
 
 /// Sends bytes to an endpoint of the device at a path.
-pub(crate) fn send_to<T: Trace>(
+fn send_to<T: Trace>(
     host: &mut Host<SimBus<T>>,
     path: PortPath,
     endpoint: EndpointAddress,
@@ -57,11 +132,12 @@ pub(crate) fn send_to<T: Trace>(
     ensures owning { HostMapHolds host.old → HostMapHolds host.new }
 {
     let sent = answered(host.send_to(&path, endpoint, bytes))?;
-    Ok(Item::SentTo(path, endpoint, counted(bytes.len(), sent)))
+    let task = Task::Send(EndpointChoice::At(endpoint));
+    Ok(Item::Answer(path, task, TaskEnd::Sent(counted(bytes.len(), sent))))
 }
 
 /// Receives at most this number of packets from an endpoint of the device at a path.
-pub(crate) fn receive_from<T: Trace>(
+fn receive_from<T: Trace>(
     host: &mut Host<SimBus<T>>,
     path: PortPath,
     endpoint: EndpointAddress,
@@ -72,11 +148,12 @@ pub(crate) fn receive_from<T: Trace>(
     ensures owning { HostMapHolds host.old → HostMapHolds host.new }
 {
     let received = answered(host.receive_from(&path, endpoint, packets))?;
-    Ok(Item::ReceivedFrom(path, endpoint, received))
+    let task = Task::Receive(EndpointChoice::At(endpoint));
+    Ok(Item::Answer(path, task, TaskEnd::Received(received)))
 }
 
 /// Asks an endpoint of the device at a path once for a packet.
-pub(crate) fn poll<T: Trace>(
+fn poll<T: Trace>(
     host: &mut Host<SimBus<T>>,
     path: PortPath,
     endpoint: EndpointAddress,
@@ -86,11 +163,11 @@ pub(crate) fn poll<T: Trace>(
     ensures owning { HostMapHolds host.old → HostMapHolds host.new }
 {
     let polled = answered(host.poll(&path, endpoint))?;
-    Ok(Item::Polled(path, endpoint, polled))
+    Ok(Item::Answer(path, Task::Poll(endpoint), TaskEnd::Polled(polled)))
 }
 
 /// Clears the halt of an endpoint of the device at a path.
-pub(crate) fn clear_of<T: Trace>(
+fn clear_of<T: Trace>(
     host: &mut Host<SimBus<T>>,
     path: PortPath,
     endpoint: EndpointAddress,
@@ -100,11 +177,11 @@ pub(crate) fn clear_of<T: Trace>(
     ensures owning { HostMapHolds host.old → HostMapHolds host.new }
 {
     let cleared = answered(host.clear_halt_of(&path, endpoint))?;
-    Ok(Item::ClearedOf(path, endpoint, cleared))
+    Ok(Item::Answer(path, Task::ClearOf(endpoint), TaskEnd::Done(cleared)))
 }
 
 /// Chooses an alternate setting of an interface of the device at a path.
-pub(crate) fn set_interface<T: Trace>(
+fn set_interface<T: Trace>(
     host: &mut Host<SimBus<T>>,
     path: PortPath,
     interface: u8,
@@ -116,21 +193,22 @@ pub(crate) fn set_interface<T: Trace>(
     ensures owning { HostMapHolds host.old → HostMapHolds host.new }
 {
     let set = answered(host.set_interface(&path, interface, setting))?;
-    Ok(Item::InterfaceSet(path, interface, setting, set))
+    let task = Task::SetInterface(interface, setting);
+    Ok(Item::Answer(path, task, TaskEnd::Done(set)))
 }
 
 /// Looks once more at what is at a port.
-pub(crate) fn look<T: Trace>(host: &mut Host<SimBus<T>>, path: PortPath) -> Result<Item, RunFault>
+fn look<T: Trace>(host: &mut Host<SimBus<T>>, path: PortPath) -> Result<Item, RunFault>
     requires running { host.old.stopped ≡ false }
     ensures on { RunsOn (Gives (Ask.Look path)) host.old result host.new }
     ensures owning { HostMapHolds host.old → HostMapHolds host.new }
 {
     let looked = answered(host.look(&path))?;
-    Ok(Item::Looked(path, looked))
+    Ok(Item::Answer(path, Task::Look, TaskEnd::Looked(looked)))
 }
 
 /// Reports which devices left and which arrived since this was last asked.
-pub(crate) fn news<T: Trace>(alloc: Global, host: &mut Host<SimBus<T>>) -> Result<Item, RunFault>
+fn news<T: Trace>(alloc: Global, host: &mut Host<SimBus<T>>) -> Result<Item, RunFault>
     requires running { host.old.stopped ≡ false }
     ensures on { RunsOn (Gives Ask.News) host.old result host.new }
     ensures owning { HostMapHolds host.old → HostMapHolds host.new }

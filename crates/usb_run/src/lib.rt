@@ -12,18 +12,21 @@
 #![tactic(auto)]
 
 mod asked;
+mod item;
 mod mode;
 mod news;
 mod runs;
 mod transfer;
 
+pub use item::{Item, Task, TaskEnd};
 pub use mode::Mode;
 pub use news::all_news;
-pub use runs::{Item, Report, RunFault, Runner, run, settle};
+pub use runs::{Report, RunFault, Runner, run, settle};
 pub use transfer::{answered, counted};
 pub use usb_bus::{BusFault, Watched};
 pub use usb_host::{Host, HostFault, Look, News, TransferFault, Tree};
 pub use usb_port::PortPath;
 pub use usb_request::EndpointAddress;
 pub use usb_sim::{Plan, SimBus, Trace, Tracer, Untraced};
+pub use usb_table::EndpointChoice;
 pub use usb_text::Said;

@@ -21,54 +21,19 @@ ghost use Rattle.usb_run.specs.RunSegments.{Knowing, Knows, LeavesSettled, OneRo
 ghost use Rattle.usb_run.specs.Run.{IsBegun, IsCaused, RunsOn, Spent, entry_said, round_fault, run_fault, items_left, listing_of, said_if};
 ghost use Rattle.usb_run.specs.Reports.{EndsWell, Finishes, Opens};
 ghost use Rattle.usb_run.specs.Transcript.{Next, NextAsked, NextEvent, PutsLine};
-ghost use Rattle.usb_run.specs.Transfers.{Does, Gives};
+ghost use Rattle.usb_run.specs.Transfers.{Does};
 
-use crate::asked::{clear_of, look, news, poll, read, receive_from, send_to, set_interface, write};
-use crate::transfer::{answered, counted};
-use arrayvec::ArrayVec;
+use crate::asked::asked_item;
+use crate::item::Item;
 use std::alloc::{AllocError, AllocFailed, Global};
 use std::io::Write;
 use thiserror::Error;
 use usb_bus::{BusFault, Watched};
 use usb_enum::Finding;
-use usb_host::{Host, HostFault, Look, News, Round, TransferFault, Tree};
+use usb_host::{Host, HostFault, Round};
 use usb_port::PortPath;
-use usb_request::EndpointAddress;
 use usb_sim::{Ask, Plan, SimBus, Trace, Tracer, Untraced, untraced_fault};
 use usb_text::Said;
-
-/// What a run made.
-#[derive(Debug, Drop)]
-pub enum Item {
-    /// What the host had found, how many events had been taken, and what the refused devices had said of themselves,
-    /// if that was asked for.
-    Listing(Tree, u64, Said),
-    /// How many bytes were sent to the device at a path.
-    Sent(PortPath, Result<u64, TransferFault>),
-    /// The bytes that were received from the device at a path.
-    Received(PortPath, Result<Vec<u8>, TransferFault>),
-    /// That the halts of the device at a path were cleared.
-    Cleared(PortPath, Result<(), TransferFault>),
-    /// The bytes that were read from endpoint 0 of the device at a path.
-    Read(PortPath, Result<Vec<u8>, TransferFault>),
-    /// How many bytes were written to endpoint 0 of the device at a path.
-    Written(PortPath, Result<u64, TransferFault>),
-    /// What was listed at a port after a look at it.
-    Looked(PortPath, Result<Look, TransferFault>),
-    /// Which devices left and which arrived since this was last asked.
-    News(Vec<News>),
-    /// How many bytes were sent to an endpoint of the device at a path.
-    SentTo(PortPath, EndpointAddress, Result<u64, TransferFault>),
-    /// The bytes that were received from an endpoint of the device at a path.
-    ReceivedFrom(PortPath, EndpointAddress, Result<Vec<u8>, TransferFault>),
-    /// The packet that an endpoint of the device at a path gave, None where it had none.
-    Polled(PortPath, EndpointAddress, Result<Option<ArrayVec<u8, 64>>, TransferFault>),
-    /// That the halt of an endpoint of the device at a path was cleared.
-    ClearedOf(PortPath, EndpointAddress, Result<(), TransferFault>),
-    /// That the device at a path took an alternate setting: the interface's number, then the
-    /// setting's.
-    InterfaceSet(PortPath, u8, u8, Result<(), TransferFault>),
-}
 
 /// Why a run ended early, in the order in which the reasons are reported.
 #[derive(Clone, Copy, Debug, PartialEq, Eq, Error)]
@@ -472,79 +437,8 @@ fn item_of<T: Trace>(
     }
 }
 
-/// What the run makes of what is asked: a listing, the answer of a transfer or of a look, or news.
-fn asked_item<T: Trace>(
-    alloc: Global,
-    host: &mut Host<SimBus<T>>,
-    ask: Ask,
-) -> Result<Option<Item>, RunFault>
-    requires running { host.old.stopped ≡ false }
-    ensures on { RunsOn (Does (Some ask)) host.old result host.new }
-    ensures owning { HostMapHolds host.old → HostMapHolds host.new }
-{
-    match ask {
-        Ask::Show { said } => Ok(Some(listing(alloc, host, said)?)),
-        Ask::Send(path, bytes) => Ok(Some(send(host, path, bytes.as_slice())?)),
-        Ask::Receive(path, packets) => Ok(Some(receive(host, path, packets)?)),
-        Ask::Clear(path) => Ok(Some(clear(host, path)?)),
-        Ask::SendTo(path, endpoint, bytes) => {
-            Ok(Some(send_to(host, path, endpoint, bytes.as_slice())?))
-        }
-        Ask::ReceiveFrom(path, endpoint, packets) => {
-            Ok(Some(receive_from(host, path, endpoint, packets)?))
-        }
-        Ask::Poll(path, endpoint) => Ok(Some(poll(host, path, endpoint)?)),
-        Ask::ClearOf(path, endpoint) => Ok(Some(clear_of(host, path, endpoint)?)),
-        Ask::SetInterface(path, interface, setting) => {
-            Ok(Some(set_interface(host, path, interface, setting)?))
-        }
-        Ask::ControlIn(path, request) => Ok(Some(read(host, path, request)?)),
-        Ask::ControlOut(path, request) => Ok(Some(write(host, path, &request)?)),
-        Ask::Look(path) => Ok(Some(look(host, path)?)),
-        Ask::News => Ok(Some(news(alloc, host)?)),
-    }
-}
-
-/// Sends bytes to the device at a path.
-fn send<T: Trace>(
-    host: &mut Host<SimBus<T>>,
-    path: PortPath,
-    bytes: &[u8],
-) -> Result<Item, RunFault>
-    requires running { host.old.stopped ≡ false }
-    ensures on { RunsOn (Gives (Ask.Send path bytes.now)) host.old result host.new }
-    ensures owning { HostMapHolds host.old → HostMapHolds host.new }
-{
-    let sent = answered(host.send(&path, bytes))?;
-    Ok(Item::Sent(path, counted(bytes.len(), sent)))
-}
-
-/// Receives at most this number of packets from the device at a path.
-fn receive<T: Trace>(
-    host: &mut Host<SimBus<T>>,
-    path: PortPath,
-    packets: u16,
-) -> Result<Item, RunFault>
-    requires running { host.old.stopped ≡ false }
-    ensures on { RunsOn (Gives (Ask.Receive path packets)) host.old result host.new }
-    ensures owning { HostMapHolds host.old → HostMapHolds host.new }
-{
-    let received = answered(host.receive(&path, packets))?;
-    Ok(Item::Received(path, received))
-}
-
-/// Clears the halts of the device at a path.
-fn clear<T: Trace>(host: &mut Host<SimBus<T>>, path: PortPath) -> Result<Item, RunFault>
-    requires running { host.old.stopped ≡ false }
-    ensures on { RunsOn (Gives (Ask.Clear path)) host.old result host.new }
-    ensures owning { HostMapHolds host.old → HostMapHolds host.new }
-{
-    let cleared = answered(host.clear_halt(&path))?;
-    Ok(Item::Cleared(path, cleared))
-}
-
 /// What the host has found, how many events had come, and if that is to be told, what refused devices said.
-fn listing<T: Trace>(alloc: Global, host: &Host<SimBus<T>>, told: bool) -> Result<Item, RunFault>
+pub(crate) fn listing<T: Trace>(alloc: Global, host: &Host<SimBus<T>>, told: bool) -> Result<Item, RunFault>
     ensures item { IfOk result (λ item. item ≡ listing_of told host.now) }
     ensures fault { IfErr result (λ fault. fault ≡ RunFault.Memory) }
 {

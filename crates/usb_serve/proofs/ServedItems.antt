@@ -11,9 +11,8 @@ use Rattle.usb_bus.proofs.Interface.{front_after_first}
 use Rattle.usb_world.specs.{PlanData, World, to_come}
 use Rattle.usb_host.specs.{HostState}
 use Rattle.usb_plan.specs.{bound_of}
-use Rattle.usb_run.specs.{Item, Listing, Sent, Received, Cleared, Read, Written, Looked, RunFault}
-use Rattle.usb_run.specs.{SentTo, ReceivedFrom, Polled, ClearedOf, InterfaceSet}
-use Rattle.usb_run.specs.declared.runs.Item.TheVariants.{News}
+use Rattle.usb_run.specs.{Answer, Item, Listing, RunFault}
+use Rattle.usb_run.specs.declared.item.Item.TheVariants.{News}
 use Rattle.usb_run.specs.{Tree, IsCaused}
 use Rattle.usb_run.specs.{items_left, Opens, item_lines, number_of, Knows, CutsText, RunsTo, Next}
 use Rattle.usb_run.specs.{AppendsText, StoppedRun, begun, behind, never, item_text, items_text}
@@ -45,18 +44,8 @@ next_number number next item items is few counted = counted (omega (arith, few))
 
 counts_one : (item : Item) (n : ℕ) → number_of item n ≤ n + 1
 counts_one (Listing entries taken said) n = omega arith
-counts_one (Sent path sent) n = omega arith
-counts_one (Received path received) n = omega arith
-counts_one (Cleared path cleared) n = omega arith
-counts_one (Read path read) n = omega arith
-counts_one (Written path written) n = omega arith
-counts_one (Looked path looked) n = omega arith
 counts_one (News news) n = omega arith
-counts_one (SentTo path endpoint sent) n = omega arith
-counts_one (ReceivedFrom path endpoint received) n = omega arith
-counts_one (Polled path endpoint polled) n = omega arith
-counts_one (ClearedOf path endpoint cleared) n = omega arith
-counts_one (InterfaceSet path interface setting set) n = omega arith
+counts_one (Answer path task end) n = omega arith
 
 pub number_next : {items : List Item} {number : ℕ} {over : Bool} {w : World}
     (n : ItemsNumbered items number over w) (next : ℕ) (item : Item)

@@ -1,252 +1,88 @@
-//! The lines of each transfer, of looks and of news.
+//! The line of a task, and the lines of news.
 ghost use Rattle.std.specs.Prelude.{◌≡◌, ◌++◌, map, OnOk, IfOk};
-ghost use Rattle.usb_run.specs.TransferLines.{fault_word, failed_end, sent_end, received_end, done_end, sent_line, received_line, cleared_line};
-ghost use Rattle.usb_run.specs.TransferLines.{interface_line, look_end, look_line, news_lines, one_news_line, read_line, setting_text, written_line};
-ghost use Rattle.usb_run.specs.TransferLines.{cleared_of_line, endpoint_text, polled_end, polled_line, received_from_line, sent_to_line};
+ghost use Rattle.usb_run.specs.TransferLines.{answer_line, choice_text, done_end, end_text, endpoint_text, failed_end, fault_word};
+ghost use Rattle.usb_run.specs.TransferLines.{look_end, news_lines, one_news_line, place_text, polled_end, received_end, sent_end, setting_text, task_word};
 
 use arrayvec::ArrayVec;
 use std::alloc::{AllocError, Global};
 use usb_port::PortPath;
-use usb_run::{EndpointAddress, Look, News, TransferFault};
+use usb_run::{EndpointAddress, EndpointChoice, Look, News, Task, TaskEnd, TransferFault};
 use usb_text::{Lines, push_cause, push_decimal, push_hex, push_path};
 
-/// `send PATH done N`, or `send PATH failed WORDS`.
+/// The word of the task, its path, the place there, and how it ended: `send PATH done N`, or
+/// `clear PATH EP failed WORDS`.
 ///
 /// # Errors
 ///
 /// Memory was refused.
-#[tactic(auto, unfolding(usb_run::specs::TransferLines::sent_line))]
-pub fn sent_line(
+#[tactic(auto, unfolding(usb_run::specs::TransferLines::answer_line))]
+pub fn answer_line(
     alloc: Global,
     path: &PortPath,
-    sent: &Result<u64, TransferFault>,
+    task: Task,
+    end: &TaskEnd,
 ) -> Result<Vec<u8>, AllocError>
-    ensures { IfOk result (λ line. line.items ≡ sent_line path.now sent.now) }
+    ensures { IfOk result (λ line. line.items ≡ answer_line path.now task end.now) }
 {
     let mut line = Vec::new(alloc);
-    line.extend_from_slice(b"send ")?;
+    line.extend_from_slice(task_word(task).as_bytes())?;
     push_path(&mut line, path)?;
-    push_sent(&mut line, sent)?;
+    push_place(&mut line, task)?;
+    push_end(&mut line, end)?;
     Ok(line)
 }
 
-/// `receive PATH done HEX`, or `receive PATH failed WORDS`.
-///
-/// # Errors
-///
-/// Memory was refused.
-#[tactic(auto, unfolding(usb_run::specs::TransferLines::received_line))]
-pub fn received_line(
-    alloc: Global,
-    path: &PortPath,
-    received: &Result<Vec<u8>, TransferFault>,
-) -> Result<Vec<u8>, AllocError>
-    ensures { IfOk result (λ line. line.items ≡ received_line path.now received.now) }
+/// The word of a task, and a blank.
+fn task_word(task: Task) -> &'static str
+    ensures { result.now ≡ task_word task }
 {
-    let mut line = Vec::new(alloc);
-    line.extend_from_slice(b"receive ")?;
-    push_path(&mut line, path)?;
-    push_received(&mut line, received)?;
-    Ok(line)
+    match task {
+        Task::Send(_) => "send ",
+        Task::Receive(_) => "receive ",
+        Task::Clear | Task::ClearOf(_) => "clear ",
+        Task::Poll(_) => "interrupt ",
+        Task::SetInterface(_, _) => "interface ",
+        Task::ControlIn | Task::ControlOut => "control ",
+        Task::Look => "look ",
+    }
 }
 
-/// `clear PATH done`, or `clear PATH failed WORDS`.
-///
-/// # Errors
-///
-/// Memory was refused.
-#[tactic(auto, unfolding(usb_run::specs::TransferLines::cleared_line))]
-pub fn cleared_line(
-    alloc: Global,
-    path: &PortPath,
-    cleared: &Result<(), TransferFault>,
-) -> Result<Vec<u8>, AllocError>
-    ensures { IfOk result (λ line. line.items ≡ cleared_line path.now cleared.now) }
+/// Adds what is named behind the path: an endpoint, an interface with its setting, or the direction
+/// of a control transfer.
+fn push_place(line: &mut Vec<u8>, task: Task) -> Result<(), AllocError>
+    ensures { OnOk result (line.new.items ≡ line.old.items ++ place_text task) }
 {
-    let mut line = Vec::new(alloc);
-    line.extend_from_slice(b"clear ")?;
-    push_path(&mut line, path)?;
-    push_done(&mut line, cleared)?;
-    Ok(line)
+    match task {
+        Task::Send(choice) | Task::Receive(choice) => push_choice(line, choice),
+        Task::ClearOf(endpoint) | Task::Poll(endpoint) => push_endpoint(line, endpoint),
+        Task::SetInterface(interface, setting) => push_setting(line, interface, setting),
+        Task::ControlIn => line.extend_from_slice(b" in"),
+        Task::ControlOut => line.extend_from_slice(b" out"),
+        Task::Clear | Task::Look => Ok(()),
+    }
 }
 
-/// `send PATH EP done N`, or `send PATH EP failed WORDS`; EP is bEndpointAddress in two digits.
-///
-/// # Errors
-///
-/// Memory was refused.
-#[tactic(auto, unfolding(usb_run::specs::TransferLines::sent_to_line))]
-pub fn sent_to_line(
-    alloc: Global,
-    path: &PortPath,
-    endpoint: EndpointAddress,
-    sent: &Result<u64, TransferFault>,
-) -> Result<Vec<u8>, AllocError>
-    ensures { IfOk result (λ line. line.items ≡ sent_to_line path.now endpoint sent.now) }
+/// Adds an endpoint that is named by its address.
+fn push_choice(line: &mut Vec<u8>, choice: EndpointChoice) -> Result<(), AllocError>
+    ensures { OnOk result (line.new.items ≡ line.old.items ++ choice_text choice) }
 {
-    let mut line = Vec::new(alloc);
-    line.extend_from_slice(b"send ")?;
-    push_path(&mut line, path)?;
-    push_endpoint(&mut line, endpoint)?;
-    push_sent(&mut line, sent)?;
-    Ok(line)
+    match choice {
+        EndpointChoice::FirstBulk => Ok(()),
+        EndpointChoice::At(endpoint) => push_endpoint(line, endpoint),
+    }
 }
 
-/// `receive PATH EP done HEX`, or `receive PATH EP failed WORDS`; EP is bEndpointAddress in two
-/// digits.
-///
-/// # Errors
-///
-/// Memory was refused.
-#[tactic(auto, unfolding(usb_run::specs::TransferLines::received_from_line))]
-pub fn received_from_line(
-    alloc: Global,
-    path: &PortPath,
-    endpoint: EndpointAddress,
-    received: &Result<Vec<u8>, TransferFault>,
-) -> Result<Vec<u8>, AllocError>
-    ensures { IfOk result (λ line.
-        line.items ≡ received_from_line path.now endpoint received.now) }
+/// Adds how a task ended.
+fn push_end(line: &mut Vec<u8>, end: &TaskEnd) -> Result<(), AllocError>
+    ensures { OnOk result (line.new.items ≡ line.old.items ++ end_text end.now) }
 {
-    let mut line = Vec::new(alloc);
-    line.extend_from_slice(b"receive ")?;
-    push_path(&mut line, path)?;
-    push_endpoint(&mut line, endpoint)?;
-    push_received(&mut line, received)?;
-    Ok(line)
-}
-
-/// `interrupt PATH EP done HEX`, `interrupt PATH EP nothing` where the endpoint had no packet, or
-/// `interrupt PATH EP failed WORDS`; EP is bEndpointAddress in two digits.
-///
-/// # Errors
-///
-/// Memory was refused.
-#[tactic(auto, unfolding(usb_run::specs::TransferLines::polled_line))]
-pub fn polled_line(
-    alloc: Global,
-    path: &PortPath,
-    endpoint: EndpointAddress,
-    polled: &Result<Option<ArrayVec<u8, 64>>, TransferFault>,
-) -> Result<Vec<u8>, AllocError>
-    ensures { IfOk result (λ line. line.items ≡ polled_line path.now endpoint polled.now) }
-{
-    let mut line = Vec::new(alloc);
-    line.extend_from_slice(b"interrupt ")?;
-    push_path(&mut line, path)?;
-    push_endpoint(&mut line, endpoint)?;
-    push_polled(&mut line, polled)?;
-    Ok(line)
-}
-
-/// `clear PATH EP done`, or `clear PATH EP failed WORDS`; EP is bEndpointAddress in two digits.
-///
-/// # Errors
-///
-/// Memory was refused.
-#[tactic(auto, unfolding(usb_run::specs::TransferLines::cleared_of_line))]
-pub fn cleared_of_line(
-    alloc: Global,
-    path: &PortPath,
-    endpoint: EndpointAddress,
-    cleared: &Result<(), TransferFault>,
-) -> Result<Vec<u8>, AllocError>
-    ensures { IfOk result (λ line.
-        line.items ≡ cleared_of_line path.now endpoint cleared.now) }
-{
-    let mut line = Vec::new(alloc);
-    line.extend_from_slice(b"clear ")?;
-    push_path(&mut line, path)?;
-    push_endpoint(&mut line, endpoint)?;
-    push_done(&mut line, cleared)?;
-    Ok(line)
-}
-
-/// `interface PATH I A done`, or `interface PATH I A failed WORDS`; I is the number of the interface,
-/// and A that of its alternate setting.
-///
-/// # Errors
-///
-/// Memory was refused.
-#[tactic(auto, unfolding(usb_run::specs::TransferLines::interface_line))]
-pub fn interface_line(
-    alloc: Global,
-    path: &PortPath,
-    interface: u8,
-    setting: u8,
-    set: &Result<(), TransferFault>,
-) -> Result<Vec<u8>, AllocError>
-    ensures { IfOk result (λ line.
-        line.items ≡ interface_line path.now interface setting set.now) }
-{
-    let mut line = Vec::new(alloc);
-    line.extend_from_slice(b"interface ")?;
-    push_path(&mut line, path)?;
-    push_setting(&mut line, interface, setting)?;
-    push_done(&mut line, set)?;
-    Ok(line)
-}
-
-/// `control PATH in done HEX`, or `control PATH in failed WORDS`.
-///
-/// # Errors
-///
-/// Memory was refused.
-#[tactic(auto, unfolding(usb_run::specs::TransferLines::read_line))]
-pub fn read_line(
-    alloc: Global,
-    path: &PortPath,
-    read: &Result<Vec<u8>, TransferFault>,
-) -> Result<Vec<u8>, AllocError>
-    ensures { IfOk result (λ line. line.items ≡ read_line path.now read.now) }
-{
-    let mut line = Vec::new(alloc);
-    line.extend_from_slice(b"control ")?;
-    push_path(&mut line, path)?;
-    line.extend_from_slice(b" in")?;
-    push_received(&mut line, read)?;
-    Ok(line)
-}
-
-/// `control PATH out done N`, or `control PATH out failed WORDS`.
-///
-/// # Errors
-///
-/// Memory was refused.
-#[tactic(auto, unfolding(usb_run::specs::TransferLines::written_line))]
-pub fn written_line(
-    alloc: Global,
-    path: &PortPath,
-    written: &Result<u64, TransferFault>,
-) -> Result<Vec<u8>, AllocError>
-    ensures { IfOk result (λ line. line.items ≡ written_line path.now written.now) }
-{
-    let mut line = Vec::new(alloc);
-    line.extend_from_slice(b"control ")?;
-    push_path(&mut line, path)?;
-    line.extend_from_slice(b" out")?;
-    push_sent(&mut line, written)?;
-    Ok(line)
-}
-
-/// `look PATH found`, `look PATH empty`, `look PATH refused CAUSE`, or `look PATH failed WORDS`.
-///
-/// # Errors
-///
-/// Memory was refused.
-#[tactic(auto, unfolding(usb_run::specs::TransferLines::look_line))]
-pub fn look_line(
-    alloc: Global,
-    path: &PortPath,
-    looked: &Result<Look, TransferFault>,
-) -> Result<Vec<u8>, AllocError>
-    ensures { IfOk result (λ line. line.items ≡ look_line path.now looked.now) }
-{
-    let mut line = Vec::new(alloc);
-    line.extend_from_slice(b"look ")?;
-    push_path(&mut line, path)?;
-    push_looked(&mut line, looked)?;
-    Ok(line)
+    match end {
+        TaskEnd::Sent(sent) => push_sent(line, sent),
+        TaskEnd::Received(received) => push_received(line, received),
+        TaskEnd::Done(done) => push_done(line, done),
+        TaskEnd::Polled(polled) => push_polled(line, polled),
+        TaskEnd::Looked(looked) => push_looked(line, looked),
+    }
 }
 
 /// `news`, a line for each device that left or arrived, and `end`.

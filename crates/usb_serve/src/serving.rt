@@ -15,10 +15,7 @@ ghost use Rattle.usb_run.specs.RunSegments.{Knows};
 ghost use Rattle.usb_run.specs.Transcript.{Next, Prints};
 ghost use Rattle.usb_serve.specs.ServedTranscripts.{RunEnds};
 
-use crate::answers::{
-    cleared_line, cleared_of_line, interface_line, look_line, news_lines, polled_line, read_line,
-    received_from_line, received_line, sent_line, sent_to_line, written_line,
-};
+use crate::answers::{answer_line, news_lines};
 use crate::input::{InputFault, read_text};
 use crate::output::Output;
 use crate::tracing::OutputTracer;
@@ -276,11 +273,7 @@ pub fn number_of(item: &Item, number: u64) -> u64
 {
     match item {
         Item::Listing(_, _, _) => number.saturating_add(1),
-        Item::Sent(_, _) | Item::Received(_, _) | Item::Cleared(_, _) => number,
-        Item::Read(_, _) | Item::Written(_, _) | Item::Looked(_, _) | Item::News(_) => number,
-        Item::SentTo(_, _, _) | Item::ReceivedFrom(_, _, _) => number,
-        Item::Polled(_, _, _) | Item::ClearedOf(_, _, _) => number,
-        Item::InterfaceSet(_, _, _, _) => number,
+        Item::News(_) | Item::Answer(_, _, _) => number,
     }
 }
 
@@ -294,31 +287,8 @@ pub fn item_lines(alloc: Global, number: u64, item: &Item) -> Result<Lines, Allo
 {
     match item {
         Item::Listing(tree, _, said) => listing_lines(alloc, number, tree.entries(), said),
-        Item::Sent(path, sent) => one_line(alloc, sent_line(alloc, path, sent)?),
-        Item::Received(path, received) => one_line(alloc, received_line(alloc, path, received)?),
-        Item::Cleared(path, cleared) => one_line(alloc, cleared_line(alloc, path, cleared)?),
-        Item::Read(path, read) => one_line(alloc, read_line(alloc, path, read)?),
-        Item::Written(path, written) => one_line(alloc, written_line(alloc, path, written)?),
-        Item::Looked(path, looked) => one_line(alloc, look_line(alloc, path, looked)?),
         Item::News(news) => news_lines(alloc, news.as_slice()),
-        Item::SentTo(path, endpoint, sent) => {
-            one_line(alloc, sent_to_line(alloc, path, *endpoint, sent)?)
-        }
-        Item::ReceivedFrom(path, endpoint, received) => {
-            one_line(alloc, received_from_line(alloc, path, *endpoint, received)?)
-        }
-        Item::Polled(path, endpoint, polled) => {
-            one_line(alloc, polled_line(alloc, path, *endpoint, polled)?)
-        }
-        Item::ClearedOf(path, endpoint, cleared) => {
-            one_line(alloc, cleared_of_line(alloc, path, *endpoint, cleared)?)
-        }
-        Item::InterfaceSet(path, interface, setting, set) => {
-            one_line(
-                alloc,
-                interface_line(alloc, path, *interface, *setting, set)?,
-            )
-        }
+        Item::Answer(path, task, end) => one_line(alloc, answer_line(alloc, path, *task, end)?),
     }
 }
 

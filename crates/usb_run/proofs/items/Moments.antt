@@ -23,7 +23,9 @@ use Rattle.usb_host.specs.{HostState, IsFairTo, table_in, SendTells}
 use Rattle.usb_run.specs.{Item, RunFault, Mode, IsListingOf, ListsRight, TellsRight, Reaches}
 use Rattle.usb_run.specs.{Settled, listing_of, Makes, asked, last, RunsTo, StoppedRun, behind}
 use Rattle.usb_run.specs.{on_the_way, unwritten, in_text, begun, told, IsItemOf, sent_count, Opens}
-use Rattle.usb_run.specs.declared.runs.Item.TheVariants as item
+use Rattle.usb_run.specs.{Answer, Done, Looked, Polled, Received, Sent}
+use Rattle.usb_run.specs.declared.item.Item.TheVariants.{News as ToldNews}
+use Rattle.usb_run.specs.declared.item.Task.TheVariants as task
 use Rattle.usb_run.specs.Transcript.{Transcript}
 use Rattle.usb_run.specs.Transfers.{Transfers}
 use Rattle.usb_run.proofs.AskedCalls.{AskAnswered, silent, listed, sent, received, cleared, read}
@@ -183,43 +185,43 @@ module _ (plan : PlanData) (rules : IsPlan plan) (paths : AtPorts plan.events) (
       let works = ap (λ (h : HostState). h.world.fault) same ∙ still in
       subst (IsListingOf plan) (sym is) (listing_right said k kept before works on settled)
   due_right made mid k kept before still on (sent path bytes answer asks e came) right =
-      let is : made ≡ item.Sent path (sent_count (length bytes) answer) = cc e in
+      let is : made ≡ Answer path (task.Send FirstBulk) (Sent (sent_count (length bytes) answer)) = cc e in
       subst (IsListingOf plan) (sym is) tt
   due_right made mid k kept before still on (received path packets answer asks e came) right =
-      let is : made ≡ item.Received path answer = cc e in
+      let is : made ≡ Answer path (task.Receive FirstBulk) (Received answer) = cc e in
       subst (IsListingOf plan) (sym is) tt
   due_right made mid k kept before still on (cleared path answer asks e came) right =
-      let is : made ≡ item.Cleared path answer = cc e in
+      let is : made ≡ Answer path task.Clear (Done answer) = cc e in
       subst (IsListingOf plan) (sym is) tt
   due_right made mid k kept before still on (sent_to path endpoint bytes answer asks e came) right =
-      let is : made ≡ item.SentTo path endpoint (sent_count (length bytes) answer) = cc e in
+      let is : made ≡ Answer path (task.Send (At endpoint)) (Sent (sent_count (length bytes) answer)) = cc e in
       subst (IsListingOf plan) (sym is) tt
   due_right made mid k kept before still on (received_from path endpoint packets answer asks e came)
       right =
-      let is : made ≡ item.ReceivedFrom path endpoint answer = cc e in
+      let is : made ≡ Answer path (task.Receive (At endpoint)) (Received answer) = cc e in
       subst (IsListingOf plan) (sym is) tt
   due_right made mid k kept before still on (polled path endpoint answer asks e came) right =
-      let is : made ≡ item.Polled path endpoint answer = cc e in
+      let is : made ≡ Answer path (task.Poll endpoint) (Polled answer) = cc e in
       subst (IsListingOf plan) (sym is) tt
   due_right made mid k kept before still on (cleared_of path endpoint answer asks e came) right =
-      let is : made ≡ item.ClearedOf path endpoint answer = cc e in
+      let is : made ≡ Answer path (task.ClearOf endpoint) (Done answer) = cc e in
       subst (IsListingOf plan) (sym is) tt
   due_right made mid k kept before still on
       (interface_set path interface setting answer asks e came)
       right =
-      let is : made ≡ item.InterfaceSet path interface setting answer = cc e in
+      let is : made ≡ Answer path (task.SetInterface interface setting) (Done answer) = cc e in
       subst (IsListingOf plan) (sym is) tt
   due_right made mid k kept before still on (read path request answer host asks e came) right =
-      let is : made ≡ item.Read path answer = cc e in
+      let is : made ≡ Answer path task.ControlIn (Received answer) = cc e in
       subst (IsListingOf plan) (sym is) tt
   due_right made mid k kept before still on (written path write answer fits asks e came) right =
-      let is : made ≡ item.Written path (sent_count (length write.bytes) answer) = cc e in
+      let is : made ≡ Answer path task.ControlOut (Sent (sent_count (length write.bytes) answer)) = cc e in
       subst (IsListingOf plan) (sym is) tt
   due_right made mid k kept before still on (looked path answer asks e came) right =
-      let is : made ≡ item.Looked path answer = cc e in
+      let is : made ≡ Answer path task.Look (Looked answer) = cc e in
       subst (IsListingOf plan) (sym is) tt
   due_right made mid k kept before still on (news answer asks e all) right =
-      let is : made ≡ item.News answer = cc e in
+      let is : made ≡ ToldNews answer = cc e in
       subst (IsListingOf plan) (sym is) tt
 
   made_right : {h k : HostState} {made : Item} {over : Bool} → h.options ≡ usual_options plan.wide

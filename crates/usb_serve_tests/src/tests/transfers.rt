@@ -7,7 +7,9 @@ use std::str;
 use std::test::Fail;
 use usb_bus::Watched;
 use usb_plan::read_plan;
-use usb_run::{EndpointAddress, Item, Mode, TransferFault, run};
+use usb_run::{
+    EndpointAddress, EndpointChoice, Item, Mode, Task, TaskEnd, TransferFault, run,
+};
 use usb_serve::serve;
 
 /// The limit and the root ports of each plan.
@@ -278,68 +280,68 @@ fn polled_text(
 }
 
 /// How a clear or an interface's setting ended.
-fn cleared_text(alloc: Global, cleared: &Result<(), TransferFault>) -> Result<String, AllocError> {
-    let ended = match cleared {
+fn done_text(alloc: Global, done: &Result<(), TransferFault>) -> Result<String, AllocError> {
+    let ended = match done {
         Ok(()) => Ok(String::new(alloc)),
         Err(fault) => Err(*fault),
     };
     end_text(alloc, ended)
 }
 
-/// The end of a transfer by its endpoint's address, behind that in two digits.
-fn at_endpoint(
+/// How a task ended.
+fn ended_text(alloc: Global, end: &TaskEnd) -> Result<String, AllocError> {
+    match end {
+        TaskEnd::Sent(sent) => sent_text(alloc, sent),
+        TaskEnd::Received(received) => received_text(alloc, received),
+        TaskEnd::Done(done) => done_text(alloc, done),
+        TaskEnd::Polled(polled) => polled_text(alloc, polled),
+        TaskEnd::Looked(_) => Ok(String::new(alloc)),
+    }
+}
+
+/// An endpoint's address in two digits, behind a path.
+fn endpoint_text(alloc: Global, endpoint: EndpointAddress) -> Result<String, AllocError> {
+    format!(in alloc; " {}", digits(alloc, &[endpoint.get()])?)
+}
+
+/// Nothing for the first bulk endpoint.
+fn choice_text(alloc: Global, choice: EndpointChoice) -> Result<String, AllocError> {
+    match choice {
+        EndpointChoice::FirstBulk => Ok(String::new(alloc)),
+        EndpointChoice::At(endpoint) => endpoint_text(alloc, endpoint),
+    }
+}
+
+/// The word of a task, and what is named behind the path; None if it goes through no pipe.
+fn task_text(
     alloc: Global,
-    endpoint: EndpointAddress,
-    ended: String,
-) -> Result<String, AllocError> {
-    format!(in alloc; "{} {}", digits(alloc, &[endpoint.get()])?, ended)
+    task: Task,
+) -> Result<Option<(&'static str, String)>, AllocError> {
+    Ok(match task {
+        Task::Send(choice) => Some(("send", choice_text(alloc, choice)?)),
+        Task::Receive(choice) => Some(("receive", choice_text(alloc, choice)?)),
+        Task::Clear => Some(("clear", String::new(alloc))),
+        Task::ClearOf(endpoint) => Some(("clear", endpoint_text(alloc, endpoint)?)),
+        Task::Poll(endpoint) => Some(("interrupt", endpoint_text(alloc, endpoint)?)),
+        Task::SetInterface(interface, setting) => {
+            Some(("interface", format!(in alloc; " {interface} {setting}")?))
+        }
+        Task::ControlIn | Task::ControlOut | Task::Look => None,
+    })
 }
 
 /// An item of a run that is a transfer through a pipe, in the words of its line.
 fn item_text(alloc: Global, item: &Item) -> Result<String, AllocError> {
-    match item {
-        Item::Listing(_, _, _)
-        | Item::Read(_, _)
-        | Item::Written(_, _)
-        | Item::Looked(_, _)
-        | Item::News(_) => Ok(String::new(alloc)),
-        Item::Sent(path, sent) => {
-            format!(in alloc; "send {} {}\n", path.text(), sent_text(alloc, sent)?)
-        }
-        Item::Received(path, received) => {
-            format!(in alloc;
-                "receive {} {}\n",
-                path.text(),
-                received_text(alloc, received)?
-            )
-        }
-        Item::Cleared(path, cleared) => {
-            format!(in alloc; "clear {} {}\n", path.text(), cleared_text(alloc, cleared)?)
-        }
-        Item::SentTo(path, endpoint, sent) => {
-            let ended = at_endpoint(alloc, *endpoint, sent_text(alloc, sent)?)?;
-            format!(in alloc; "send {} {}\n", path.text(), ended)
-        }
-        Item::ReceivedFrom(path, endpoint, received) => {
-            let ended = at_endpoint(alloc, *endpoint, received_text(alloc, received)?)?;
-            format!(in alloc; "receive {} {}\n", path.text(), ended)
-        }
-        Item::Polled(path, endpoint, polled) => {
-            let ended = at_endpoint(alloc, *endpoint, polled_text(alloc, polled)?)?;
-            format!(in alloc; "interrupt {} {}\n", path.text(), ended)
-        }
-        Item::ClearedOf(path, endpoint, cleared) => {
-            let ended = at_endpoint(alloc, *endpoint, cleared_text(alloc, cleared)?)?;
-            format!(in alloc; "clear {} {}\n", path.text(), ended)
-        }
-        Item::InterfaceSet(path, interface, setting, set) => {
-            let ended = cleared_text(alloc, set)?;
-            format!(in alloc;
-                "interface {} {interface} {setting} {}\n",
-                path.text(),
-                ended
-            )
-        }
+    let Item::Answer(path, task, end) = item else {
+        return Ok(String::new(alloc));
+    };
+    match task_text(alloc, *task)? {
+        Some((word, place)) => format!(in alloc;
+            "{word} {}{place} {}\n",
+            path.text(),
+            ended_text(alloc, end)?
+        ),
+        None => Ok(String::new(alloc)),
     }
 }
 

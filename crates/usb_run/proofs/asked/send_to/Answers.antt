@@ -1,5 +1,7 @@
 use Rattle.std.proofs.Common.{◌∙◌, ap, refl, Some, sym}
-use Rattle.usb_run.specs.{SentTo}
+use Rattle.usb_table.specs.{At}
+use Rattle.usb_run.specs.{Answer, Sent}
+use Rattle.usb_run.specs.declared.item.Task.TheVariants as task
 use Rattle.usb_run.proofs.endings.Ends.{error_runs_on, answered_goes, answered_caused}
 use Rattle.usb_run.proofs.asked.send_to.Goals as goal
 
@@ -18,7 +20,8 @@ pub returns-clause-on : goal.returns-clause-on
 returns-clause-on g c = record {
   goes = (
     c.in_ok-sent.sent,
-    ap (λ s. Some (SentTo c.args.path c.args.endpoint s)) c.counted.ensures,
+    ap (λ s. Some (Answer c.args.path (task.Send (At c.args.endpoint)) (Sent s)))
+        c.counted.ensures,
     record {
       answer = c.send_to.result;
       call = c.send_to.ensures.tells refl;

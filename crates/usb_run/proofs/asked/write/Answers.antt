@@ -1,7 +1,8 @@
 use Rattle.std.proofs.Common.{◌∙◌, ap, length, List, refl, Some, subst, sym, ℕ}
 use Rattle.usb_request.specs.{IsToDevice, Setup}
 use Rattle.usb_host.specs.{WriteTells}
-use Rattle.usb_run.specs.{sent_count, Written}
+use Rattle.usb_run.specs.{Answer, Sent, sent_count}
+use Rattle.usb_run.specs.declared.item.Task.TheVariants as task
 use Rattle.usb_run.proofs.endings.Ends.{error_runs_on, answered_goes, answered_caused}
 use Rattle.usb_run.proofs.asked.write.Goals as goal
 
@@ -34,9 +35,9 @@ returns-clause-on g c = record {
     c.setup.ensures.writes,
     (
       c.in_ok-written.written,
-      ap (λ s. Some (Written c.args.path s)) c.counted.ensures
-          ∙ ap (λ (b : List ℕ). Some (Written c.args.path
-          (sent_count (length b) c.in_ok-written.written))) c.bytes-bytes.ensures.value,
+      ap (λ s. Some (Answer c.args.path task.ControlOut (Sent s))) c.counted.ensures
+          ∙ ap (λ (b : List ℕ). Some (Answer c.args.path task.ControlOut
+          (Sent (sent_count (length b) c.in_ok-written.written)))) c.bytes-bytes.ensures.value,
       record {
         answer = c.control_out.result;
         call = subst (λ (b : List ℕ). WriteTells c.args.path c.args.request.now.setup b

@@ -1,6 +1,6 @@
 use Rattle.std.proofs.Common.{◌∙◌, refl, sym}
 use Rattle.usb_run.proofs.endings.Ends.{error_runs_on, answered_goes, answered_caused}
-use Rattle.usb_run.proofs.runs.receive.Goals as goal
+use Rattle.usb_run.proofs.asked.receive.Goals as goal
 
 pub returns-in_err-received-clause-on : goal.returns-in_err-received-clause-on
 returns-in_err-received-clause-on g c =

@@ -2,7 +2,7 @@ use Rattle.std.proofs.Common.{◌∙◌, ap, sym}
 use Rattle.usb_world.specs.{Send, Receive, Clear, SendTo}
 use Rattle.usb_run.proofs.items.AskedItems.{listing_asked, listing_refused, transfer_asked}
 use Rattle.usb_run.proofs.items.AskedItems.{transfer_failed}
-use Rattle.usb_run.proofs.runs.asked_item.Goals as goal
+use Rattle.usb_run.proofs.asked.asked_item.Goals as goal
 
 pub returns-in_ok-listing-in-Show-clause-on : goal.returns-in_ok-listing-in-Show-clause-on
 returns-in_ok-listing-in-Show-clause-on g c =

@@ -1,7 +1,9 @@
 use Rattle.std.proofs.Common.{refl, ◌∙◌, sym, ap, Some}
-use Rattle.usb_run.specs.{Sent}
+use Rattle.usb_table.specs.{FirstBulk}
+use Rattle.usb_run.specs.{Answer, Sent}
+use Rattle.usb_run.specs.declared.item.Task.TheVariants as task
 use Rattle.usb_run.proofs.endings.Ends.{error_runs_on, answered_goes, answered_caused}
-use Rattle.usb_run.proofs.runs.send.Goals as goal
+use Rattle.usb_run.proofs.asked.send.Goals as goal
 
 pub returns-in_err-sent-clause-on : goal.returns-in_err-sent-clause-on
 returns-in_err-sent-clause-on g c =
@@ -18,7 +20,7 @@ pub returns-clause-on : goal.returns-clause-on
 returns-clause-on g c = record {
   goes = (
     c.in_ok-sent.sent,
-    ap (λ s. Some (Sent c.args.path s)) c.counted.ensures,
+    ap (λ s. Some (Answer c.args.path (task.Send FirstBulk) (Sent s))) c.counted.ensures,
     record {
       answer = c.send.result;
       call = c.send.ensures.tells refl;
