@@ -7,9 +7,8 @@ use Rattle.usb_device.specs.{State, out_end}
 use Rattle.usb_pipe.specs.{Condition, PipeState, report_in}
 use Rattle.usb_pipe.specs.declared.condition.Condition.TheVariants.{Ready, Halted, Broken}
 use Rattle.usb_table.specs.{FirstBulk, At, bytes_in}
-use Rattle.usb_run.specs.{Item, Listing, Sent, SentTo, Received, ReceivedFrom, Polled, Cleared}
-use Rattle.usb_run.specs.{ClearedOf, InterfaceSet, Read, Looked, Written}
-use Rattle.usb_run.specs.declared.runs.Item.TheVariants.{News}
+use Rattle.usb_run.specs.{Answer, Item, Polled, Received}
+use Rattle.usb_run.specs.declared.item.Task.TheVariants as task
 use Rattle.usb_streams.specs.{AreGiven, AreJoined, ArePackets, Endpoint, IsAtWork, IsFailedFront}
 use Rattle.usb_streams.specs.{Joins, ToldItem, TookSent, bytes_for, bytes_from, is_done, is_of}
 use Rattle.usb_streams.specs.{received_from, sent_to}
@@ -35,22 +34,11 @@ polled_bytes false report packets are = ap concat are
 -- packets that an item tells have the bytes that it tells
 packet_bytes : (end : Endpoint) (item : Item) (packets : List (List ℕ))
     → ArePackets end item packets → concat packets ≡ bytes_from end item
-packet_bytes end (Listing tree taken said) packets are = ap concat are
-packet_bytes end (Sent to told) packets are = ap concat are
-packet_bytes end (Received from told) packets are =
-    joined_bytes (is_of end from FirstBulk) (bytes_in told) packets are
-packet_bytes end (Cleared at told) packets are = ap concat are
-packet_bytes end (Read from told) packets are = ap concat are
-packet_bytes end (Written to told) packets are = ap concat are
-packet_bytes end (Looked at told) packets are = ap concat are
-packet_bytes end (News news) packets are = ap concat are
-packet_bytes end (SentTo to address told) packets are = ap concat are
-packet_bytes end (ReceivedFrom from address told) packets are =
-    joined_bytes (is_of end from (At address)) (bytes_in told) packets are
-packet_bytes end (Polled from address told) packets are =
+packet_bytes end (Answer from (task.Receive choice) (Received told)) packets are =
+    joined_bytes (is_of end from choice) (bytes_in told) packets are
+packet_bytes end (Answer from (task.Poll address) (Polled told)) packets are =
     polled_bytes (is_of end from (At address)) (report_in told) packets are
-packet_bytes end (ClearedOf at address told) packets are = ap concat are
-packet_bytes end (InterfaceSet at interface setting told) packets are = ap concat are
+packet_bytes end _ packets are = ap concat are
 
 pub given_bytes : (end : Endpoint) (told : List ToldItem) (packets : List (List ℕ))
     → AreGiven end told packets → concat packets ≡ received_from end told

@@ -32,10 +32,12 @@ use Rattle.usb_table.proofs.Interface.{cases_path, held_address, path_itself, pa
 use Rattle.usb_table.proofs.Interface.{read_spares, spares-same, StillEnds, write_still}
 use Rattle.usb_host.specs.{HostState, claims, host_told, table_in, ClearOfTells, ClearTells}
 use Rattle.usb_host.specs.{ReadTells, ReceiveTells, RenewedAt, ReportTells, SendTells, StayedAt}
-use Rattle.usb_host.specs.{InterfaceTells, WriteTells}
+use Rattle.usb_host.specs.{InterfaceTells, Look, WriteTells}
 use Rattle.usb_run.specs.{InterfaceIfAsked, Item, Knows, IsItemOf, listing_of, sent_count}
 use Rattle.usb_run.specs.{table_told, transfer_ended}
-use Rattle.usb_run.specs.declared.runs.Item.TheVariants as item
+use Rattle.usb_run.specs.{Answer, Done, Looked, Polled, Received, Sent}
+use Rattle.usb_run.specs.declared.item.Item.TheVariants.{News as ToldNews}
+use Rattle.usb_run.specs.declared.item.Task.TheVariants as task
 use Rattle.usb_run.specs.Transfers.{Transfers}
 use Rattle.usb_run.proofs.Interface.{AskAnswered, silent, listed, sent, received, cleared, read}
 use Rattle.usb_run.proofs.Interface.{written, looked, news, answered, all_reported, answered_goes}
@@ -95,6 +97,37 @@ are_joined : (mine : Bool) (bytes : List ℕ) (packets : List (List ℕ)) → mi
     → concat packets ≡ bytes → AreJoined mine bytes packets
 are_joined true bytes packets is joined = joined
 are_joined false bytes packets is joined = absurd (cc is)
+
+-- Items
+
+abbrev sent_made : EndpointChoice → List ℕ → List ℕ → Result (Unit {0}) TransferFault → Item
+sent_made choice to bytes told =
+    Answer to (task.Send choice) (Sent (sent_count (length bytes) told))
+
+abbrev received_made : EndpointChoice → List ℕ → Result (Vec ℕ) TransferFault → Item
+received_made choice from told = Answer from (task.Receive choice) (Received told)
+
+abbrev polled_made : List ℕ → ℕ → Result (Option (ArrayVec ℕ)) TransferFault → Item
+polled_made from a told = Answer from (task.Poll a) (Polled told)
+
+abbrev cleared_made : List ℕ → Result (Unit {0}) TransferFault → Item
+cleared_made to told = Answer to task.Clear (Done told)
+
+abbrev cleared_of_made : List ℕ → ℕ → Result (Unit {0}) TransferFault → Item
+cleared_of_made to a told = Answer to (task.ClearOf a) (Done told)
+
+abbrev set_made : List ℕ → ℕ → ℕ → Result (Unit {0}) TransferFault → Item
+set_made to i a told = Answer to (task.SetInterface i a) (Done told)
+
+abbrev read_made : List ℕ → Result (Vec ℕ) TransferFault → Item
+read_made from told = Answer from task.ControlIn (Received told)
+
+abbrev written_made : List ℕ → Write → Result (Unit {0}) TransferFault → Item
+written_made to write told =
+    Answer to task.ControlOut (Sent (sent_count (length write.bytes) told))
+
+abbrev looked_made : List ℕ → Result Look TransferFault → Item
+looked_made at told = Answer at task.Look (Looked told)
 
 -- Hosts
 
@@ -421,13 +454,13 @@ module _ (path : List ℕ) (device : Accepted) (old new : HostState)
 
       polled_here : (a : ℕ) (told : Result (Option (ArrayVec ℕ)) TransferFault)
           → Transfers (ReportTells path a) old told new
-          → MovesAt path device (Some (Poll path a)) (item.Polled path a told) old new
+          → MovesAt path device (Some (Poll path a)) (polled_made path a told) old new
       polled_here a told is =
           let hands = is.call.did running in
           let ends : transfer_ended (host_told hands.answer) ≡ Ok told =
           sym (ap transfer_ended hands.told) ∙ is.tells in
           let due : Option Ask = Some (Poll path a) in
-          let made : Item = item.Polled path a told in
+          let made : Item = polled_made path a told in
           here due made
           (ReportedBy (table_told told) (through (polls_through a) Before)
           (through (polls_through a) After)) hands.through
@@ -464,13 +497,13 @@ module _ (path : List ℕ) (device : Accepted) (old new : HostState)
 
       cleared_here : (told : Result (Unit {0}) TransferFault)
           → Transfers (ClearTells path) old told new
-          → MovesAt path device (Some (Clear path)) (item.Cleared path told) old new
+          → MovesAt path device (Some (Clear path)) (cleared_made path told) old new
       cleared_here told is =
           let hands = is.call.did running in
           let single : new.world.shared ≡ false =
           (hands.keeps.worlds.addresses.kept (claims old.entries) knows.sound.owned).single in
           let due : Option Ask = Some (Clear path) in
-          let made : Item = item.Cleared path told in
+          let made : Item = cleared_made path told in
           let known : Option Accepted = accepted_device_at path old.entries in
           here due made (HaltsCleared (is_ok told) known Before After) hands.through
           (told_cleared path old new knows.sound still running told is).each
@@ -487,13 +520,13 @@ module _ (path : List ℕ) (device : Accepted) (old new : HostState)
 
       cleared_of_here : (a : ℕ) (told : Result (Unit {0}) TransferFault)
           → Transfers (ClearOfTells path a) old told new
-          → MovesAt path device (Some (ClearOf path a)) (item.ClearedOf path a told) old new
+          → MovesAt path device (Some (ClearOf path a)) (cleared_of_made path a told) old new
       cleared_of_here a told is =
           let hands = is.call.did running in
           let single : new.world.shared ≡ false =
           (hands.keeps.worlds.addresses.kept (claims old.entries) knows.sound.owned).single in
           let due : Option Ask = Some (ClearOf path a) in
-          let made : Item = item.ClearedOf path a told in
+          let made : Item = cleared_of_made path a told in
           let known : Option Accepted = accepted_device_at path old.entries in
           here due made (HaltClearedOf a (is_ok told) known Before After) hands.through
           (told_cleared_of path old new knows.sound still running a told is).each
@@ -556,13 +589,13 @@ module _ (path : List ℕ) (device : Accepted) (old new : HostState)
           → (told : Result (Unit {0}) TransferFault)
           → Transfers (WriteTells to write.setup write.bytes) old told new
           → MovesAt path device (Some (ControlOut to write))
-          (item.Written to (sent_count (length write.bytes) told)) old new
+          (written_made to write told) old new
       written_moves to write fits told is =
           let writes = is.call.did running in
           still_moves (Some (ControlOut to write))
-          (item.Written to (sent_count (length write.bytes) told))
+          (written_made to write told)
           (quiet_item (Some (ControlOut to write))
-          (item.Written to (sent_count (length write.bytes) told)) (λ end. refl) (λ end. refl)
+          (written_made to write told) (λ end. refl) (λ end. refl)
           (λ bytes asked. cc asked) (λ packets asked. cc asked))
           (ap (λ es. accepted_device_at path es) (sym is.call.stopped.kept) ∙ at)
           (ap (λ t. pipes_at path t) writes.same)
@@ -607,20 +640,20 @@ module _ (path : List ℕ) (device : Accepted) (old new : HostState)
       sent_item : (to bytes : List ℕ) (told : Result (Unit {0}) TransferFault)
           → Transfers (SendTells to FirstBulk bytes) old told new
           → MovesAt path device (Some (Send to bytes))
-          (item.Sent to (sent_count (length bytes) told)) old new
+          (sent_made FirstBulk to bytes told) old new
       sent_item to bytes told is =
           by_path (λ p. Transfers (SendTells p FirstBulk bytes) old told new)
-          (λ p. Some (Send p bytes)) (λ p. item.Sent p (sent_count (length bytes) told)) to
+          (λ p. Some (Send p bytes)) (λ p. sent_made FirstBulk p bytes told) to
           (λ came. sent_here FirstBulk bytes (Some (Send path bytes))
-          (item.Sent path (sent_count (length bytes) told)) (λ end. refl) (λ end. refl) told
+          (sent_made FirstBulk path bytes told) (λ end. refl) (λ end. refl) told
           (count_done (length bytes) told)
-          (send_fails bytes told (item.Sent path (sent_count (length bytes) told))
+          (send_fails bytes told (sent_made FirstBulk path bytes told)
           (count_done (length bytes) told) came) came)
           (λ away came. apart to (Some (Send to bytes))
-          (item.Sent to (sent_count (length bytes) told))
+          (sent_made FirstBulk to bytes told)
           (TookBytes (through (sends_through FirstBulk) (pipes_at to (table_in old))) (is_ok told)
           bytes) away
-          (quiet_send (Some (Send to bytes)) (item.Sent to (sent_count (length bytes) told)) to
+          (quiet_send (Some (Send to bytes)) (sent_made FirstBulk to bytes told) to
           FirstBulk bytes away (λ end. refl) (λ end. refl)
           (λ more asked. let same : to ≡ path = cc asked in not_to to path away same)
           (λ packets asked. cc asked)) (came.call.did running).through
@@ -630,40 +663,42 @@ module _ (path : List ℕ) (device : Accepted) (old new : HostState)
           (told : Result (Unit {0}) TransferFault)
           → Transfers (SendTells to (At a) bytes) old told new
           → MovesAt path device (Some (SendTo to a bytes))
-          (item.SentTo to a (sent_count (length bytes) told)) old new
+          (sent_made (At a) to bytes told) old new
       sent_to_item to a bytes told is =
           by_path (λ p. Transfers (SendTells p (At a) bytes) old told new)
-          (λ p. Some (SendTo p a bytes)) (λ p. item.SentTo p a (sent_count (length bytes) told)) to
+          (λ p. Some (SendTo p a bytes)) (λ p. sent_made (At a) p bytes told) to
           (λ came. sent_here (At a) bytes (Some (SendTo path a bytes))
-          (item.SentTo path a (sent_count (length bytes) told)) (λ end. refl) (λ end. refl) told
+          (sent_made (At a) path bytes told) (λ end. refl) (λ end. refl) told
           (count_done (length bytes) told)
           (λ d none. plain_none (Some (SendTo path a bytes))
-          (item.SentTo path a (sent_count (length bytes) told)) (λ more asked. cc asked)
+          (sent_made (At a) path bytes told) (λ more asked. cc asked)
           (λ packets asked. cc asked) d) came)
           (λ away came. apart to (Some (SendTo to a bytes))
-          (item.SentTo to a (sent_count (length bytes) told))
+          (sent_made (At a) to bytes told)
           (TookBytes (through (sends_through (At a)) (pipes_at to (table_in old))) (is_ok told)
           bytes) away
           (quiet_send (Some (SendTo to a bytes))
-          (item.SentTo to a (sent_count (length bytes) told)) to (At a) bytes away (λ end. refl)
+          (sent_made (At a) to bytes told) to (At a) bytes away (λ end. refl)
           (λ end. refl) (λ more asked. cc asked) (λ packets asked. cc asked))
           (came.call.did running).through
           (told_sent to old new knows.sound still running (At a) bytes told came).took.each) is
 
       received_item : (from : List ℕ) (packets : ℕ) (told : Result (Vec ℕ) TransferFault)
           → Transfers (ReceiveTells from FirstBulk packets) old told new
-          → MovesAt path device (Some (Receive from packets)) (item.Received from told) old new
+          → MovesAt path device (Some (Receive from packets)) (received_made FirstBulk from told) old
+          new
       received_item from packets told is =
           by_path (λ p. Transfers (ReceiveTells p FirstBulk packets) old told new)
-          (λ p. Some (Receive p packets)) (λ p. item.Received p told) from
+          (λ p. Some (Receive p packets)) (λ p. received_made FirstBulk p told) from
           (λ came. received_here FirstBulk packets (Some (Receive path packets))
-          (item.Received path told) told (λ end. refl) (λ end l are. are) refl
-          (receive_fails packets told (item.Received path told) refl came) came)
-          (λ away came. apart from (Some (Receive from packets)) (item.Received from told)
+          (received_made FirstBulk path told) told (λ end. refl) (λ end l are. are) refl
+          (receive_fails packets told (received_made FirstBulk path told) refl came) came)
+          (λ away came. apart from (Some (Receive from packets)) (received_made FirstBulk from told)
           (GaveBy (bytes_in told)
           (through (receives_through FirstBulk) (pipes_at from (table_in old)))
           (through (receives_through FirstBulk) (pipes_at from (table_in new)))) away
-          (quiet_receive (Some (Receive from packets)) (item.Received from told) from FirstBulk away
+          (quiet_receive (Some (Receive from packets)) (received_made FirstBulk from told) from
+          FirstBulk away
           (λ end. refl) (λ end other. none_joined (is_of end from FirstBulk) (bytes_in told) other)
           (λ bytes asked. cc asked)
           (λ more asked. let same : from ≡ path = cc asked in not_to from path away same))
@@ -673,21 +708,21 @@ module _ (path : List ℕ) (device : Accepted) (old new : HostState)
 
       received_from_item : (from : List ℕ) (a packets : ℕ) (told : Result (Vec ℕ) TransferFault)
           → Transfers (ReceiveTells from (At a) packets) old told new
-          → MovesAt path device (Some (ReceiveFrom from a packets)) (item.ReceivedFrom from a told)
+          → MovesAt path device (Some (ReceiveFrom from a packets)) (received_made (At a) from told)
           old new
       received_from_item from a packets told is =
           by_path (λ p. Transfers (ReceiveTells p (At a) packets) old told new)
-          (λ p. Some (ReceiveFrom p a packets)) (λ p. item.ReceivedFrom p a told) from
+          (λ p. Some (ReceiveFrom p a packets)) (λ p. received_made (At a) p told) from
           (λ came. received_here (At a) packets (Some (ReceiveFrom path a packets))
-          (item.ReceivedFrom path a told) told (λ end. refl) (λ end l are. are) refl
+          (received_made (At a) path told) told (λ end. refl) (λ end l are. are) refl
           (λ d none. plain_none (Some (ReceiveFrom path a packets))
-          (item.ReceivedFrom path a told) (λ bytes asked. cc asked) (λ more asked. cc asked) d)
+          (received_made (At a) path told) (λ bytes asked. cc asked) (λ more asked. cc asked) d)
           came)
           (λ away came. apart from (Some (ReceiveFrom from a packets))
-          (item.ReceivedFrom from a told)
+          (received_made (At a) from told)
           (GaveBy (bytes_in told) (through (receives_through (At a)) (pipes_at from (table_in old)))
           (through (receives_through (At a)) (pipes_at from (table_in new)))) away
-          (quiet_receive (Some (ReceiveFrom from a packets)) (item.ReceivedFrom from a told) from
+          (quiet_receive (Some (ReceiveFrom from a packets)) (received_made (At a) from told) from
           (At a) away (λ end. refl)
           (λ end other. none_joined (is_of end from (At a)) (bytes_in told) other)
           (λ bytes asked. cc asked) (λ more asked. cc asked)) (came.call.did running).through
@@ -696,50 +731,50 @@ module _ (path : List ℕ) (device : Accepted) (old new : HostState)
 
       polled_item : (from : List ℕ) (a : ℕ) (told : Result (Option (ArrayVec ℕ)) TransferFault)
           → Transfers (ReportTells from a) old told new
-          → MovesAt path device (Some (Poll from a)) (item.Polled from a told) old new
+          → MovesAt path device (Some (Poll from a)) (polled_made from a told) old new
       polled_item from a told is =
           by_path (λ p. Transfers (ReportTells p a) old told new) (λ p. Some (Poll p a))
-          (λ p. item.Polled p a told) from (polled_here a told)
-          (λ away came. apart from (Some (Poll from a)) (item.Polled from a told)
+          (λ p. polled_made p a told) from (polled_here a told)
+          (λ away came. apart from (Some (Poll from a)) (polled_made from a told)
           (ReportedBy (table_told told) (through (polls_through a) (pipes_at from (table_in old)))
           (through (polls_through a) (pipes_at from (table_in new)))) away
-          (quiet_receive (Some (Poll from a)) (item.Polled from a told) from (At a) away
+          (quiet_receive (Some (Poll from a)) (polled_made from a told) from (At a) away
           (λ end. refl) (λ end other. sym (ap (λ b. if b then report_in told else []) other))
           (λ bytes asked. cc asked) (λ more asked. cc asked)) (came.call.did running).through
           (told_reported from old new knows.sound still running a told came).gave.each) is
 
       cleared_item : (to : List ℕ) (told : Result (Unit {0}) TransferFault)
           → Transfers (ClearTells to) old told new
-          → MovesAt path device (Some (Clear to)) (item.Cleared to told) old new
+          → MovesAt path device (Some (Clear to)) (cleared_made to told) old new
       cleared_item to told is =
           by_path (λ p. Transfers (ClearTells p) old told new) (λ p. Some (Clear p))
-          (λ p. item.Cleared p told) to (cleared_here told)
-          (λ away came. apart to (Some (Clear to)) (item.Cleared to told)
+          (λ p. cleared_made p told) to (cleared_here told)
+          (λ away came. apart to (Some (Clear to)) (cleared_made to told)
           (HaltsCleared (is_ok told) (accepted_device_at to old.entries)
           (pipes_at to (table_in old)) (pipes_at to (table_in new))) away
-          (quiet_item (Some (Clear to)) (item.Cleared to told) (λ end. refl) (λ end. refl)
+          (quiet_item (Some (Clear to)) (cleared_made to told) (λ end. refl) (λ end. refl)
           (λ bytes asked. cc asked) (λ more asked. cc asked)) (came.call.did running).through
           (told_cleared to old new knows.sound still running told came).each) is
 
       cleared_of_item : (to : List ℕ) (a : ℕ) (told : Result (Unit {0}) TransferFault)
           → Transfers (ClearOfTells to a) old told new
-          → MovesAt path device (Some (ClearOf to a)) (item.ClearedOf to a told) old new
+          → MovesAt path device (Some (ClearOf to a)) (cleared_of_made to a told) old new
       cleared_of_item to a told is =
           by_path (λ p. Transfers (ClearOfTells p a) old told new) (λ p. Some (ClearOf p a))
-          (λ p. item.ClearedOf p a told) to (cleared_of_here a told)
-          (λ away came. apart to (Some (ClearOf to a)) (item.ClearedOf to a told)
+          (λ p. cleared_of_made p a told) to (cleared_of_here a told)
+          (λ away came. apart to (Some (ClearOf to a)) (cleared_of_made to a told)
           (HaltClearedOf a (is_ok told) (accepted_device_at to old.entries)
           (pipes_at to (table_in old)) (pipes_at to (table_in new))) away
-          (quiet_item (Some (ClearOf to a)) (item.ClearedOf to a told) (λ end. refl) (λ end. refl)
+          (quiet_item (Some (ClearOf to a)) (cleared_of_made to a told) (λ end. refl) (λ end. refl)
           (λ bytes asked. cc asked) (λ more asked. cc asked)) (came.call.did running).through
           (told_cleared_of to old new knows.sound still running a told came).each) is
 
       -- An interface's setting
 
       quiet_setting : (to : List ℕ) (i a : ℕ) (told : Result (Unit {0}) TransferFault)
-          → IsQuiet path (Told (Some (SetInterface to i a)) (item.InterfaceSet to i a told))
+          → IsQuiet path (Told (Some (SetInterface to i a)) (set_made to i a told))
       quiet_setting to i a told =
-          quiet_item (Some (SetInterface to i a)) (item.InterfaceSet to i a told) (λ end. refl)
+          quiet_item (Some (SetInterface to i a)) (set_made to i a told) (λ end. refl)
           (λ end. refl) (λ bytes asked. cc asked) (λ packets asked. cc asked)
 
       -- in the same world each device is as it was
@@ -756,39 +791,39 @@ module _ (path : List ℕ) (device : Accepted) (old new : HostState)
       set_here : (i a : ℕ) (told : Result (Unit {0}) TransferFault)
           → GoesThrough path (table_in old) (table_in new) → (asked : Result Target TransferFault)
           → InterfaceIfAsked path i a asked old told new
-          → MovesAt path device (Some (SetInterface path i a)) (item.InterfaceSet path i a told) old
+          → MovesAt path device (Some (SetInterface path i a)) (set_made path i a told) old
           new
       set_here i a told through (Ok target) did =
           let due : Option Ask = Some (SetInterface path i a) in
-          let made : Item = item.InterfaceSet path i a told in
+          let made : Item = set_made path i a told in
           here due made (SettingLeft i a did.set.answer) through did.each
           (λ x s v is_path was_on on stands stood left.
           setting_moves path (Told due made) i a refl (accepted_device_at path old.entries)
           (is_below_hub path) did.set.answer Before After s v did.set.pipes left (λ end. refl)
           (plain_none due made (λ bytes asked. cc asked) (λ packets asked. cc asked)))
       set_here i a told through (Err fault) refused =
-          still_moves (Some (SetInterface path i a)) (item.InterfaceSet path i a told)
+          still_moves (Some (SetInterface path i a)) (set_made path i a told)
           (quiet_setting path i a told) (listed_before path through) refused.1
           (same_ends refused.2)
 
       set_apart : (to : List ℕ) (i a : ℕ) (told : Result (Unit {0}) TransferFault)
           → ties (path_cmp to) path ≡ false → GoesThrough to (table_in old) (table_in new)
           → (asked : Result Target TransferFault) → InterfaceIfAsked to i a asked old told new
-          → MovesAt path device (Some (SetInterface to i a)) (item.InterfaceSet to i a told) old new
+          → MovesAt path device (Some (SetInterface to i a)) (set_made to i a told) old new
       set_apart to i a told away through (Ok target) did =
-          apart to (Some (SetInterface to i a)) (item.InterfaceSet to i a told)
+          apart to (Some (SetInterface to i a)) (set_made to i a told)
           (SettingLeft i a did.set.answer) away (quiet_setting to i a told) through did.each
       set_apart to i a told away through (Err fault) refused =
-          still_moves (Some (SetInterface to i a)) (item.InterfaceSet to i a told)
+          still_moves (Some (SetInterface to i a)) (set_made to i a told)
           (quiet_setting to i a told) (listed_before to through) (through.others path away)
           (same_ends refused.2)
 
       set_item : (to : List ℕ) (i a : ℕ) (told : Result (Unit {0}) TransferFault)
           → Transfers (InterfaceTells to i a) old told new
-          → MovesAt path device (Some (SetInterface to i a)) (item.InterfaceSet to i a told) old new
+          → MovesAt path device (Some (SetInterface to i a)) (set_made to i a told) old new
       set_item to i a told is =
           by_path (λ p. Transfers (InterfaceTells p i a) old told new)
-          (λ p. Some (SetInterface p i a)) (λ p. item.InterfaceSet p i a told) to
+          (λ p. Some (SetInterface p i a)) (λ p. set_made p i a told) to
           (λ came. set_here i a told (came.call.did running).through
           (interface_target path i a old.entries)
           (told_interface path old new knows.sound still running i a told came))
@@ -841,8 +876,8 @@ module _ (path : List ℕ) (device : Accepted) (old new : HostState)
           moves_as (interface_set to i a told asks e came) =
               inl (told_as (Some (SetInterface to i a)) _ asks e (set_item to i a told came))
           moves_as (read from request told host asks e came) =
-              inl (still_as (Some (ControlIn from request)) (item.Read from told) asks e
-              (quiet_item (Some (ControlIn from request)) (item.Read from told) (λ end. refl)
+              inl (still_as (Some (ControlIn from request)) (read_made from told) asks e
+              (quiet_item (Some (ControlIn from request)) (read_made from told) (λ end. refl)
               (λ end. refl) (λ bytes asked. cc asked) (λ more asked. cc asked))
               (read_stays from request host told came))
           moves_as (written to write told fits asks e came) =
@@ -851,13 +886,13 @@ module _ (path : List ℕ) (device : Accepted) (old new : HostState)
           moves_as (looked to told asks e came) = elim (((came.call.keeps.sound
               (answered_goes came.answer told came.tells)).bulk knows.sound works).each path device
               at) [
-                | inl stayed ↦ inl (still_as (Some (LookAt to)) (item.Looked to told) asks e
-                    (quiet_item (Some (LookAt to)) (item.Looked to told) (λ end. refl) (λ end. refl)
+                | inl stayed ↦ inl (still_as (Some (LookAt to)) (looked_made to told) asks e
+                    (quiet_item (Some (LookAt to)) (looked_made to told) (λ end. refl) (λ end. refl)
                     (λ bytes asked. cc asked) (λ more asked. cc asked)) stayed)
                 | inr renewed ↦ inr (record { to = to; asks = asks; renewed = renewed })
               ]
           moves_as (news told asks e all) =
               let only = all_reported old new told.items all in
-              inl (still_as (Some AskNews) (item.News told) asks e
-              (quiet_item (Some AskNews) (item.News told) (λ end. refl) (λ end. refl)
+              inl (still_as (Some AskNews) (ToldNews told) asks e
+              (quiet_item (Some AskNews) (ToldNews told) (λ end. refl) (λ end. refl)
               (λ bytes asked. cc asked) (λ more asked. cc asked)) (news_stays only.0 only.1))

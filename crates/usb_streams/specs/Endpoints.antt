@@ -14,9 +14,9 @@ use Rattle.usb_pipe.specs.{PipeState, report_in}
 use Rattle.usb_table.specs.{Pipes, Hub, Function, Absent, EndpointChoice, FirstBulk, At}
 use Rattle.usb_table.specs.{bytes_in, first_number, pipe_at, pipes_at, through}
 use Rattle.usb_host.specs.{table_in}
-use Rattle.usb_run.specs.{Item, Listing, Sent, SentTo, Received, ReceivedFrom, Polled, Cleared}
-use Rattle.usb_run.specs.{ClearedOf, InterfaceSet, Read, Looked, Written}
-use Rattle.usb_run.specs.declared.runs.Item.TheVariants.{News}
+use Rattle.usb_run.specs.{Answer, Done, Item, Listing, Looked, Polled, Received, Sent}
+use Rattle.usb_run.specs.declared.item.Item.TheVariants.{News}
+use Rattle.usb_run.specs.declared.item.Task.TheVariants as task
 use Rattle.usb_streams.specs.Stretches.{ToldItem}
 
 -- Endpoints
@@ -73,21 +73,11 @@ bytes_for end _ = []
 
 -- the bytes that an item tells as received from an IN endpoint
 abbrev pub bytes_from : Endpoint → Item → List ℕ
-bytes_from end (Listing tree taken said) = []
-bytes_from end (Sent to told) = []
-bytes_from end (Received from told) = if is_of end from FirstBulk then bytes_in told else []
-bytes_from end (Cleared at told) = []
-bytes_from end (Read from told) = []
-bytes_from end (Written to told) = []
-bytes_from end (Looked at told) = []
-bytes_from end (News news) = []
-bytes_from end (SentTo to address told) = []
-bytes_from end (ReceivedFrom from address told) =
-    if is_of end from (At address) then bytes_in told else []
-bytes_from end (Polled from address told) =
+bytes_from end (Answer from (task.Receive choice) (Received told)) =
+    if is_of end from choice then bytes_in told else []
+bytes_from end (Answer from (task.Poll address) (Polled told)) =
     if is_of end from (At address) then concat (report_in told) else []
-bytes_from end (ClearedOf at address told) = []
-bytes_from end (InterfaceSet at interface setting told) = []
+bytes_from end _ = []
 
 -- the packets of a transfer from the endpoint have these bytes, end to end; one from another brings
 -- none
@@ -98,29 +88,21 @@ AreJoined false bytes packets = packets ≡ []
 -- these packets of an IN endpoint are what an item tells: the bytes of a receive's, and of a poll
 -- the packet itself
 abbrev pub ArePackets : Endpoint → Item → List (List ℕ) → Type 0
-ArePackets end (Received from told) packets =
-    AreJoined (is_of end from FirstBulk) (bytes_in told) packets
-ArePackets end (ReceivedFrom from address told) packets =
-    AreJoined (is_of end from (At address)) (bytes_in told) packets
-ArePackets end (Polled from address told) packets =
+ArePackets end (Answer from (task.Receive choice) (Received told)) packets =
+    AreJoined (is_of end from choice) (bytes_in told) packets
+ArePackets end (Answer from (task.Poll address) (Polled told)) packets =
     packets ≡ (if is_of end from (At address) then report_in told else [])
 ArePackets end _ packets = packets ≡ []
 
 -- an item tells of no fault
 abbrev pub is_done : Item → Bool
 is_done (Listing tree taken said) = true
-is_done (Sent to told) = is_ok told
-is_done (Received from told) = is_ok told
-is_done (Cleared at told) = is_ok told
-is_done (Read from told) = is_ok told
-is_done (Written to told) = is_ok told
-is_done (Looked at told) = is_ok told
 is_done (News news) = true
-is_done (SentTo to address told) = is_ok told
-is_done (ReceivedFrom from address told) = is_ok told
-is_done (Polled from address told) = is_ok told
-is_done (ClearedOf at address told) = is_ok told
-is_done (InterfaceSet at interface setting told) = is_ok told
+is_done (Answer path asked (Sent told)) = is_ok told
+is_done (Answer path asked (Received told)) = is_ok told
+is_done (Answer path asked (Done told)) = is_ok told
+is_done (Answer path asked (Polled told)) = is_ok told
+is_done (Answer path asked (Looked told)) = is_ok told
 
 -- the bytes of the sends to an OUT endpoint that are told done, end to end
 unfoldable pub sent_to : Endpoint → List ToldItem → List ℕ

@@ -5,7 +5,7 @@ ghost use Rattle.std.specs.Prelude.{◌≡◌, ℕ, List, Bool, false, None, Som
 ghost use Rattle.usb_enum.specs.declared.finding.Accepted.{Accepted};
 ghost use Rattle.usb_table.specs.Findings.{accepted_device_at};
 ghost use Rattle.usb_host.specs.HostStates.{HostState};
-ghost use Rattle.usb_run.specs.declared.runs.Item.{Item};
+ghost use Rattle.usb_run.specs.declared.item.Item.{Item};
 ghost use Rattle.usb_run.specs.declared.mode.Mode.{Mode};
 ghost use Rattle.usb_run.specs.RunSegments.{Knows};
 ghost use Rattle.usb_run.specs.Transcript.{Transcript};
