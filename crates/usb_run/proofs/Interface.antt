@@ -1,8 +1,6 @@
 -- The lemmas that crates above cite. All others are for this crate alone.
-pub use Rattle.usb_run.proofs.AskedCalls.{AskAnswered, silent, listed, sent, received, cleared}
-pub use Rattle.usb_run.proofs.AskedCalls.{read, written, looked, news, answered, sent_to}
-pub use Rattle.usb_run.proofs.AskedCalls.{received_from, polled, cleared_of, interface_set}
-pub use Rattle.usb_run.proofs.AskedCalls.{all_reported}
+pub use Rattle.usb_run.proofs.AskedCalls.{AskAnswered, Fits, silent, listed, called, news, answered}
+pub use Rattle.usb_run.proofs.AskedCalls.{all_reported, same_item}
 pub use Rattle.usb_run.proofs.endings.Causes.{at_fault, run_limit, untold_fault}
 pub use Rattle.usb_run.proofs.endings.Ends.{answered_goes, knows_opened, limit_opened}
 pub use Rattle.usb_run.proofs.courses.KnowledgeKept.{arrival_knows, came_running, came_still}

@@ -16,7 +16,8 @@ pub use Run.{IsBegun, IsCaused, RunsOn, Spent, entry_said, items_left, listing_o
 pub use Run.{run_fault, said_if}
 pub use ItemLines.{item_lines, number_of}
 pub use NewsCalls.{AllNews, SomeNews, SomeNewsAre, no_news, one_news}
-pub use Transfers.{Does, Gives, IsItemOf, StopsAt, TransferStops, sent_count, transfer_ended}
+pub use Transfers.{CallGives, CallTells, Does, Gives, IsItemOf, IsOfCall, ItemOfCall, StopsAt}
+pub use Transfers.{TransferStops, sent_count, transfer_ended}
 pub use RunSegments.{Arrives, Comes, EndsSettling, Knowing, Knows, LeavesSettled, OneRound, Ran}
 pub use RunSegments.{Reaches, RoundFails, Rounds, Settled, Settles, Settling, Unsettled, idle, more}
 pub use RunSegments.{none, silent}

@@ -53,83 +53,83 @@ pub record TransferStops {A : Type 0} (Tells : HostState → Result A HostFault 
 
 -- What a run makes of an event
 
+-- what a call of the host gives if it is done
+abbrev pub CallGives : Ask → Type 0
+CallGives (Receive path packets) = Vec ℕ
+CallGives (ReceiveFrom path endpoint packets) = Vec ℕ
+CallGives (ControlIn path request) = Vec ℕ
+CallGives (Poll path endpoint) = Option (ArrayVec ℕ)
+CallGives (LookAt path) = Look
+CallGives _ = Unit {0}
+
+-- what the host tells of the call for what is asked; a listing and news need none
+abbrev pub CallTells : (ask : Ask) → HostState → Result (CallGives ask) HostFault → HostState
+    → Type 0
+CallTells (Show said) = λ old result new. ⊥
+CallTells (Send path bytes) = SendTells path FirstBulk bytes
+CallTells (Receive path packets) = ReceiveTells path FirstBulk packets
+CallTells (Clear path) = ClearTells path
+CallTells (SendTo path endpoint bytes) = SendTells path (At endpoint) bytes
+CallTells (ReceiveFrom path endpoint packets) = ReceiveTells path (At endpoint) packets
+CallTells (Poll path endpoint) = ReportTells path endpoint
+CallTells (ClearOf path endpoint) = ClearOfTells path endpoint
+CallTells (SetInterface path interface setting) = InterfaceTells path interface setting
+CallTells (ControlIn path request) = ReadTells path request
+CallTells (ControlOut path write) = WriteTells path write.setup write.bytes
+CallTells (LookAt path) = LookTells path
+CallTells AskNews = λ old result new. ⊥
+
+-- the item of a call that came to this
+abbrev pub IsOfCall : (ask : Ask) → Result (CallGives ask) TransferFault → Option Item → Type 0
+IsOfCall (Show said) told item = ⊥
+IsOfCall (Send path bytes) told item =
+    item ≡ Some (Answer path (task.Send FirstBulk) (Sent (sent_count (length bytes) told)))
+IsOfCall (Receive path packets) told item =
+    item ≡ Some (Answer path (task.Receive FirstBulk) (Received told))
+IsOfCall (Clear path) told item = item ≡ Some (Answer path task.Clear (Done told))
+IsOfCall (SendTo path endpoint bytes) told item =
+    item ≡ Some (Answer path (task.Send (At endpoint)) (Sent (sent_count (length bytes) told)))
+IsOfCall (ReceiveFrom path endpoint packets) told item =
+    item ≡ Some (Answer path (task.Receive (At endpoint)) (Received told))
+IsOfCall (Poll path endpoint) told item =
+    item ≡ Some (Answer path (task.Poll endpoint) (Polled told))
+IsOfCall (ClearOf path endpoint) told item =
+    item ≡ Some (Answer path (task.ClearOf endpoint) (Done told))
+IsOfCall (SetInterface path interface setting) told item =
+    item ≡ Some (Answer path (task.SetInterface interface setting) (Done told))
+IsOfCall (ControlIn path request) told item =
+    item ≡ Some (Answer path task.ControlIn (Received told))
+IsOfCall (ControlOut path write) told item =
+    item ≡ Some (Answer path task.ControlOut (Sent (sent_count (length write.bytes) told)))
+IsOfCall (LookAt path) told item = item ≡ Some (Answer path task.Look (Looked told))
+IsOfCall AskNews told item = ⊥
+
+-- the host made the call, and this is its item
+abbrev pub ItemOfCall : Ask → Option Item → HostState → HostState → Type 0
+ItemOfCall ask item old new =
+    (told : Result (CallGives ask) TransferFault) × IsOfCall ask told item
+    × Transfers (CallTells ask) old told new
+
 -- nothing of a change, a listing at once if the host is to list, what a transfer or a look came to,
 -- and all news
 abbrev pub IsItemOf : Option Ask → Option Item → HostState → HostState → Type 0
 IsItemOf None item old new = (item ≡ None) × (new ≡ old)
 IsItemOf (Some (Show said)) item old new = (item ≡ Some (listing_of said new)) × (new ≡ old)
-IsItemOf (Some (Send path bytes)) item old new =
-    (told : Result (Unit {0}) TransferFault)
-    × (item ≡ Some (Answer path (task.Send FirstBulk) (Sent (sent_count (length bytes) told))))
-    × Transfers (SendTells path FirstBulk bytes) old told new
-IsItemOf (Some (Receive path packets)) item old new =
-    (told : Result (Vec ℕ) TransferFault)
-    × (item ≡ Some (Answer path (task.Receive FirstBulk) (Received told)))
-    × Transfers (ReceiveTells path FirstBulk packets) old told new
-IsItemOf (Some (Clear path)) item old new =
-    (told : Result (Unit {0}) TransferFault) × (item ≡ Some (Answer path task.Clear (Done told)))
-    × Transfers (ClearTells path) old told new
-IsItemOf (Some (SendTo path endpoint bytes)) item old new =
-    (told : Result (Unit {0}) TransferFault)
-    × (item
-    ≡ Some (Answer path (task.Send (At endpoint)) (Sent (sent_count (length bytes) told))))
-    × Transfers (SendTells path (At endpoint) bytes) old told new
-IsItemOf (Some (ReceiveFrom path endpoint packets)) item old new =
-    (told : Result (Vec ℕ) TransferFault)
-    × (item ≡ Some (Answer path (task.Receive (At endpoint)) (Received told)))
-    × Transfers (ReceiveTells path (At endpoint) packets) old told new
-IsItemOf (Some (Poll path endpoint)) item old new =
-    (told : Result (Option (ArrayVec ℕ)) TransferFault)
-    × (item ≡ Some (Answer path (task.Poll endpoint) (Polled told)))
-    × Transfers (ReportTells path endpoint) old told new
-IsItemOf (Some (ClearOf path endpoint)) item old new =
-    (told : Result (Unit {0}) TransferFault)
-    × (item ≡ Some (Answer path (task.ClearOf endpoint) (Done told)))
-    × Transfers (ClearOfTells path endpoint) old told new
-IsItemOf (Some (SetInterface path interface setting)) item old new =
-    (told : Result (Unit {0}) TransferFault)
-    × (item ≡ Some (Answer path (task.SetInterface interface setting) (Done told)))
-    × Transfers (InterfaceTells path interface setting) old told new
-IsItemOf (Some (ControlIn path request)) item old new = IsToHost request
-    × ((told : Result (Vec ℕ) TransferFault)
-    × (item ≡ Some (Answer path task.ControlIn (Received told)))
-    × Transfers (ReadTells path request) old told new)
-IsItemOf (Some (ControlOut path write)) item old new = IsWrite write
-    × ((told : Result (Unit {0}) TransferFault)
-    × (item ≡ Some (Answer path task.ControlOut (Sent (sent_count (length write.bytes) told))))
-    × Transfers (WriteTells path write.setup write.bytes) old told new)
-IsItemOf (Some (LookAt path)) item old new =
-    (told : Result Look TransferFault) × (item ≡ Some (Answer path task.Look (Looked told)))
-    × Transfers (LookTells path) old told new
+IsItemOf (Some (ControlIn path request)) item old new =
+    IsToHost request × ItemOfCall (ControlIn path request) item old new
+IsItemOf (Some (ControlOut path write)) item old new =
+    IsWrite write × ItemOfCall (ControlOut path write) item old new
 IsItemOf (Some AskNews) item old new =
     (told : Vec News) × (item ≡ Some (ToldNews told)) × AllNews old told.items new
+IsItemOf (Some ask) item old new = ItemOfCall ask item old new
 
 -- no item of it: memory was refused for a listing or for news, or a transfer or a look ended the
 -- run
 abbrev pub StopsAt : Option Ask → RunFault → HostState → HostState → Type 0
 StopsAt None fault old new = ⊥
 StopsAt (Some (Show said)) fault old new = (fault ≡ Memory) × (new ≡ old)
-StopsAt (Some (Send path bytes)) fault old new =
-    TransferStops (SendTells path FirstBulk bytes) old fault new
-StopsAt (Some (Receive path packets)) fault old new =
-    TransferStops (ReceiveTells path FirstBulk packets) old fault new
-StopsAt (Some (Clear path)) fault old new = TransferStops (ClearTells path) old fault new
-StopsAt (Some (SendTo path endpoint bytes)) fault old new =
-    TransferStops (SendTells path (At endpoint) bytes) old fault new
-StopsAt (Some (ReceiveFrom path endpoint packets)) fault old new =
-    TransferStops (ReceiveTells path (At endpoint) packets) old fault new
-StopsAt (Some (Poll path endpoint)) fault old new =
-    TransferStops (ReportTells path endpoint) old fault new
-StopsAt (Some (ClearOf path endpoint)) fault old new =
-    TransferStops (ClearOfTells path endpoint) old fault new
-StopsAt (Some (SetInterface path interface setting)) fault old new =
-    TransferStops (InterfaceTells path interface setting) old fault new
-StopsAt (Some (ControlIn path request)) fault old new =
-    TransferStops (ReadTells path request) old fault new
-StopsAt (Some (ControlOut path write)) fault old new =
-    TransferStops (WriteTells path write.setup write.bytes) old fault new
-StopsAt (Some (LookAt path)) fault old new = TransferStops (LookTells path) old fault new
 StopsAt (Some AskNews) fault old new = (fault ≡ Memory) × SomeNews old new
+StopsAt (Some ask) fault old new = TransferStops (CallTells ask) old fault new
 
 abbrev pub Does : Option Ask → HostState → Result (Option Item) RunFault → HostState → Type 0
 Does due old (Ok item) new = IsItemOf due item old new

@@ -39,9 +39,9 @@ use Rattle.usb_run.specs.{Answer, Done, Looked, Polled, Received, Sent}
 use Rattle.usb_run.specs.declared.item.Item.TheVariants.{News as ToldNews}
 use Rattle.usb_run.specs.declared.item.Task.TheVariants as task
 use Rattle.usb_run.specs.Transfers.{Transfers}
-use Rattle.usb_run.proofs.Interface.{AskAnswered, silent, listed, sent, received, cleared, read}
-use Rattle.usb_run.proofs.Interface.{written, looked, news, answered, all_reported, answered_goes}
-use Rattle.usb_run.proofs.Interface.{cleared_of, interface_set, polled, received_from, sent_to}
+use Rattle.usb_run.specs.{CallGives, CallTells, IsOfCall}
+use Rattle.usb_run.proofs.Interface.{AskAnswered, Fits, silent, listed, called, news, answered}
+use Rattle.usb_run.proofs.Interface.{all_reported, answered_goes, same_item}
 use Rattle.usb_run.proofs.Interface.{count_done, done_told, no_bus_fault, report_told}
 use Rattle.usb_run.proofs.Interface.{told_cleared, told_cleared_of, told_received, told_reported}
 use Rattle.usb_run.proofs.Interface.{told_interface, told_sent}
@@ -843,11 +843,53 @@ module _ (path : List ℕ) (device : Accepted) (old new : HostState)
               subst (λ d. MovesAt path device d made old new) (sym asks)
               (subst (λ (i : Item). MovesAt path device asked i old new) (sym same) so)
 
-          still_as : (asked : Option Ask) (told : Item) → due ≡ asked → Some made ≡ Some told
-              → IsQuiet path (Told asked told) → StayedAt path device old new
-              → MovesAt path device due made old new
-          still_as asked told asks e quiet stayed =
-              told_as asked told asks e (stayed_moves asked told quiet stayed)
+          moved : (ask : Ask) (x : Item) → Some made ≡ Some x
+              → MovesAt path device (Some ask) x old new
+              → MovesAt path device (Some ask) made old new ⊎ LookFinds path device (Some ask) old
+              new
+          moved ask x of moves = inl (subst (λ (i : Item). MovesAt path device (Some ask) i old new)
+              (sym (same_item of)) moves)
+
+          call_moves : (ask : Ask) (told : Result (CallGives ask) TransferFault) → Fits ask
+              → IsOfCall ask told (Some made) → Transfers (CallTells ask) old told new
+              → MovesAt path device (Some ask) made old new ⊎ LookFinds path device (Some ask) old
+              new
+          call_moves (Show said) told fits of came = absurd of
+          call_moves AskNews told fits of came = absurd of
+          call_moves (Send to bytes) told fits of came =
+              moved (Send to bytes) _ of (sent_item to bytes told came)
+          call_moves (Receive from packets) told fits of came =
+              moved (Receive from packets) _ of (received_item from packets told came)
+          call_moves (Clear to) told fits of came =
+              moved (Clear to) _ of (cleared_item to told came)
+          call_moves (SendTo to a bytes) told fits of came =
+              moved (SendTo to a bytes) _ of (sent_to_item to a bytes told came)
+          call_moves (ReceiveFrom from a packets) told fits of came =
+              moved (ReceiveFrom from a packets) _ of
+              (received_from_item from a packets told came)
+          call_moves (Poll from a) told fits of came =
+              moved (Poll from a) _ of (polled_item from a told came)
+          call_moves (ClearOf to a) told fits of came =
+              moved (ClearOf to a) _ of (cleared_of_item to a told came)
+          call_moves (SetInterface to i a) told fits of came =
+              moved (SetInterface to i a) _ of (set_item to i a told came)
+          call_moves (ControlIn from request) told fits of came =
+              moved (ControlIn from request) _ of
+              (stayed_moves (Some (ControlIn from request)) (read_made from told)
+              (quiet_item (Some (ControlIn from request)) (read_made from told) (λ end. refl)
+              (λ end. refl) (λ bytes asked. cc asked) (λ more asked. cc asked))
+              (read_stays from request fits told came))
+          call_moves (ControlOut to write) told fits of came =
+              moved (ControlOut to write) _ of (written_moves to write fits told came)
+          call_moves (LookAt to) told fits of came = elim (((came.call.keeps.sound
+              (answered_goes came.answer told came.tells)).bulk knows.sound works).each path device
+              at) [
+                | inl stayed ↦ moved (LookAt to) _ of
+                    (stayed_moves (Some (LookAt to)) (looked_made to told)
+                    (quiet_item (Some (LookAt to)) (looked_made to told) (λ end. refl) (λ end. refl)
+                    (λ bytes asked. cc asked) (λ more asked. cc asked)) stayed)
+                | inr renewed ↦ inr (record { to = to; asks = refl; renewed = renewed })
+              ]
 
           moves_as : AskAnswered due (Some made) old new → MovesAt path device due made old new
               ⊎ LookFinds path device due old new
@@ -857,42 +899,17 @@ module _ (path : List ℕ) (device : Accepted) (old new : HostState)
               inl (told_as (Some (Show said)) listing asks e (shown said listing
               (quiet_item (Some (Show said)) listing (λ end. refl) (λ end. refl)
               (λ bytes asked. cc asked) (λ more asked. cc asked)) same))
-          moves_as (sent to bytes told asks e came) =
-              inl (told_as (Some (Send to bytes)) _ asks e (sent_item to bytes told came))
-          moves_as (received from packets told asks e came) =
-              inl (told_as (Some (Receive from packets)) _ asks e
-              (received_item from packets told came))
-          moves_as (cleared to told asks e came) =
-              inl (told_as (Some (Clear to)) _ asks e (cleared_item to told came))
-          moves_as (sent_to to a bytes told asks e came) =
-              inl (told_as (Some (SendTo to a bytes)) _ asks e (sent_to_item to a bytes told came))
-          moves_as (received_from from a packets told asks e came) =
-              inl (told_as (Some (ReceiveFrom from a packets)) _ asks e
-              (received_from_item from a packets told came))
-          moves_as (polled from a told asks e came) =
-              inl (told_as (Some (Poll from a)) _ asks e (polled_item from a told came))
-          moves_as (cleared_of to a told asks e came) =
-              inl (told_as (Some (ClearOf to a)) _ asks e (cleared_of_item to a told came))
-          moves_as (interface_set to i a told asks e came) =
-              inl (told_as (Some (SetInterface to i a)) _ asks e (set_item to i a told came))
-          moves_as (read from request told host asks e came) =
-              inl (still_as (Some (ControlIn from request)) (read_made from told) asks e
-              (quiet_item (Some (ControlIn from request)) (read_made from told) (λ end. refl)
-              (λ end. refl) (λ bytes asked. cc asked) (λ more asked. cc asked))
-              (read_stays from request host told came))
-          moves_as (written to write told fits asks e came) =
-              inl (told_as (Some (ControlOut to write)) _ asks e
-              (written_moves to write fits told came))
-          moves_as (looked to told asks e came) = elim (((came.call.keeps.sound
-              (answered_goes came.answer told came.tells)).bulk knows.sound works).each path device
-              at) [
-                | inl stayed ↦ inl (still_as (Some (LookAt to)) (looked_made to told) asks e
-                    (quiet_item (Some (LookAt to)) (looked_made to told) (λ end. refl) (λ end. refl)
-                    (λ bytes asked. cc asked) (λ more asked. cc asked)) stayed)
-                | inr renewed ↦ inr (record { to = to; asks = asks; renewed = renewed })
-              ]
+          moves_as (called ask told asks fits of came) = elim (call_moves ask told fits of came) [
+            | inl moves ↦ inl (subst (λ d. MovesAt path device d made old new) (sym asks) moves)
+            | inr finds ↦ inr (record {
+                to = finds.to;
+                asks = asks ∙ finds.asks;
+                renewed = finds.renewed;
+              })
+          ]
           moves_as (news told asks e all) =
               let only = all_reported old new told.items all in
-              inl (still_as (Some AskNews) (ToldNews told) asks e
+              inl (told_as (Some AskNews) (ToldNews told) asks e
+              (stayed_moves (Some AskNews) (ToldNews told)
               (quiet_item (Some AskNews) (ToldNews told) (λ end. refl) (λ end. refl)
-              (λ bytes asked. cc asked) (λ more asked. cc asked)) (news_stays only.0 only.1))
+              (λ bytes asked. cc asked) (λ more asked. cc asked)) (news_stays only.0 only.1)))

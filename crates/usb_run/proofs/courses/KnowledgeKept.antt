@@ -4,23 +4,23 @@ use Rattle.std.proofs.Common.{◌≡◌, ◌∙◌, refl, sym, ap, subst, Bool, 
 use Rattle.std.proofs.Common.{Some, Result, Ok, is_some}
 use Rattle.usb_device.specs.{Ports}
 use Rattle.usb_world.specs.declared.event.Ask.{Ask}
+use Rattle.usb_world.specs.{Show, Look as LookAt, News as AskNews}
 use Rattle.usb_tree.specs.{pending}
 use Rattle.usb_world.specs.{EventEnds, AtMostTwoRunning, World, roots_of}
 use Rattle.usb_address.proofs.Interface.{event_keeps}
 use Rattle.usb_enum.proofs.Interface.{course_later, few_before}
 use Rattle.usb_table.specs.{Entries, IsListedPort}
 use Rattle.usb_host.specs.{Agrees, HostFault, HostState, IsAtRest, IsFairTo, HostInvariant}
-use Rattle.usb_host.specs.{KeepsInvariant, TransferTells}
+use Rattle.usb_host.specs.{KeepsInvariant, TransferTells, is_final}
 use Rattle.usb_host.proofs.Interface.{accounted, settled_matches, sound_event, sound_none}
 use Rattle.usb_world.specs.{BusFault}
 use Rattle.usb_run.specs.{Item, Mode, Arrives, Comes, Knows, LeavesSettled, Ran, idle, silent}
 use Rattle.usb_run.specs.{Reaches, Rounds, none, more, Settled, Settles, AppendsText, Makes, asked}
-use Rattle.usb_run.specs.{last, IsItemOf, begun as run_begun, told as run_told}
+use Rattle.usb_run.specs.{last, CallGives, CallTells, IsItemOf, begun as run_begun}
+use Rattle.usb_run.specs.{told as run_told}
 use Rattle.usb_run.specs.Transcript.{Transcript}
-use Rattle.usb_run.proofs.AskedCalls.{AskAnswered, silent as no_item, listed, sent, received}
-use Rattle.usb_run.proofs.AskedCalls.{cleared, read, written, looked, news, answered}
-use Rattle.usb_run.proofs.AskedCalls.{sent_to, received_from, polled, cleared_of, interface_set}
-use Rattle.usb_run.proofs.AskedCalls.{OnlyReported, all_reported}
+use Rattle.usb_run.proofs.AskedCalls.{AskAnswered, silent as no_item, listed, called, news}
+use Rattle.usb_run.proofs.AskedCalls.{OnlyReported, all_reported, answered}
 use Rattle.usb_run.proofs.courses.RunCourses.{RunsOnward, called_onward, comes_onward}
 use Rattle.usb_run.proofs.courses.RunCourses.{settles_onward}
 use Rattle.usb_run.proofs.courses.RunParts.{item_called, round_called, round_running, rounds_called}
@@ -227,24 +227,19 @@ reported_stays a b only = subst (KeepsInvariant a) (sym only.1) (record {
   caused = λ s fair causes. causes;
 })
 
+call_stays : (ask : Ask) {a b : HostState} {result : Result (CallGives ask) HostFault}
+    → CallTells ask a result b → is_final result ≡ false → KeepsInvariant a b
+call_stays (Show said) tells goes = absurd tells
+call_stays AskNews tells goes = absurd tells
+call_stays (LookAt path) tells goes = (tells.keeps.sound goes).sound
+call_stays _ tells goes = transfer_keeps_sound tells
+
 answers_stay : {due : Option Ask} {item : Option Item} {a b : HostState}
     → AskAnswered due item a b → KeepsInvariant a b
 answers_stay {a = a} (no_item nothing same) = subst (KeepsInvariant a) (sym same) (sound_none a)
 answers_stay {a = a} (listed said asks is same) = subst (KeepsInvariant a) (sym same) (sound_none a)
-answers_stay (sent path bytes told asks is came) = transfer_keeps_sound came.call
-answers_stay (received path packets told asks is came) = transfer_keeps_sound came.call
-answers_stay (cleared path told asks is came) = transfer_keeps_sound came.call
-answers_stay (sent_to path endpoint bytes told asks is came) = transfer_keeps_sound came.call
-answers_stay (received_from path endpoint packets told asks is came) =
-    transfer_keeps_sound came.call
-answers_stay (polled path endpoint told asks is came) = transfer_keeps_sound came.call
-answers_stay (cleared_of path endpoint told asks is came) = transfer_keeps_sound came.call
-answers_stay (interface_set path interface setting told asks is came) =
-    transfer_keeps_sound came.call
-answers_stay (read path request told host asks is came) = transfer_keeps_sound came.call
-answers_stay (written path write told fits asks is came) = transfer_keeps_sound came.call
-answers_stay (looked path told asks is came) =
-    (came.call.keeps.sound (answered_goes came.answer told came.tells)).sound
+answers_stay (called ask told asks fits of came) =
+    call_stays ask came.call (answered_goes came.answer told came.tells)
 answers_stay {a = a} {b = b} (news told asks is all) =
     reported_stays a b (all_reported a b told.items all)
 

@@ -2,6 +2,7 @@
 use Rattle.std.proofs.Common.{◌≡◌, refl, sym, ap, subst, arith, ℕ, ◌+◌, ◌≤◌, ◌<◌, List, Bool, true}
 use Rattle.std.proofs.Common.{false, Option, None, Some, Result, Ok, Err, IsSome, IsTrue}
 use Rattle.usb_world.specs.declared.event.Ask.{Ask}
+use Rattle.usb_world.specs.{Show, Look as LookAt, News as AskNews}
 use Rattle.usb_world.specs.{BusFault, World, AttemptsWithin, to_come}
 use Rattle.usb_world.proofs.Interface.{spends_none, spends_then}
 use Rattle.usb_bus.specs.{TakesEvent}
@@ -12,14 +13,11 @@ use Rattle.usb_host.specs.{OnlyBusSteps, RoundTells, TransferTells}
 use Rattle.usb_run.specs.{Item, RunFault, Spent, Arrives, Ran, idle, Reaches, Rounds, none, more}
 use Rattle.usb_run.specs.{Settled, Settles, Settling, Unsettled, Makes, asked, last, RunStops}
 use Rattle.usb_run.specs.{in_round, at_event, in_item, in_last, Does, IsItemOf, StopsAt}
+use Rattle.usb_run.specs.{CallGives, CallTells}
 use Rattle.usb_run.specs.RunSegments as run
-use Rattle.usb_run.proofs.AskedCalls.{AskAnswered, silent, listed, sent, received, cleared, read}
-use Rattle.usb_run.proofs.AskedCalls.{written, looked, news, answered, Calls, no_call, sends}
-use Rattle.usb_run.proofs.AskedCalls.{receives, clears, reads, writes, looks, tells_news}
-use Rattle.usb_run.proofs.AskedCalls.{sent_to, received_from, polled, cleared_of, interface_set}
-use Rattle.usb_run.proofs.AskedCalls.{sends_to, receives_from, polls, clears_of, sets_interface}
-use Rattle.usb_run.proofs.AskedCalls.{item_calls, stop_calls}
-use Rattle.usb_run.proofs.AskedCalls.{OnlyReported}
+use Rattle.usb_run.proofs.AskedCalls.{AskAnswered, silent, listed, called, news, answered}
+use Rattle.usb_run.proofs.AskedCalls.{Calls, no_call, calls, call_made, tells_news}
+use Rattle.usb_run.proofs.AskedCalls.{OnlyReported, item_calls, stop_calls}
 
 -- Calls of the host
 
@@ -72,19 +70,16 @@ transfer_called : {A : Type 0} {most : ℕ} {Did : HostState → Result A HostFa
     → Called a b
 transfer_called {A} {most} tells = record { most = most; went = tells.went }
 
+call_called : (ask : Ask) {a b : HostState} {result : Result (CallGives ask) HostFault}
+    → CallTells ask a result b → Called a b
+call_called (Show said) tells = absurd tells
+call_called AskNews tells = absurd tells
+call_called (LookAt path) tells = record { most = handling_bound; went = tells.went }
+call_called _ tells = transfer_called tells
+
 calls_called : {due : Option Ask} {a b : HostState} → Calls due a b → Called a b
 calls_called {a = a} {b = b} (no_call same) = called_same a b same
-calls_called (sends path bytes result asks tells) = transfer_called tells
-calls_called (receives path packets result asks tells) = transfer_called tells
-calls_called (clears path result asks tells) = transfer_called tells
-calls_called (sends_to path endpoint bytes result asks tells) = transfer_called tells
-calls_called (receives_from path endpoint packets result asks tells) = transfer_called tells
-calls_called (polls path endpoint result asks tells) = transfer_called tells
-calls_called (clears_of path endpoint result asks tells) = transfer_called tells
-calls_called (sets_interface path interface setting result asks tells) = transfer_called tells
-calls_called (reads path request result asks tells) = transfer_called tells
-calls_called (writes path write result asks tells) = transfer_called tells
-calls_called (looks path result asks tells) = record { most = handling_bound; went = tells.went }
+calls_called (calls ask result asks tells) = call_called ask tells
 calls_called {a = a} {b = b} (tells_news asks only) = called_reported a b only
 
 pub item_called : (due : Option Ask) (item : Option Item) (a b : HostState) → IsItemOf due item a b
@@ -125,17 +120,7 @@ stops_after before (in_last reaches) = in_last (reaches_later before reaches)
 silent_same : {due : Option Ask} {a b : HostState} → AskAnswered due None a b → b ≡ a
 silent_same (silent nothing same) = same
 silent_same (listed said asks is same) = same
-silent_same (sent path bytes told asks is came) = cc is
-silent_same (received path packets told asks is came) = cc is
-silent_same (cleared path told asks is came) = cc is
-silent_same (sent_to path endpoint bytes told asks is came) = cc is
-silent_same (received_from path endpoint packets told asks is came) = cc is
-silent_same (polled path endpoint told asks is came) = cc is
-silent_same (cleared_of path endpoint told asks is came) = cc is
-silent_same (interface_set path interface setting told asks is came) = cc is
-silent_same (read path request told host asks is came) = cc is
-silent_same (written path write told fits asks is came) = cc is
-silent_same (looked path told asks is came) = cc is
+silent_same (called ask told asks fits of came) = absurd (call_made ask told of)
 silent_same (news told asks is all) = cc is
 
 -- one event more that made no item

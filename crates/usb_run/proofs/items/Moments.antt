@@ -23,14 +23,12 @@ use Rattle.usb_host.specs.{HostState, IsFairTo, table_in, SendTells}
 use Rattle.usb_run.specs.{Item, RunFault, Mode, IsListingOf, ListsRight, TellsRight, Reaches}
 use Rattle.usb_run.specs.{Settled, listing_of, Makes, asked, last, RunsTo, StoppedRun, behind}
 use Rattle.usb_run.specs.{on_the_way, unwritten, in_text, begun, told, IsItemOf, sent_count, Opens}
-use Rattle.usb_run.specs.{Answer, Done, Looked, Polled, Received, Sent}
 use Rattle.usb_run.specs.declared.item.Item.TheVariants.{News as ToldNews}
-use Rattle.usb_run.specs.declared.item.Task.TheVariants as task
 use Rattle.usb_run.specs.Transcript.{Transcript}
 use Rattle.usb_run.specs.Transfers.{Transfers}
-use Rattle.usb_run.proofs.AskedCalls.{AskAnswered, silent, listed, sent, received, cleared, read}
-use Rattle.usb_run.proofs.AskedCalls.{written, looked, news, answered}
-use Rattle.usb_run.proofs.AskedCalls.{sent_to, received_from, polled, cleared_of, interface_set}
+use Rattle.usb_run.specs.{CallGives, CallTells, IsOfCall}
+use Rattle.usb_run.proofs.AskedCalls.{AskAnswered, silent, listed, called, news, answered}
+use Rattle.usb_run.proofs.AskedCalls.{same_item}
 use Rattle.usb_run.proofs.courses.KnowledgeKept.{arrival_settled, item_knows, makes_options}
 use Rattle.usb_run.proofs.courses.KnowledgeKept.{reaches_knows, reaches_running, reaches_still}
 use Rattle.usb_run.proofs.courses.KnowledgeKept.{transcript_options}
@@ -108,55 +106,81 @@ item_right due made h mid k reaches is = right (answered due (Some made) mid k i
         (told_sent path mid k (reaches_knows reaches).sound (reaches_still reaches)
         (reaches_running reaches) choice bytes answer came)
 
-    right : AskAnswered due (Some made) mid k → TellsRight due made mid k
-    right (silent nothing same) = absurd (cc nothing)
-    right (listed said asks e same) =
-        let shown = reaches_asked (subst (λ d. Reaches h (Ok (Some d)) mid) asks reaches) in
-        tells (Some (Show said)) (listing_of said k) asks e (subst Settled (sym same) shown)
-    right (sent path bytes answer asks e came) = tells (Some (Send path bytes)) _ asks e
+    item_so : (ask : Ask) (x : Item) → Some made ≡ Some x → TellsRight (Some ask) x mid k
+        → TellsRight (Some ask) made mid k
+    item_so ask x of so =
+        subst (λ (i : Item). TellsRight (Some ask) i mid k) (sym (same_item of)) so
+
+    -- what came of a call
+    call_right : (ask : Ask) (answer : Result (CallGives ask) TransferFault)
+        → IsOfCall ask answer (Some made) → Transfers (CallTells ask) mid answer k
+        → TellsRight (Some ask) made mid k
+    call_right (Show said) answer of came = absurd of
+    call_right AskNews answer of came = absurd of
+    call_right (Send path bytes) answer of came =
+        item_so (Send path bytes) _ of
         (sent_right FirstBulk path bytes answer came)
-    right (received path packets answer asks e came) = tells (Some (Receive path packets)) _ asks e
+    call_right (Receive path packets) answer of came =
+        item_so (Receive path packets) _ of
         (told_received path mid k (reaches_knows reaches).sound (reaches_still reaches)
         (reaches_running reaches) FirstBulk packets answer came)
-    right (cleared path answer asks e came) = tells (Some (Clear path)) _ asks e
+    call_right (Clear path) answer of came =
+        item_so (Clear path) _ of
         (told_cleared path mid k (reaches_knows reaches).sound (reaches_still reaches)
         (reaches_running reaches) answer came)
-    right (sent_to path endpoint bytes answer asks e came) =
-        tells (Some (SendTo path endpoint bytes)) _ asks e
+    call_right (SendTo path endpoint bytes) answer of came =
+        item_so (SendTo path endpoint bytes) _ of
         (sent_right (At endpoint) path bytes answer came)
-    right (received_from path endpoint packets answer asks e came) =
-        tells (Some (ReceiveFrom path endpoint packets)) _ asks e
+    call_right (ReceiveFrom path endpoint packets) answer of came =
+        item_so (ReceiveFrom path endpoint packets) _ of
         (told_received path mid k (reaches_knows reaches).sound (reaches_still reaches)
         (reaches_running reaches) (At endpoint) packets answer came)
-    right (polled path endpoint answer asks e came) = tells (Some (Poll path endpoint)) _ asks e
+    call_right (Poll path endpoint) answer of came =
+        item_so (Poll path endpoint) _ of
         (told_reported path mid k (reaches_knows reaches).sound (reaches_still reaches)
         (reaches_running reaches) endpoint answer came)
-    right (cleared_of path endpoint answer asks e came) =
-        tells (Some (ClearOf path endpoint)) _ asks e
+    call_right (ClearOf path endpoint) answer of came =
+        item_so (ClearOf path endpoint) _ of
         (told_cleared_of path mid k (reaches_knows reaches).sound (reaches_still reaches)
         (reaches_running reaches) endpoint answer came)
-    right (interface_set path interface setting answer asks e came) =
-        tells (Some (SetInterface path interface setting)) _ asks e
+    call_right (SetInterface path interface setting) answer of came =
+        item_so (SetInterface path interface setting) _ of
         (told_interface path mid k (reaches_knows reaches).sound (reaches_still reaches)
         (reaches_running reaches) interface setting answer came)
-    right (read path request answer host asks e came) =
-        tells (Some (ControlIn path request)) _ asks e
+    call_right (ControlIn path request) answer of came =
+        item_so (ControlIn path request) _ of
         (told_read path mid k (reaches_knows reaches).sound (reaches_still reaches)
         (reaches_running reaches) request answer came)
-    right (written path write answer fits asks e came) =
-        tells (Some (ControlOut path write)) _ asks e (
+    call_right (ControlOut path write) answer of came =
+        item_so (ControlOut path write) _ of (
           answer,
           refl,
           told_written path mid k (reaches_knows reaches).sound (reaches_still reaches)
               (reaches_running reaches) write answer came,
         )
-    right (looked path answer asks e came) = tells (Some (LookAt path)) _ asks e
+    call_right (LookAt path) answer of came =
+        item_so (LookAt path) _ of
         (told_look path mid k (reaches_knows reaches).sound (reaches_still reaches)
         (reaches_running reaches) answer came
         (item_knows due (Some made) mid k is (reaches_knows reaches)))
+
+    right : AskAnswered due (Some made) mid k → TellsRight due made mid k
+    right (silent nothing same) = absurd (cc nothing)
+    right (listed said asks e same) =
+        let shown = reaches_asked (subst (λ d. Reaches h (Ok (Some d)) mid) asks reaches) in
+        tells (Some (Show said)) (listing_of said k) asks e (subst Settled (sym same) shown)
+    right (called ask answer asks fits of came) =
+        subst (λ d. TellsRight d made mid k) (sym asks) (call_right ask answer of came)
     right (news answer asks e all) = tells (Some AskNews) _ asks e all
 
 -- Each listing is what is plugged
+
+-- what came of a call is no listing
+call_unlisted : (plan : PlanData) (ask : Ask) (answer : Result (CallGives ask) TransferFault)
+    (made : Item) → IsOfCall ask answer (Some made) → IsListingOf plan made
+call_unlisted plan (Show said) answer made of = absurd of
+call_unlisted plan AskNews answer made of = absurd of
+call_unlisted plan _ answer made of = subst (IsListingOf plan) (sym (same_item of)) tt
 
 module _ (plan : PlanData) (rules : IsPlan plan) (paths : AtPorts plan.events) (end : World)
     (two : AtMostTwoRunning plan.damages) (few : FewLosses end) where
@@ -184,42 +208,8 @@ module _ (plan : PlanData) (rules : IsPlan plan) (paths : AtPorts plan.events) (
       let settled = subst (λ d. TellsRight d made mid k) asks right in
       let works = ap (λ (h : HostState). h.world.fault) same ∙ still in
       subst (IsListingOf plan) (sym is) (listing_right said k kept before works on settled)
-  due_right made mid k kept before still on (sent path bytes answer asks e came) right =
-      let is : made ≡ Answer path (task.Send FirstBulk) (Sent (sent_count (length bytes) answer)) = cc e in
-      subst (IsListingOf plan) (sym is) tt
-  due_right made mid k kept before still on (received path packets answer asks e came) right =
-      let is : made ≡ Answer path (task.Receive FirstBulk) (Received answer) = cc e in
-      subst (IsListingOf plan) (sym is) tt
-  due_right made mid k kept before still on (cleared path answer asks e came) right =
-      let is : made ≡ Answer path task.Clear (Done answer) = cc e in
-      subst (IsListingOf plan) (sym is) tt
-  due_right made mid k kept before still on (sent_to path endpoint bytes answer asks e came) right =
-      let is : made ≡ Answer path (task.Send (At endpoint)) (Sent (sent_count (length bytes) answer)) = cc e in
-      subst (IsListingOf plan) (sym is) tt
-  due_right made mid k kept before still on (received_from path endpoint packets answer asks e came)
-      right =
-      let is : made ≡ Answer path (task.Receive (At endpoint)) (Received answer) = cc e in
-      subst (IsListingOf plan) (sym is) tt
-  due_right made mid k kept before still on (polled path endpoint answer asks e came) right =
-      let is : made ≡ Answer path (task.Poll endpoint) (Polled answer) = cc e in
-      subst (IsListingOf plan) (sym is) tt
-  due_right made mid k kept before still on (cleared_of path endpoint answer asks e came) right =
-      let is : made ≡ Answer path (task.ClearOf endpoint) (Done answer) = cc e in
-      subst (IsListingOf plan) (sym is) tt
-  due_right made mid k kept before still on
-      (interface_set path interface setting answer asks e came)
-      right =
-      let is : made ≡ Answer path (task.SetInterface interface setting) (Done answer) = cc e in
-      subst (IsListingOf plan) (sym is) tt
-  due_right made mid k kept before still on (read path request answer host asks e came) right =
-      let is : made ≡ Answer path task.ControlIn (Received answer) = cc e in
-      subst (IsListingOf plan) (sym is) tt
-  due_right made mid k kept before still on (written path write answer fits asks e came) right =
-      let is : made ≡ Answer path task.ControlOut (Sent (sent_count (length write.bytes) answer)) = cc e in
-      subst (IsListingOf plan) (sym is) tt
-  due_right made mid k kept before still on (looked path answer asks e came) right =
-      let is : made ≡ Answer path task.Look (Looked answer) = cc e in
-      subst (IsListingOf plan) (sym is) tt
+  due_right made mid k kept before still on (called ask answer asks fits of came) right =
+      call_unlisted plan ask answer made of
   due_right made mid k kept before still on (news answer asks e all) right =
       let is : made ≡ ToldNews answer = cc e in
       subst (IsListingOf plan) (sym is) tt

@@ -5,7 +5,8 @@ use Rattle.std.proofs.Common.{Err}
 use Rattle.std.specs.List.{sum_by}
 use Rattle.std.proofs.lemmas.List.Sums.{sum_by-cons}
 use Rattle.usb_world.specs.{Action, Send, Receive, Clear, ControlIn, ControlOut, Look as LookAt}
-use Rattle.usb_world.specs.{SendTo, ReceiveFrom, Poll, ClearOf, SetInterface}
+use Rattle.usb_world.specs.{SendTo, ReceiveFrom, Poll, ClearOf, SetInterface, Show}
+use Rattle.usb_world.specs.{News as AskNews}
 use Rattle.usb_world.specs.{Event, BusFault, PlanData, IsPlan}
 use Rattle.usb_world.specs.{AtPorts, AnyStep, Course, after, ask_of, event, event_taken, opening}
 use Rattle.usb_world.specs.{after_event, after_first_event, World, to_come}
@@ -26,13 +27,10 @@ use Rattle.usb_host.specs.{look_weight, stray_weight, HasPlugs, plug_events, Hos
 use Rattle.usb_host.specs.{opening_host as host_opening, HostInvariant, RoundTells, TransferTells}
 use Rattle.usb_host.proofs.Interface.{plugs_opening, plugs_same}
 use Rattle.usb_plan.specs.{is_look, is_look_at, moved, moved_in}
-use Rattle.usb_run.specs.{Item, RunFault, Comes, Opens, IsItemOf, StopsAt}
-use Rattle.usb_run.proofs.AskedCalls.{AskAnswered, silent, listed, sent, received, cleared, read}
-use Rattle.usb_run.proofs.AskedCalls.{written, looked, news, answered, Calls, no_call, sends}
-use Rattle.usb_run.proofs.AskedCalls.{receives, clears, reads, writes, looks, tells_news}
-use Rattle.usb_run.proofs.AskedCalls.{sent_to, received_from, polled, cleared_of, interface_set}
-use Rattle.usb_run.proofs.AskedCalls.{sends_to, receives_from, polls, clears_of, sets_interface}
-use Rattle.usb_run.proofs.AskedCalls.{stop_calls, all_reported}
+use Rattle.usb_run.specs.{Item, RunFault, CallGives, CallTells, Comes, Opens, IsItemOf, StopsAt}
+use Rattle.usb_run.proofs.AskedCalls.{AskAnswered, silent, listed, called, news, answered}
+use Rattle.usb_run.proofs.AskedCalls.{Calls, no_call, calls, tells_news}
+use Rattle.usb_run.proofs.AskedCalls.{all_reported, stop_calls}
 use Rattle.usb_run.proofs.endings.Ends.{answered_goes}
 use Rattle.usb_run.proofs.ledgers.EventsLeft.{sum_left, at_ports-course}
 use Rattle.usb_run.proofs.courses.KnowledgeKept.{arrival_sound}
@@ -105,16 +103,6 @@ room_paid : (c : Weights) (plan : PlanData) (a : Action)
     → room_of c plan (ask_of a)
     ≤ beside c + (1000 * moved_in a + look_weight c * length plan.events * cond (is_look_at a) 1 0)
 unfolding ask_of
-room_paid c plan (action.Ask (Send path bytes)) = omega arith
-room_paid c plan (action.Ask (Receive path packets)) = omega arith
-room_paid c plan (action.Ask (Clear path)) = omega arith
-room_paid c plan (action.Ask (SendTo path endpoint bytes)) = omega arith
-room_paid c plan (action.Ask (ReceiveFrom path endpoint packets)) = omega arith
-room_paid c plan (action.Ask (Poll path endpoint)) = omega arith
-room_paid c plan (action.Ask (ClearOf path endpoint)) = omega arith
-room_paid c plan (action.Ask (SetInterface path interface setting)) = omega arith
-room_paid c plan (action.Ask (ControlIn path request)) = omega arith
-room_paid c plan (action.Ask (ControlOut path write)) = omega arith
 room_paid c plan (action.Ask (LookAt path)) = omega arith
 room_paid c plan _ = omega arith
 
@@ -437,36 +425,29 @@ module _ (c : Weights) (plan : PlanData) where
       → Paid c plan (c.polls + room_of c plan asked) a
   asked_paid a asks x = subst (λ d. Paid c plan (c.polls + room_of c plan d) a) asks x
 
+  call_paid : (ask : Ask) (a b : HostState) (result : Result (CallGives ask) HostFault)
+      → Paid c plan (c.polls + room_of c plan (Some ask)) a → CallTells ask a result b
+      → is_final result ≡ false → Paid c plan c.polls b
+  call_paid (Show said) a b result x tells goes = absurd tells
+  call_paid AskNews a b result x tells goes = absurd tells
+  call_paid (LookAt path) a b result x tells goes = look_paid a b path result x tells goes
+  call_paid ask a b result x tells goes =
+      transfer_paid (room_of c plan (Some ask)) a b result x tells
+
+  call_few : (ask : Ask) (a b : HostState) (result : Result (CallGives ask) HostFault)
+      → Paid c plan (c.polls + room_of c plan (Some ask)) a → CallTells ask a result b → Few all b
+  call_few (Show said) a b result x tells = absurd tells
+  call_few AskNews a b result x tells = absurd tells
+  call_few (LookAt path) a b result x tells = look_few a b path result x tells
+  call_few ask a b result x tells = transfer_few (room_of c plan (Some ask)) a b result x tells
+
   asked_calls : (a b : HostState) {due : Option Ask} {item : Option Item}
       → Paid c plan (c.polls + room_of c plan due) a → AskAnswered due item a b
       → Paid c plan c.polls b
   asked_calls a b {due} x (silent nothing same) = same_paid a b (room_of c plan due) same x
   asked_calls a b {due} x (listed said asks is same) = same_paid a b (room_of c plan due) same x
-  asked_calls a b x (sent path bytes told asks is came) =
-      transfer_paid (transaction_bound * length bytes) a b came.answer (asked_paid a asks x)
-      came.call
-  asked_calls a b x (received path packets told asks is came) =
-      transfer_paid (transaction_bound * packets) a b came.answer (asked_paid a asks x) came.call
-  asked_calls a b x (cleared path told asks is came) =
-      transfer_paid clear_bound a b came.answer (asked_paid a asks x) came.call
-  asked_calls a b x (sent_to path endpoint bytes told asks is came) =
-      transfer_paid (transaction_bound * length bytes) a b came.answer (asked_paid a asks x)
-      came.call
-  asked_calls a b x (received_from path endpoint packets told asks is came) =
-      transfer_paid (transaction_bound * packets) a b came.answer (asked_paid a asks x) came.call
-  asked_calls a b x (polled path endpoint told asks is came) =
-      transfer_paid transaction_bound a b came.answer (asked_paid a asks x) came.call
-  asked_calls a b x (cleared_of path endpoint told asks is came) =
-      transfer_paid write_bound a b came.answer (asked_paid a asks x) came.call
-  asked_calls a b x (interface_set path interface setting told asks is came) =
-      transfer_paid write_bound a b came.answer (asked_paid a asks x) came.call
-  asked_calls a b x (read path request told host asks is came) =
-      transfer_paid (control_most request.length) a b came.answer (asked_paid a asks x) came.call
-  asked_calls a b x (written path write told fits asks is came) =
-      transfer_paid (control_most write.setup.length) a b came.answer (asked_paid a asks x)
-      came.call
-  asked_calls a b x (looked path told asks is came) =
-      look_paid a b path came.answer (asked_paid a asks x) came.call
+  asked_calls a b x (called ask told asks fits of came) =
+      call_paid ask a b came.answer (asked_paid a asks x) came.call
       (answered_goes came.answer told came.tells)
   asked_calls a b {due} x (news told asks is all) =
       let only = all_reported a b told.items all in
@@ -476,28 +457,8 @@ module _ (c : Weights) (plan : PlanData) where
   calls_few : (a b : HostState) (due : Option Ask) → Paid c plan (c.polls + room_of c plan due) a
       → Calls due a b → Few all b
   calls_few a b due x (no_call same) = subst (Few all) (sym same) x.few
-  calls_few a b due x (sends path bytes result asks tells) =
-      transfer_few (transaction_bound * length bytes) a b result (asked_paid a asks x) tells
-  calls_few a b due x (receives path packets result asks tells) =
-      transfer_few (transaction_bound * packets) a b result (asked_paid a asks x) tells
-  calls_few a b due x (clears path result asks tells) =
-      transfer_few clear_bound a b result (asked_paid a asks x) tells
-  calls_few a b due x (sends_to path endpoint bytes result asks tells) =
-      transfer_few (transaction_bound * length bytes) a b result (asked_paid a asks x) tells
-  calls_few a b due x (receives_from path endpoint packets result asks tells) =
-      transfer_few (transaction_bound * packets) a b result (asked_paid a asks x) tells
-  calls_few a b due x (polls path endpoint result asks tells) =
-      transfer_few transaction_bound a b result (asked_paid a asks x) tells
-  calls_few a b due x (clears_of path endpoint result asks tells) =
-      transfer_few write_bound a b result (asked_paid a asks x) tells
-  calls_few a b due x (sets_interface path interface setting result asks tells) =
-      transfer_few write_bound a b result (asked_paid a asks x) tells
-  calls_few a b due x (reads path request result asks tells) =
-      transfer_few (control_most request.length) a b result (asked_paid a asks x) tells
-  calls_few a b due x (writes path write result asks tells) =
-      transfer_few (control_most write.setup.length) a b result (asked_paid a asks x) tells
-  calls_few a b due x (looks path result asks tells) =
-      look_few a b path result (asked_paid a asks x) tells
+  calls_few a b due x (calls ask result asks tells) =
+      call_few ask a b result (asked_paid a asks x) tells
   calls_few a b due x (tells_news asks only) = subst (Few all) (sym only.1) x.few
 
   item_paid : (a b : HostState) (due : Option Ask) (item : Option Item)
