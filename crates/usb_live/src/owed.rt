@@ -76,7 +76,11 @@ fn owed_for(answer: &Answer) -> Owed
             path,
             interface,
             setting,
-        } => answer_to(path, Task::SetInterface(*interface, *setting), EndOwed::Done),
+        } => answer_to(
+            path,
+            Task::SetInterface(*interface, *setting),
+            EndOwed::Done,
+        ),
         Answer::ControlIn { path, request } => {
             let end = EndOwed::ReceivedWithin(request.setup().length);
             answer_to(path, Task::ControlIn, end)

@@ -7,9 +7,7 @@ use crate::transfer::{clear_of, poll, read, receive_from, send_to, set_interface
 use std::alloc::Global;
 use usb_bus::Bus;
 use usb_host::Host;
-use usb_run::{
-    EndpointChoice, Item, RunFault, Task, TaskEnd, all_news, answered, counted,
-};
+use usb_run::{EndpointChoice, Item, RunFault, Task, TaskEnd, all_news, answered, counted};
 use usb_text::Said;
 use usb_wire::Answer;
 

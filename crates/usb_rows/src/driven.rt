@@ -161,14 +161,16 @@ fn made(alloc: Global, ask: Ask, end: &End<'_>) -> Result<Item, DriverFault> {
             let task = Task::Receive(EndpointChoice::At(endpoint));
             (path, task, end.received(alloc)?)
         }
-        Ask::Poll(path, endpoint) => {
-            (path, Task::Poll(endpoint), TaskEnd::Polled(end.packet()))
-        }
+        Ask::Poll(path, endpoint) => { (path, Task::Poll(endpoint), TaskEnd::Polled(end.packet())) }
         Ask::ClearOf(path, endpoint) => {
             (path, Task::ClearOf(endpoint), TaskEnd::Done(end.done()))
         }
         Ask::SetInterface(path, interface, setting) => {
-            (path, Task::SetInterface(interface, setting), TaskEnd::Done(end.done()))
+            (
+                path,
+                Task::SetInterface(interface, setting),
+                TaskEnd::Done(end.done()),
+            )
         }
         Ask::ControlIn(path, _) => (path, Task::ControlIn, end.received(alloc)?),
         Ask::ControlOut(path, request) => {

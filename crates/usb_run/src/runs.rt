@@ -438,7 +438,11 @@ fn item_of<T: Trace>(
 }
 
 /// What the host has found, how many events had come, and if that is to be told, what refused devices said.
-pub(crate) fn listing<T: Trace>(alloc: Global, host: &Host<SimBus<T>>, told: bool) -> Result<Item, RunFault>
+pub(crate) fn listing<T: Trace>(
+    alloc: Global,
+    host: &Host<SimBus<T>>,
+    told: bool,
+) -> Result<Item, RunFault>
     ensures item { IfOk result (λ item. item ≡ listing_of told host.now) }
     ensures fault { IfErr result (λ fault. fault ≡ RunFault.Memory) }
 {

@@ -902,10 +902,10 @@ module _ (path : List ℕ) (device : Accepted) (old new : HostState)
           moves_as (called ask told asks fits of came) = elim (call_moves ask told fits of came) [
             | inl moves ↦ inl (subst (λ d. MovesAt path device d made old new) (sym asks) moves)
             | inr finds ↦ inr (record {
-                to = finds.to;
-                asks = asks ∙ finds.asks;
-                renewed = finds.renewed;
-              })
+              to = finds.to;
+              asks = asks ∙ finds.asks;
+              renewed = finds.renewed;
+            })
           ]
           moves_as (news told asks e all) =
               let only = all_reported old new told.items all in

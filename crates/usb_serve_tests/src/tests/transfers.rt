@@ -7,9 +7,7 @@ use std::str;
 use std::test::Fail;
 use usb_bus::Watched;
 use usb_plan::read_plan;
-use usb_run::{
-    EndpointAddress, EndpointChoice, Item, Mode, Task, TaskEnd, TransferFault, run,
-};
+use usb_run::{EndpointAddress, EndpointChoice, Item, Mode, Task, TaskEnd, TransferFault, run};
 use usb_serve::serve;
 
 /// The limit and the root ports of each plan.
@@ -313,10 +311,7 @@ fn choice_text(alloc: Global, choice: EndpointChoice) -> Result<String, AllocErr
 }
 
 /// The word of a task, and what is named behind the path; None if it goes through no pipe.
-fn task_text(
-    alloc: Global,
-    task: Task,
-) -> Result<Option<(&'static str, String)>, AllocError> {
+fn task_text(alloc: Global, task: Task) -> Result<Option<(&'static str, String)>, AllocError> {
     Ok(match task {
         Task::Send(choice) => Some(("send", choice_text(alloc, choice)?)),
         Task::Receive(choice) => Some(("receive", choice_text(alloc, choice)?)),
