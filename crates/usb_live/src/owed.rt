@@ -1,14 +1,15 @@
 //! What is requested, and was not reported yet.
-ghost use Rattle.std.specs.Prelude.{◌≡◌, Ok};
+ghost use Rattle.std.specs.Prelude.{◌≡◌, Ok, length};
 ghost use Rattle.usb_run.specs.declared.item.Task.{Task};
 ghost use Rattle.usb_live.specs.declared.owed.EndOwed.{EndOwed};
 ghost use Rattle.usb_live.specs.declared.owed.Owed.{Owed};
 ghost use Rattle.usb_live.specs.Course.{fits, is_count, is_nothing, is_within, owed_by, same_choice, same_task, settles};
 
 use usb_port::PortPath;
+use usb_request::ReadRequest;
 use usb_run::{EndpointChoice, Item, Task, TaskEnd, TransferFault};
 use usb_stream::LiveFault;
-use usb_wire::Answer;
+use usb_wire::{Answer, ControlWrite};
 
 /// What is requested, and was not reported yet.
 #[derive(Debug, Drop)]
@@ -81,14 +82,8 @@ fn owed_for(answer: &Answer) -> Owed
             Task::SetInterface(*interface, *setting),
             EndOwed::Done,
         ),
-        Answer::ControlIn { path, request } => {
-            let end = EndOwed::ReceivedWithin(request.setup().length);
-            answer_to(path, Task::ControlIn, end)
-        }
-        Answer::ControlOut { path, request } => {
-            let end = EndOwed::Sent(request.bytes().len() as u64);
-            answer_to(path, Task::ControlOut, end)
-        }
+        Answer::ControlIn { path, request } => reads(path, request),
+        Answer::ControlOut { path, request } => writes(path, request),
         Answer::Look(path) => answer_to(path, Task::Look, EndOwed::Looked),
         _ => Owed::Nothing,
     }
@@ -106,6 +101,30 @@ fn receives(path: &PortPath, choice: EndpointChoice) -> Owed
     ensures { result ≡ Owed.Answer path.now (Task.Receive choice) EndOwed.Received }
 {
     answer_to(path, Task::Receive(choice), EndOwed::Received)
+}
+
+/// What is owed after a request to read from endpoint 0.
+fn reads(path: &PortPath, request: &ReadRequest) -> Owed
+    ensures { result ≡ Owed.Answer path.now Task.ControlIn
+        (EndOwed.ReceivedWithin request.now.length) }
+{
+    answer_to(
+        path,
+        Task::ControlIn,
+        EndOwed::ReceivedWithin(request.setup().length),
+    )
+}
+
+/// What is owed after a request to write to endpoint 0.
+fn writes(path: &PortPath, request: &ControlWrite) -> Owed
+    ensures { result ≡ Owed.Answer path.now Task.ControlOut
+        (EndOwed.Sent (length request.now.bytes)) }
+{
+    answer_to(
+        path,
+        Task::ControlOut,
+        EndOwed::Sent(request.bytes().len() as u64),
+    )
 }
 
 /// How a task at a path ended is owed.
