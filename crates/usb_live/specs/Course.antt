@@ -89,7 +89,7 @@ same_task (task.SetInterface interface setting) (task.SetInterface number chosen
 same_task task.ControlIn task.ControlIn = true
 same_task task.ControlOut task.ControlOut = true
 same_task task.Look task.Look = true
-same_task asked other = false
+same_task t other = false
 
 -- a task ended with what it is to end with. If it did not fail, a send or a write moved all bytes,
 -- and a read at most those asked for
@@ -106,8 +106,8 @@ fits o other = false
 abbrev pub settles : Owed → Item → Bool
 settles owed.Listing (Listing entries taken said) = true
 settles owed.News (item.News news) = true
-settles (owed.Answer path asked o) (item.Answer at done came) =
-    bytes_eq path at && same_task asked done && fits o came
+settles (owed.Answer path t o) (item.Answer at u end) =
+    bytes_eq path at && same_task t u && fits o end
 settles other item = false
 
 -- what is owed still, behind an item that was told, or a front of it

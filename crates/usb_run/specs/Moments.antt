@@ -128,7 +128,7 @@ abbrev pub IsListingOf : PlanData → Item → Type 0
 IsListingOf plan (Listing tree taken said) =
     Lists (usual_options plan.wide) plan.roots (tree_after plan taken) tree
 IsListingOf plan (ToldNews news) = ⊤
-IsListingOf plan (Answer path task end) = ⊤
+IsListingOf plan (Answer path t end) = ⊤
 
 -- each listing of a run is right, whether it stopped at a fault or not, where no three attempts
 -- running are damaged and no address was lost three times up to its last world; and there is a

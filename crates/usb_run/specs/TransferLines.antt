@@ -110,8 +110,7 @@ place_text task.Look = []
 
 -- the word of a task, its path, the place there, and how it ended
 unfoldable pub answer_line : List ℕ → Task → TaskEnd → List ℕ
-answer_line path task end =
-    task_word task ++ path_text path ++ place_text task ++ end_text end
+answer_line path t end = task_word t ++ path_text path ++ place_text t ++ end_text end
 
 -- left PATH, or arrived PATH
 abbrev pub one_news_line : News → List ℕ

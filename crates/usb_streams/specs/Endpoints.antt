@@ -98,11 +98,11 @@ ArePackets end _ packets = packets ≡ []
 abbrev pub is_done : Item → Bool
 is_done (Listing tree taken said) = true
 is_done (News news) = true
-is_done (Answer path asked (Sent told)) = is_ok told
-is_done (Answer path asked (Received told)) = is_ok told
-is_done (Answer path asked (Done told)) = is_ok told
-is_done (Answer path asked (Polled told)) = is_ok told
-is_done (Answer path asked (Looked told)) = is_ok told
+is_done (Answer path t (Sent told)) = is_ok told
+is_done (Answer path t (Received told)) = is_ok told
+is_done (Answer path t (Done told)) = is_ok told
+is_done (Answer path t (Polled told)) = is_ok told
+is_done (Answer path t (Looked told)) = is_ok told
 
 -- the bytes of the sends to an OUT endpoint that are told done, end to end
 unfoldable pub sent_to : Endpoint → List ToldItem → List ℕ

@@ -227,19 +227,19 @@ reported_stays a b only = subst (KeepsInvariant a) (sym only.1) (record {
   caused = λ s fair causes. causes;
 })
 
-call_stays : (ask : Ask) {a b : HostState} {result : Result (CallGives ask) HostFault}
+call_stays : (ask : Ask) {a b : HostState} (result : Result (CallGives ask) HostFault)
     → CallTells ask a result b → is_final result ≡ false → KeepsInvariant a b
-call_stays (Show said) tells goes = absurd tells
-call_stays AskNews tells goes = absurd tells
-call_stays (LookAt path) tells goes = (tells.keeps.sound goes).sound
-call_stays _ tells goes = transfer_keeps_sound tells
+call_stays (Show said) result tells goes = absurd tells
+call_stays AskNews result tells goes = absurd tells
+call_stays (LookAt path) result tells goes = (tells.keeps.sound goes).sound
+call_stays _ result tells goes = transfer_keeps_sound tells
 
 answers_stay : {due : Option Ask} {item : Option Item} {a b : HostState}
     → AskAnswered due item a b → KeepsInvariant a b
 answers_stay {a = a} (no_item nothing same) = subst (KeepsInvariant a) (sym same) (sound_none a)
 answers_stay {a = a} (listed said asks is same) = subst (KeepsInvariant a) (sym same) (sound_none a)
 answers_stay (called ask told asks fits of came) =
-    call_stays ask came.call (answered_goes came.answer told came.tells)
+    call_stays ask came.answer came.call (answered_goes came.answer told came.tells)
 answers_stay {a = a} {b = b} (news told asks is all) =
     reported_stays a b (all_reported a b told.items all)
 

@@ -70,16 +70,16 @@ transfer_called : {A : Type 0} {most : ℕ} {Did : HostState → Result A HostFa
     → Called a b
 transfer_called {A} {most} tells = record { most = most; went = tells.went }
 
-call_called : (ask : Ask) {a b : HostState} {result : Result (CallGives ask) HostFault}
+call_called : (ask : Ask) {a b : HostState} (result : Result (CallGives ask) HostFault)
     → CallTells ask a result b → Called a b
-call_called (Show said) tells = absurd tells
-call_called AskNews tells = absurd tells
-call_called (LookAt path) tells = record { most = handling_bound; went = tells.went }
-call_called _ tells = transfer_called tells
+call_called (Show said) result tells = absurd tells
+call_called AskNews result tells = absurd tells
+call_called (LookAt path) result tells = record { most = handling_bound; went = tells.went }
+call_called _ result tells = transfer_called tells
 
 calls_called : {due : Option Ask} {a b : HostState} → Calls due a b → Called a b
 calls_called {a = a} {b = b} (no_call same) = called_same a b same
-calls_called (calls ask result asks tells) = call_called ask tells
+calls_called (calls ask result asks tells) = call_called ask result tells
 calls_called {a = a} {b = b} (tells_news asks only) = called_reported a b only
 
 pub item_called : (due : Option Ask) (item : Option Item) (a b : HostState) → IsItemOf due item a b
