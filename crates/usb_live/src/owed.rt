@@ -149,19 +149,19 @@ pub(crate) fn settles(owed: &Owed, item: &Item) -> bool
         (Owed::Listing, Item::Listing(_, _, _)) => true,
         (Owed::News, Item::News(_)) => true,
         (Owed::Answer(path, task, owed), Item::Answer(at, done, end)) => {
-            path.numbers() == at.numbers() && same_task(*task, *done) && fits(*owed, end)
+            path.numbers() == at.numbers() && same_task(task, done) && fits(owed, end)
         }
         _ => false,
     }
 }
 
 /// Whether these are the same task.
-fn same_task(task: Task, done: Task) -> bool
-    ensures { result ≡ same_task task done }
+fn same_task(task: &Task, done: &Task) -> bool
+    ensures { result ≡ same_task task.now done.now }
 {
     match (task, done) {
-        (Task::Send(choice), Task::Send(used)) => same_choice(choice, used),
-        (Task::Receive(choice), Task::Receive(used)) => same_choice(choice, used),
+        (Task::Send(choice), Task::Send(used)) => same_choice(*choice, *used),
+        (Task::Receive(choice), Task::Receive(used)) => same_choice(*choice, *used),
         (Task::ClearOf(endpoint), Task::ClearOf(named)) => endpoint.get() == named.get(),
         (Task::Poll(endpoint), Task::Poll(named)) => endpoint.get() == named.get(),
         (Task::SetInterface(interface, setting), Task::SetInterface(number, chosen)) => {
@@ -187,13 +187,13 @@ fn same_choice(choice: EndpointChoice, used: EndpointChoice) -> bool
 }
 
 /// Whether a task ended as it is to end.
-fn fits(owed: EndOwed, end: &TaskEnd) -> bool
-    ensures { result ≡ fits owed end.now }
+fn fits(owed: &EndOwed, end: &TaskEnd) -> bool
+    ensures { result ≡ fits owed.now end.now }
 {
     match (owed, end) {
-        (EndOwed::Sent(count), TaskEnd::Sent(sent)) => is_count(count, sent),
+        (EndOwed::Sent(count), TaskEnd::Sent(sent)) => is_count(*count, sent),
         (EndOwed::Received, TaskEnd::Received(_)) => true,
-        (EndOwed::ReceivedWithin(most), TaskEnd::Received(read)) => is_within(most, read),
+        (EndOwed::ReceivedWithin(most), TaskEnd::Received(read)) => is_within(*most, read),
         (EndOwed::Done, TaskEnd::Done(_)) => true,
         (EndOwed::Polled, TaskEnd::Polled(_)) => true,
         (EndOwed::Looked, TaskEnd::Looked(_)) => true,

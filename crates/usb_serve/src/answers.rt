@@ -19,10 +19,10 @@ use usb_text::{Lines, push_cause, push_decimal, push_hex, push_path};
 pub fn answer_line(
     alloc: Global,
     path: &PortPath,
-    task: Task,
+    task: &Task,
     end: &TaskEnd,
 ) -> Result<Vec<u8>, AllocError>
-    ensures { IfOk result (λ line. line.items ≡ answer_line path.now task end.now) }
+    ensures { IfOk result (λ line. line.items ≡ answer_line path.now task.now end.now) }
 {
     let mut line = Vec::new(alloc);
     line.extend_from_slice(task_word(task).as_bytes())?;
@@ -33,8 +33,8 @@ pub fn answer_line(
 }
 
 /// The word of a task, and a blank.
-fn task_word(task: Task) -> &'static str
-    ensures { result.now ≡ task_word task }
+fn task_word(task: &Task) -> &'static str
+    ensures { result.now ≡ task_word task.now }
 {
     match task {
         Task::Send(_) => "send ",
@@ -49,13 +49,13 @@ fn task_word(task: Task) -> &'static str
 
 /// Adds what is named behind the path: an endpoint, an interface with its setting, or the direction
 /// of a control transfer.
-fn push_place(line: &mut Vec<u8>, task: Task) -> Result<(), AllocError>
-    ensures { OnOk result (line.new.items ≡ line.old.items ++ place_text task) }
+fn push_place(line: &mut Vec<u8>, task: &Task) -> Result<(), AllocError>
+    ensures { OnOk result (line.new.items ≡ line.old.items ++ place_text task.now) }
 {
     match task {
-        Task::Send(choice) | Task::Receive(choice) => push_choice(line, choice),
-        Task::ClearOf(endpoint) | Task::Poll(endpoint) => push_endpoint(line, endpoint),
-        Task::SetInterface(interface, setting) => push_setting(line, interface, setting),
+        Task::Send(choice) | Task::Receive(choice) => push_choice(line, *choice),
+        Task::ClearOf(endpoint) | Task::Poll(endpoint) => push_endpoint(line, *endpoint),
+        Task::SetInterface(interface, setting) => push_setting(line, *interface, *setting),
         Task::ControlIn => line.extend_from_slice(b" in"),
         Task::ControlOut => line.extend_from_slice(b" out"),
         Task::Clear | Task::Look => Ok(()),

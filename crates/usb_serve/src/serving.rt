@@ -288,7 +288,7 @@ pub fn item_lines(alloc: Global, number: u64, item: &Item) -> Result<Lines, Allo
     match item {
         Item::Listing(tree, _, said) => listing_lines(alloc, number, tree.entries(), said),
         Item::News(news) => news_lines(alloc, news.as_slice()),
-        Item::Answer(path, task, end) => one_line(alloc, answer_line(alloc, path, *task, end)?),
+        Item::Answer(path, task, end) => one_line(alloc, answer_line(alloc, path, task, end)?),
     }
 }
 
