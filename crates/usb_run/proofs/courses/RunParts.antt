@@ -156,7 +156,7 @@ pub spent_then : (a b c : HostState) → Spent a b → Spent b c → Spent a c
 spent_then a b c (m, s) (n, t) = (m + n, spends_then m n a.world b.world c.world s t)
 
 pub called_spent : {a b : HostState} → Called a b → Spent a b
-called_spent calls = (calls.most, calls.went.spends)
+called_spent is = (is.most, is.went.spends)
 
 pub does_spent : (due : Option Ask) (a b : HostState) (result : Result (Option Item) RunFault)
     → Does due a result b → Spent a b

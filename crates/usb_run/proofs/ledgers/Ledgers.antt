@@ -71,11 +71,11 @@ pub record Paid (c : Weights) (plan : PlanData) (room : ℕ) (h : HostState) : T
 
 few_called : {a b : HostState} (most : ℕ) → Called a b → Few most a
     → (a.world.fault ≡ None → Few most b) → Few most b
-few_called {a} {b} most calls few working = split a.world.fault refl
+few_called {a} {b} most is few working = split a.world.fault refl
   where
     split : (f : Option BusFault) → a.world.fault ≡ f → Few most b
     split None e = working e
-    split (Some fault) e = subst (λ n. n ≤ most) (sym (traced_faulted calls.went.traced fault e).0)
+    split (Some fault) e = subst (λ n. n ≤ most) (sym (traced_faulted is.went.traced fault e).0)
         few
 
 -- What an event pays
