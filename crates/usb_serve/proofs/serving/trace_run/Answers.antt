@@ -95,62 +95,6 @@ items-preserved-in_ok-put_lines-4 g c = λ knows.
     c.number_of-number.ensures next (c.in_ok-item.ensures.fewer (ap is_some c.in-Some.is))
     (c.as_slice-in-Some.ensures ∙ c.in_ok-item_lines.ensures) c.in_ok-put_lines.ensures.prints.done)
 
-pub items-preserved-in_ok-put_lines-5 : goal.items-preserved-in_ok-put_lines-5
-items-preserved-in_ok-put_lines-5 g c = λ knows.
-    let so_far = c.items.invariant knows in
-    let on = c.next_item.new.self.over in
-    let k = c.next_item.new.self.host in
-    let next = subst (λ x. Next c.items.runner.over c.items.runner.host (Ok x) on k) c.in-Some.is
-    (c.in_ok-item.ensures.next so_far.knows) in
-    let new = c.put_lines.new.runner.host in
-    subst (λ o. RunSoFar c.args.runner.now.over c.args.runner.now.host c.number_of-number.result o
-    new) (sym c.put_lines.ensures.over)
-    (run_told so_far c.number_of-number.result c.in-Some.item on k new c.as_slice-in-Some.result.now
-    c.number_of-number.ensures next (c.in_ok-item.ensures.fewer (ap is_some c.in-Some.is))
-    (c.as_slice-in-Some.ensures ∙ c.in_ok-item_lines.ensures) c.in_ok-put_lines.ensures.prints.done)
-
-pub items-preserved-in_ok-put_lines-6 : goal.items-preserved-in_ok-put_lines-6
-items-preserved-in_ok-put_lines-6 g c = λ knows.
-    let so_far = c.items.invariant knows in
-    let on = c.next_item.new.self.over in
-    let k = c.next_item.new.self.host in
-    let next = subst (λ x. Next c.items.runner.over c.items.runner.host (Ok x) on k) c.in-Some.is
-    (c.in_ok-item.ensures.next so_far.knows) in
-    let new = c.put_lines.new.runner.host in
-    subst (λ o. RunSoFar c.args.runner.now.over c.args.runner.now.host c.number_of-number.result o
-    new) (sym c.put_lines.ensures.over)
-    (run_told so_far c.number_of-number.result c.in-Some.item on k new c.as_slice-in-Some.result.now
-    c.number_of-number.ensures next (c.in_ok-item.ensures.fewer (ap is_some c.in-Some.is))
-    (c.as_slice-in-Some.ensures ∙ c.in_ok-item_lines.ensures) c.in_ok-put_lines.ensures.prints.done)
-
-pub items-preserved-in_ok-put_lines-7 : goal.items-preserved-in_ok-put_lines-7
-items-preserved-in_ok-put_lines-7 g c = λ knows.
-    let so_far = c.items.invariant knows in
-    let on = c.next_item.new.self.over in
-    let k = c.next_item.new.self.host in
-    let next = subst (λ x. Next c.items.runner.over c.items.runner.host (Ok x) on k) c.in-Some.is
-    (c.in_ok-item.ensures.next so_far.knows) in
-    let new = c.put_lines.new.runner.host in
-    subst (λ o. RunSoFar c.args.runner.now.over c.args.runner.now.host c.number_of-number.result o
-    new) (sym c.put_lines.ensures.over)
-    (run_told so_far c.number_of-number.result c.in-Some.item on k new c.as_slice-in-Some.result.now
-    c.number_of-number.ensures next (c.in_ok-item.ensures.fewer (ap is_some c.in-Some.is))
-    (c.as_slice-in-Some.ensures ∙ c.in_ok-item_lines.ensures) c.in_ok-put_lines.ensures.prints.done)
-
-pub items-preserved-in_ok-put_lines-8 : goal.items-preserved-in_ok-put_lines-8
-items-preserved-in_ok-put_lines-8 g c = λ knows.
-    let so_far = c.items.invariant knows in
-    let on = c.next_item.new.self.over in
-    let k = c.next_item.new.self.host in
-    let next = subst (λ x. Next c.items.runner.over c.items.runner.host (Ok x) on k) c.in-Some.is
-    (c.in_ok-item.ensures.next so_far.knows) in
-    let new = c.put_lines.new.runner.host in
-    subst (λ o. RunSoFar c.args.runner.now.over c.args.runner.now.host c.number_of-number.result o
-    new) (sym c.put_lines.ensures.over)
-    (run_told so_far c.number_of-number.result c.in-Some.item on k new c.as_slice-in-Some.result.now
-    c.number_of-number.ensures next (c.in_ok-item.ensures.fewer (ap is_some c.in-Some.is))
-    (c.as_slice-in-Some.ensures ∙ c.in_ok-item_lines.ensures) c.in_ok-put_lines.ensures.prints.done)
-
 pub items-preserved : goal.items-preserved
 items-preserved g c = λ knows.
     let so_far = c.items.invariant knows in
