@@ -160,8 +160,8 @@ fn same_task(task: &Task, done: &Task) -> bool
     ensures { result ≡ same_task task.now done.now }
 {
     match (task, done) {
-        (Task::Send(choice), Task::Send(used)) => same_choice(*choice, *used),
-        (Task::Receive(choice), Task::Receive(used)) => same_choice(*choice, *used),
+        (Task::Send(choice), Task::Send(used)) => same_choice(choice, used),
+        (Task::Receive(choice), Task::Receive(used)) => same_choice(choice, used),
         (Task::ClearOf(endpoint), Task::ClearOf(named)) => endpoint.get() == named.get(),
         (Task::Poll(endpoint), Task::Poll(named)) => endpoint.get() == named.get(),
         (Task::SetInterface(interface, setting), Task::SetInterface(number, chosen)) => {
@@ -174,8 +174,8 @@ fn same_task(task: &Task, done: &Task) -> bool
 }
 
 /// Whether these are the same choice of an endpoint.
-fn same_choice(choice: EndpointChoice, used: EndpointChoice) -> bool
-    ensures { result ≡ same_choice choice used }
+fn same_choice(choice: &EndpointChoice, used: &EndpointChoice) -> bool
+    ensures { result ≡ same_choice choice.now used.now }
 {
     match (choice, used) {
         (EndpointChoice::FirstBulk, EndpointChoice::FirstBulk) => true,
