@@ -101,62 +101,6 @@ items-preserved-in_ok-write_lines-4 g c =
       unmarked = c.in_ok-write_lines.ensures.unmarked ∙ c.items.invariant.unmarked;
     }
 
-pub items-preserved-in_ok-write_lines-5 : goal.items-preserved-in_ok-write_lines-5
-items-preserved-in_ok-write_lines-5 g c =
-    let on = c.next_untraced.new.runner.over in
-    let k = c.next_untraced.new.runner.host in
-    let next = subst (λ x. Next c.items.runner.over c.items.runner.host (Ok x) on k) c.in-Some.is
-    (c.in_ok-item.ensures.next c.items.invariant.so_far.knows) in
-    record {
-      so_far = drawn_told c.items.invariant.so_far c.number_of-number.result c.in-Some.item on k
-          c.as_slice-in-Some.result.now _ c.number_of-number.ensures next
-          (c.in_ok-item.ensures.fewer (ap is_some c.in-Some.is))
-          (c.as_slice-in-Some.ensures ∙ c.in_ok-drawn_lines.ensures) c.in_ok-write_lines.ensures.ok;
-      unmarked = c.in_ok-write_lines.ensures.unmarked ∙ c.items.invariant.unmarked;
-    }
-
-pub items-preserved-in_ok-write_lines-6 : goal.items-preserved-in_ok-write_lines-6
-items-preserved-in_ok-write_lines-6 g c =
-    let on = c.next_untraced.new.runner.over in
-    let k = c.next_untraced.new.runner.host in
-    let next = subst (λ x. Next c.items.runner.over c.items.runner.host (Ok x) on k) c.in-Some.is
-    (c.in_ok-item.ensures.next c.items.invariant.so_far.knows) in
-    record {
-      so_far = drawn_told c.items.invariant.so_far c.number_of-number.result c.in-Some.item on k
-          c.as_slice-in-Some.result.now _ c.number_of-number.ensures next
-          (c.in_ok-item.ensures.fewer (ap is_some c.in-Some.is))
-          (c.as_slice-in-Some.ensures ∙ c.in_ok-drawn_lines.ensures) c.in_ok-write_lines.ensures.ok;
-      unmarked = c.in_ok-write_lines.ensures.unmarked ∙ c.items.invariant.unmarked;
-    }
-
-pub items-preserved-in_ok-write_lines-7 : goal.items-preserved-in_ok-write_lines-7
-items-preserved-in_ok-write_lines-7 g c =
-    let on = c.next_untraced.new.runner.over in
-    let k = c.next_untraced.new.runner.host in
-    let next = subst (λ x. Next c.items.runner.over c.items.runner.host (Ok x) on k) c.in-Some.is
-    (c.in_ok-item.ensures.next c.items.invariant.so_far.knows) in
-    record {
-      so_far = drawn_told c.items.invariant.so_far c.number_of-number.result c.in-Some.item on k
-          c.as_slice-in-Some.result.now _ c.number_of-number.ensures next
-          (c.in_ok-item.ensures.fewer (ap is_some c.in-Some.is))
-          (c.as_slice-in-Some.ensures ∙ c.in_ok-drawn_lines.ensures) c.in_ok-write_lines.ensures.ok;
-      unmarked = c.in_ok-write_lines.ensures.unmarked ∙ c.items.invariant.unmarked;
-    }
-
-pub items-preserved-in_ok-write_lines-8 : goal.items-preserved-in_ok-write_lines-8
-items-preserved-in_ok-write_lines-8 g c =
-    let on = c.next_untraced.new.runner.over in
-    let k = c.next_untraced.new.runner.host in
-    let next = subst (λ x. Next c.items.runner.over c.items.runner.host (Ok x) on k) c.in-Some.is
-    (c.in_ok-item.ensures.next c.items.invariant.so_far.knows) in
-    record {
-      so_far = drawn_told c.items.invariant.so_far c.number_of-number.result c.in-Some.item on k
-          c.as_slice-in-Some.result.now _ c.number_of-number.ensures next
-          (c.in_ok-item.ensures.fewer (ap is_some c.in-Some.is))
-          (c.as_slice-in-Some.ensures ∙ c.in_ok-drawn_lines.ensures) c.in_ok-write_lines.ensures.ok;
-      unmarked = c.in_ok-write_lines.ensures.unmarked ∙ c.items.invariant.unmarked;
-    }
-
 pub items-preserved : goal.items-preserved
 items-preserved g c =
     let on = c.next_untraced.new.runner.over in
