@@ -141,9 +141,10 @@ find_compiler() {
 }
 
 # Links an object file of the program. False where that fails. Where the C library has archives it is linked statically,
-# for a fixed address: a call starts sooner then, as nothing is relocated.
+# for a fixed address: a call starts sooner then, as nothing is relocated, and no page protected after that.
 link() {
-  "$linker" -static -no-pie -Wl,-z,noseparate-code "$1" "${archives[@]}" -lm -o "$2" 2>/dev/null && return
+  local fixed=(-static -no-pie -Wl,-z,noseparate-code -Wl,-z,norelro)
+  "$linker" "${fixed[@]}" "$1" "${archives[@]}" -lm -o "$2" 2>/dev/null && return
   "$linker" "$1" "${archives[@]}" -lm -o "$2" 2>>"$room/notes" || {
     missing="'$linker' ended with status $?"
     return 1
